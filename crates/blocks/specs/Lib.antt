@@ -1,0 +1,5 @@
+pub mod Contents
+pub mod Images
+pub mod Numbered
+pub mod Ranges
+pub mod SettingsRange

@@ -1,0 +1,25 @@
+//! The words that every layer of the mirror speaks: blocks and ranges of a device, the stores that hold
+//! them, the settings of a pair, refusals, identifiers, and what a step reports.
+#![tactic(auto)]
+
+mod block;
+mod command;
+mod memory;
+mod outcome;
+mod range;
+mod refusal;
+mod settings;
+mod store;
+#[cfg(test)]
+mod tests;
+mod tuple;
+
+pub use block::{BLOCK_BYTES, Block, EXTENT_BLOCKS, Extent, MAX_BLOCKS};
+pub use command::Command;
+pub use memory::MemStore;
+pub use outcome::{Decision, Done, Reply, What};
+pub use range::{MAX_RANGE, Range};
+pub use refusal::Refusal;
+pub use settings::{Protocol, Settings};
+pub use store::{Store, StoreFault};
+pub use tuple::Tuple;

@@ -1,0 +1,64 @@
+//! What a step of a node, or of a pair, reports.
+use crate::{Block, Command, Refusal};
+use std::fmt;
+
+/// What the primary decides from the two tuples of identifiers, once it has the peer's (this project's
+/// rule, after the DRBD User's Guide, "Generation identifiers").
+#[derive(Clone, Copy, Debug, PartialEq, Eq)]
+pub enum Decision {
+    /// The disks agree.
+    NoSync,
+    /// The marked blocks are copied.
+    BitmapSync,
+    /// Every block is copied.
+    FullSync,
+}
+
+impl fmt::Display for Decision {
+    fn fmt<W: fmt::Write>(&self, f: &mut fmt::Formatter<W>) -> fmt::Result {
+        f.write_str(match self {
+            Decision::NoSync => "NoSync",
+            Decision::BitmapSync => "BitmapSync",
+            Decision::FullSync => "FullSync",
+        })
+    }
+}
+
+/// What a step was about.
+#[derive(Clone, Copy, Debug, PartialEq, Eq)]
+pub enum What {
+    /// Nothing that has a name.
+    Nothing,
+    /// A write was accepted under this number.
+    Write(u64),
+    /// A block was read for a resync, and its item has this place in the stream.
+    Block(Block, u32),
+    /// The peer's identifiers were taken, and this was decided.
+    Decided(Decision),
+    /// A frame went over the link; an item of the stream has its place.
+    Frame(Command, Option<u32>),
+}
+
+/// What a step did.
+#[derive(Clone, Copy, Debug, PartialEq, Eq)]
+pub struct Done {
+    /// What it was about.
+    pub what: What,
+    /// The number of the write that it completed.
+    pub completed: Option<u64>,
+    /// The number of the barrier that it appended to the stream.
+    pub barrier: Option<u32>,
+    /// Whether it ended a resync.
+    pub synced: bool,
+}
+
+/// The answer to an event.
+#[derive(Clone, Copy, Debug, PartialEq, Eq)]
+pub enum Reply {
+    /// The step was done.
+    Ok(Done),
+    /// The primary closed its end, and so many writes were completed by that.
+    Closed(u32),
+    /// The step was refused.
+    Refused(Refusal),
+}

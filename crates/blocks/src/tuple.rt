@@ -1,0 +1,32 @@
+//! The generation identifiers of a disk.
+use std::fmt;
+
+/// The four generation identifiers of a node's disk (DRBD User's Guide, "Generation identifiers"). Zero
+/// stands for none.
+#[derive(Clone, Copy, Debug, PartialEq, Eq)]
+pub struct Tuple {
+    /// The present generation of the data.
+    pub current: u64,
+    /// The generation from which on the bitmap has recorded changes.
+    pub bitmap: u64,
+    /// The generation before.
+    pub first_historical: u64,
+    /// The generation before that.
+    pub second_historical: u64,
+}
+
+/// The tuple's four words, parted by commas.
+impl fmt::Display for Tuple {
+    fn fmt<W: fmt::Write>(&self, f: &mut fmt::Formatter<W>) -> fmt::Result {
+        let Tuple {
+            current,
+            bitmap,
+            first_historical,
+            second_historical,
+        } = *self;
+        write!(
+            f,
+            "{current},{bitmap},{first_historical},{second_historical}"
+        )
+    }
+}
