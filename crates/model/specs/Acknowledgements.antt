@@ -1,0 +1,146 @@
+-- The primary takes a frame: the peer's hello with the decision, and then its acknowledgements.
+use Rattle.std.specs.Prelude.{ℕ, zero, suc, nat_lt, ◌==◌, Bool, true, false, ◌&&◌, ◌||◌, not, if◌then◌else◌, [], ◌∷◌, ◌++◌, length, take, find, Option, Some, None, is_none, slice_get, Result, Ok, Err}
+use Rattle.std.specs.List.{list_all}
+use Rattle.blocks.specs.declared.tuple.Tuple.{Tuple}
+use Rattle.blocks.specs.declared.settings.Protocol.{Protocol}
+use Rattle.blocks.specs.declared.settings.Protocol.TheVariants as protocol
+use Rattle.blocks.specs.declared.refusal.Refusal.{Refusal}
+use Rattle.blocks.specs.declared.refusal.Refusal.TheVariants.{NoMemory, NotConnected, NothingThere, BadCommand, BadBarrierAck, UnknownAck, UsedIdentifier, OtherProtocol, OtherSize}
+use Rattle.blocks.specs.declared.outcome.Decision.{Decision}
+use Rattle.blocks.specs.declared.outcome.Decision.TheVariants.{NoSync, BitmapSync, FullSync}
+use Rattle.blocks.specs.declared.outcome.What.{What}
+use Rattle.blocks.specs.declared.outcome.What.TheVariants as what
+use Rattle.blocks.specs.declared.outcome.Reply.{Reply}
+use Rattle.blocks.specs.declared.outcome.Reply.TheVariants as reply
+use Rattle.blocks.specs.declared.command.Command.TheVariants as command
+use Rattle.model.specs.Stream.{Item, WriteItem, ResyncItem, BarrierItem, SyncUuidItem, is_write, epoch_size, items_of_epoch}
+use Rattle.model.specs.Frames.{Packet, ProtocolFrame, SizesFrame, UuidsFrame, RecvAckFrame, WriteAckFrame, RsWriteAckFrame, BarrierAckFrame, Acknowledged, Received, naming}
+use Rattle.model.specs.Identifiers.{stands_in, decision, sync_start}
+use Rattle.model.specs.Primary.{Outward, PrimaryHistory, outward, with_outward, items_sent, same_naming, was_received, was_written, was_resynced, barrier_acknowledged, is_resync}
+use Rattle.model.specs.Marks.{marking_all, clearing}
+use Rattle.model.specs.PrimarySteps.{follows, succeeding, tested, closing}
+
+abbrev pub same_protocol : Protocol → Protocol → Bool
+same_protocol protocol.A protocol.A = true
+same_protocol protocol.B protocol.B = true
+same_protocol protocol.C protocol.C = true
+same_protocol _ _ = false
+
+-- What a taken frame does: it is accepted, with what it is called and the history then, or refused as a protocol error.
+abbrev pub Taken : Type 0
+Taken = Result (What × PrimaryHistory) (Refusal × PrimaryHistory)
+
+-- The hello.
+
+-- The stream begins: with the resync's SYNC_UUID where there is a resync.
+abbrev pub begun_with : Decision → PrimaryHistory → PrimaryHistory
+begun_with NoSync h = with_outward (λ c. record c { begun = true }) h
+begun_with BitmapSync h =
+    let word = (outward h).sync in
+    with_outward (λ c. record c { begun = true; stream = SyncUuidItem word ∷ [] }) (record h { tuple = sync_start word h.tuple })
+begun_with FullSync h =
+    let word = (outward h).sync in
+    with_outward (λ c. record c { begun = true; stream = SyncUuidItem word ∷ [] }) (record h { tuple = sync_start word h.tuple; marks = marking_all h.settings.blocks })
+
+-- The peer's tuple counts as seen, also where the hello is then refused. The words are tested against it, before the decision.
+abbrev pub meeting : Tuple → PrimaryHistory → Taken
+meeting peer h =
+    let seen = record h { peer = Some peer } in
+    let c = outward h in
+    elim (stands_in c.sync peer || stands_in c.loss peer) [
+      | true ↦ Err (UsedIdentifier, seen)
+      | false ↦ elim (decision h.tuple peer) [ Err refusal ↦ Err (refusal, seen) | Ok decided ↦ Ok (what.Decided decided, begun_with decided seen) ]
+    ]
+
+-- the next frame of the hello, by how many were taken before; any other command does not belong here
+abbrev pub taking_hello : ℕ → Packet → PrimaryHistory → Taken
+taking_hello zero (ProtocolFrame asked) h =
+    if same_protocol asked h.settings.protocol then Ok (what.Frame command.Protocol None, h) else Err (OtherProtocol, h)
+taking_hello (suc zero) (SizesFrame blocks) h =
+    if blocks == h.settings.blocks then Ok (what.Frame command.Sizes None, h) else Err (OtherSize, h)
+taking_hello (suc (suc n)) (UuidsFrame peer) h = meeting peer h
+taking_hello n packet h = Err (BadCommand, h)
+
+-- Acknowledgements.
+
+-- it names a sent item of this kind
+abbrev pub names_sent : (Item → Bool) → Acknowledged → Outward → Bool
+names_sent kind ack c = elim (slice_get c.stream ack.place) [
+  | None ↦ false
+  | Some item ↦ (kind item && same_naming (naming ack.place item) ack) && nat_lt ack.place (items_sent c)
+]
+
+-- it was acknowledged before
+abbrev pub was_named : (Outward → ℕ → Item → Bool) → Acknowledged → Outward → Bool
+was_named before ack c = elim (slice_get c.stream ack.place) [ None ↦ false | Some item ↦ before c ack.place item ]
+
+abbrev pub is_protocol : Protocol → PrimaryHistory → Bool
+is_protocol asked h = same_protocol asked h.settings.protocol
+
+-- the acknowledgement that the protocol asks of an item was taken
+abbrev pub is_acknowledged : Protocol → Outward → ℕ × Item → Bool
+is_acknowledged asked c (place, WriteItem write) = elim asked [
+  | protocol.A ↦ true
+  | protocol.B ↦ was_received c place (WriteItem write)
+  | protocol.C ↦ was_written c place (WriteItem write)
+]
+is_acknowledged asked c (place, ResyncItem block contents) = was_resynced c place (ResyncItem block contents)
+is_acknowledged asked c _ = true
+
+-- the oldest barrier that was sent and is not acknowledged
+abbrev pub is_unacknowledged : Outward → Item → Bool
+is_unacknowledged c (BarrierItem epoch) = not (barrier_acknowledged c epoch)
+is_unacknowledged c _ = false
+
+abbrev pub oldest_barrier : Outward → Option Item
+oldest_barrier c = find (is_unacknowledged c) (take (items_sent c) c.stream)
+
+abbrev pub is_barrier_of : ℕ → Option Item → Bool
+is_barrier_of number (Some (BarrierItem epoch)) = number == epoch
+is_barrier_of number _ = false
+
+-- A BARRIER_ACK is in its turn, has the epoch's size, and comes after every acknowledgement that the epoch's items want.
+abbrev pub is_in_turn : PrimaryHistory → ℕ → ℕ → Bool
+is_in_turn h number size =
+    let c = outward h in
+    (is_barrier_of number (oldest_barrier c) && (size == epoch_size c.stream number))
+    && list_all (is_acknowledged h.settings.protocol c) (items_of_epoch c.stream number)
+
+-- An acknowledgement, judged on the history before it was taken.
+abbrev pub taking_ack : Packet → PrimaryHistory → PrimaryHistory → Taken
+taking_ack (RecvAckFrame ack) before h =
+    let c = outward before in
+    if (is_protocol protocol.B before && names_sent is_write ack c) && not (was_named was_received ack c) then Ok (what.Frame command.RecvAck None, h) else Err (UnknownAck, h)
+taking_ack (WriteAckFrame ack) before h =
+    let c = outward before in
+    if (is_protocol protocol.C before && names_sent is_write ack c) && not (was_named was_written ack c) then Ok (what.Frame command.WriteAck None, h) else Err (UnknownAck, h)
+taking_ack (RsWriteAckFrame ack) before h =
+    let c = outward before in
+    if names_sent is_resync ack c && not (was_named was_resynced ack c) then Ok (what.Frame command.RsWriteAck None, record h { marks = clearing ack.first h.marks }) else Err (UnknownAck, h)
+taking_ack (BarrierAckFrame number size) before h =
+    if is_in_turn before number size then Ok (what.Frame command.BarrierAck None, h) else Err (BadBarrierAck, h)
+taking_ack packet before h = Err (BadCommand, h)
+
+-- A frame as it was read: a fault of its bytes, a frame of the hello, or an acknowledgement.
+abbrev pub taking : Received → PrimaryHistory → PrimaryHistory → Taken
+taking (Err fault) before h = Err (fault, h)
+taking (Ok packet) before h =
+    elim (outward before).begun [ true ↦ taking_ack packet before h | false ↦ taking_hello (length (outward before).taken) packet h ]
+
+-- The frame counts as taken; a protocol error closes the end in the same step, with all effects of its close.
+abbrev pub take_frame : Received → PrimaryHistory → Reply × PrimaryHistory
+take_frame frame h =
+    let taken = with_outward (λ c. record c { taken = c.taken ++ frame ∷ [] }) h in
+    elim (taking frame h taken) [
+      | Ok done ↦ succeeding done.0 done.1
+      | Err error ↦ (reply.Refused error.0, (follows (closing (with_outward (λ c. record c { refused = true }) error.1))).history)
+    ]
+
+-- the next frame that the link has for this end, or none
+abbrev pub ack_in : Option Received → Bool → PrimaryHistory → Reply × PrimaryHistory
+ack_in frame starved h =
+    let c = outward h in
+    tested h ((c.closed, NotConnected) ∷ (not c.begun && starved, NoMemory) ∷ (is_none frame, NothingThere) ∷ []) (λ _. elim frame [
+      | None ↦ (reply.Refused NothingThere, h)
+      | Some taken ↦ take_frame taken h
+    ])

@@ -1,0 +1,59 @@
+-- Blocks, writes and the contents of a disk.
+use Rattle.std.specs.Prelude.{ℕ, ◌+◌, ◌-◌, ◌/◌, nat_lt, nat_le, ◌==◌, Bool, ◌&&◌, if◌then◌else◌, List, [], ◌∷◌, length, slice_get, Option, Some, None}
+use Rattle.blocks.specs.declared.settings.Settings.{Settings}
+
+-- What a disk holds: for each block its bytes, and nothing past the end. A block may have any length here.
+abbrev pub BlockMap : Type 0
+BlockMap = ℕ → Option (List ℕ)
+
+-- a disk of this many blocks, each with the same bytes
+abbrev pub filled : ℕ → List ℕ → BlockMap
+filled blocks bytes block = if nat_lt block blocks then Some bytes else None
+
+-- A write: its number, its first block, and the contents of each block from there on.
+pub record Write : Type 0 where
+  pub number : ℕ
+  pub first : ℕ
+  pub contents : List (List ℕ)
+
+-- whether a block is one of the `count` from `first` on
+abbrev pub is_between : ℕ → ℕ → ℕ → Bool
+is_between first count block = nat_le first block && nat_lt block (first + count)
+
+-- whether a write has the block
+abbrev pub covers : Write → ℕ → Bool
+covers write block = is_between write.first (length write.contents) block
+
+-- whether two ranges share a block
+abbrev pub ranges_meet : ℕ → ℕ → ℕ → ℕ → Bool
+ranges_meet first count other other_count = (nat_lt first (other + other_count) && nat_lt other (first + count)) && (nat_lt 0 count && nat_lt 0 other_count)
+
+-- whether two writes share a block
+abbrev pub overlap : Write → Write → Bool
+overlap a b = ranges_meet a.first (length a.contents) b.first (length b.contents)
+
+-- the extent of the activity log that a block lies in (DRBD User's Guide, "The activity log": 4 MiB)
+abbrev pub extent_of : ℕ → ℕ
+extent_of block = block / 1024
+
+-- 1 to 32 blocks inside the device and inside one extent (this project's rule)
+abbrev pub is_range : Settings → ℕ → ℕ → Bool
+is_range settings first count =
+    ((nat_lt 0 count && nat_le count 32) && nat_le (first + count) settings.blocks) && (extent_of first == extent_of (first + count - 1))
+
+-- Blocks laid over a disk: their first block, their contents, and which of them, by offset, are laid.
+pub record Layer : Type 0 where
+  pub first : ℕ
+  pub contents : List (List ℕ)
+  pub laid : ℕ → Bool
+
+-- what a block holds once a layer is laid
+abbrev pub block_under : Layer → ℕ → Option (List ℕ) → Option (List ℕ)
+block_under layer block below =
+    if is_between layer.first (length layer.contents) block && layer.laid (block - layer.first)
+    then slice_get layer.contents (block - layer.first) else below
+
+-- Each block holds what the last layer with it has, else what the disk under them has.
+abbrev pub overlay : BlockMap → List Layer → BlockMap
+overlay base [] block = base block
+overlay base (layer ∷ layers) block = overlay (λ b. block_under layer b (base b)) layers block

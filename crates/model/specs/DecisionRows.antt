@@ -1,0 +1,29 @@
+-- Worked examples of the decision over the identifiers.
+use Rattle.std.specs.Prelude.{◌≡◌, [], ◌∷◌, Ok, Err}
+use Rattle.blocks.specs.declared.refusal.Refusal.TheVariants as refusal
+use Rattle.blocks.specs.declared.outcome.Decision.TheVariants.{NoSync, BitmapSync, FullSync}
+use Rattle.blocks.specs.SettingsRange.{standard}
+use Rattle.model.specs.Pair.{ClosePrimaryEvent, PairHistory, tuples}
+use Rattle.model.specs.Rows.{words, fresh_with, connect, connecting, replies, after, refused}
+use Rattle.model.specs.Identifiers.{decision}
+
+-- one case each, in the order in which they are tried
+pub record Decisions : Type 0 where
+  pub same_current : decision (words 1 0 0 0) (words 1 0 0 0) ≡ Ok NoSync
+  pub from_bitmap : decision (words 7 1 0 0) (words 1 0 0 0) ≡ Ok BitmapSync
+  pub without_data : decision (words 7 1 0 0) (words 0 0 0 0) ≡ Ok FullSync
+  pub from_history : decision (words 11 7 9 1) (words 9 0 0 0) ≡ Ok FullSync
+  pub peer_goes_on : decision (words 7 1 0 0) (words 9 7 1 0) ≡ Err refusal.PrimaryStale
+  pub peer_has_gone_on : decision (words 7 0 9 1) (words 12 0 7 0) ≡ Err refusal.PrimaryStale
+  pub same_bitmap : decision (words 7 1 0 0) (words 8 1 0 0) ≡ Err refusal.SplitBrain
+  pub shared_history : decision (words 7 0 5 0) (words 8 5 0 0) ≡ Err refusal.SplitBrain
+  pub nothing_shared : decision (words 7 1 0 0) (words 20 21 22 23) ≡ Err refusal.Unrelated
+
+-- A hello that is refused closes the primary and leaves both tuples.
+abbrev pub split : PairHistory
+split = fresh_with standard (words 7 1 0 0) (words 8 1 0 0)
+
+pub record RefusedHello : Type 0 where
+  pub answers : replies (connect 9 11) split ≡ connecting (refused refusal.SplitBrain)
+  pub identifiers : tuples (after (connect 9 11) split) ≡ (words 7 1 0 0, words 8 1 0 0)
+  pub closed : replies (ClosePrimaryEvent ∷ []) (after (connect 9 11) split) ≡ refused refusal.NotConnected ∷ []

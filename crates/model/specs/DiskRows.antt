@@ -1,0 +1,61 @@
+-- Worked examples of ranges, of the activity log, and of faults of a disk.
+use Rattle.std.specs.Prelude.{◌≡◌, List, [], ◌∷◌, ◌++◌, Some, Err}
+use Rattle.blocks.specs.declared.settings.Settings.{Settings}
+use Rattle.blocks.specs.declared.refusal.Refusal.TheVariants as refusal
+use Rattle.blocks.specs.declared.outcome.Reply.TheVariants as reply
+use Rattle.blocks.specs.declared.command.Command.TheVariants as command
+use Rattle.blocks.specs.SettingsRange.{standard}
+use Rattle.model.specs.Primary.{local_map}
+use Rattle.model.specs.PrimarySteps.{take_completed}
+use Rattle.model.specs.Pair.{Event, LocalEvent, LocalFaultEvent, SendEvent, ReceiveEvent, PeerEvent, PeerFaultEvent, AckOutEvent, AckInEvent, ClosePrimaryEvent, marked, differing}
+use Rattle.model.specs.Rows.{connected, replies, after, fill, refused, done, accepted, item, frame, completing, with_barrier}
+
+-- 2,048 blocks are two extents
+abbrev pub two_extents : Settings
+two_extents = record standard { blocks = 2048 }
+
+-- The last range of a device, and ranges that are too long, empty, past the end, or over two extents.
+pub record Ranges : Type 0 where
+  pub answers : replies (fill 2016 32 170 ∷ fill 0 33 170 ∷ fill 0 0 170 ∷ fill 2048 1 170 ∷ fill 2047 2 170 ∷ fill 1023 2 170 ∷ []) (connected two_extents)
+      ≡ accepted 1 ∷ refused refusal.BadRange ∷ refused refusal.BadRange ∷ refused refusal.BadRange ∷ refused refusal.BadRange ∷ refused refusal.BadRange ∷ []
+
+-- With one slot another extent can be written once the first one's writes are released, and not when they are completed.
+pub record OneSlot : Type 0 where
+  pub answers : replies (fill 0 1 170 ∷ fill 1024 1 187 ∷ LocalEvent 1 ∷ SendEvent ∷ ReceiveEvent ∷ PeerEvent 0 ∷ AckOutEvent ∷ AckInEvent ∷ fill 1024 1 187
+      ∷ SendEvent ∷ ReceiveEvent ∷ AckOutEvent ∷ AckInEvent ∷ fill 1024 1 187 ∷ []) (connected (record two_extents { slots = 1 }))
+      ≡ accepted 1 ∷ refused refusal.ActivityFull ∷ done ∷ item command.Data 0 ∷ item command.Data 0 ∷ done ∷ frame command.WriteAck
+      ∷ with_barrier 1 (completing 1 (frame command.WriteAck)) ∷ refused refusal.ActivityFull
+      ∷ item command.Barrier 1 ∷ item command.Barrier 1 ∷ frame command.BarrierAck ∷ frame command.BarrierAck ∷ accepted 2 ∷ []
+
+-- A fault of the local disk: the first block is new, the range is marked, the write is failed and holds up nobody.
+abbrev pub local_fault : List Event
+local_fault = fill 2 2 170 ∷ LocalFaultEvent 1 1 ∷ []
+
+pub record LocalFault : Type 0 where
+  pub answers : replies local_fault (connected standard) ≡ accepted 1 ∷ with_barrier 1 done ∷ []
+  pub marks : marked (after local_fault (connected standard)) ≡ 2 ∷ 3 ∷ []
+  pub new : local_map (after local_fault (connected standard)).primary 2 ≡ Some (170 ∷ [])
+  pub old : local_map (after local_fault (connected standard)).primary 3 ≡ Some (0 ∷ [])
+  pub goes_on : replies (fill 3 1 187 ∷ LocalEvent 1 ∷ []) (after local_fault (connected standard)) ≡ accepted 2 ∷ refused refusal.UnknownJob ∷ []
+  pub receipt : (take_completed 1 (after local_fault (connected standard)).primary).0 ≡ Err refusal.LocalFault
+  pub taken : (take_completed 1 (take_completed 1 (after local_fault (connected standard)).primary).1).0 ≡ Err refusal.UnknownJob
+
+-- A fault may have left all blocks new, and no more than there are.
+abbrev pub late_fault : List Event
+late_fault = fill 2 3 170 ∷ LocalFaultEvent 1 4 ∷ LocalFaultEvent 1 3 ∷ []
+
+pub record LateFault : Type 0 where
+  pub answers : replies late_fault (connected standard) ≡ accepted 1 ∷ refused refusal.BadRange ∷ with_barrier 1 done ∷ []
+  pub differs : differing (after late_fault (connected standard)) ≡ 2 ∷ 3 ∷ 4 ∷ []
+  pub marks : marked (after late_fault (connected standard)) ≡ 2 ∷ 3 ∷ 4 ∷ []
+
+-- A fault of the peer's disk closes the peer; the primary's close completes the write and marks it.
+abbrev pub peer_fault : List Event
+peer_fault = fill 2 3 170 ∷ LocalEvent 1 ∷ SendEvent ∷ ReceiveEvent ∷ PeerFaultEvent 0 1 ∷ PeerEvent 0 ∷ ReceiveEvent ∷ []
+
+pub record PeerFault : Type 0 where
+  pub answers : replies peer_fault (connected standard)
+      ≡ accepted 1 ∷ done ∷ item command.Data 0 ∷ item command.Data 0 ∷ done ∷ refused refusal.UnknownJob ∷ refused refusal.NotConnected ∷ []
+  pub differs : differing (after peer_fault (connected standard)) ≡ 3 ∷ 4 ∷ []
+  pub closes : replies (ClosePrimaryEvent ∷ []) (after peer_fault (connected standard)) ≡ reply.Closed 1 ∷ []
+  pub marks : marked (after (peer_fault ++ ClosePrimaryEvent ∷ []) (connected standard)) ≡ 2 ∷ 3 ∷ 4 ∷ []

@@ -1,0 +1,80 @@
+-- Worked examples of frames that the other end of a link never makes.
+use Rattle.std.specs.Prelude.{ℕ, ◌≡◌, true, false, List, [], ◌∷◌, ◌++◌, replicate, Some, Ok, Err, map}
+use Rattle.blocks.specs.declared.settings.Protocol.TheVariants as protocol
+use Rattle.blocks.specs.declared.refusal.Refusal.TheVariants as refusal
+use Rattle.blocks.specs.declared.outcome.Reply.{Reply}
+use Rattle.blocks.specs.SettingsRange.{standard}
+use Rattle.model.specs.Primary.{PrimaryHistory, outward}
+use Rattle.model.specs.Pair.{SendEvent, ReceiveEvent, PairHistory}
+use Rattle.model.specs.Rows.{words, connected, after, fill, refused, done, frame}
+use Rattle.model.specs.Contents.{Write}
+use Rattle.model.specs.Frames.{DataFrame, RsDataReplyFrame, BarrierFrame, ProtocolFrame, UuidsFrame, SyncUuidFrame, RecvAckFrame, WriteAckFrame, RsWriteAckFrame, BarrierAckFrame, Acknowledged, Received}
+use Rattle.model.specs.Acknowledgements.{ack_in}
+use Rattle.model.specs.Secondary.{SecondaryHistory}
+use Rattle.model.specs.SecondarySteps.{receive, peer}
+use Rattle.model.specs.WriteRows.{one_write}
+
+-- a write of so many blocks of one byte
+abbrev pub write_of : ℕ → ℕ → ℕ → Write
+write_of number first count = record { number = number; first = first; contents = replicate count (170 ∷ []) }
+
+abbrev pub ack_of : ℕ → ℕ → ℕ → ℕ → Acknowledged
+ack_of first number count place = record { first = first; number = number; count = count; place = place }
+
+-- a secondary that took the first write, and a primary that sent it
+abbrev pub sent_one : PairHistory
+sent_one = after (fill 2 1 170 ∷ SendEvent ∷ ReceiveEvent ∷ []) (connected standard)
+
+abbrev pub answer_of : Received → SecondaryHistory → Reply
+answer_of frame h = (receive (Some frame) false h).0
+
+-- what the secondary answers to each of these frames
+abbrev pub to_secondary : List Received
+to_secondary =
+    Ok (DataFrame (write_of 2 3 1) 2) ∷ Ok (DataFrame (write_of 2 2 1) 1) ∷ Ok (DataFrame (write_of 1 3 1) 1) ∷ Ok (DataFrame (write_of 2 7 2) 1)
+    ∷ Ok (BarrierFrame 2) ∷ Ok (SyncUuidFrame 9) ∷ Ok (UuidsFrame (words 7 0 9 1)) ∷ Ok (RsDataReplyFrame 3 (170 ∷ []) 1)
+    ∷ Ok (ProtocolFrame protocol.C) ∷ Ok (WriteAckFrame (ack_of 2 1 1 0)) ∷ Err refusal.BadLength ∷ []
+
+abbrev pub secondary_after : Received → SecondaryHistory
+secondary_after frame = (receive (Some frame) false sent_one.secondary).1
+
+pub record ToSecondary : Type 0 where
+  pub answers : map (λ frame. answer_of frame sent_one.secondary) to_secondary
+      ≡ replicate 8 (refused refusal.BadField) ++ refused refusal.BadCommand ∷ refused refusal.BadCommand ∷ refused refusal.BadLength ∷ []
+  pub closed : map (λ frame. answer_of frame (secondary_after frame)) to_secondary ≡ replicate 11 (refused refusal.NotConnected)
+  pub applies : map (λ frame. (peer 0 (secondary_after frame)).0) to_secondary ≡ replicate 11 done
+
+abbrev pub to_primary : List Received
+to_primary =
+    Ok (WriteAckFrame (ack_of 2 2 1 0)) ∷ Ok (WriteAckFrame (ack_of 2 1 1 1)) ∷ Ok (WriteAckFrame (ack_of 2 1 2 0)) ∷ Ok (RecvAckFrame (ack_of 2 1 1 0))
+    ∷ Ok (RsWriteAckFrame (ack_of 3 0 1 1)) ∷ Ok (BarrierAckFrame 1 1) ∷ Ok (DataFrame (write_of 1 2 1) 0) ∷ []
+
+abbrev pub reply_of : Received → PrimaryHistory → Reply
+reply_of frame h = (ack_in (Some frame) false h).0
+
+abbrev pub primary_after : Received → PrimaryHistory → PrimaryHistory
+primary_after frame h = (ack_in (Some frame) false h).1
+
+abbrev pub sent_with_barrier : PrimaryHistory
+sent_with_barrier = (after (fill 2 1 170 ∷ SendEvent ∷ SendEvent ∷ []) (connected (record standard { max_epoch = 1 }))).primary
+
+pub record ToPrimary : Type 0 where
+  pub answers : map (λ frame. reply_of frame sent_one.primary) to_primary
+      ≡ replicate 5 (refused refusal.UnknownAck) ++ refused refusal.BadBarrierAck ∷ refused refusal.BadCommand ∷ []
+  pub closed : map (λ frame. reply_of frame (primary_after frame sent_one.primary)) to_primary ≡ replicate 7 (refused refusal.NotConnected)
+  pub marks : map (λ frame. (primary_after frame sent_one.primary).marks 2) to_primary ≡ replicate 7 true
+  pub identifiers : map (λ frame. (primary_after frame sent_one.primary).tuple) to_primary ≡ replicate 7 (words 7 1 0 0)
+  pub too_early : reply_of (Ok (BarrierAckFrame 1 1)) sent_with_barrier ≡ refused refusal.BadBarrierAck
+
+-- after a completed write whose barrier was sent: a wrong size of the epoch, and a second acknowledgement of the write
+abbrev pub completed_one : PrimaryHistory
+completed_one = (after (one_write ++ SendEvent ∷ []) (connected standard)).primary
+
+pub record AfterOneWrite : Type 0 where
+  pub wrong_size : reply_of (Ok (BarrierAckFrame 1 2)) completed_one ≡ refused refusal.BadBarrierAck
+  pub repeated : reply_of (Ok (WriteAckFrame (ack_of 2 1 1 0))) completed_one ≡ refused refusal.UnknownAck
+  pub marks : (primary_after (Ok (BarrierAckFrame 1 2)) completed_one).marks 2 ≡ true
+  pub closed : (outward (primary_after (Ok (BarrierAckFrame 1 2)) completed_one)).closed ≡ true
+  pub identifiers : (primary_after (Ok (BarrierAckFrame 1 2)) completed_one).tuple ≡ words 7 1 0 0
+  pub marks_too : (primary_after (Ok (WriteAckFrame (ack_of 2 1 1 0))) completed_one).marks 2 ≡ true
+  pub identifiers_too : (primary_after (Ok (WriteAckFrame (ack_of 2 1 1 0))) completed_one).tuple ≡ words 7 1 0 0

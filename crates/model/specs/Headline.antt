@@ -1,0 +1,101 @@
+-- What administrators rely on, stated of a primary's and a secondary's history. Nothing is proved here.
+use Rattle.std.specs.Prelude.{ℕ, suc, ◌≡◌, ◌<◌, ◌≤◌, nat_lt, Bool, true, false, ◌&&◌, ◌||◌, ◌⊎◌, length, take, map, Some, slice_get, Ok}
+use Rattle.std.specs.List.{list_any}
+use Rattle.blocks.specs.declared.tuple.Tuple.{Tuple}
+use Rattle.blocks.specs.declared.settings.Protocol.{Protocol}
+use Rattle.blocks.specs.declared.settings.Protocol.TheVariants as protocol
+use Rattle.model.specs.Contents.{BlockMap, Write, covers}
+use Rattle.model.specs.Stream.{WriteItem, IsLawful, IsBeginning, IsClosedAt, is_in, is_whole}
+use Rattle.model.specs.Primary.{Completion, Linked, Outward, PrimaryHistory, outward, stands, frames_due, items_sent, local_map, unreleased, active_extents}
+use Rattle.model.specs.Secondary.{Inward, SecondaryHistory, items_taken, map_of, secondary_map, answers_due}
+use Rattle.model.specs.Pair.{same_block}
+
+-- the two ends of one connection
+pub record AreEnds (p : PrimaryHistory) (s : SecondaryHistory) (connection : ℕ) (c : Outward) (d : Inward) : Type 0 where
+  pub outward : slice_get p.connections connection ≡ Some c
+  pub inward : slice_get s.connections connection ≡ Some d
+
+-- The link. On each connection, what one end took begins what the other pushed, both ways.
+pub record IsJoined (p : PrimaryHistory) (s : SecondaryHistory) : Type 0 where
+  pub connections : length p.connections ≡ length s.connections
+  pub out : (k : ℕ) (c : Outward) (d : Inward) → AreEnds p s k c d → IsBeginning d.taken (map (λ packet. Ok packet) (take c.pushed (frames_due p.settings c)))
+  pub back : (k : ℕ) (c : Outward) (d : Inward) → AreEnds p s k c d → IsBeginning c.taken (map (λ packet. Ok packet) (take d.pushed (answers_due s.settings d)))
+
+-- First clause: what the secondary took on each connection is a beginning of what the primary sent, and that of a lawful
+-- stream; each write has one place.
+pub record TakesABeginning (p : PrimaryHistory) (s : SecondaryHistory) : Type 0 where
+  pub taken : (k : ℕ) (c : Outward) (d : Inward) → AreEnds p s k c d → IsBeginning (items_taken d) (take (items_sent c) c.stream)
+  pub lawful : (k : ℕ) (c : Outward) → slice_get p.connections k ≡ Some c → IsLawful p.settings.max_epoch c.stream
+  pub once : (k l place other : ℕ) (c d : Outward) (a b : Write) → slice_get p.connections k ≡ Some c → slice_get p.connections l ≡ Some d
+      → slice_get c.stream place ≡ Some (WriteItem a) → slice_get d.stream other ≡ Some (WriteItem b) → a.number ≡ b.number → (k ≡ l) × (place ≡ other)
+
+-- A closed end stays as it is: the primary's connection as a whole, the secondary's but for what is still applied.
+pub record StaysClosed (p later : PrimaryHistory) : Type 0 where
+  pub same : (k : ℕ) (c : Outward) → slice_get p.connections k ≡ Some c → c.closed ≡ true → slice_get later.connections k ≡ Some c
+
+pub record StaysClosedToo (s later : SecondaryHistory) : Type 0 where
+  pub same : (k : ℕ) (c : Inward) → slice_get s.connections k ≡ Some c → c.closed ≡ true
+      → (d : Inward) × (slice_get later.connections k ≡ Some d) × (d.taken ≡ c.taken) × (d.pushed ≡ c.pushed) × (d.due ≡ c.due) × (d.closed ≡ true)
+
+-- Second clause: the secondary's disk holds every write of earlier epochs and part of one. On each connection the part
+-- applied is closed at some epoch and was taken, and it lies over what the disk held when the connection opened.
+pub record HoldsEarlierEpochs (s : SecondaryHistory) : Type 0 where
+  pub closed_at : (k : ℕ) (d : Inward) → slice_get s.connections k ≡ Some d → (epoch : ℕ) × IsClosedAt epoch (items_taken d) d.applied
+  pub taken : (k place offset : ℕ) (d : Inward) → slice_get s.connections k ≡ Some d → is_in d.applied place offset ≡ true → place < length (items_taken d)
+  pub goes_on : (k block : ℕ) (d e : Inward) → slice_get s.connections k ≡ Some d → slice_get s.connections (suc k) ≡ Some e → e.base block ≡ map_of d block
+  pub begins : (block : ℕ) (d : Inward) → slice_get s.connections 0 ≡ Some d → d.base block ≡ s.opening_map block
+
+-- What a completion over the link promises: under A its place was sent, under B it was taken by the secondary, under C all
+-- of it is on the secondary's disk (DRBD User's Guide, "Replication modes").
+abbrev pub Promise : Protocol → Outward → Inward → Write → ℕ → Type 0
+Promise protocol.A c d write place = place < items_sent c
+Promise protocol.B c d write place = place < length (items_taken d)
+Promise protocol.C c d write place = is_whole d.applied place (WriteItem write) ≡ true
+
+-- Third clause: every write that was completed over the link has what its protocol promises.
+pub record KeepsPromises (p : PrimaryHistory) (s : SecondaryHistory) : Type 0 where
+  pub promised : (n k place : ℕ) (entry : Completion) (c : Outward) (d : Inward) → slice_get p.journal n ≡ Some entry → entry.kind ≡ Linked → entry.home ≡ Some (k, place)
+      → AreEnds p s k c d → Promise p.settings.protocol c d entry.write place
+  pub home : (n : ℕ) (entry : Completion) → slice_get p.journal n ≡ Some entry → entry.kind ≡ Linked
+      → (k : ℕ) × (place : ℕ) × (c : Outward) × (entry.home ≡ Some (k, place)) × (slice_get p.connections k ≡ Some c) × (slice_get c.stream place ≡ Some (WriteItem entry.write))
+
+-- A block of the device is marked. Past its end nothing is.
+abbrev pub is_marked : PrimaryHistory → ℕ → Bool
+is_marked p block = nat_lt block p.settings.blocks && p.marks block
+
+-- These marks cover two disks: every block on which they differ is marked.
+abbrev pub Cover : (ℕ → Bool) → BlockMap → BlockMap → Type 0
+Cover marks local peer = (block : ℕ) → same_block (local block) (peer block) ≡ false → marks block ≡ true
+
+abbrev pub opening_marked : PrimaryHistory → ℕ → Bool
+opening_marked p block = nat_lt block p.settings.blocks && p.opening_marks block
+
+-- Grounded: a stream has begun, or the opening marks cover the opening disks.
+abbrev pub IsGrounded : PrimaryHistory → SecondaryHistory → Type 0
+IsGrounded p s = (list_any (λ c. c.begun) p.connections ≡ true) ⊎ Cover (opening_marked p) p.opening_map s.opening_map
+
+-- Fourth clause: while no stream stands, every block on which the disks differ is marked.
+abbrev pub MarksDifferences : PrimaryHistory → SecondaryHistory → Type 0
+MarksDifferences p s = IsGrounded p s → stands (outward p) ≡ false → Cover (is_marked p) (local_map p) (secondary_map s)
+
+-- Beside them, stream standing or not: it is marked or under an unreleased write, and those lie in as many extents as
+-- there are slots.
+abbrev pub is_covered : PrimaryHistory → ℕ → Bool
+is_covered p block = is_marked p block || list_any (λ accepted. covers accepted.write block) (unreleased p)
+
+pub record CoversDifferences (p : PrimaryHistory) (s : SecondaryHistory) : Type 0 where
+  pub covered : IsGrounded p s → Cover (is_covered p) (local_map p) (secondary_map s)
+  pub active : length (active_extents p) ≤ p.settings.slots
+
+-- the four clauses
+pub record Headline (p : PrimaryHistory) (s : SecondaryHistory) : Type 0 where
+  pub beginning : TakesABeginning p s
+  pub epochs : HoldsEarlierEpochs s
+  pub promises : KeepsPromises p s
+  pub marks : MarksDifferences p s
+
+-- Honest identifiers of an opening: where they say that the disks agree, or agree but for the marks, they do.
+pub record IsHonest (own peer : Tuple) (marks : ℕ → Bool) (local other : BlockMap) : Type 0 where
+  pub own_data : 0 < own.current
+  pub same_current : peer.current ≡ own.current → Cover marks local other
+  pub from_bitmap : 0 < own.bitmap → peer.current ≡ own.bitmap → Cover marks local other

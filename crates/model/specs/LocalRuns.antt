@@ -1,0 +1,60 @@
+-- Runs of one node by itself, for any frames taken and whatever its link answers.
+use Rattle.std.specs.Prelude.{ℕ, Bool, List, [], ◌∷◌, Option}
+use Rattle.model.specs.Frames.{Received}
+use Rattle.model.specs.Primary.{PrimaryHistory}
+use Rattle.model.specs.PrimarySteps.{open_primary, submit, local_done, local_fault, send, resync_next, resync_fault, close_primary, take_completed}
+use Rattle.model.specs.Acknowledgements.{ack_in}
+use Rattle.model.specs.Secondary.{SecondaryHistory}
+use Rattle.model.specs.SecondarySteps.{open_secondary, receive, peer, peer_fault, ack_out, close_secondary}
+
+-- What may happen to a primary. A fault of its disk leaves any offsets new; `room` and the frame are what its link answers,
+-- where no frame says that there is none; `starved` says that a growth of memory is refused.
+pub data PrimaryEvent : Type 0 where
+  Opens : (sync loss : ℕ) (starved : Bool) → PrimaryEvent
+  Submits : (first : ℕ) (contents : List (List ℕ)) (starved : Bool) → PrimaryEvent
+  WritesLocally : (number : ℕ) → PrimaryEvent
+  FailsLocally : (number : ℕ) (offsets : List ℕ) → PrimaryEvent
+  Sends : (room starved : Bool) → PrimaryEvent
+  Takes : (frame : Option Received) (starved : Bool) → PrimaryEvent
+  Resyncs : (starved : Bool) → PrimaryEvent
+  FailsResync : (starved : Bool) → PrimaryEvent
+  Closes : PrimaryEvent
+  Receipts : (number : ℕ) → PrimaryEvent
+
+abbrev pub primary_after : PrimaryEvent → PrimaryHistory → PrimaryHistory
+primary_after (Opens sync loss starved) h = (open_primary sync loss starved h).1
+primary_after (Submits first contents starved) h = (submit first contents starved h).1
+primary_after (WritesLocally number) h = (local_done number h).1
+primary_after (FailsLocally number offsets) h = (local_fault number offsets h).1
+primary_after (Sends room starved) h = (send room starved h).1
+primary_after (Takes frame starved) h = (ack_in frame starved h).1
+primary_after (Resyncs starved) h = (resync_next starved h).1
+primary_after (FailsResync starved) h = (resync_fault starved h).1
+primary_after Closes h = (close_primary h).1
+primary_after (Receipts number) h = (take_completed number h).1
+
+-- the history that these events lead to, the first of them first
+abbrev pub primary_run : List PrimaryEvent → PrimaryHistory → PrimaryHistory
+primary_run [] h = h
+primary_run (event ∷ events) h = primary_run events (primary_after event h)
+
+-- What may happen to a secondary.
+pub data SecondaryEvent : Type 0 where
+  OpensToo : SecondaryEvent
+  Receives : (frame : Option Received) (starved : Bool) → SecondaryEvent
+  Applies : (place : ℕ) → SecondaryEvent
+  FailsToApply : (place : ℕ) (offsets : List ℕ) → SecondaryEvent
+  Acknowledges : (room starved : Bool) → SecondaryEvent
+  ClosesToo : SecondaryEvent
+
+abbrev pub secondary_after : SecondaryEvent → SecondaryHistory → SecondaryHistory
+secondary_after OpensToo h = (open_secondary h).1
+secondary_after (Receives frame starved) h = (receive frame starved h).1
+secondary_after (Applies place) h = (peer place h).1
+secondary_after (FailsToApply place offsets) h = (peer_fault place offsets h).1
+secondary_after (Acknowledges room starved) h = (ack_out room starved h).1
+secondary_after ClosesToo h = (close_secondary h).1
+
+abbrev pub secondary_run : List SecondaryEvent → SecondaryHistory → SecondaryHistory
+secondary_run [] h = h
+secondary_run (event ∷ events) h = secondary_run events (secondary_after event h)

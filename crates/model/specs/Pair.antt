@@ -1,0 +1,154 @@
+-- A pair: the two histories and the link between them, its fourteen events, and runs over lists of them.
+use Rattle.std.specs.Prelude.{ℕ, ◌-◌, nat_lt, ◌==◌, Bool, true, false, ◌&&◌, not, List, [], ◌∷◌, ◌++◌, length, take, map, filter, Option, Some, None, slice_get, option_map, Ok}
+use Rattle.blocks.specs.declared.tuple.Tuple.{Tuple}
+use Rattle.blocks.specs.declared.settings.Settings.{Settings}
+use Rattle.blocks.specs.declared.refusal.Refusal.TheVariants.{BadRange, UnknownJob, NotDrained}
+use Rattle.blocks.specs.declared.outcome.Reply.{Reply}
+use Rattle.blocks.specs.declared.outcome.Reply.TheVariants as reply
+use Rattle.model.specs.Contents.{BlockMap}
+use Rattle.model.specs.Stream.{contents_of, below}
+use Rattle.model.specs.Frames.{Packet, Received}
+use Rattle.model.specs.Refusals.{Test, first_refusal}
+use Rattle.model.specs.Primary.{PrimaryHistory, primary_opening, outward, frames_due, local_map}
+use Rattle.model.specs.PrimarySteps.{open_tests, open_primary, submit, local_done, local_fault, is_unfinished, accepted_at, send, resync_next, resync_fault, close_primary}
+use Rattle.model.specs.Acknowledgements.{ack_in}
+use Rattle.model.specs.Secondary.{SecondaryHistory, secondary_opening, inward, is_drained, items_taken, secondary_map, answers_due}
+use Rattle.model.specs.SecondarySteps.{open_secondary, receive, peer, peer_fault, peer_tests, ack_out, close_secondary}
+
+-- what may happen to a pair
+pub data Event : Type 0 where
+  OpenEvent : (sync loss : ℕ) → Event
+  SubmitEvent : (first : ℕ) (contents : List (List ℕ)) → Event
+  LocalEvent : (number : ℕ) → Event
+  LocalFaultEvent : (number kept : ℕ) → Event
+  SendEvent : Event
+  ReceiveEvent : Event
+  PeerEvent : (place : ℕ) → Event
+  PeerFaultEvent : (place kept : ℕ) → Event
+  AckOutEvent : Event
+  AckInEvent : Event
+  ResyncEvent : Event
+  ResyncFaultEvent : Event
+  ClosePrimaryEvent : Event
+  CloseSecondaryEvent : Event
+
+pub record PairHistory : Type 0 where
+  pub primary : PrimaryHistory
+  pub secondary : SecondaryHistory
+
+-- an opening of a pair from its parts
+abbrev pub pair_opening : Settings → BlockMap → BlockMap → Tuple → Tuple → (ℕ → Bool) → PairHistory
+pair_opening settings local peer own peer_tuple marks =
+    record { primary = primary_opening settings local own marks; secondary = secondary_opening settings peer peer_tuple }
+
+-- The link. Both ends opened together, so their last connections are the two ends of one link.
+
+-- the frames that an end has pushed: the first so many of those that it owes
+abbrev pub pushed_frames : PairHistory → List Packet
+pushed_frames h = let c = outward h.primary in take c.pushed (frames_due h.primary.settings c)
+
+abbrev pub pushed_answers : PairHistory → List Packet
+pushed_answers h = let c = inward h.secondary in take c.pushed (answers_due h.secondary.settings c)
+
+-- The next frame that the other end takes, as the other end reads it: the frames are honest, so it is the packet.
+abbrev pub next_frame : PairHistory → Option Received
+next_frame h = option_map (λ packet. Ok packet) (slice_get (pushed_frames h) (length (inward h.secondary).taken))
+
+abbrev pub next_answer : PairHistory → Option Received
+next_answer h = option_map (λ packet. Ok packet) (slice_get (pushed_answers h) (length (outward h.primary).taken))
+
+-- A direction has room while fewer than `link` of its frames are pushed and not taken.
+abbrev pub has_room : PairHistory → Bool
+has_room h = nat_lt ((outward h.primary).pushed - length (inward h.secondary).taken) h.primary.settings.link
+
+abbrev pub answers_have_room : PairHistory → Bool
+answers_have_room h = nat_lt ((inward h.secondary).pushed - length (outward h.primary).taken) h.secondary.settings.link
+
+-- Steps.
+
+abbrev pub on_primary : (PrimaryHistory → Reply × PrimaryHistory) → PairHistory → Reply × PairHistory
+on_primary step h = let done = step h.primary in (done.0, record h { primary = done.1 })
+
+abbrev pub on_secondary : (SecondaryHistory → Reply × SecondaryHistory) → PairHistory → Reply × PairHistory
+on_secondary step h = let done = step h.secondary in (done.0, record h { secondary = done.1 })
+
+-- the answers of both ends must be closed, and the secondary drained, before the primary's own tests
+abbrev pub open_pair_tests : PairHistory → ℕ → ℕ → Bool → List Test
+open_pair_tests h sync loss starved =
+    (not ((inward h.secondary).closed && is_drained h.secondary), NotDrained) ∷ open_tests h.primary sync loss starved
+
+abbrev pub open_pair : ℕ → ℕ → Bool → PairHistory → Reply × PairHistory
+open_pair sync loss starved h = elim (first_refusal (open_pair_tests h sync loss starved)) [
+  | Some refusal ↦ (reply.Refused refusal, h)
+  | None ↦ let primary = open_primary sync loss starved h.primary in (primary.0, record { primary = primary.1; secondary = (open_secondary h.secondary).1 })
+]
+
+-- A fault with more blocks kept than the write has is refused 1, after the other tests.
+abbrev pub keeps_too_many : ℕ → Option ℕ → Bool
+keeps_too_many kept None = false
+keeps_too_many kept (Some count) = nat_lt count kept
+
+abbrev pub local_fault_kept : ℕ → ℕ → PrimaryHistory → Reply × PrimaryHistory
+local_fault_kept number kept h =
+    elim (first_refusal ((not (is_unfinished h number), UnknownJob) ∷ (keeps_too_many kept (option_map (λ accepted. length accepted.write.contents) (accepted_at h number)), BadRange) ∷ [])) [
+      | Some refusal ↦ (reply.Refused refusal, h)
+      | None ↦ local_fault number (below kept) h
+    ]
+
+abbrev pub peer_fault_kept : ℕ → ℕ → SecondaryHistory → Reply × SecondaryHistory
+peer_fault_kept place kept h =
+    elim (first_refusal (peer_tests h place ++ (keeps_too_many kept (option_map (λ item. length (contents_of item)) (slice_get (items_taken (inward h)) place)), BadRange) ∷ [])) [
+      | Some refusal ↦ (reply.Refused refusal, h)
+      | None ↦ peer_fault place (below kept) h
+    ]
+
+-- One event. `starved` says that its growth of memory is refused, which an event that needs none does not see.
+abbrev pub step : Event → Bool → PairHistory → Reply × PairHistory
+step (OpenEvent sync loss) starved h = open_pair sync loss starved h
+step (SubmitEvent first contents) starved h = on_primary (submit first contents starved) h
+step (LocalEvent number) starved h = on_primary (local_done number) h
+step (LocalFaultEvent number kept) starved h = on_primary (local_fault_kept number kept) h
+step SendEvent starved h = on_primary (send (has_room h) starved) h
+step ReceiveEvent starved h = on_secondary (receive (next_frame h) starved) h
+step (PeerEvent place) starved h = on_secondary (peer place) h
+step (PeerFaultEvent place kept) starved h = on_secondary (peer_fault_kept place kept) h
+step AckOutEvent starved h = on_secondary (ack_out (answers_have_room h) starved) h
+step AckInEvent starved h = on_primary (ack_in (next_answer h) starved) h
+step ResyncEvent starved h = on_primary (resync_next starved) h
+step ResyncFaultEvent starved h = on_primary (resync_fault starved) h
+step ClosePrimaryEvent starved h = on_primary close_primary h
+step CloseSecondaryEvent starved h = on_secondary close_secondary h
+
+-- A run: events one after another, each with whether it is starved; the replies, and the history in the end.
+abbrev pub run : List (Event × Bool) → PairHistory → List Reply × PairHistory
+run [] h = ([], h)
+run (event ∷ events) h = let done = step event.0 event.1 h in let rest = run events done.1 in (done.0 ∷ rest.0, rest.1)
+
+-- a run with ample memory
+abbrev pub run_fed : List Event → PairHistory → List Reply × PairHistory
+run_fed events h = run (map (λ event. (event, false)) events) h
+
+-- What is asked of a pair.
+
+-- whether the two disks differ in a block, where a block that only one of them has counts as differing
+abbrev pub same_bytes : List ℕ → List ℕ → Bool
+same_bytes [] [] = true
+same_bytes (x ∷ xs) (y ∷ ys) = (x == y) && same_bytes xs ys
+same_bytes _ _ = false
+
+abbrev pub same_block : Option (List ℕ) → Option (List ℕ) → Bool
+same_block None None = true
+same_block (Some a) (Some b) = same_bytes a b
+same_block _ _ = false
+
+abbrev pub differs : PairHistory → ℕ → Bool
+differs h block = not (same_block (local_map h.primary block) (secondary_map h.secondary block))
+
+abbrev pub differing : PairHistory → List ℕ
+differing h = filter (differs h) (below h.primary.settings.blocks)
+
+abbrev pub marked : PairHistory → List ℕ
+marked h = filter h.primary.marks (below h.primary.settings.blocks)
+
+abbrev pub tuples : PairHistory → Tuple × Tuple
+tuples h = (h.primary.tuple, h.secondary.tuple)

@@ -1,0 +1,284 @@
+-- The history of a primary, and what is read off it.
+use Rattle.std.specs.Prelude.{ℕ, ◌-◌, nat_lt, ◌==◌, Bool, true, false, ◌&&◌, ◌||◌, not, if◌then◌else◌, List, [], ◌∷◌, ◌++◌, length, take, map, filter, find, Option, Some, None, slice_get, Ok}
+use Rattle.std.specs.List.{list_any}
+use Rattle.blocks.specs.declared.tuple.Tuple.{Tuple}
+use Rattle.blocks.specs.declared.settings.Settings.{Settings}
+use Rattle.blocks.specs.declared.settings.Protocol.{Protocol}
+use Rattle.blocks.specs.declared.settings.Protocol.TheVariants as protocol
+use Rattle.model.specs.Contents.{BlockMap, Write, covers, Layer, overlay, extent_of}
+use Rattle.model.specs.Stream.{Item, WriteItem, ResyncItem, SyncUuidItem, UuidsItem, epoch_of, placed, below}
+use Rattle.model.specs.Frames.{Packet, RecvAckFrame, WriteAckFrame, RsWriteAckFrame, BarrierAckFrame, Acknowledged, Received, hello_of, frames_of, naming}
+
+-- What the local disk did with a write: nothing yet, all of it, or it failed and these offsets reached the disk.
+pub data LocalOutcome : Type 0 where
+  Waiting : LocalOutcome
+  OnDisk : LocalOutcome
+  Failed : (offsets : List ℕ) → LocalOutcome
+
+-- An accepted write: how long the journal was when it was accepted, its home (the number of the connection and the place
+-- in its stream) or none, and what the local disk did with it.
+pub record Accepted : Type 0 where
+  pub write : Write
+  pub journal_length : ℕ
+  pub home : Option (ℕ × ℕ)
+  pub outcome : LocalOutcome
+
+-- How a write was completed: over the link, or without it.
+pub data Kind : Type 0 where
+  Linked : Kind
+  Alone : Kind
+
+-- an entry of the journal of completions
+pub record Completion : Type 0 where
+  pub write : Write
+  pub kind : Kind
+  pub home : Option (ℕ × ℕ)
+
+-- One connection at the primary's end: its two words, the tuple that its hello names, its stream, how many frames were
+-- pushed, those that were taken, whether the last of them was refused as a protocol error, whether the stream has begun,
+-- and whether the end is closed.
+pub record Outward : Type 0 where
+  pub sync : ℕ
+  pub loss : ℕ
+  pub hello : Tuple
+  pub stream : List Item
+  pub pushed : ℕ
+  pub taken : List Received
+  pub refused : Bool
+  pub begun : Bool
+  pub closed : Bool
+
+-- The primary's history. Connections stand oldest first, writes by rising number.
+pub record PrimaryHistory : Type 0 where
+  pub settings : Settings
+  pub opening_map : BlockMap
+  pub opening_tuple : Tuple
+  pub opening_marks : ℕ → Bool
+  pub writes : List Accepted
+  pub marks : ℕ → Bool
+  pub journal : List Completion
+  pub receipts : List ℕ
+  pub tuple : Tuple
+  pub peer : Option Tuple
+  pub connections : List Outward
+
+-- an opening: nothing has happened yet
+abbrev pub primary_opening : Settings → BlockMap → Tuple → (ℕ → Bool) → PrimaryHistory
+primary_opening settings disk tuple marks = record {
+  settings = settings;
+  opening_map = disk;
+  opening_tuple = tuple;
+  opening_marks = marks;
+  writes = [];
+  marks = marks;
+  journal = [];
+  receipts = [];
+  tuple = tuple;
+  peer = None;
+  connections = [];
+}
+
+-- The last connection, or a closed one where there was none.
+abbrev pub no_outward : Tuple → Outward
+no_outward t = record { sync = 0; loss = 0; hello = t; stream = []; pushed = 0; taken = []; refused = false; begun = false; closed = true }
+
+abbrev pub last_of : {X : Type 0} → X → List X → X
+last_of none [] = none
+last_of none (x ∷ xs) = last_of x xs
+
+abbrev pub outward : PrimaryHistory → Outward
+outward h = last_of (no_outward h.tuple) h.connections
+
+-- the number of the last connection, from 0
+abbrev pub last_index : {X : Type 0} → List X → ℕ
+last_index xs = length xs - 1
+
+-- a list with its last element changed
+abbrev pub change_last : {X : Type 0} → (X → X) → List X → List X
+change_last f [] = []
+change_last f (x ∷ []) = f x ∷ []
+change_last f (x ∷ y ∷ xs) = x ∷ change_last f (y ∷ xs)
+
+abbrev pub with_outward : (Outward → Outward) → PrimaryHistory → PrimaryHistory
+with_outward f h = record h { connections = change_last f h.connections }
+
+-- A stream stands while the end is open and its stream has begun.
+abbrev pub stands : Outward → Bool
+stands c = not c.closed && c.begun
+
+-- Frames.
+
+-- all frames that the end owes: its hello, and then its stream
+abbrev pub frames_due : Settings → Outward → List Packet
+frames_due settings c = hello_of settings c.hello ++ frames_of c.stream
+
+abbrev pub items_sent : Outward → ℕ
+items_sent c = c.pushed - 3
+
+-- The frames taken that count: a frame that was refused answers nothing.
+abbrev pub accepted_frames : Outward → List Received
+accepted_frames c = if c.refused then take (length c.taken - 1) c.taken else c.taken
+
+-- Acknowledgements.
+
+abbrev pub same_naming : Acknowledged → Acknowledged → Bool
+same_naming a b = ((a.first == b.first) && (a.number == b.number)) && ((a.count == b.count) && (a.place == b.place))
+
+abbrev pub is_recv_ack : Acknowledged → Received → Bool
+is_recv_ack of (Ok (RecvAckFrame ack)) = same_naming of ack
+is_recv_ack of _ = false
+
+abbrev pub is_write_ack : Acknowledged → Received → Bool
+is_write_ack of (Ok (WriteAckFrame ack)) = same_naming of ack
+is_write_ack of _ = false
+
+abbrev pub is_rs_write_ack : Acknowledged → Received → Bool
+is_rs_write_ack of (Ok (RsWriteAckFrame ack)) = same_naming of ack
+is_rs_write_ack of _ = false
+
+abbrev pub is_barrier_ack : ℕ → Received → Bool
+is_barrier_ack epoch (Ok (BarrierAckFrame number size)) = number == epoch
+is_barrier_ack epoch _ = false
+
+abbrev pub was_received : Outward → ℕ → Item → Bool
+was_received c place item = list_any (is_recv_ack (naming place item)) (accepted_frames c)
+
+abbrev pub was_written : Outward → ℕ → Item → Bool
+was_written c place item = list_any (is_write_ack (naming place item)) (accepted_frames c)
+
+abbrev pub was_resynced : Outward → ℕ → Item → Bool
+was_resynced c place item = list_any (is_rs_write_ack (naming place item)) (accepted_frames c)
+
+abbrev pub barrier_acknowledged : Outward → ℕ → Bool
+barrier_acknowledged c epoch = list_any (is_barrier_ack epoch) (accepted_frames c)
+
+-- The write at a place is answered: under A once it was sent, under B once the peer has received it, under C once it is
+-- on the peer's disk (DRBD User's Guide, "Replication modes").
+abbrev pub is_answered_by : Protocol → Outward → ℕ → Item → Bool
+is_answered_by protocol.A c place item = nat_lt place (items_sent c)
+is_answered_by protocol.B c place item = was_received c place item
+is_answered_by protocol.C c place item = was_written c place item
+
+-- the write's connection and its item there, where it has a home
+abbrev pub is_answered : PrimaryHistory → Accepted → Bool
+is_answered h accepted = elim accepted.home [
+  | None ↦ false
+  | Some home ↦ elim (slice_get h.connections home.0) [
+    | None ↦ false
+    | Some c ↦ is_answered_by h.settings.protocol c home.1 (WriteItem accepted.write)
+  ]
+]
+
+-- Without a connection: accepted while no stream stood, or the primary has closed that connection.
+abbrev pub is_alone : PrimaryHistory → Accepted → Bool
+is_alone h accepted = elim accepted.home [
+  | None ↦ true
+  | Some home ↦ elim (slice_get h.connections home.0) [ None ↦ true | Some c ↦ c.closed ]
+]
+
+-- The states of a write, read off.
+
+abbrev pub is_on_disk : LocalOutcome → Bool
+is_on_disk Waiting = false
+is_on_disk OnDisk = true
+is_on_disk (Failed offsets) = false
+
+abbrev pub is_failed : LocalOutcome → Bool
+is_failed Waiting = false
+is_failed OnDisk = false
+is_failed (Failed offsets) = true
+
+abbrev pub is_waiting : LocalOutcome → Bool
+is_waiting Waiting = true
+is_waiting OnDisk = false
+is_waiting (Failed offsets) = false
+
+abbrev pub is_completed : PrimaryHistory → ℕ → Bool
+is_completed h number = list_any (λ entry. entry.write.number == number) h.journal
+
+-- open: neither completed nor failed
+abbrev pub is_open : PrimaryHistory → Accepted → Bool
+is_open h accepted = not (is_completed h accepted.write.number) && not (is_failed accepted.outcome)
+
+-- it is to be completed now: its local write is done, and it is answered or without a connection
+abbrev pub completes : PrimaryHistory → Accepted → Bool
+completes h accepted = is_on_disk accepted.outcome && (is_answered h accepted || is_alone h accepted)
+
+-- the epoch of a write with a home
+abbrev pub home_epoch : PrimaryHistory → ℕ × ℕ → ℕ
+home_epoch h home = elim (slice_get h.connections home.0) [ None ↦ 0 | Some c ↦ epoch_of c.stream home.1 ]
+
+-- its epoch's BARRIER_ACK was taken
+abbrev pub is_confirmed : PrimaryHistory → Accepted → Bool
+is_confirmed h accepted = elim accepted.home [
+  | None ↦ false
+  | Some home ↦ elim (slice_get h.connections home.0) [ None ↦ false | Some c ↦ barrier_acknowledged c (epoch_of c.stream home.1) ]
+]
+
+-- Released: its local write is done or failed, and its epoch is acknowledged or it is without a connection.
+abbrev pub is_released : PrimaryHistory → Accepted → Bool
+is_released h accepted = not (is_waiting accepted.outcome) && (is_confirmed h accepted || is_alone h accepted)
+
+-- the transfer log: what is not released
+abbrev pub unreleased : PrimaryHistory → List Accepted
+unreleased h = filter (λ accepted. not (is_released h accepted)) h.writes
+
+abbrev pub open_writes : PrimaryHistory → List Accepted
+open_writes h = filter (is_open h) h.writes
+
+-- The local disk: the accepted writes, as far as they reached it, over the opening contents.
+abbrev pub offset_reached : LocalOutcome → ℕ → Bool
+offset_reached Waiting offset = false
+offset_reached OnDisk offset = true
+offset_reached (Failed offsets) offset = list_any (λ k. k == offset) offsets
+
+abbrev pub local_layer : Accepted → Layer
+local_layer accepted = record { first = accepted.write.first; contents = accepted.write.contents; laid = offset_reached accepted.outcome }
+
+abbrev pub local_map : PrimaryHistory → BlockMap
+local_map h = overlay h.opening_map (map local_layer h.writes)
+
+-- The extents with an unreleased write, each once (DRBD User's Guide, "The activity log").
+abbrev pub insert_once : ℕ → List ℕ → List ℕ
+insert_once n ns = if list_any (λ m. m == n) ns then ns else n ∷ ns
+
+abbrev pub active_extents_of : List Accepted → List ℕ
+active_extents_of [] = []
+active_extents_of (accepted ∷ rest) = insert_once (extent_of accepted.write.first) (active_extents_of rest)
+
+abbrev pub active_extents : PrimaryHistory → List ℕ
+active_extents h = active_extents_of (unreleased h)
+
+-- Resync.
+
+abbrev pub is_sync_start : Item → Bool
+is_sync_start (SyncUuidItem word) = true
+is_sync_start _ = false
+
+abbrev pub is_sync_end : Item → Bool
+is_sync_end (UuidsItem tuple) = true
+is_sync_end _ = false
+
+abbrev pub is_resync : Item → Bool
+is_resync (ResyncItem block contents) = true
+is_resync _ = false
+
+-- A stream is in a resync once it has its SYNC_UUID and until it has its closing UUIDS.
+abbrev pub in_resync : List Item → Bool
+in_resync items = list_any is_sync_start items && not (list_any is_sync_end items)
+
+-- a resync runs at the source
+abbrev pub resync_runs : Outward → Bool
+resync_runs c = stands c && in_resync c.stream
+
+-- the items of the resync that the peer has not acknowledged
+abbrev pub under_way : Outward → List (ℕ × Item)
+under_way c = filter (λ entry. is_resync entry.1 && not (was_resynced c entry.0 entry.1)) (placed c.stream)
+
+-- the marked blocks of the device, rising
+abbrev pub marked_blocks : PrimaryHistory → List ℕ
+marked_blocks h = filter h.marks (below h.settings.blocks)
+
+-- the lowest marked block that no open write has
+abbrev pub free_block : PrimaryHistory → Option ℕ
+free_block h = find (λ block. not (list_any (λ accepted. covers accepted.write block) (open_writes h))) (marked_blocks h)

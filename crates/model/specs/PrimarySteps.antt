@@ -1,0 +1,231 @@
+-- The local steps of a primary: for each event its tests in order, its effect, and what follows in the same step.
+use Rattle.std.specs.Prelude.{ℕ, suc, ◌-◌, nat_lt, nat_le, ◌==◌, Bool, true, false, ◌&&◌, ◌||◌, not, if◌then◌else◌, List, [], ◌∷◌, ◌++◌, length, map, filter, find, Option, Some, None, is_some, is_none, slice_get, unwrap_or, Result, Ok, Err}
+use Rattle.std.specs.List.{list_any}
+use Rattle.blocks.specs.declared.tuple.Tuple.{Tuple}
+use Rattle.blocks.specs.declared.refusal.Refusal.{Refusal}
+use Rattle.blocks.specs.declared.refusal.Refusal.TheVariants.{BadRange, Conflict, LogFull, ActivityFull, JournalFull, StreamFull, NoMemory, LocalFault, NotCompleted, NothingToDo, LinkFull, NotConnected, NothingThere, ReadFault, UnknownJob, UsedIdentifier, NotDrained}
+use Rattle.blocks.specs.declared.outcome.What.{What}
+use Rattle.blocks.specs.declared.outcome.What.TheVariants as what
+use Rattle.blocks.specs.declared.outcome.Reply.{Reply}
+use Rattle.blocks.specs.declared.outcome.Reply.TheVariants as reply
+use Rattle.model.specs.Contents.{Write, covers, overlap, is_range, extent_of}
+use Rattle.model.specs.Stream.{Item, WriteItem, ResyncItem, BarrierItem, UuidsItem, is_write, last_epoch, epoch_size, items_of_epoch}
+use Rattle.model.specs.Frames.{command_of, naming}
+use Rattle.model.specs.Identifiers.{are_fresh, lost, sync_end}
+use Rattle.model.specs.Refusals.{Test, first_refusal}
+use Rattle.model.specs.Primary.{LocalOutcome, Waiting, OnDisk, Failed, Accepted, Linked, Alone, Completion, Outward, PrimaryHistory, outward, last_index, with_outward, stands, frames_due, was_resynced, is_answered, is_waiting, is_open, completes, unreleased, open_writes, local_map, active_extents, is_resync, resync_runs, under_way, marked_blocks, free_block}
+use Rattle.model.specs.Marks.{marking, marking_unreleased}
+
+-- What follows an effect in the same step.
+
+-- A step's outcome: the history, the numbers that were completed, the barrier that was appended, whether a resync ended.
+pub record Followed : Type 0 where
+  pub history : PrimaryHistory
+  pub completed : List ℕ
+  pub barrier : Option ℕ
+  pub synced : Bool
+
+abbrev pub newly_completed : PrimaryHistory → List Accepted
+newly_completed h = filter (λ accepted. is_open h accepted && completes h accepted) h.writes
+
+abbrev pub completion_of : PrimaryHistory → Accepted → Completion
+completion_of h accepted = record { write = accepted.write; kind = if is_answered h accepted then Linked else Alone; home = accepted.home }
+
+-- The journal gets what is completed now, by rising number.
+abbrev pub with_completions : PrimaryHistory → PrimaryHistory
+with_completions h = record h { journal = h.journal ++ map (completion_of h) (newly_completed h) }
+
+-- a write that is completed or failed, or a resync item that is acknowledged
+abbrev pub is_settled : PrimaryHistory → Outward → ℕ × Item → Bool
+is_settled h c entry =
+    list_any (λ accepted. (is_write entry.1 && (naming entry.0 (WriteItem accepted.write)).number == (naming entry.0 entry.1).number) && not (is_open h accepted)) h.writes
+    || (is_resync entry.1 && was_resynced c entry.0 entry.1)
+
+-- The last epoch is over: one of its items is settled, or it has as many writes as may be.
+abbrev pub epoch_is_over : PrimaryHistory → Bool
+epoch_is_over h =
+    let c = outward h in
+    stands c && (list_any (is_settled h c) (items_of_epoch c.stream (last_epoch c.stream)) || nat_le h.settings.max_epoch (epoch_size c.stream (last_epoch c.stream)))
+
+abbrev pub appending : Item → PrimaryHistory → PrimaryHistory
+appending item h = with_outward (λ c. record c { stream = c.stream ++ item ∷ [] }) h
+
+-- A running resync is over: no block is marked, and none is under way.
+abbrev pub resync_is_over : PrimaryHistory → Bool
+resync_is_over h = elim (resync_runs (outward h)) [
+  | false ↦ false
+  | true ↦ (length (marked_blocks h) == 0) && (length (under_way (outward h)) == 0)
+]
+
+-- the end of a resync at its source
+abbrev pub ending_resync : PrimaryHistory → PrimaryHistory
+ending_resync h = appending (UuidsItem (sync_end h.tuple)) (record h { tuple = sync_end h.tuple })
+
+-- First the journal, then the barrier, then the end of the resync.
+abbrev pub follows : PrimaryHistory → Followed
+follows h =
+    let completed = with_completions h in
+    let numbers = map (λ accepted. accepted.write.number) (newly_completed h) in
+    let epoch = last_epoch (outward completed).stream in
+    let over = epoch_is_over completed in
+    let parted : PrimaryHistory = elim over [ true ↦ appending (BarrierItem epoch) completed | false ↦ completed ] in
+    elim (resync_is_over parted) [
+      | true ↦ record { history = ending_resync parted; completed = numbers; barrier = if over then Some epoch else None; synced = true }
+      | false ↦ record { history = parted; completed = numbers; barrier = if over then Some epoch else None; synced = false }
+    ]
+
+-- A step that was done: its report and its history.
+abbrev pub succeeding : What → PrimaryHistory → Reply × PrimaryHistory
+succeeding done h =
+    let after = follows h in
+    (reply.Ok (record { what = done; completed = slice_get after.completed 0; barrier = after.barrier; synced = after.synced }), after.history)
+
+-- A step that its tests refuse leaves the history; otherwise it is what the second argument says.
+abbrev pub tested : PrimaryHistory → List Test → (Unit {0} → Reply × PrimaryHistory) → Reply × PrimaryHistory
+tested h tests done = elim (first_refusal tests) [ Some refusal ↦ (reply.Refused refusal, h) | None ↦ done tt ]
+
+-- Open.
+
+abbrev pub known_tuples : PrimaryHistory → List Tuple
+known_tuples h = elim h.peer [ None ↦ h.tuple ∷ [] | Some peer ↦ h.tuple ∷ peer ∷ [] ]
+
+abbrev pub open_tests : PrimaryHistory → ℕ → ℕ → Bool → List Test
+open_tests h sync loss starved =
+    (not (outward h).closed, NotDrained) ∷ (not (are_fresh sync loss (known_tuples h)), UsedIdentifier)
+    ∷ (nat_le 4294967295 (length h.connections), StreamFull) ∷ (starved, NoMemory) ∷ []
+
+abbrev pub opened : PrimaryHistory → ℕ → ℕ → PrimaryHistory
+opened h sync loss =
+    record h { connections = h.connections ++ record { sync = sync; loss = loss; hello = h.tuple; stream = []; pushed = 0; taken = []; refused = false; begun = false; closed = false } ∷ [] }
+
+abbrev pub open_primary : ℕ → ℕ → Bool → PrimaryHistory → Reply × PrimaryHistory
+open_primary sync loss starved h = tested h (open_tests h sync loss starved) (λ _. succeeding what.Nothing (opened h sync loss))
+
+-- Submit.
+
+-- The lowest open write that shares a block with the range, where 0 stands for the block that a resync has under way.
+abbrev pub conflict : PrimaryHistory → Write → Option ℕ
+conflict h write =
+    if list_any (λ entry. elim entry.1 as (λ _. Bool) [ ResyncItem block contents ↦ covers write block | _ ↦ false ]) (elim (stands (outward h)) [ true ↦ under_way (outward h) | false ↦ [] ])
+    then Some 0 else slice_get (map (λ accepted. accepted.write.number) (filter (λ accepted. overlap accepted.write write) (open_writes h))) 0
+
+-- no slot can be had: the extent has no unreleased write, and as many others have one as there are slots
+abbrev pub activity_is_full : PrimaryHistory → ℕ → Bool
+activity_is_full h extent =
+    not (list_any (λ active. active == extent) (active_extents h)) && nat_le h.settings.slots (length (active_extents h))
+
+abbrev pub submission : PrimaryHistory → ℕ → List (List ℕ) → Write
+submission h first contents = record { number = suc (length h.writes); first = first; contents = contents }
+
+abbrev pub submit_tests : PrimaryHistory → ℕ → List (List ℕ) → Bool → List Test
+submit_tests h first contents starved =
+    let c = outward h in
+    let met = conflict h (submission h first contents) in
+    (not (is_range h.settings first (length contents)), BadRange) ∷ (not (stands c) && (h.tuple.bitmap == 0), NotConnected)
+    ∷ (nat_le 1048576 (length h.writes), JournalFull) ∷ (nat_le h.settings.backlog (length (unreleased h)), LogFull)
+    ∷ (is_some met, Conflict (unwrap_or met 0)) ∷ (activity_is_full h (extent_of first), ActivityFull)
+    ∷ (stands c && nat_le 4294967288 (length c.stream), StreamFull) ∷ (starved, NoMemory) ∷ []
+
+-- With a stream the write takes its next place; without one its range is marked.
+abbrev pub submitted : PrimaryHistory → ℕ → List (List ℕ) → PrimaryHistory
+submitted h first contents =
+    let write = submission h first contents in
+    let c = outward h in
+    elim (stands c) [
+      | true ↦ appending (WriteItem write) (record h { writes = h.writes ++ record { write = write; journal_length = length h.journal; home = Some (last_index h.connections, length c.stream); outcome = Waiting } ∷ [] })
+      | false ↦ record h { writes = h.writes ++ record { write = write; journal_length = length h.journal; home = None; outcome = Waiting } ∷ []; marks = marking write h.marks }
+    ]
+
+abbrev pub submit : ℕ → List (List ℕ) → Bool → PrimaryHistory → Reply × PrimaryHistory
+submit first contents starved h = tested h (submit_tests h first contents starved) (λ _. succeeding (what.Write (suc (length h.writes))) (submitted h first contents))
+
+-- The local disk.
+
+abbrev pub is_unfinished : PrimaryHistory → ℕ → Bool
+is_unfinished h number = list_any (λ accepted. (accepted.write.number == number) && is_waiting accepted.outcome) h.writes
+
+abbrev pub set_outcome : ℕ → LocalOutcome → Accepted → Accepted
+set_outcome number outcome accepted = if accepted.write.number == number then record accepted { outcome = outcome } else accepted
+
+abbrev pub with_outcome : ℕ → LocalOutcome → PrimaryHistory → PrimaryHistory
+with_outcome number outcome h = record h { writes = map (set_outcome number outcome) h.writes }
+
+abbrev pub local_done : ℕ → PrimaryHistory → Reply × PrimaryHistory
+local_done number h = tested h ((not (is_unfinished h number), UnknownJob) ∷ []) (λ _. succeeding what.Nothing (with_outcome number OnDisk h))
+
+-- the accepted write of a number, if there is one
+abbrev pub accepted_at : PrimaryHistory → ℕ → Option Accepted
+accepted_at h number = find (λ accepted. accepted.write.number == number) h.writes
+
+-- A fault: these offsets reached the disk, and the range is marked.
+abbrev pub faulted : ℕ → List ℕ → PrimaryHistory → PrimaryHistory
+faulted number offsets h = elim (accepted_at h number) [
+  | None ↦ h
+  | Some accepted ↦ with_outcome number (Failed offsets) (record h { marks = marking accepted.write h.marks })
+]
+
+abbrev pub local_fault : ℕ → List ℕ → PrimaryHistory → Reply × PrimaryHistory
+local_fault number offsets h = tested h ((not (is_unfinished h number), UnknownJob) ∷ []) (λ _. succeeding what.Nothing (faulted number offsets h))
+
+-- Send. `room` is what the link answers.
+
+abbrev pub send_tests : PrimaryHistory → Bool → Bool → List Test
+send_tests h room starved =
+    let c = outward h in
+    (c.closed, NotConnected) ∷ (nat_le (length (frames_due h.settings c)) c.pushed, NothingThere) ∷ (starved, NoMemory) ∷ (not room, LinkFull) ∷ []
+
+-- what the next frame is called, with the place of a stream's item
+abbrev pub sending : PrimaryHistory → What
+sending h =
+    let c = outward h in
+    elim (slice_get (frames_due h.settings c) c.pushed) [
+      | None ↦ what.Nothing
+      | Some packet ↦ what.Frame (command_of packet) (if nat_lt c.pushed 3 then None else Some (c.pushed - 3))
+    ]
+
+abbrev pub send : Bool → Bool → PrimaryHistory → Reply × PrimaryHistory
+send room starved h = tested h (send_tests h room starved) (λ _. succeeding (sending h) (with_outward (λ c. record c { pushed = suc c.pushed }) h))
+
+-- Resync.
+
+abbrev pub resync_tests : PrimaryHistory → Bool → List Test
+resync_tests h starved =
+    let c = outward h in
+    (c.closed, NotConnected) ∷ (not (resync_runs c) || (nat_lt 0 (length (under_way c)) || (elim (resync_runs c) [ true ↦ is_none (free_block h) | false ↦ true ])), NothingToDo)
+    ∷ (nat_le 4294967288 (length c.stream), StreamFull) ∷ (starved, NoMemory) ∷ []
+
+-- The lowest free marked block is read and appended in one step, with what the local disk has now.
+abbrev pub resync_next : Bool → PrimaryHistory → Reply × PrimaryHistory
+resync_next starved h = tested h (resync_tests h starved) (λ _. elim (free_block h) [
+  | None ↦ (reply.Refused NothingToDo, h)
+  | Some block ↦ succeeding (what.Block (record { 0 = block }) (length (outward h).stream)) (appending (ResyncItem block (unwrap_or (local_map h block) [])) h)
+])
+
+-- the local disk fails the read
+abbrev pub resync_fault : Bool → PrimaryHistory → Reply × PrimaryHistory
+resync_fault starved h = tested h (resync_tests h starved) (λ _. (reply.Refused ReadFault, h))
+
+-- Close: unreleased writes are marked, the tuple goes by `lost` if the stream had begun, and then there is no connection.
+abbrev pub closing : PrimaryHistory → PrimaryHistory
+closing h =
+    let c = outward h in
+    with_outward (λ c. record c { closed = true }) (record h { marks = marking_unreleased h; tuple = if c.begun then lost c.loss h.tuple else h.tuple })
+
+-- It tells how many writes were completed by it.
+abbrev pub close_primary : PrimaryHistory → Reply × PrimaryHistory
+close_primary h = tested h (((outward h).closed, NotConnected) ∷ []) (λ _. let after = follows (closing h) in (reply.Closed (length after.completed), after.history))
+
+-- Receipts: a completed write's entry, once; 8 for a failed write, once; 9 while it is open.
+abbrev pub take_completed_tests : PrimaryHistory → ℕ → List Test
+take_completed_tests h number =
+    (is_none (accepted_at h number) || list_any (λ taken. taken == number) h.receipts, UnknownJob)
+    ∷ (list_any (λ accepted. (accepted.write.number == number) && is_open h accepted) h.writes, NotCompleted) ∷ []
+
+abbrev pub receipted : ℕ → PrimaryHistory → PrimaryHistory
+receipted number h = record h { receipts = h.receipts ++ number ∷ [] }
+
+abbrev pub take_completed : ℕ → PrimaryHistory → Result Completion Refusal × PrimaryHistory
+take_completed number h = elim (first_refusal (take_completed_tests h number)) [
+  | Some refusal ↦ (Err refusal, h)
+  | None ↦ elim (find (λ entry. entry.write.number == number) h.journal) [ None ↦ (Err LocalFault, receipted number h) | Some entry ↦ (Ok entry, receipted number h) ]
+]

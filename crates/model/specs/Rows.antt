@@ -1,0 +1,96 @@
+-- How worked examples are written: openings, scripts of events, and the replies that are expected of them. Blocks have one
+-- byte here, so that every example computes.
+use Rattle.std.specs.Prelude.{ℕ, true, false, List, [], ◌∷◌, ◌++◌, replicate, Some, None}
+use Rattle.blocks.specs.declared.tuple.Tuple.{Tuple}
+use Rattle.blocks.specs.declared.settings.Settings.{Settings}
+use Rattle.blocks.specs.declared.refusal.Refusal.{Refusal}
+use Rattle.blocks.specs.declared.outcome.Decision.{Decision}
+use Rattle.blocks.specs.declared.outcome.What.TheVariants as what
+use Rattle.blocks.specs.declared.outcome.Reply.{Reply}
+use Rattle.blocks.specs.declared.outcome.Reply.TheVariants as reply
+use Rattle.blocks.specs.declared.command.Command.{Command}
+use Rattle.blocks.specs.declared.command.Command.TheVariants as command
+use Rattle.model.specs.Contents.{filled}
+use Rattle.model.specs.Refusals.{done_with}
+use Rattle.model.specs.Pair.{Event, OpenEvent, SubmitEvent, SendEvent, ReceiveEvent, AckOutEvent, AckInEvent, PairHistory, pair_opening, run_fed}
+
+-- Openings.
+
+abbrev pub words : ℕ → ℕ → ℕ → ℕ → Tuple
+words current bitmap first second = record { current = current; bitmap = bitmap; first_historical = first; second_historical = second }
+
+-- zero-filled disks and no marks, with these tuples
+abbrev pub fresh_with : Settings → Tuple → Tuple → PairHistory
+fresh_with settings own peer = pair_opening settings (filled settings.blocks (0 ∷ [])) (filled settings.blocks (0 ∷ [])) own peer (λ block. false)
+
+abbrev pub fresh : Settings → PairHistory
+fresh settings = fresh_with settings (words 1 0 0 0) (words 1 0 0 0)
+
+-- Events.
+
+-- a write of `count` blocks that are filled with one byte
+abbrev pub fill : ℕ → ℕ → ℕ → Event
+fill first count byte = SubmitEvent first (replicate count (byte ∷ []))
+
+-- an open and the two hellos
+abbrev pub connect : ℕ → ℕ → List Event
+connect sync loss = OpenEvent sync loss ∷ hello ++ hello ++ hello
+  where
+    hello : List Event
+    hello = SendEvent ∷ ReceiveEvent ∷ AckOutEvent ∷ AckInEvent ∷ []
+
+-- a fresh pair after its first connect
+abbrev pub connected : Settings → PairHistory
+connected settings = (run_fed (connect 5 7) (fresh settings)).1
+
+-- the replies to events, and what they leave
+abbrev pub replies : List Event → PairHistory → List Reply
+replies events h = (run_fed events h).0
+
+abbrev pub after : List Event → PairHistory → PairHistory
+after events h = (run_fed events h).1
+
+-- Replies.
+
+abbrev pub refused : Refusal → Reply
+refused refusal = reply.Refused refusal
+
+abbrev pub done : Reply
+done = reply.Ok (done_with what.Nothing)
+
+abbrev pub accepted : ℕ → Reply
+accepted number = reply.Ok (done_with (what.Write number))
+
+-- an item of the stream went over the link, or came from it
+abbrev pub item : Command → ℕ → Reply
+item name place = reply.Ok (done_with (what.Frame name (Some place)))
+
+-- a frame without a place
+abbrev pub frame : Command → Reply
+frame name = reply.Ok (done_with (what.Frame name None))
+
+abbrev pub decided : Decision → Reply
+decided decision = reply.Ok (done_with (what.Decided decision))
+
+abbrev pub resynced : ℕ → ℕ → Reply
+resynced block place = reply.Ok (done_with (what.Block (record { 0 = block }) place))
+
+-- the same, where the step ended more
+abbrev pub completing : ℕ → Reply → Reply
+completing number (reply.Ok report) = reply.Ok (record report { completed = Some number })
+completing number other = other
+
+abbrev pub with_barrier : ℕ → Reply → Reply
+with_barrier epoch (reply.Ok report) = reply.Ok (record report { barrier = Some epoch })
+with_barrier epoch other = other
+
+abbrev pub with_sync : Reply → Reply
+with_sync (reply.Ok report) = reply.Ok (record report { synced = true })
+with_sync other = other
+
+-- the replies to a connect that decides so
+abbrev pub connecting : Reply → List Reply
+connecting last =
+    done ∷ frame command.Protocol ∷ frame command.Protocol ∷ frame command.Protocol ∷ frame command.Protocol
+    ∷ frame command.Sizes ∷ frame command.Sizes ∷ frame command.Sizes ∷ frame command.Sizes
+    ∷ frame command.Uuids ∷ frame command.Uuids ∷ frame command.Uuids ∷ last ∷ []

@@ -1,0 +1,97 @@
+-- The history of a secondary, what is read off it, and its local steps.
+use Rattle.std.specs.Prelude.{ℕ, ◌-◌, nat_le, ◌==◌, Bool, true, false, ◌&&◌, ◌||◌, not, if◌then◌else◌, List, [], ◌++◌, length, take, drop, filter, filter_map, Option, None, Ok, Err}
+use Rattle.std.specs.List.{list_any, list_all}
+use Rattle.blocks.specs.declared.tuple.Tuple.{Tuple}
+use Rattle.blocks.specs.declared.settings.Settings.{Settings}
+use Rattle.model.specs.Contents.{BlockMap, overlay}
+use Rattle.model.specs.Stream.{Item, has_blocks, epoch_of, placed, Part, is_whole, layers_of}
+use Rattle.model.specs.Frames.{Packet, Received, item_of, hello_of}
+use Rattle.model.specs.Primary.{last_of, change_last, in_resync}
+
+-- One connection at the secondary's end: the disk and the tuple as they were when the end opened, the frames that were
+-- taken, whether the last of them was refused as a protocol error, the part of the stream that is applied, the places that
+-- failed or were dropped, the acknowledgements due, how many frames were pushed, and whether the end is closed.
+pub record Inward : Type 0 where
+  pub base : BlockMap
+  pub hello : Tuple
+  pub taken : List Received
+  pub refused : Bool
+  pub applied : Part
+  pub gone : List ℕ
+  pub due : List Packet
+  pub pushed : ℕ
+  pub closed : Bool
+
+-- The secondary's history. Connections stand oldest first.
+pub record SecondaryHistory : Type 0 where
+  pub settings : Settings
+  pub opening_map : BlockMap
+  pub opening_tuple : Tuple
+  pub tuple : Tuple
+  pub consistent : Bool
+  pub connections : List Inward
+
+-- An opening: a new secondary is consistent unless its current identifier is zero.
+abbrev pub secondary_opening : Settings → BlockMap → Tuple → SecondaryHistory
+secondary_opening settings disk tuple = record {
+  settings = settings;
+  opening_map = disk;
+  opening_tuple = tuple;
+  tuple = tuple;
+  consistent = not (tuple.current == 0);
+  connections = [];
+}
+
+abbrev pub no_inward : SecondaryHistory → Inward
+no_inward h = record { base = h.opening_map; hello = h.tuple; taken = []; refused = false; applied = []; gone = []; due = []; pushed = 0; closed = true }
+
+-- the last connection, or a closed one where there was none
+abbrev pub inward : SecondaryHistory → Inward
+inward h = last_of (no_inward h) h.connections
+
+abbrev pub with_inward : (Inward → Inward) → SecondaryHistory → SecondaryHistory
+with_inward f h = record h { connections = change_last f h.connections }
+
+-- The stream's frames that were taken and not refused.
+abbrev pub accepted_of : Inward → List Received
+accepted_of c = drop 3 (if c.refused then take (length c.taken - 1) c.taken else c.taken)
+
+abbrev pub received_item : Received → Option Item
+received_item (Ok packet) = item_of packet
+received_item (Err fault) = None
+
+-- the items taken, in their places
+abbrev pub items_taken : Inward → List Item
+items_taken c = filter_map received_item (accepted_of c)
+
+-- Pending: taken, and not applied, failed or dropped.
+abbrev pub is_pending : Inward → ℕ × Item → Bool
+is_pending c entry = (has_blocks entry.1 && not (is_whole c.applied entry.0 entry.1)) && not (list_any (λ place. place == entry.0) c.gone)
+
+abbrev pub pending : Inward → List (ℕ × Item)
+pending c = filter (is_pending c) (placed (items_taken c))
+
+-- Drained: nothing is pending.
+abbrev pub is_drained : SecondaryHistory → Bool
+is_drained h = length (pending (inward h)) == 0
+
+-- the disk: what is applied on the last connection, over what it held when the connection opened
+abbrev pub map_of : Inward → BlockMap
+map_of c = overlay c.base (layers_of (items_taken c) c.applied)
+
+abbrev pub secondary_map : SecondaryHistory → BlockMap
+secondary_map h = map_of (inward h)
+
+-- all frames that the end owes: its hello, and then its acknowledgements
+abbrev pub answers_due : Settings → Inward → List Packet
+answers_due settings c = hello_of settings c.hello ++ c.due
+
+-- every write and resync item up to the end of an epoch is applied
+abbrev pub is_applied_to : Inward → ℕ → Bool
+is_applied_to c epoch =
+    let items = items_taken c in
+    list_all (λ entry. not (nat_le (epoch_of items entry.0) epoch && has_blocks entry.1) || is_whole c.applied entry.0 entry.1) (placed items)
+
+-- whether the stream taken is in a resync
+abbrev pub is_in_resync : Inward → Bool
+is_in_resync c = in_resync (items_taken c)

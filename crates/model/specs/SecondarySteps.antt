@@ -1,0 +1,204 @@
+-- The local steps of a secondary: for each event its tests in order, its effect, and the acknowledgements that follow.
+use Rattle.std.specs.Prelude.{ℕ, zero, suc, nat_lt, nat_le, ◌==◌, Bool, true, false, ◌&&◌, not, if◌then◌else◌, List, [], ◌∷◌, ◌++◌, length, map, filter, Option, Some, None, is_none, slice_get, Result, Ok, Err}
+use Rattle.std.specs.List.{list_any, list_all}
+use Rattle.blocks.specs.declared.tuple.Tuple.{Tuple}
+use Rattle.blocks.specs.declared.settings.Protocol.{Protocol}
+use Rattle.blocks.specs.declared.settings.Protocol.TheVariants as protocol
+use Rattle.blocks.specs.declared.refusal.Refusal.{Refusal}
+use Rattle.blocks.specs.declared.refusal.Refusal.TheVariants.{NoMemory, LinkFull, NotConnected, NothingThere, UnknownJob, EpochOpen, PendingFull, BadCommand, BadField, OtherProtocol, OtherSize, NotDrained}
+use Rattle.blocks.specs.declared.outcome.What.{What}
+use Rattle.blocks.specs.declared.outcome.What.TheVariants as what
+use Rattle.blocks.specs.declared.outcome.Reply.{Reply}
+use Rattle.blocks.specs.declared.outcome.Reply.TheVariants as reply
+use Rattle.blocks.specs.declared.command.Command.TheVariants as command
+use Rattle.model.specs.Contents.{is_range}
+use Rattle.model.specs.Stream.{Item, WriteItem, ResyncItem, contents_of, epoch_of, last_epoch, epoch_size, items_of_epoch, items_meet, barriers_in, below}
+use Rattle.model.specs.Frames.{Packet, DataFrame, RsDataReplyFrame, BarrierFrame, ProtocolFrame, UuidsFrame, SizesFrame, SyncUuidFrame, RecvAckFrame, WriteAckFrame, RsWriteAckFrame, BarrierAckFrame, Received, command_of, naming}
+use Rattle.model.specs.Refusals.{Test, first_refusal, done_with}
+use Rattle.model.specs.Acknowledgements.{same_protocol}
+use Rattle.model.specs.Secondary.{Inward, SecondaryHistory, inward, with_inward, secondary_map, items_taken, pending, is_drained, answers_due, is_applied_to, is_in_resync}
+
+-- What follows an effect in the same step: each barrier taken is acknowledged once all of the epochs up to it are applied.
+
+abbrev pub is_barrier_answer : ℕ → Packet → Bool
+is_barrier_answer epoch (BarrierAckFrame number size) = number == epoch
+is_barrier_answer epoch _ = false
+
+-- the barriers taken that are to be acknowledged now, rising
+abbrev pub barriers_to_answer : Inward → List ℕ
+barriers_to_answer c =
+    filter (λ epoch. is_applied_to c epoch && not (list_any (is_barrier_answer epoch) c.due)) (map suc (below (barriers_in (items_taken c))))
+
+abbrev pub barrier_answer : Inward → ℕ → Packet
+barrier_answer c epoch = BarrierAckFrame epoch (epoch_size (items_taken c) epoch)
+
+-- After its close nothing more becomes due.
+abbrev pub answering : Inward → Inward
+answering c = elim c.closed [ true ↦ c | false ↦ record c { due = c.due ++ map (barrier_answer c) (barriers_to_answer c) } ]
+
+abbrev pub succeeding_secondary : What → SecondaryHistory → Reply × SecondaryHistory
+succeeding_secondary done h = (reply.Ok (done_with done), with_inward answering h)
+
+abbrev pub tested_secondary : SecondaryHistory → List Test → (Unit {0} → Reply × SecondaryHistory) → Reply × SecondaryHistory
+tested_secondary h tests done = elim (first_refusal tests) [ Some refusal ↦ (reply.Refused refusal, h) | None ↦ done tt ]
+
+-- Open.
+
+abbrev pub open_secondary_tests : SecondaryHistory → List Test
+open_secondary_tests h = (not ((inward h).closed && is_drained h), NotDrained) ∷ []
+
+abbrev pub opened_secondary : SecondaryHistory → SecondaryHistory
+opened_secondary h =
+    record h { connections = h.connections ++ record { base = secondary_map h; hello = h.tuple; taken = []; refused = false; applied = []; gone = []; due = []; pushed = 0; closed = false } ∷ [] }
+
+abbrev pub open_secondary : SecondaryHistory → Reply × SecondaryHistory
+open_secondary h = tested_secondary h (open_secondary_tests h) (λ _. succeeding_secondary what.Nothing (opened_secondary h))
+
+-- Taking a frame.
+
+abbrev pub Checked : Type 0
+Checked = Result (What × SecondaryHistory) Refusal
+
+-- the primary's hello, by how many frames were taken before
+abbrev pub checking_hello : ℕ → Packet → SecondaryHistory → Checked
+checking_hello zero (ProtocolFrame asked) h =
+    if same_protocol asked h.settings.protocol then Ok (what.Frame command.Protocol None, h) else Err OtherProtocol
+checking_hello (suc zero) (SizesFrame blocks) h =
+    if blocks == h.settings.blocks then Ok (what.Frame command.Sizes None, h) else Err OtherSize
+checking_hello (suc (suc n)) (UuidsFrame peer) h = Ok (what.Frame command.Uuids None, h)
+checking_hello n packet h = Err BadCommand
+
+abbrev pub number_of_item : Item → ℕ
+number_of_item (WriteItem write) = write.number
+number_of_item _ = 0
+
+-- the number is above those of all writes that were taken on this connection
+abbrev pub is_above : ℕ → List Item → Bool
+is_above number items = list_all (λ item. nat_lt (number_of_item item) number) items
+
+-- no item of the last epoch shares a block with it
+abbrev pub is_apart : Item → List Item → Bool
+is_apart item items = not (list_any (λ entry. items_meet entry.1 item) (items_of_epoch items (last_epoch items)))
+
+-- the last of the checks: the place is the next one, and the item may stand there
+abbrev pub checked_if : Bool → What → SecondaryHistory → Checked
+checked_if good done h = if good then Ok (done, h) else Err BadField
+
+abbrev pub adopting : Tuple → Bool → SecondaryHistory → SecondaryHistory
+adopting tuple consistent h = record h { tuple = tuple; consistent = consistent }
+
+-- Under B a taken write is acknowledged at once.
+abbrev pub receiving : ℕ → Item → SecondaryHistory → SecondaryHistory
+receiving place item h = elim h.settings.protocol [
+  | protocol.A ↦ h
+  | protocol.B ↦ with_inward (λ c. record c { due = c.due ++ RecvAckFrame (naming place item) ∷ [] }) h
+  | protocol.C ↦ h
+]
+
+-- An item of the stream, judged on the history before it was taken, where `place` is the next place.
+abbrev pub checking_item : Packet → ℕ → Inward → SecondaryHistory → Checked
+checking_item (DataFrame write at) place c h =
+    let items = items_taken c in
+    checked_if (((at == place) && is_range h.settings write.first (length write.contents)) && (is_above write.number items && is_apart (WriteItem write) items))
+    (what.Frame command.Data (Some place)) (receiving place (WriteItem write) h)
+checking_item (RsDataReplyFrame block contents at) place c h =
+    let items = items_taken c in
+    checked_if (((at == place) && is_range h.settings block 1) && (is_in_resync c && is_apart (ResyncItem block contents) items)) (what.Frame command.RsDataReply (Some place)) h
+checking_item (BarrierFrame number) place c h =
+    checked_if (number == last_epoch (items_taken c)) (what.Frame command.Barrier (Some place)) h
+checking_item (SyncUuidFrame word) place c h =
+    checked_if ((place == 0) && nat_lt 0 word) (what.Frame command.SyncUuid (Some place)) (adopting (record h.tuple { current = word }) false h)
+checking_item (UuidsFrame tuple) place c h =
+    checked_if (is_in_resync c) (what.Frame command.Uuids (Some place)) (adopting tuple true h)
+checking_item packet place c h = Err BadCommand
+
+abbrev pub checking : Received → Inward → SecondaryHistory → Checked
+checking (Err fault) c h = Err fault
+checking (Ok packet) c h =
+    elim (nat_lt (length c.taken) 3) [ true ↦ checking_hello (length c.taken) packet h | false ↦ checking_item packet (length (items_taken c)) c h ]
+
+-- A protocol error: the frame counts as taken, and the end closes. Its items stay.
+abbrev pub take_item : Received → SecondaryHistory → Reply × SecondaryHistory
+take_item frame h =
+    let taken = with_inward (λ c. record c { taken = c.taken ++ frame ∷ [] }) h in
+    elim (checking frame (inward h) taken) [
+      | Ok done ↦ succeeding_secondary done.0 done.1
+      | Err refusal ↦ (reply.Refused refusal, with_inward (λ c. record c { refused = true; closed = true }) taken)
+    ]
+
+-- the next frame that the link has for this end, or none
+abbrev pub receive : Option Received → Bool → SecondaryHistory → Reply × SecondaryHistory
+receive frame starved h =
+    let c = inward h in
+    tested_secondary h ((c.closed, NotConnected) ∷ (nat_le h.settings.pending (length (pending c)), PendingFull) ∷ (starved, NoMemory) ∷ (is_none frame, NothingThere) ∷ []) (λ _. elim frame [
+      | None ↦ (reply.Refused NothingThere, h)
+      | Some taken ↦ take_item taken h
+    ])
+
+-- The disk.
+
+abbrev pub is_pending_at : Inward → ℕ → Bool
+is_pending_at c place = list_any (λ entry. entry.0 == place) (pending c)
+
+-- an item of an earlier epoch is pending
+abbrev pub has_earlier : Inward → ℕ → Bool
+has_earlier c place = let items = items_taken c in list_any (λ entry. nat_lt (epoch_of items entry.0) (epoch_of items place)) (pending c)
+
+abbrev pub peer_tests : SecondaryHistory → ℕ → List Test
+peer_tests h place = (not (is_pending_at (inward h) place), UnknownJob) ∷ (has_earlier (inward h) place, EpochOpen) ∷ []
+
+-- so many blocks of an item, as pairs of its place and their offsets
+abbrev pub offsets_at : ℕ → List ℕ → List (ℕ × ℕ)
+offsets_at place offsets = map (λ offset. (place, offset)) offsets
+
+-- Applying a write is acknowledged under C, and applying a resync item always.
+abbrev pub applied_answer : Protocol → ℕ → Item → List Packet
+applied_answer asked place (WriteItem write) = elim asked [ protocol.A ↦ [] | protocol.B ↦ [] | protocol.C ↦ WriteAckFrame (naming place (WriteItem write)) ∷ [] ]
+applied_answer asked place (ResyncItem block contents) = RsWriteAckFrame (naming place (ResyncItem block contents)) ∷ []
+applied_answer asked place _ = []
+
+abbrev pub applying : Protocol → ℕ → Inward → Inward
+applying asked place c = elim (slice_get (items_taken c) place) [
+  | None ↦ c
+  | Some item ↦ record c {
+    applied = c.applied ++ offsets_at place (below (length (contents_of item)));
+    due = elim c.closed [ true ↦ c.due | false ↦ c.due ++ applied_answer asked place item ];
+  }
+]
+
+abbrev pub peer : ℕ → SecondaryHistory → Reply × SecondaryHistory
+peer place h = tested_secondary h (peer_tests h place) (λ _. succeeding_secondary what.Nothing (with_inward (applying h.settings.protocol place) h))
+
+-- A fault of the disk: these offsets reached it, the end closes, and the pending items of later epochs are dropped.
+abbrev pub failing : ℕ → List ℕ → Inward → Inward
+failing place offsets c =
+    let items = items_taken c in
+    record c {
+      applied = c.applied ++ offsets_at place offsets;
+      gone = c.gone ++ place ∷ map (λ entry. entry.0) (filter (λ entry. nat_lt (epoch_of items place) (epoch_of items entry.0)) (pending c));
+      closed = true;
+    }
+
+abbrev pub peer_fault : ℕ → List ℕ → SecondaryHistory → Reply × SecondaryHistory
+peer_fault place offsets h = tested_secondary h (peer_tests h place) (λ _. (reply.Ok (done_with what.Nothing), with_inward (failing place offsets) h))
+
+-- Pushing an acknowledgement. `room` is what the link answers.
+
+abbrev pub ack_out_tests : SecondaryHistory → Bool → Bool → List Test
+ack_out_tests h room starved =
+    let c = inward h in
+    (c.closed, NotConnected) ∷ (nat_le (length (answers_due h.settings c)) c.pushed, NothingThere) ∷ (starved, NoMemory) ∷ (not room, LinkFull) ∷ []
+
+abbrev pub answering_with : SecondaryHistory → What
+answering_with h =
+    let c = inward h in
+    elim (slice_get (answers_due h.settings c) c.pushed) [ None ↦ what.Nothing | Some packet ↦ what.Frame (command_of packet) None ]
+
+abbrev pub ack_out : Bool → Bool → SecondaryHistory → Reply × SecondaryHistory
+ack_out room starved h =
+    tested_secondary h (ack_out_tests h room starved) (λ _. (reply.Ok (done_with (answering_with h)), with_inward (λ c. record c { pushed = suc c.pushed }) h))
+
+-- Close: no frame is taken or sent from then on. Items stay pending.
+abbrev pub close_secondary : SecondaryHistory → Reply × SecondaryHistory
+close_secondary h =
+    tested_secondary h (((inward h).closed, NotConnected) ∷ []) (λ _. (reply.Ok (done_with what.Nothing), with_inward (λ c. record c { closed = true }) h))

@@ -1,0 +1,119 @@
+-- The stream of a connection: its items, their places and epochs, and parts of it.
+use Rattle.std.specs.Prelude.{ℕ, zero, suc, ◌≡◌, ◌<◌, ◌≤◌, nat_lt, ◌==◌, Bool, true, false, ◌&&◌, List, [], ◌∷◌, ◌++◌, length, take, filter, Some, slice_get}
+use Rattle.std.specs.List.{list_any, list_all}
+use Rattle.blocks.specs.declared.tuple.Tuple.{Tuple}
+use Rattle.model.specs.Contents.{Write, Layer, ranges_meet}
+
+-- What goes over a connection in order, after the hello (`drbd_protocol.h`; places: this project's).
+pub data Item : Type 0 where
+  WriteItem : (write : Write) → Item
+  ResyncItem : (block : ℕ) (contents : List ℕ) → Item
+  BarrierItem : (epoch : ℕ) → Item
+  SyncUuidItem : (word : ℕ) → Item
+  UuidsItem : (tuple : Tuple) → Item
+
+abbrev pub is_barrier : Item → Bool
+is_barrier (WriteItem write) = false
+is_barrier (ResyncItem block contents) = false
+is_barrier (BarrierItem epoch) = true
+is_barrier (SyncUuidItem word) = false
+is_barrier (UuidsItem tuple) = false
+
+abbrev pub is_write : Item → Bool
+is_write (WriteItem write) = true
+is_write (ResyncItem block contents) = false
+is_write (BarrierItem epoch) = false
+is_write (SyncUuidItem word) = false
+is_write (UuidsItem tuple) = false
+
+-- The first block and the contents of a write or a resync item. The other items have no blocks.
+abbrev pub first_of : Item → ℕ
+first_of (WriteItem write) = write.first
+first_of (ResyncItem block contents) = block
+first_of (BarrierItem epoch) = 0
+first_of (SyncUuidItem word) = 0
+first_of (UuidsItem tuple) = 0
+
+abbrev pub contents_of : Item → List (List ℕ)
+contents_of (WriteItem write) = write.contents
+contents_of (ResyncItem block contents) = contents ∷ []
+contents_of (BarrierItem epoch) = []
+contents_of (SyncUuidItem word) = []
+contents_of (UuidsItem tuple) = []
+
+-- a write or a resync item: what is applied to the peer's disk
+abbrev pub has_blocks : Item → Bool
+has_blocks item = nat_lt 0 (length (contents_of item))
+
+abbrev pub barriers_in : List Item → ℕ
+barriers_in items = length (filter is_barrier items)
+
+-- The epoch of a place: one more than the number of barriers before it.
+abbrev pub epoch_of : List Item → ℕ → ℕ
+epoch_of items place = suc (barriers_in (take place items))
+
+-- the epoch that goes on at the end of a stream
+abbrev pub last_epoch : List Item → ℕ
+last_epoch items = suc (barriers_in items)
+
+-- the items from a place on, each with its place
+abbrev pub placed_from : ℕ → List Item → List (ℕ × Item)
+placed_from place [] = []
+placed_from place (item ∷ items) = (place, item) ∷ placed_from (suc place) items
+
+abbrev pub placed : List Item → List (ℕ × Item)
+placed items = placed_from 0 items
+
+-- the items of one epoch, with their places
+abbrev pub items_of_epoch : List Item → ℕ → List (ℕ × Item)
+items_of_epoch items epoch = filter (λ entry. epoch_of items entry.0 == epoch) (placed items)
+
+-- The size of an epoch is the number of its writes. Resync items are not counted.
+abbrev pub epoch_size : List Item → ℕ → ℕ
+epoch_size items epoch = length (filter (λ entry. is_write entry.1) (items_of_epoch items epoch))
+
+-- whether two items share a block
+abbrev pub items_meet : Item → Item → Bool
+items_meet a b = ranges_meet (first_of a) (length (contents_of a)) (first_of b) (length (contents_of b))
+
+-- A stream as it has to be: barriers are numbered from 1, numbers of writes rise, the items of an epoch share no
+-- block, and no epoch has more writes than may be.
+pub record IsLawful (max_epoch : ℕ) (items : List Item) : Type 0 where
+  pub barriers : (place epoch : ℕ) → slice_get items place ≡ Some (BarrierItem epoch) → epoch ≡ epoch_of items place
+  pub rising : (place later : ℕ) (a b : Write) → place < later → slice_get items place ≡ Some (WriteItem a) → slice_get items later ≡ Some (WriteItem b) → a.number < b.number
+  pub apart : (place later : ℕ) (a b : Item) → place < later → epoch_of items place ≡ epoch_of items later → slice_get items place ≡ Some a → slice_get items later ≡ Some b → items_meet a b ≡ false
+  pub small : (epoch : ℕ) → epoch_size items epoch ≤ max_epoch
+
+-- A part of a stream: pairs of a place and an offset, each a block of an item.
+abbrev pub Part : Type 0
+Part = List (ℕ × ℕ)
+
+abbrev pub is_in : Part → ℕ → ℕ → Bool
+is_in part place offset = list_any (λ pair. (pair.0 == place) && (pair.1 == offset)) part
+
+-- the numbers below this one
+abbrev pub below : ℕ → List ℕ
+below zero = []
+below (suc n) = below n ++ n ∷ []
+
+-- whether a part has all blocks of an item
+abbrev pub is_whole : Part → ℕ → Item → Bool
+is_whole part place item = list_all (λ offset. is_in part place offset) (below (length (contents_of item)))
+
+-- The part has all of the epochs before `epoch` and nothing of those after it.
+pub record IsClosedAt (epoch : ℕ) (items : List Item) (part : Part) : Type 0 where
+  pub before : (place offset : ℕ) (item : Item) → slice_get items place ≡ Some item → epoch_of items place < epoch → offset < length (contents_of item) → is_in part place offset ≡ true
+  pub after : (place offset : ℕ) → is_in part place offset ≡ true → epoch_of items place ≤ epoch
+
+-- what the items of a part lay over a disk, in the order of the stream
+abbrev pub layers_from : ℕ → List Item → Part → List Layer
+layers_from place [] part = []
+layers_from place (item ∷ items) part =
+    record { first = first_of item; contents = contents_of item; laid = λ offset. is_in part place offset } ∷ layers_from (suc place) items part
+
+abbrev pub layers_of : List Item → Part → List Layer
+layers_of items part = layers_from 0 items part
+
+-- a list that another one begins with
+abbrev pub IsBeginning : {X : Type 0} → List X → List X → Type 0
+IsBeginning {X} front whole = (rest : List X) × (front ++ rest ≡ whole)

@@ -1,0 +1,65 @@
+//! The definitions that every theorem of the mirror speaks of: writes, streams and epochs, the history of a primary and
+//! of a secondary, their steps, and runs of a pair. They stand in `specs/`, and `docs/MODEL.md` walks through them.
+//!
+//! The functions here do nothing. Each carries, as its contract, worked examples that the definitions compute: what a
+//! pair replies to a list of events, and what its disks, marks and identifiers then are.
+#![tactic(auto)]
+
+ghost use Rattle.model.specs.CloseRows.{LostLink, Reconnected, AcknowledgedFirst};
+ghost use Rattle.model.specs.DecisionRows.{Decisions, RefusedHello};
+ghost use Rattle.model.specs.DiskRows.{Ranges, OneSlot, LocalFault, LateFault, PeerFault};
+ghost use Rattle.model.specs.ForeignRows.{ToSecondary, ToPrimary, AfterOneWrite};
+ghost use Rattle.model.specs.ResyncRows.{NothingMarked, EmptyPeer, OneBlock, WrittenAlone, Resynced, BrokenEnd, AmongWrites};
+ghost use Rattle.model.specs.WriteRows.{OneWrite, TwoInTurn, Asynchronous, ReceivedAndLost, Overlapping, TwoEpochs, Full, AtTheStart};
+
+/// Writes over a standing connection, under each protocol.
+pub fn writes()
+    ensures one_write { OneWrite }
+    ensures two_in_turn { TwoInTurn }
+    ensures asynchronous { Asynchronous }
+    ensures received_and_lost { ReceivedAndLost }
+    ensures overlapping { Overlapping }
+    ensures two_epochs { TwoEpochs }
+    ensures full { Full }
+    ensures at_the_start { AtTheStart }
+{}
+
+/// Ranges, the activity log, and disks that fail.
+pub fn disks()
+    ensures ranges { Ranges }
+    ensures one_slot { OneSlot }
+    ensures local_fault { LocalFault }
+    ensures late_fault { LateFault }
+    ensures peer_fault { PeerFault }
+{}
+
+/// A lost link, and the connection after it.
+pub fn closes()
+    ensures lost_link { LostLink }
+    ensures reconnected { Reconnected }
+    ensures acknowledged_first { AcknowledgedFirst }
+{}
+
+/// The decision over the identifiers, and a hello that it refuses.
+pub fn decisions()
+    ensures decisions { Decisions }
+    ensures refused_hello { RefusedHello }
+{}
+
+/// Resynchronisation, alone and among writes.
+pub fn resyncs()
+    ensures nothing_marked { NothingMarked }
+    ensures empty_peer { EmptyPeer }
+    ensures one_block { OneBlock }
+    ensures written_alone { WrittenAlone }
+    ensures resynced { Resynced }
+    ensures broken_end { BrokenEnd }
+    ensures among_writes { AmongWrites }
+{}
+
+/// Frames that the other end never makes: each is answered with its number, and closes the end.
+pub fn foreign_frames()
+    ensures to_secondary { ToSecondary }
+    ensures to_primary { ToPrimary }
+    ensures after_one_write { AfterOneWrite }
+{}
