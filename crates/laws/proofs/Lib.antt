@@ -1,0 +1,11 @@
+pub mod Beginnings
+pub mod Parts
+pub mod Places
+pub mod Sound
+pub mod SecondaryRuns
+pub mod PrimaryMoves
+pub mod Lists
+pub mod Homes
+pub mod HomesMoves
+pub mod TrueAnswers
+pub mod Promises
