@@ -1,0 +1,9 @@
+pub mod Again
+pub mod Digits
+pub mod Frames
+pub mod Lengths
+pub mod Payloads
+pub mod Readings
+pub mod Rows
+pub mod Steps
+pub mod Widths

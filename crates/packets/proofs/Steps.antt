@@ -1,0 +1,191 @@
+-- A decoder's step from one frame to the next.
+use Rattle.std.proofs.Common.{◌≡◌, ℕ, zero, suc, ◌+◌, ◌≤◌, Bool, true, false, cond, eqb, List, [], ◌∷◌, ◌++◌, length, take, drop, Option, Some, None, Result, Ok, Err, refl, sym, ap, ◌∙◌, subst, append_assoc, arith, inl, inr}
+use Rattle.std.specs.Prelude.{IfErr}
+use Rattle.std.specs.List.{AllByRecursion}
+use Rattle.std.proofs.lemmas.List.{append-nil, length-append, length-drop, take_at, take-append-drop}
+use Rattle.std.proofs.lemmas.Grind.{flat_map-append}
+use Rattle.std.proofs.lemmas.List.Concat.{flat_map-cons}
+use Rattle.blocks.specs.declared.command.Command.{Command}
+use Rattle.blocks.specs.declared.command.Command.TheVariants as command
+use Rattle.blocks.specs.declared.refusal.Refusal.{Refusal}
+use Rattle.blocks.specs.declared.refusal.Refusal.TheVariants.{BadMagic, BadLength, BadField, NoMemory}
+use Rattle.blocks.specs.declared.settings.Protocol.TheVariants.{A, B, C}
+use Rattle.packets.specs.declared.header.Header.{Header}
+use Rattle.packets.specs.declared.packet.Packet.{Packet}
+use Rattle.packets.specs.declared.packet.Packet.TheVariants as packet
+use Rattle.packets.specs.Numbers.{number_in}
+use Rattle.packets.specs.Table.{magic, command_at, is_length}
+use Rattle.packets.specs.Spelling.{spelling}
+use Rattle.packets.specs.Reading.{row_at, checked, protocol_at, data_at, barrier_at, write_ack_at, header_at, payload_at}
+use Rattle.packets.specs.Frames.{IsNoSpelling, IsFaultAfter, IsFrameFault, Answers}
+use Rattle.packets.specs.Stream.{IsWritten, spellings, IsFaultWith, IsFaultAt, Gives}
+use Rattle.packets.proofs.Digits.{IsBytes, IsBytes_take}
+use Rattle.packets.proofs.Frames.{frame_takes, frame_refused}
+use Rattle.packets.proofs.Rows.{header_front, header_length}
+
+-- ---- a payload is refused for a field only
+
+abbrev header_refused : Refusal → Result Header Refusal
+header_refused e = Err e
+
+abbrev refused : Refusal → Result Packet Refusal
+refused e = Err e
+
+refused_is : (d e : Refusal) → refused d ≡ refused e → e ≡ d
+refused_is d e h = cc
+
+checked_refuses : (b : Bool) (p : Packet) (e : Refusal) → checked b p ≡ Err e → e ≡ BadField
+checked_refuses true p e h = absurd cc
+checked_refuses false p e h = refused_is BadField e h
+
+or_refuses : (b : Bool) (p : Packet) (r : Result Packet Refusal) (e : Refusal) → (r ≡ Err e → e ≡ BadField) → cond b (Ok p) r ≡ Err e → e ≡ BadField
+or_refuses true p r e next h = absurd cc
+or_refuses false p r e next h = next h
+
+protocol_refuses : (n : ℕ) (e : Refusal) → protocol_at n ≡ Err e → e ≡ BadField
+protocol_refuses n e h =
+    or_refuses (eqb n 1) (packet.Protocol A) _ e (or_refuses (eqb n 2) (packet.Protocol B) _ e (checked_refuses (eqb n 3) (packet.Protocol C) e)) h
+
+data_refuses : (bytes : List ℕ) (e : Refusal) → data_at bytes ≡ Err e → e ≡ BadField
+unfolding data_at
+data_refuses bytes e h = checked_refuses _ _ e h
+
+write_ack_refuses : (bytes : List ℕ) (e : Refusal) → write_ack_at bytes ≡ Err e → e ≡ BadField
+unfolding write_ack_at
+write_ack_refuses bytes e h = checked_refuses _ _ e h
+
+barrier_refuses : (bytes : List ℕ) (e : Refusal) → barrier_at bytes ≡ Err e → e ≡ BadField
+unfolding barrier_at
+barrier_refuses bytes e h = checked_refuses _ _ e h
+
+pub payload_refuses : (c : Command) (bytes : List ℕ) (e : Refusal) → is_length c (length bytes) ≡ true → payload_at c bytes ≡ Err e → e ≡ BadField
+unfolding payload_at
+payload_refuses command.Data bytes e row h = data_refuses bytes e h
+payload_refuses command.RsDataReply bytes e row h = absurd cc
+payload_refuses command.Barrier bytes e row h = barrier_refuses bytes e h
+payload_refuses command.Protocol bytes e row h = protocol_refuses (number_in 4 0 bytes) e h
+payload_refuses command.Uuids bytes e row h = absurd cc
+payload_refuses command.Sizes bytes e row h = absurd cc
+payload_refuses command.SyncUuid bytes e row h = absurd cc
+payload_refuses command.RecvAck bytes e row h = absurd cc
+payload_refuses command.WriteAck bytes e row h = write_ack_refuses bytes e h
+payload_refuses command.RsWriteAck bytes e row h = absurd cc
+payload_refuses command.BarrierAck bytes e row h = absurd cc
+
+-- the answer to a frame whose header and length are as they have to be
+pub answers_payload : (frame : List ℕ) (h : Header) (r : Result Packet Refusal) → IsBytes frame → length frame ≡ 8 + h.len → header_at frame ≡ Ok h → payload_at h.command (drop 8 frame) ≡ r → Answers frame r
+answers_payload frame h (Ok p) fits long judged said = frame_takes frame h p fits long judged said
+answers_payload frame h (Err e) fits long judged said =
+    let rest : length (drop 8 frame) ≡ h.len = omega (arith, length-drop 8 frame, long) in
+    let row : is_length h.command (length (drop 8 frame)) ≡ true = ap (is_length h.command) rest ∙ header_length frame h judged in
+    let fault : IsFaultAfter (Ok h) frame e = inr (long, payload_refuses h.command (drop 8 frame) e row said, frame_refused frame h e judged said) in
+    inr (omega (arith, long), subst (λ (x : Result Header Refusal). IsFaultAfter x frame e) (sym judged) fault)
+
+-- ---- what a refusal may be
+
+row_fault : (b : Bool) (h : Header) → cond b (Ok h) (Err BadLength) ≡ Err NoMemory → ⊥
+row_fault true h e = cc
+row_fault false h e = cc
+
+length_fault : (o : Option Command) (len : ℕ) → row_at o len ≡ Err NoMemory → ⊥
+length_fault None len e = cc
+length_fault (Some c) len e = row_fault (is_length c len) (record { command = c; len = len }) e
+
+magic_fault : (b : Bool) (r : Result Header Refusal) → (r ≡ Err NoMemory → ⊥) → cond b r (Err BadMagic) ≡ Err NoMemory → ⊥
+magic_fault true r next e = next e
+magic_fault false r next e = cc
+
+pub header_fault : (bytes : List ℕ) → header_at bytes ≡ Err NoMemory → ⊥
+unfolding header_at
+header_fault bytes e =
+    magic_fault (eqb (number_in 2 0 bytes) magic) (row_at (command_at (number_in 2 2 bytes)) (number_in 4 4 bytes)) (length_fault (command_at (number_in 2 2 bytes)) (number_in 4 4 bytes)) e
+
+after_known : (r : Result Header Refusal) (frame : List ℕ) (e : Refusal) → (r ≡ Err NoMemory → ⊥) → IsFaultAfter r frame e → e ≡ NoMemory → ⊥
+after_known (Err fault) frame e never is same =
+    let found : Err fault ≡ Err NoMemory = ap header_refused (sym is ∙ same) in
+    never found
+after_known (Ok h) frame e never (inl length) same = let is = length.1 in cc
+after_known (Ok h) frame e never (inr field) same = let is = field.1 in cc
+
+-- no frame has a fault of memory
+pub fault_known : (frame : List ℕ) (e : Refusal) → IsFrameFault frame e → e ≡ NoMemory → ⊥
+fault_known frame e (inl short) same = let is = short.1 in cc
+fault_known frame e (inr after) same = after_known (header_at frame) frame e (header_fault frame) after.1 same
+
+pub answer_known : (frame : List ℕ) (r : Result Packet Refusal) → Answers frame r → IfErr r (λ e. e ≡ NoMemory → ⊥)
+answer_known frame (Ok p) answer = tt
+answer_known frame (Err e) answer = fault_known frame e answer
+
+-- ---- the frame at the front
+
+-- what two lists of bytes make
+pub IsBytes_append : (xs ys : List ℕ) → IsBytes xs → IsBytes ys → IsBytes (xs ++ ys)
+IsBytes_append [] ys hx hy i = hy i
+IsBytes_append (x ∷ xs) ys hx hy zero = hx 0
+IsBytes_append (x ∷ xs) ys hx hy (suc i) = IsBytes_append xs ys (λ k. hx (suc k)) hy i
+
+-- a header's fault stands in a frame's place
+pub header_stops : (bytes : List ℕ) (e : Refusal) → 8 ≤ length bytes → header_at bytes ≡ Err e → IsFaultAt bytes e
+header_stops bytes e long h = (long, subst (λ (r : Result Header Refusal). IsFaultWith r bytes e) (sym h) refl)
+
+-- a whole frame, and what comes after it
+pub record IsWhole (bytes frame after : List ℕ) (h : Header) : Type 0 where
+  pub parts : bytes ≡ frame ++ after
+  pub fits : IsBytes frame
+  pub long : length frame ≡ 8 + h.len
+  pub judged : header_at bytes ≡ Ok h
+
+frame_header : (bytes frame after : List ℕ) (h : Header) → IsWhole bytes frame after h → header_at frame ≡ Ok h
+frame_header bytes frame after h w =
+    sym (header_front frame after (omega (arith, w.long))) ∙ ap header_at (sym w.parts) ∙ w.judged
+
+pub whole_goes : (bytes frame after : List ℕ) (h : Header) (p : Packet) → IsWhole bytes frame after h → payload_at h.command (drop 8 frame) ≡ Ok p → IsWritten p × (bytes ≡ spelling p ++ after)
+whole_goes bytes frame after h p w said =
+    let t = frame_takes frame h p w.fits w.long (frame_header bytes frame after h w) said in
+    ((t.0, t.1.fields), w.parts ∙ ap (λ (x : List ℕ). x ++ after) t.1.bytes_are)
+
+pub whole_stops : (bytes frame after : List ℕ) (h : Header) (e : Refusal) → IsWhole bytes frame after h → is_length h.command (length (drop 8 frame)) ≡ true → payload_at h.command (drop 8 frame) ≡ Err e → IsFaultAt bytes e
+whole_stops bytes frame after h e w row said =
+    let none = frame_refused frame h e (frame_header bytes frame after h w) said in
+    let len : length bytes ≡ length frame + length after = ap length w.parts ∙ length-append frame after in
+    let front : take (8 + h.len) bytes ≡ frame = ap (take (8 + h.len)) w.parts ∙ take_at frame after (8 + h.len) w.long in
+    let fault : IsFaultWith (Ok h) bytes e = (omega (arith, len, w.long), payload_refuses h.command (drop 8 frame) e row said, subst IsNoSpelling (sym front) none) in
+    (omega (arith, len, w.long), subst (λ (r : Result Header Refusal). IsFaultWith r bytes e) (sym w.judged) fault)
+
+-- a frame that is what was held and then the front of a piece
+pub joined_whole : (front piece end after frame : List ℕ) (n : ℕ) (h : Header) → end ≡ take n piece → after ≡ drop n piece → frame ≡ front ++ end → length frame ≡ 8 + h.len
+    → header_at (front ++ piece) ≡ Ok h → IsBytes front → IsBytes piece → IsWhole (front ++ piece) frame after h
+joined_whole front piece end after frame n h e a f long judged front_fits piece_fits =
+    let parts : frame ++ after ≡ front ++ piece =
+    ap (λ (x : List ℕ). x ++ after) f ∙ append_assoc front end after
+    ∙ ap (λ (x : List ℕ). front ++ x) (ap (λ (x : List ℕ). x ++ after) e ∙ ap (λ (x : List ℕ). take n piece ++ x) a ∙ take-append-drop n piece) in
+    let end_fits : IsBytes end = subst IsBytes (sym e) (IsBytes_take n piece piece_fits) in
+    record {
+      parts = sym parts;
+      fits = subst IsBytes (sym f) (IsBytes_append front end front_fits end_fits);
+      long = long;
+      judged = judged;
+    }
+
+-- ---- packets in a list
+
+pub gives_none : (bytes : List ℕ) (old : List Packet) → Gives bytes old old bytes
+gives_none bytes old = record { packets = []; added = sym (append-nil old); each = tt; whole = refl }
+
+each_more : (ps : List Packet) (p : Packet) → AllByRecursion IsWritten ps → IsWritten p → AllByRecursion IsWritten (ps ++ p ∷ [])
+each_more [] p h w = (w, tt)
+each_more (q ∷ ps) p h w = (h.0, each_more ps p h.1 w)
+
+spellings_more : (ps : List Packet) (p : Packet) (left after : List ℕ) → left ≡ spelling p ++ after → spellings ps ++ left ≡ spellings (ps ++ p ∷ []) ++ after
+spellings_more ps p left after e =
+    let one : spellings (p ∷ []) ≡ spelling p = flat_map-cons spelling p [] ∙ append-nil (spelling p) in
+    let all : spellings (ps ++ p ∷ []) ≡ spellings ps ++ spelling p = flat_map-append spelling ps (p ∷ []) ∙ ap (λ (x : List ℕ). spellings ps ++ x) one in
+    ap (λ (x : List ℕ). spellings ps ++ x) e ∙ sym (append_assoc (spellings ps) (spelling p) after) ∙ ap (λ (x : List ℕ). x ++ after) (sym all)
+
+pub gives_more : (bytes : List ℕ) (old new : List Packet) (left after : List ℕ) (p : Packet) → Gives bytes old new left → left ≡ spelling p ++ after → IsWritten p → Gives bytes old (new ++ p ∷ []) after
+gives_more bytes old new left after p g e w = record {
+  packets = g.packets ++ p ∷ [];
+  added = ap (λ (x : List Packet). x ++ p ∷ []) g.added ∙ append_assoc old g.packets (p ∷ []);
+  each = each_more g.packets p g.each w;
+  whole = g.whole ∙ spellings_more g.packets p left after e;
+}

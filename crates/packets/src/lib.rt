@@ -1,0 +1,27 @@
+//! The frames of a link as bytes: what each packet is spelled as, and what bytes are read as, whole frames
+//! or a stream in any pieces.
+#![tactic(auto)]
+
+mod decoder;
+mod frame;
+mod header;
+mod laws;
+mod numbers;
+mod packet;
+mod reading;
+mod stream;
+#[cfg(test)]
+mod tests;
+mod writing;
+
+pub use blocks::{Command, Protocol, Tuple};
+pub use decoder::Decoder;
+pub use frame::Frame;
+pub use laws::{
+    any_pieces, no_spelling_begins_another, one_answer, one_piece_after_another, one_reading,
+    round_trip,
+};
+pub use packet::Packet;
+pub use reading::decode;
+pub use stream::{Transcript, decode_all};
+pub use writing::encode;
