@@ -1,0 +1,28 @@
+//! Whether a word may begin a generation.
+ghost use Rattle.std.specs.Prelude.{◌≡◌, ◌↔◌, IsTrue, IsOk, IfErr};
+ghost use Rattle.generations.specs.Known.{IsFresh, Stands};
+ghost use Rattle.blocks.specs.declared.refusal.Refusal.TheVariants.{UsedIdentifier};
+
+use blocks::{Refusal, Tuple};
+
+/// Whether the word may begin a new generation: it is not zero, and it stands in no place of the tuples that
+/// are known (this project's rule). Else `UsedIdentifier` (33). It takes no memory.
+pub fn fresh(word: u64, known: &[Tuple]) -> Result<(), Refusal>
+    ensures accepted { IsOk result ↔ IsFresh word known.now }
+    ensures refused { IfErr result (λ e. e ≡ UsedIdentifier) }
+{
+    if word == 0 || known.iter().any(|tuple| stands_in(word, tuple)) {
+        return Err(Refusal::UsedIdentifier);
+    }
+    Ok(())
+}
+
+/// Whether the word is one of the tuple's four.
+fn stands_in(word: u64, tuple: &Tuple) -> bool
+    ensures { IsTrue result ↔ Stands word tuple.now }
+{
+    word == tuple.current
+        || word == tuple.bitmap
+        || word == tuple.first_historical
+        || word == tuple.second_historical
+}

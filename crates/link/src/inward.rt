@@ -1,0 +1,92 @@
+//! The taking end of a link that stays in one thread.
+ghost use Rattle.std.specs.Prelude.{◌≡◌, Option, None, Some, [], ◌∷◌, ◌++◌, OnErr, IfOk, IfErr, IfSome};
+ghost use Rattle.std.specs.Option.{option_map};
+ghost use Rattle.link.specs.Directions.{OutState, IsDirection, IsDirectionWith, frames_in};
+ghost use Rattle.link.specs.Taking.{TakesFirst};
+ghost use Rattle.blocks.specs.declared.refusal.Refusal.TheVariants.{NothingThere};
+
+use crate::FrameIn;
+use crate::queue::Queue;
+use crate::trail::Trail;
+use blocks::Refusal;
+use packets::Frame;
+use std::marker::Model;
+
+/// The taking end of one direction. While the direction's queue does not lie here, this end counts as empty.
+#[derive(Drop)]
+pub struct PlainIn {
+    queue: Option<Queue>,
+    taken: Trail,
+}
+
+impl Model for PlainIn {
+    ghost use Rattle.std.specs.Prelude.{◌≡◌};
+    ghost use Rattle.std.specs.Option.{ForSome};
+    ghost use Rattle.link.specs.Directions.{InState};
+
+    ghost Value = { InState };
+
+    ghost view = { λ e. record { taken = e.taken.frames; queue = e.queue } };
+
+    ghost invariant = { λ e. ForSome e.queue (λ q. e.taken.frames ≡ q.taken) };
+}
+
+impl PlainIn {
+    /// An end that has taken nothing.
+    pub(crate) fn new() -> PlainIn
+        ensures { result ≡ record { taken = []; queue = None } }
+    {
+        PlainIn {
+            queue: None,
+            taken: Trail::new(),
+        }
+    }
+
+    /// Hands out the queue, if it lies here. It takes no memory.
+    pub fn give_queue(&mut self) -> Option<Queue>
+        ensures given { result ≡ self.old.queue }
+        ensures left { self.new ≡ record { taken = self.old.taken; queue = None } }
+        ensures taken { IfSome result (λ q. q.taken ≡ self.old.taken) }
+        ensures with_queue { IfSome result (λ q. (sender : OutState)
+            → IsDirection sender self.old → IsDirectionWith sender self.new q) }
+    {
+        self.queue.take()
+    }
+
+    /// Takes the queue in, to take from it. It takes no memory.
+    pub fn lay_queue(&mut self, queue: Queue)
+        requires { queue.taken ≡ self.old.taken }
+        ensures here { self.new ≡ record { taken = self.old.taken; queue = Some queue } }
+        ensures direction { (sender : OutState)
+            → IsDirectionWith sender self.old queue → IsDirection sender self.new }
+    {
+        self.queue = Some(queue);
+    }
+}
+
+impl FrameIn for PlainIn {
+    ghost taken = { λ e. e.taken };
+
+    ghost queued = { λ e. Some (frames_in e.queue) };
+
+    ghost capacity = { λ e. option_map (λ q. q.capacity) e.queue };
+
+    fn take(&mut self) -> Result<Frame, Refusal>
+        ensures next { IfOk result (λ frame. self.new.taken ≡ self.old.taken ++ frame ∷ []) }
+        ensures exact { TakesFirst (Some (frames_in self.old.queue)) result (Some (frames_in self.new.queue)) }
+        ensures direction { (sender : OutState) → IsDirection sender self.old → IsDirection sender self.new }
+        ensures refused { IfErr result (λ e. e ≡ NothingThere) }
+        ensures unchanged { OnErr result (self.new ≡ self.old) }
+        ensures same_capacity { option_map (λ q. q.capacity) self.new.queue
+            ≡ option_map (λ q. q.capacity) self.old.queue }
+    {
+        let Some(queue) = &mut self.queue else {
+            return Err(Refusal::NothingThere);
+        };
+        let Some(frame) = queue.take() else {
+            return Err(Refusal::NothingThere);
+        };
+        self.taken = self.taken.and(&frame);
+        Ok(frame)
+    }
+}

@@ -1,0 +1,89 @@
+//! The sending end of a link that stays in one thread.
+ghost use Rattle.std.specs.Prelude.{◌≡◌, ◌↔◌, Option, None, Some, [], ◌++◌, IsErr, OnOk, OnErr, IfErr, IfSome};
+ghost use Rattle.std.specs.Option.{option_map};
+ghost use Rattle.link.specs.Directions.{InState, IsDirection, IsDirectionWith, accepting, room_in};
+
+use crate::queue::Queue;
+use crate::trail::Trail;
+use crate::{FrameOut, Offered};
+use packets::Frame;
+use std::marker::Model;
+
+/// The sending end of one direction. The direction's queue rests here; while it is lent to the taking end,
+/// this end counts as full.
+#[derive(Drop)]
+pub struct PlainOut {
+    queue: Option<Queue>,
+    sent: Trail,
+}
+
+impl Model for PlainOut {
+    ghost use Rattle.std.specs.Prelude.{◌≡◌, ◌++◌};
+    ghost use Rattle.std.specs.Option.{ForSome};
+    ghost use Rattle.link.specs.Directions.{OutState};
+
+    ghost Value = { OutState };
+
+    ghost view = { λ e. record { sent = e.sent.frames; queue = e.queue } };
+
+    ghost invariant = { λ e. ForSome e.queue (λ q. e.sent.frames ≡ q.taken ++ q.frames) };
+}
+
+impl PlainOut {
+    /// An end that has sent nothing, with its direction's queue.
+    pub(crate) fn new(queue: Queue) -> PlainOut
+        requires { queue.taken ++ queue.frames ≡ [] }
+        ensures { result ≡ record { sent = []; queue = Some queue } }
+    {
+        PlainOut {
+            queue: Some(queue),
+            sent: Trail::new(),
+        }
+    }
+
+    /// Hands out the queue, if it is here. It takes no memory.
+    pub fn give_queue(&mut self) -> Option<Queue>
+        ensures given { result ≡ self.old.queue }
+        ensures left { self.new ≡ record { sent = self.old.sent; queue = None } }
+        // What went into the queue is what this end has sent.
+        ensures whole { IfSome result (λ q. self.old.sent ≡ q.taken ++ q.frames) }
+        ensures with_queue { IfSome result (λ q. (taker : InState)
+            → IsDirection self.old taker → IsDirectionWith self.new taker q) }
+    {
+        self.queue.take()
+    }
+
+    /// Takes the queue back. It takes no memory.
+    pub fn lay_queue(&mut self, queue: Queue)
+        requires { self.old.sent ≡ queue.taken ++ queue.frames }
+        ensures back { self.new ≡ record { sent = self.old.sent; queue = Some queue } }
+        ensures direction { (taker : InState)
+            → IsDirectionWith self.old taker queue → IsDirection self.new taker }
+    {
+        self.queue = Some(queue);
+    }
+}
+
+impl FrameOut for PlainOut {
+    ghost sent = { λ e. e.sent };
+
+    ghost waiting = { λ e. option_map (λ q. q.frames) e.queue };
+
+    ghost room = { λ e. Some (room_in e.queue) };
+
+    fn offer(&mut self, frame: Frame) -> Result<(), Offered>
+        ensures full { IsErr result ↔ (room_in self.old.queue ≡ 0) }
+        ensures accepted { OnOk result (self.new ≡ accepting self.old frame) }
+        ensures direction { (taker : InState) → IsDirection self.old taker → IsDirection self.new taker }
+        ensures handed_back { IfErr result (λ offered. offered.frame ≡ frame) }
+        ensures unchanged { OnErr result (self.new ≡ self.old) }
+    {
+        let Some(queue) = &mut self.queue else {
+            return Err(Offered { frame });
+        };
+        let sent = self.sent.and(&frame);
+        queue.offer(frame)?;
+        self.sent = sent;
+        Ok(())
+    }
+}
