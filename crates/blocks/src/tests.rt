@@ -22,8 +22,9 @@ fn a_disk_keeps_what_was_written(rt: HostRuntime) -> Result<(), Fail> {
     let written = Vec::from_elem(rt.alloc(), 0xAAu8, 4096)?;
     let range = Range::new(2, 1, 8)?;
     assert_eq!(rt; disk.write(range, &written), Ok(()));
-    let mut read = Vec::from_elem(rt.alloc(), 1u8, 4096)?;
     for (block, byte) in [(1, 0), (2, 0xAAu8), (3, 0)] {
+        assert!(rt; block < u64::from(disk.blocks()));
+        let mut read = Vec::from_elem(rt.alloc(), 1u8, 4096)?;
         assert_eq!(rt; disk.read(Block(block), &mut read), Ok(()));
         assert!(rt; read.iter().all(|x| *x == byte), "block {block}");
     }
