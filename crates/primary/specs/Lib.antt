@@ -1,0 +1,10 @@
+pub mod Acknowledging
+pub mod Hellos
+pub mod Openings
+pub mod Primaries
+pub mod Sending
+pub mod State
+pub mod Streams
+pub mod Submissions
+pub mod Taking
+pub mod Writes
