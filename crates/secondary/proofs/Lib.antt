@@ -1,0 +1,4 @@
+pub mod Fits
+pub mod Ranges
+pub mod Decoded
+pub mod States

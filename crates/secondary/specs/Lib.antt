@@ -1,0 +1,15 @@
+pub mod Acknowledged
+pub mod Applied
+pub mod Checks
+pub mod Intake
+pub mod Invariant
+pub mod Judged
+pub mod Links
+pub mod Opened
+pub mod Outgoing
+pub mod Pending
+pub mod Received
+pub mod Refused
+pub mod Sent
+pub mod State
+pub mod Steps
