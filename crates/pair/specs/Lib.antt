@@ -1,0 +1,4 @@
+pub mod Disks
+pub mod Linked
+pub mod Openings
+pub mod State

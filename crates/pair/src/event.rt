@@ -1,0 +1,31 @@
+//! What may happen to a pair.
+use bytes::Bytes;
+
+/// One event. It is one call of a node, under which nothing else happens.
+#[derive(Debug, Drop)]
+pub enum Event {
+    /// Both ends open with a new link, and owe their hello. The two words are the generation identifiers that
+    /// a resync would begin, and that the loss of the connection begins.
+    Open { sync: u64, loss: u64 },
+    /// A write of whole blocks of 4,096 bytes, from a first block on.
+    Submit { first: u64, contents: Bytes },
+    /// The primary's disk does the write of this number.
+    Local(u64),
+    /// The primary puts its next frame into the link.
+    Send,
+    /// The secondary takes the next frame.
+    Receive,
+    /// The secondary's disk does the item at this place of the stream.
+    Peer(u32),
+    /// The secondary puts its next acknowledgement into the link.
+    AckOut,
+    /// The primary takes the next acknowledgement.
+    AckIn,
+}
+
+/// One of the two nodes.
+#[derive(Clone, Copy, Debug, PartialEq, Eq)]
+pub enum Side {
+    Primary,
+    Secondary,
+}
