@@ -20,6 +20,7 @@ use Rattle.model.specs.Primary.{Outward, PrimaryHistory, outward, with_outward, 
 use Rattle.model.specs.Marks.{marking_all, clearing}
 use Rattle.model.specs.PrimarySteps.{follows, succeeding, tested, closing}
 
+-- two protocols are the same
 abbrev pub same_protocol : Protocol → Protocol → Bool
 same_protocol protocol.A protocol.A = true
 same_protocol protocol.B protocol.B = true
@@ -74,6 +75,7 @@ names_sent kind ack c = elim (slice_get c.stream ack.place) [
 abbrev pub was_named : (Outward → ℕ → Item → Bool) → Acknowledged → Outward → Bool
 was_named before ack c = elim (slice_get c.stream ack.place) [ None ↦ false | Some item ↦ before c ack.place item ]
 
+-- the connection's protocol is this one
 abbrev pub is_protocol : Protocol → PrimaryHistory → Bool
 is_protocol asked h = same_protocol asked h.settings.protocol
 
@@ -92,9 +94,11 @@ abbrev pub is_unacknowledged : Outward → Item → Bool
 is_unacknowledged c (BarrierItem epoch) = not (barrier_acknowledged c epoch)
 is_unacknowledged c _ = false
 
+-- the first barrier sent that the peer has not acknowledged
 abbrev pub oldest_barrier : Outward → Option Item
 oldest_barrier c = find (is_unacknowledged c) (take (items_sent c) c.stream)
 
+-- it is the barrier of this epoch
 abbrev pub is_barrier_of : ℕ → Option Item → Bool
 is_barrier_of number (Some (BarrierItem epoch)) = number == epoch
 is_barrier_of number _ = false

@@ -15,6 +15,7 @@ use Rattle.model.specs.Status.{primary_line, linked_primary, lone_primary}
 abbrev pub lost_link : List Event
 lost_link = fill 0 2 17 ∷ fill 2 2 34 ∷ fill 5 1 51 ∷ SendEvent ∷ SendEvent ∷ ReceiveEvent ∷ ClosePrimaryEvent ∷ CloseSecondaryEvent ∷ ReceiveEvent ∷ SendEvent ∷ []
 
+-- What that answers, and what each end says then: all blocks of the three writes are marked, one of them never sent.
 pub record LostLink : Type 0 where
   pub answers : replies lost_link (connected standard)
       ≡ accepted 1 ∷ accepted 2 ∷ accepted 3 ∷ item command.Data 0 ∷ item command.Data 1 ∷ item command.Data 0 ∷ reply.Closed 0 ∷ done ∷ refused refusal.NotConnected ∷ refused refusal.NotConnected ∷ []
@@ -25,6 +26,7 @@ pub record LostLink : Type 0 where
 abbrev pub reconnected : List Event
 reconnected = OpenEvent 9 11 ∷ PeerEvent 0 ∷ connect 9 11
 
+-- After that loss: no opening while items are pending, then a resync from the marks.
 pub record Reconnected : Type 0 where
   pub answers : replies reconnected (after lost_link (connected standard)) ≡ refused refusal.NotDrained ∷ done ∷ connecting (decided BitmapSync)
   pub identifiers : tuples (after (lost_link ++ reconnected) (connected standard)) ≡ (words 7 9 1 0, words 1 0 0 0)
@@ -34,9 +36,11 @@ pub record Reconnected : Type 0 where
 abbrev pub acknowledged_first : List Event
 acknowledged_first = fill 2 1 170 ∷ SendEvent ∷ SendEvent ∷ ReceiveEvent ∷ ReceiveEvent ∷ PeerEvent 0 ∷ AckOutEvent ∷ AckOutEvent ∷ AckInEvent ∷ AckInEvent ∷ []
 
+-- epochs of one write
 abbrev pub short_epochs : Settings
 short_epochs = record standard { max_epoch = 1 }
 
+-- What that answers, and what the primary's line says then.
 pub record AcknowledgedFirst : Type 0 where
   pub answers : replies acknowledged_first (connected short_epochs)
       ≡ with_barrier 1 (accepted 1) ∷ item command.Data 0 ∷ item command.Barrier 1 ∷ item command.Data 0 ∷ item command.Barrier 1 ∷ done ∷ frame command.WriteAck ∷ frame command.BarrierAck

@@ -23,6 +23,7 @@ pub record Decisions : Type 0 where
 abbrev pub split : PairHistory
 split = fresh_with standard (words 7 1 0 0) (words 8 1 0 0)
 
+-- a hello that ends in split brain leaves both tuples and closes the end
 pub record RefusedHello : Type 0 where
   pub answers : replies (connect 9 11) split ≡ connecting (refused refusal.SplitBrain)
   pub identifiers : tuples (after (connect 9 11) split) ≡ (words 7 1 0 0, words 8 1 0 0)

@@ -31,6 +31,7 @@ pub record OneSlot : Type 0 where
 abbrev pub local_fault : List Event
 local_fault = fill 2 2 170 ∷ LocalFaultEvent 1 1 ∷ []
 
+-- what that answers and leaves
 pub record LocalFault : Type 0 where
   pub answers : replies local_fault (connected standard) ≡ accepted 1 ∷ with_barrier 1 done ∷ []
   pub marks : marked (after local_fault (connected standard)) ≡ 2 ∷ 3 ∷ []
@@ -44,6 +45,7 @@ pub record LocalFault : Type 0 where
 abbrev pub late_fault : List Event
 late_fault = fill 2 3 170 ∷ LocalFaultEvent 1 4 ∷ LocalFaultEvent 1 3 ∷ []
 
+-- what that answers, and where the disks differ then
 pub record LateFault : Type 0 where
   pub answers : replies late_fault (connected standard) ≡ accepted 1 ∷ refused refusal.BadRange ∷ with_barrier 1 done ∷ []
   pub differs : differing (after late_fault (connected standard)) ≡ 2 ∷ 3 ∷ 4 ∷ []
@@ -53,6 +55,7 @@ pub record LateFault : Type 0 where
 abbrev pub peer_fault : List Event
 peer_fault = fill 2 3 170 ∷ LocalEvent 1 ∷ SendEvent ∷ ReceiveEvent ∷ PeerFaultEvent 0 1 ∷ PeerEvent 0 ∷ ReceiveEvent ∷ []
 
+-- what that answers, and what the primary's close does
 pub record PeerFault : Type 0 where
   pub answers : replies peer_fault (connected standard)
       ≡ accepted 1 ∷ done ∷ item command.Data 0 ∷ item command.Data 0 ∷ done ∷ refused refusal.UnknownJob ∷ refused refusal.NotConnected ∷ []

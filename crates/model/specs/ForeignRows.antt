@@ -18,6 +18,7 @@ use Rattle.model.specs.WriteRows.{one_write}
 abbrev pub write_of : ℕ → ℕ → ℕ → Write
 write_of number first count = record { number = number; first = first; contents = replicate count (170 ∷ []) }
 
+-- an acknowledgement by its four fields
 abbrev pub ack_of : ℕ → ℕ → ℕ → ℕ → Acknowledged
 ack_of first number count place = record { first = first; number = number; count = count; place = place }
 
@@ -25,6 +26,7 @@ ack_of first number count place = record { first = first; number = number; count
 abbrev pub sent_one : PairHistory
 sent_one = after (fill 2 1 170 ∷ SendEvent ∷ ReceiveEvent ∷ []) (connected standard)
 
+-- what a secondary answers to a frame
 abbrev pub answer_of : Received → SecondaryHistory → Reply
 answer_of frame h = (receive (Some frame) false h).0
 
@@ -35,29 +37,36 @@ to_secondary =
     ∷ Ok (BarrierFrame 2) ∷ Ok (SyncUuidFrame 9) ∷ Ok (UuidsFrame (words 7 0 9 1)) ∷ Ok (RsDataReplyFrame 3 (170 ∷ []) 1)
     ∷ Ok (ProtocolFrame protocol.C) ∷ Ok (WriteAckFrame (ack_of 2 1 1 0)) ∷ Err refusal.BadLength ∷ []
 
+-- the secondary that took the first write, after one more frame
 abbrev pub secondary_after : Received → SecondaryHistory
 secondary_after frame = (receive (Some frame) false sent_one.secondary).1
 
+-- Each frame that no honest peer sends is refused with its number, and closes the end.
 pub record ToSecondary : Type 0 where
   pub answers : map (λ frame. answer_of frame sent_one.secondary) to_secondary
       ≡ replicate 8 (refused refusal.BadField) ++ refused refusal.BadCommand ∷ refused refusal.BadCommand ∷ refused refusal.BadLength ∷ []
   pub closed : map (λ frame. answer_of frame (secondary_after frame)) to_secondary ≡ replicate 11 (refused refusal.NotConnected)
   pub applies : map (λ frame. (peer 0 (secondary_after frame)).0) to_secondary ≡ replicate 11 done
 
+-- acknowledgements that the primary did not ask for, and a write
 abbrev pub to_primary : List Received
 to_primary =
     Ok (WriteAckFrame (ack_of 2 2 1 0)) ∷ Ok (WriteAckFrame (ack_of 2 1 1 1)) ∷ Ok (WriteAckFrame (ack_of 2 1 2 0)) ∷ Ok (RecvAckFrame (ack_of 2 1 1 0))
     ∷ Ok (RsWriteAckFrame (ack_of 3 0 1 1)) ∷ Ok (BarrierAckFrame 1 1) ∷ Ok (DataFrame (write_of 1 2 1) 0) ∷ []
 
+-- what a primary answers to a frame
 abbrev pub reply_of : Received → PrimaryHistory → Reply
 reply_of frame h = (ack_in (Some frame) false h).0
 
+-- a primary after a frame
 abbrev pub primary_after : Received → PrimaryHistory → PrimaryHistory
 primary_after frame h = (ack_in (Some frame) false h).1
 
+-- a primary that has sent a write and the barrier that ends its epoch
 abbrev pub sent_with_barrier : PrimaryHistory
 sent_with_barrier = (after (fill 2 1 170 ∷ SendEvent ∷ SendEvent ∷ []) (connected (record standard { max_epoch = 1 }))).primary
 
+-- Each frame that no honest peer sends is refused with its number, and closes the end.
 pub record ToPrimary : Type 0 where
   pub answers : map (λ frame. reply_of frame sent_one.primary) to_primary
       ≡ replicate 5 (refused refusal.UnknownAck) ++ refused refusal.BadBarrierAck ∷ refused refusal.BadCommand ∷ []
@@ -70,6 +79,7 @@ pub record ToPrimary : Type 0 where
 abbrev pub completed_one : PrimaryHistory
 completed_one = (after (one_write ++ SendEvent ∷ []) (connected standard)).primary
 
+-- after the write is completed its acknowledgement is not expected again, nor a barrier of another size
 pub record AfterOneWrite : Type 0 where
   pub wrong_size : reply_of (Ok (BarrierAckFrame 1 2)) completed_one ≡ refused refusal.BadBarrierAck
   pub repeated : reply_of (Ok (WriteAckFrame (ack_of 2 1 1 0))) completed_one ≡ refused refusal.UnknownAck

@@ -34,6 +34,7 @@ pub data Packet : Type 0 where
 abbrev pub Received : Type 0
 Received = Result Packet Refusal
 
+-- the command of a packet (`drbd_protocol.h`)
 abbrev pub command_of : Packet → Command
 command_of (DataFrame write place) = command.Data
 command_of (RsDataReplyFrame block contents place) = command.RsDataReply
@@ -81,6 +82,7 @@ naming place (UuidsItem tuple) = record { first = 0; number = 0; count = 0; plac
 abbrev pub hello_of : Settings → Tuple → List Packet
 hello_of settings tuple = ProtocolFrame settings.protocol ∷ SizesFrame settings.blocks ∷ UuidsFrame tuple ∷ []
 
+-- the frames of these items, of which the first stands at this place
 abbrev pub frames_from : ℕ → List Item → List Packet
 frames_from place [] = []
 frames_from place (item ∷ items) = frame_of place item ∷ frames_from (place + 1) items

@@ -33,6 +33,7 @@ pub record TakesABeginning (p : PrimaryHistory) (s : SecondaryHistory) : Type 0 
 pub record StaysClosed (p later : PrimaryHistory) : Type 0 where
   pub same : (k : ℕ) (c : Outward) → slice_get p.connections k ≡ Some c → c.closed ≡ true → slice_get later.connections k ≡ Some c
 
+-- the secondary's side of the same
 pub record StaysClosedToo (s later : SecondaryHistory) : Type 0 where
   pub same : (k : ℕ) (c : Inward) → slice_get s.connections k ≡ Some c → c.closed ≡ true
       → (d : Inward) × (slice_get later.connections k ≡ Some d) × (d.taken ≡ c.taken) × (d.pushed ≡ c.pushed) × (d.due ≡ c.due) × (d.closed ≡ true)
@@ -67,6 +68,7 @@ is_marked p block = nat_lt block p.settings.blocks && p.marks block
 abbrev pub Cover : (ℕ → Bool) → BlockMap → BlockMap → Type 0
 Cover marks local peer = (block : ℕ) → same_block (local block) (peer block) ≡ false → marks block ≡ true
 
+-- a block of the device is marked at the opening
 abbrev pub opening_marked : PrimaryHistory → ℕ → Bool
 opening_marked p block = nat_lt block p.settings.blocks && p.opening_marks block
 
@@ -83,6 +85,7 @@ MarksDifferences p s = IsGrounded p s → stands (outward p) ≡ false → Cover
 abbrev pub is_covered : PrimaryHistory → ℕ → Bool
 is_covered p block = is_marked p block || list_any (λ accepted. covers accepted.write block) (unreleased p)
 
+-- at every moment a block on which the disks differ is marked or under an unreleased write
 pub record CoversDifferences (p : PrimaryHistory) (s : SecondaryHistory) : Type 0 where
   pub covered : IsGrounded p s → Cover (is_covered p) (local_map p) (secondary_map s)
   pub active : length (active_extents p) ≤ p.settings.slots

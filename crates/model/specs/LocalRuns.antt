@@ -21,6 +21,7 @@ pub data PrimaryEvent : Type 0 where
   Closes : PrimaryEvent
   Receipts : (number : ℕ) → PrimaryEvent
 
+-- the history that an event leads to; what it answers is left out
 abbrev pub primary_after : PrimaryEvent → PrimaryHistory → PrimaryHistory
 primary_after (Opens sync loss starved) h = (open_primary sync loss starved h).1
 primary_after (Submits first contents starved) h = (submit first contents starved h).1
@@ -47,6 +48,7 @@ pub data SecondaryEvent : Type 0 where
   Acknowledges : (room starved : Bool) → SecondaryEvent
   ClosesToo : SecondaryEvent
 
+-- the history that an event leads to; what it answers is left out
 abbrev pub secondary_after : SecondaryEvent → SecondaryHistory → SecondaryHistory
 secondary_after OpensToo h = (open_secondary h).1
 secondary_after (Receives frame starved) h = (receive frame starved h).1
@@ -55,6 +57,7 @@ secondary_after (FailsToApply place offsets) h = (peer_fault place offsets h).1
 secondary_after (Acknowledges room starved) h = (ack_out room starved h).1
 secondary_after ClosesToo h = (close_secondary h).1
 
+-- the history that these events lead to, the first of them first
 abbrev pub secondary_run : List SecondaryEvent → SecondaryHistory → SecondaryHistory
 secondary_run [] h = h
 secondary_run (event ∷ events) h = secondary_run events (secondary_after event h)

@@ -5,6 +5,7 @@ use Rattle.std.specs.List.{list_any}
 use Rattle.model.specs.Contents.{Write, covers}
 use Rattle.model.specs.Primary.{PrimaryHistory, unreleased}
 
+-- The bitmap: for each block whether the disks may differ there (DRBD User's Guide, "Quick sync bitmap").
 abbrev pub Marks : Type 0
 Marks = ℕ → Bool
 

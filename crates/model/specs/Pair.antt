@@ -32,6 +32,7 @@ pub data Event : Type 0 where
   ClosePrimaryEvent : Event
   CloseSecondaryEvent : Event
 
+-- the histories of both nodes
 pub record PairHistory : Type 0 where
   pub primary : PrimaryHistory
   pub secondary : SecondaryHistory
@@ -47,6 +48,7 @@ pair_opening settings local peer own peer_tuple marks =
 abbrev pub pushed_frames : PairHistory → List Packet
 pushed_frames h = let c = outward h.primary in take c.pushed (frames_due h.primary.settings c)
 
+-- what the secondary has put into the link back
 abbrev pub pushed_answers : PairHistory → List Packet
 pushed_answers h = let c = inward h.secondary in take c.pushed (answers_due h.secondary.settings c)
 
@@ -54,6 +56,7 @@ pushed_answers h = let c = inward h.secondary in take c.pushed (answers_due h.se
 abbrev pub next_frame : PairHistory → Option Received
 next_frame h = option_map (λ packet. Ok packet) (slice_get (pushed_frames h) (length (inward h.secondary).taken))
 
+-- the next frame for the primary, if there is one
 abbrev pub next_answer : PairHistory → Option Received
 next_answer h = option_map (λ packet. Ok packet) (slice_get (pushed_answers h) (length (outward h.primary).taken))
 
@@ -61,14 +64,17 @@ next_answer h = option_map (λ packet. Ok packet) (slice_get (pushed_answers h) 
 abbrev pub has_room : PairHistory → Bool
 has_room h = nat_lt ((outward h.primary).pushed - length (inward h.secondary).taken) h.primary.settings.link
 
+-- the link back has room
 abbrev pub answers_have_room : PairHistory → Bool
 answers_have_room h = nat_lt ((inward h.secondary).pushed - length (outward h.primary).taken) h.secondary.settings.link
 
 -- Steps.
 
+-- a step of the primary, of which the secondary sees nothing
 abbrev pub on_primary : (PrimaryHistory → Reply × PrimaryHistory) → PairHistory → Reply × PairHistory
 on_primary step h = let done = step h.primary in (done.0, record h { primary = done.1 })
 
+-- a step of the secondary, of which the primary sees nothing
 abbrev pub on_secondary : (SecondaryHistory → Reply × SecondaryHistory) → PairHistory → Reply × PairHistory
 on_secondary step h = let done = step h.secondary in (done.0, record h { secondary = done.1 })
 
@@ -77,6 +83,7 @@ abbrev pub open_pair_tests : PairHistory → ℕ → ℕ → Bool → List Test
 open_pair_tests h sync loss starved =
     (not ((inward h.secondary).closed && is_drained h.secondary), NotDrained) ∷ open_tests h.primary sync loss starved
 
+-- both ends open, or none
 abbrev pub open_pair : ℕ → ℕ → Bool → PairHistory → Reply × PairHistory
 open_pair sync loss starved h = elim (first_refusal (open_pair_tests h sync loss starved)) [
   | Some refusal ↦ (reply.Refused refusal, h)
@@ -88,6 +95,7 @@ abbrev pub keeps_too_many : ℕ → Option ℕ → Bool
 keeps_too_many kept None = false
 keeps_too_many kept (Some count) = nat_lt count kept
 
+-- a local write that fails after so many blocks
 abbrev pub local_fault_kept : ℕ → ℕ → PrimaryHistory → Reply × PrimaryHistory
 local_fault_kept number kept h =
     elim (first_refusal ((not (is_unfinished h number), UnknownJob) ∷ (keeps_too_many kept (option_map (λ accepted. length accepted.write.contents) (accepted_at h number)), BadRange) ∷ [])) [
@@ -95,6 +103,7 @@ local_fault_kept number kept h =
       | None ↦ local_fault number (below kept) h
     ]
 
+-- an item that fails on the peer's disk after so many blocks
 abbrev pub peer_fault_kept : ℕ → ℕ → SecondaryHistory → Reply × SecondaryHistory
 peer_fault_kept place kept h =
     elim (first_refusal (peer_tests h place ++ (keeps_too_many kept (option_map (λ item. length (contents_of item)) (slice_get (items_taken (inward h)) place)), BadRange) ∷ [])) [
@@ -136,19 +145,24 @@ same_bytes [] [] = true
 same_bytes (x ∷ xs) (y ∷ ys) = (x == y) && same_bytes xs ys
 same_bytes _ _ = false
 
+-- two disks hold the same in a block, or neither has it
 abbrev pub same_block : Option (List ℕ) → Option (List ℕ) → Bool
 same_block None None = true
 same_block (Some a) (Some b) = same_bytes a b
 same_block _ _ = false
 
+-- the disks differ in a block
 abbrev pub differs : PairHistory → ℕ → Bool
 differs h block = not (same_block (local_map h.primary block) (secondary_map h.secondary block))
 
+-- the blocks on which the disks differ, rising
 abbrev pub differing : PairHistory → List ℕ
 differing h = filter (differs h) (below h.primary.settings.blocks)
 
+-- the blocks that are marked, rising
 abbrev pub marked : PairHistory → List ℕ
 marked h = filter h.primary.marks (below h.primary.settings.blocks)
 
+-- both nodes' identifiers
 abbrev pub tuples : PairHistory → Tuple × Tuple
 tuples h = (h.primary.tuple, h.secondary.tuple)

@@ -82,10 +82,12 @@ primary_opening settings disk tuple marks = record {
 abbrev pub no_outward : Tuple → Outward
 no_outward t = record { sync = 0; loss = 0; hello = t; stream = []; pushed = 0; taken = []; refused = false; begun = false; closed = true }
 
+-- the last one, or else the first argument
 abbrev pub last_of : {X : Type 0} → X → List X → X
 last_of none [] = none
 last_of none (x ∷ xs) = last_of x xs
 
+-- the last connection, open or closed
 abbrev pub outward : PrimaryHistory → Outward
 outward h = last_of (no_outward h.tuple) h.connections
 
@@ -99,6 +101,7 @@ change_last f [] = []
 change_last f (x ∷ []) = f x ∷ []
 change_last f (x ∷ y ∷ xs) = x ∷ change_last f (y ∷ xs)
 
+-- changes the last connection
 abbrev pub with_outward : (Outward → Outward) → PrimaryHistory → PrimaryHistory
 with_outward f h = record h { connections = change_last f h.connections }
 
@@ -112,6 +115,7 @@ stands c = not c.closed && c.begun
 abbrev pub frames_due : Settings → Outward → List Packet
 frames_due settings c = hello_of settings c.hello ++ frames_of c.stream
 
+-- how many items were sent: what was pushed after the three frames of the hello
 abbrev pub items_sent : Outward → ℕ
 items_sent c = c.pushed - 3
 
@@ -121,34 +125,43 @@ accepted_frames c = if c.refused then take (length c.taken - 1) c.taken else c.t
 
 -- Acknowledgements.
 
+-- two acknowledgements name the same item with the same range
 abbrev pub same_naming : Acknowledged → Acknowledged → Bool
 same_naming a b = ((a.first == b.first) && (a.number == b.number)) && ((a.count == b.count) && (a.place == b.place))
 
+-- the frame is the RECV_ACK of this
 abbrev pub is_recv_ack : Acknowledged → Received → Bool
 is_recv_ack of (Ok (RecvAckFrame ack)) = same_naming of ack
 is_recv_ack of _ = false
 
+-- the frame is the WRITE_ACK of this
 abbrev pub is_write_ack : Acknowledged → Received → Bool
 is_write_ack of (Ok (WriteAckFrame ack)) = same_naming of ack
 is_write_ack of _ = false
 
+-- the frame is the RS_WRITE_ACK of this
 abbrev pub is_rs_write_ack : Acknowledged → Received → Bool
 is_rs_write_ack of (Ok (RsWriteAckFrame ack)) = same_naming of ack
 is_rs_write_ack of _ = false
 
+-- the frame acknowledges this epoch's barrier
 abbrev pub is_barrier_ack : ℕ → Received → Bool
 is_barrier_ack epoch (Ok (BarrierAckFrame number size)) = number == epoch
 is_barrier_ack epoch _ = false
 
+-- the peer has said that it received the item
 abbrev pub was_received : Outward → ℕ → Item → Bool
 was_received c place item = list_any (is_recv_ack (naming place item)) (accepted_frames c)
 
+-- the peer has said that the write is on its disk
 abbrev pub was_written : Outward → ℕ → Item → Bool
 was_written c place item = list_any (is_write_ack (naming place item)) (accepted_frames c)
 
+-- the peer has said that the block of a resync is on its disk
 abbrev pub was_resynced : Outward → ℕ → Item → Bool
 was_resynced c place item = list_any (is_rs_write_ack (naming place item)) (accepted_frames c)
 
+-- the peer has said that all of the epoch is applied
 abbrev pub barrier_acknowledged : Outward → ℕ → Bool
 barrier_acknowledged c epoch = list_any (is_barrier_ack epoch) (accepted_frames c)
 
@@ -178,21 +191,25 @@ is_alone h accepted = elim accepted.home [
 
 -- The states of a write, read off.
 
+-- the local disk has written it
 abbrev pub is_on_disk : LocalOutcome → Bool
 is_on_disk Waiting = false
 is_on_disk OnDisk = true
 is_on_disk (Failed offsets) = false
 
+-- the local disk has failed it
 abbrev pub is_failed : LocalOutcome → Bool
 is_failed Waiting = false
 is_failed OnDisk = false
 is_failed (Failed offsets) = true
 
+-- the local disk has neither written nor failed it
 abbrev pub is_waiting : LocalOutcome → Bool
 is_waiting Waiting = true
 is_waiting OnDisk = false
 is_waiting (Failed offsets) = false
 
+-- the journal has the write
 abbrev pub is_completed : PrimaryHistory → ℕ → Bool
 is_completed h number = list_any (λ entry. entry.write.number == number) h.journal
 
@@ -223,6 +240,7 @@ is_released h accepted = not (is_waiting accepted.outcome) && (is_confirmed h ac
 abbrev pub unreleased : PrimaryHistory → List Accepted
 unreleased h = filter (λ accepted. not (is_released h accepted)) h.writes
 
+-- the accepted writes that are neither completed nor failed
 abbrev pub open_writes : PrimaryHistory → List Accepted
 open_writes h = filter (is_open h) h.writes
 
@@ -232,9 +250,11 @@ offset_reached Waiting offset = false
 offset_reached OnDisk offset = true
 offset_reached (Failed offsets) offset = list_any (λ k. k == offset) offsets
 
+-- what a write laid on the local disk
 abbrev pub local_layer : Accepted → Layer
 local_layer accepted = record { first = accepted.write.first; contents = accepted.write.contents; laid = offset_reached accepted.outcome }
 
+-- the local disk: all writes, as far as the disk did them, over what it held at the opening
 abbrev pub local_map : PrimaryHistory → BlockMap
 local_map h = overlay h.opening_map (map local_layer h.writes)
 
@@ -242,23 +262,28 @@ local_map h = overlay h.opening_map (map local_layer h.writes)
 abbrev pub insert_once : ℕ → List ℕ → List ℕ
 insert_once n ns = if list_any (λ m. m == n) ns then ns else n ∷ ns
 
+-- the extents of these writes, each once
 abbrev pub active_extents_of : List Accepted → List ℕ
 active_extents_of [] = []
 active_extents_of (accepted ∷ rest) = insert_once (extent_of accepted.write.first) (active_extents_of rest)
 
+-- The active extents: those of the unreleased writes (DRBD User's Guide, "The activity log").
 abbrev pub active_extents : PrimaryHistory → List ℕ
 active_extents h = active_extents_of (unreleased h)
 
 -- Resync.
 
+-- the item begins a resync
 abbrev pub is_sync_start : Item → Bool
 is_sync_start (SyncUuidItem word) = true
 is_sync_start _ = false
 
+-- the item ends a resync
 abbrev pub is_sync_end : Item → Bool
 is_sync_end (UuidsItem tuple) = true
 is_sync_end _ = false
 
+-- the item is a block of a resync
 abbrev pub is_resync : Item → Bool
 is_resync (ResyncItem block contents) = true
 is_resync _ = false

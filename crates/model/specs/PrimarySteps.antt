@@ -25,9 +25,11 @@ pub record Followed : Type 0 where
   pub barrier : Option ℕ
   pub synced : Bool
 
+-- the open writes that are completed now
 abbrev pub newly_completed : PrimaryHistory → List Accepted
 newly_completed h = filter (λ accepted. is_open h accepted && completes h accepted) h.writes
 
+-- a write's entry in the journal: over the link, if the peer has answered it as the protocol asks, or else alone
 abbrev pub completion_of : PrimaryHistory → Accepted → Completion
 completion_of h accepted = record { write = accepted.write; kind = if is_answered h accepted then Linked else Alone; home = accepted.home }
 
@@ -47,6 +49,7 @@ epoch_is_over h =
     let c = outward h in
     stands c && (list_any (is_settled h c) (items_of_epoch c.stream (last_epoch c.stream)) || nat_le h.settings.max_epoch (epoch_size c.stream (last_epoch c.stream)))
 
+-- an item goes to the end of the stream
 abbrev pub appending : Item → PrimaryHistory → PrimaryHistory
 appending item h = with_outward (λ c. record c { stream = c.stream ++ item ∷ [] }) h
 
@@ -86,18 +89,22 @@ tested h tests done = elim (first_refusal tests) [ Some refusal ↦ (reply.Refus
 
 -- Open.
 
+-- the tuples in which a fresh word may not stand
 abbrev pub known_tuples : PrimaryHistory → List Tuple
 known_tuples h = elim h.peer [ None ↦ h.tuple ∷ [] | Some peer ↦ h.tuple ∷ peer ∷ [] ]
 
+-- when an opening is refused, in order
 abbrev pub open_tests : PrimaryHistory → ℕ → ℕ → Bool → List Test
 open_tests h sync loss starved =
     (not (outward h).closed, NotDrained) ∷ (not (are_fresh sync loss (known_tuples h)), UsedIdentifier)
     ∷ (nat_le 4294967295 (length h.connections), StreamFull) ∷ (starved, NoMemory) ∷ []
 
+-- a new connection, with its words and the tuple of its hello
 abbrev pub opened : PrimaryHistory → ℕ → ℕ → PrimaryHistory
 opened h sync loss =
     record h { connections = h.connections ++ record { sync = sync; loss = loss; hello = h.tuple; stream = []; pushed = 0; taken = []; refused = false; begun = false; closed = false } ∷ [] }
 
+-- the primary opens its end
 abbrev pub open_primary : ℕ → ℕ → Bool → PrimaryHistory → Reply × PrimaryHistory
 open_primary sync loss starved h = tested h (open_tests h sync loss starved) (λ _. succeeding what.Nothing (opened h sync loss))
 
@@ -114,9 +121,11 @@ abbrev pub activity_is_full : PrimaryHistory → ℕ → Bool
 activity_is_full h extent =
     not (list_any (λ active. active == extent) (active_extents h)) && nat_le h.settings.slots (length (active_extents h))
 
+-- the write that a submission asks for; its number is the next one
 abbrev pub submission : PrimaryHistory → ℕ → List (List ℕ) → Write
 submission h first contents = record { number = suc (length h.writes); first = first; contents = contents }
 
+-- when a submission is refused, in order
 abbrev pub submit_tests : PrimaryHistory → ℕ → List (List ℕ) → Bool → List Test
 submit_tests h first contents starved =
     let c = outward h in
@@ -136,20 +145,25 @@ submitted h first contents =
       | false ↦ record h { writes = h.writes ++ record { write = write; journal_length = length h.journal; home = None; outcome = Waiting } ∷ []; marks = marking write h.marks }
     ]
 
+-- the primary accepts a write
 abbrev pub submit : ℕ → List (List ℕ) → Bool → PrimaryHistory → Reply × PrimaryHistory
 submit first contents starved h = tested h (submit_tests h first contents starved) (λ _. succeeding (what.Write (suc (length h.writes))) (submitted h first contents))
 
 -- The local disk.
 
+-- the local disk has neither written nor failed the write of this number
 abbrev pub is_unfinished : PrimaryHistory → ℕ → Bool
 is_unfinished h number = list_any (λ accepted. (accepted.write.number == number) && is_waiting accepted.outcome) h.writes
 
+-- what the disk did, put down with the write of this number
 abbrev pub set_outcome : ℕ → LocalOutcome → Accepted → Accepted
 set_outcome number outcome accepted = if accepted.write.number == number then record accepted { outcome = outcome } else accepted
 
+-- what the disk did, put down in the history
 abbrev pub with_outcome : ℕ → LocalOutcome → PrimaryHistory → PrimaryHistory
 with_outcome number outcome h = record h { writes = map (set_outcome number outcome) h.writes }
 
+-- the local disk does a write
 abbrev pub local_done : ℕ → PrimaryHistory → Reply × PrimaryHistory
 local_done number h = tested h ((not (is_unfinished h number), UnknownJob) ∷ []) (λ _. succeeding what.Nothing (with_outcome number OnDisk h))
 
@@ -164,11 +178,13 @@ faulted number offsets h = elim (accepted_at h number) [
   | Some accepted ↦ with_outcome number (Failed offsets) (record h { marks = marking accepted.write h.marks })
 ]
 
+-- the local disk fails a write, and leaves these of its offsets new
 abbrev pub local_fault : ℕ → List ℕ → PrimaryHistory → Reply × PrimaryHistory
 local_fault number offsets h = tested h ((not (is_unfinished h number), UnknownJob) ∷ []) (λ _. succeeding what.Nothing (faulted number offsets h))
 
 -- Send. `room` is what the link answers.
 
+-- when sending is refused, in order
 abbrev pub send_tests : PrimaryHistory → Bool → Bool → List Test
 send_tests h room starved =
     let c = outward h in
@@ -183,11 +199,13 @@ sending h =
       | Some packet ↦ what.Frame (command_of packet) (if nat_lt c.pushed 3 then None else Some (c.pushed - 3))
     ]
 
+-- the primary sends the next frame that it owes
 abbrev pub send : Bool → Bool → PrimaryHistory → Reply × PrimaryHistory
 send room starved h = tested h (send_tests h room starved) (λ _. succeeding (sending h) (with_outward (λ c. record c { pushed = suc c.pushed }) h))
 
 -- Resync.
 
+-- when a resync block is refused, in order
 abbrev pub resync_tests : PrimaryHistory → Bool → List Test
 resync_tests h starved =
     let c = outward h in
@@ -221,9 +239,11 @@ take_completed_tests h number =
     (is_none (accepted_at h number) || list_any (λ taken. taken == number) h.receipts, UnknownJob)
     ∷ (list_any (λ accepted. (accepted.write.number == number) && is_open h accepted) h.writes, NotCompleted) ∷ []
 
+-- the receipt of this number is taken
 abbrev pub receipted : ℕ → PrimaryHistory → PrimaryHistory
 receipted number h = record h { receipts = h.receipts ++ number ∷ [] }
 
+-- the caller takes the receipt of a write
 abbrev pub take_completed : ℕ → PrimaryHistory → Result Completion Refusal × PrimaryHistory
 take_completed number h = elim (first_refusal (take_completed_tests h number)) [
   | Some refusal ↦ (Err refusal, h)

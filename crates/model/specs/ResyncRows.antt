@@ -30,9 +30,11 @@ pub record EmptyPeer : Type 0 where
 abbrev pub one_block : PairHistory
 one_block = fresh_with (record standard { blocks = 1 }) (words 1 0 0 0) (words 0 0 0 0)
 
+-- a read that fails, the one block under way, a write to it, and the link is lost
 abbrev pub one_block_resync : List Event
 one_block_resync = connect 5 7 ++ ResyncFaultEvent ∷ ResyncEvent ∷ ResyncEvent ∷ fill 0 1 170 ∷ ClosePrimaryEvent ∷ []
 
+-- what that answers, and what stays marked when the link is lost
 pub record OneBlock : Type 0 where
   pub answers : replies one_block_resync one_block
       ≡ connecting (decided FullSync) ++ refused refusal.ReadFault ∷ resynced 0 1 ∷ refused refusal.NothingToDo ∷ refused (refusal.Conflict 0) ∷ reply.Closed 0 ∷ []
@@ -42,6 +44,7 @@ pub record OneBlock : Type 0 where
 abbrev pub written_alone : List Event
 written_alone = closed_twice ++ fill 3 1 170 ∷ fill 6 1 187 ∷ LocalEvent 1 ∷ LocalEvent 2 ∷ []
 
+-- connected again after two writes without a link
 abbrev pub two_marked : PairHistory
 two_marked = after (written_alone ++ connect 9 11) (connected standard)
 
@@ -49,17 +52,21 @@ two_marked = after (written_alone ++ connect 9 11) (connected standard)
 abbrev pub first_copied : List Event
 first_copied = SendEvent ∷ ReceiveEvent ∷ ResyncEvent ∷ SendEvent ∷ ReceiveEvent ∷ PeerEvent 1 ∷ AckOutEvent ∷ AckInEvent ∷ []
 
+-- the second block goes over
 abbrev pub second_copied : List Event
 second_copied = ResyncEvent ∷ SendEvent ∷ SendEvent ∷ ReceiveEvent ∷ ReceiveEvent ∷ PeerEvent 3 ∷ AckOutEvent ∷ AckOutEvent ∷ AckInEvent ∷ AckInEvent ∷ []
 
+-- the resync's end goes over
 abbrev pub ended : List Event
 ended = SendEvent ∷ SendEvent ∷ ReceiveEvent ∷ ReceiveEvent ∷ []
 
+-- writes without a link complete alone and are marked; the next connection begins a resync
 pub record WrittenAlone : Type 0 where
   pub answers : replies written_alone (connected standard) ≡ reply.Closed 0 ∷ done ∷ accepted 1 ∷ accepted 2 ∷ completing 1 done ∷ completing 2 done ∷ []
   pub marks : marked (after written_alone (connected standard)) ≡ 3 ∷ 6 ∷ []
   pub connects : replies (connect 9 11) (after written_alone (connected standard)) ≡ connecting (decided BitmapSync)
 
+-- that resync, step by step, to its end
 pub record Resynced : Type 0 where
   pub target : tuples (after (SendEvent ∷ ReceiveEvent ∷ []) two_marked) ≡ (words 7 9 1 0, words 9 0 0 0)
   pub first : replies first_copied two_marked
@@ -77,6 +84,7 @@ pub record Resynced : Type 0 where
 abbrev pub broken_end : PairHistory
 broken_end = after (first_copied ++ second_copied ++ closed_twice) two_marked
 
+-- a link lost before the peer took the end: the next connection copies everything
 pub record BrokenEnd : Type 0 where
   pub lost : tuples broken_end ≡ (words 11 7 9 1, words 9 0 0 0)
   pub connects : replies (connect 13 15) broken_end ≡ connecting (decided FullSync)

@@ -16,6 +16,7 @@ use Rattle.model.specs.Pair.{Event, OpenEvent, SubmitEvent, SendEvent, ReceiveEv
 
 -- Openings.
 
+-- a tuple by its four words
 abbrev pub words : ℕ → ℕ → ℕ → ℕ → Tuple
 words current bitmap first second = record { current = current; bitmap = bitmap; first_historical = first; second_historical = second }
 
@@ -23,6 +24,7 @@ words current bitmap first second = record { current = current; bitmap = bitmap;
 abbrev pub fresh_with : Settings → Tuple → Tuple → PairHistory
 fresh_with settings own peer = pair_opening settings (filled settings.blocks (0 ∷ [])) (filled settings.blocks (0 ∷ [])) own peer (λ block. false)
 
+-- a new pair with equal identifiers
 abbrev pub fresh : Settings → PairHistory
 fresh settings = fresh_with settings (words 1 0 0 0) (words 1 0 0 0)
 
@@ -47,17 +49,21 @@ connected settings = (run_fed (connect 5 7) (fresh settings)).1
 abbrev pub replies : List Event → PairHistory → List Reply
 replies events h = (run_fed events h).0
 
+-- the pair after these events
 abbrev pub after : List Event → PairHistory → PairHistory
 after events h = (run_fed events h).1
 
 -- Replies.
 
+-- the reply of a refusal
 abbrev pub refused : Refusal → Reply
 refused refusal = reply.Refused refusal
 
+-- the reply of a step with nothing to tell
 abbrev pub done : Reply
 done = reply.Ok (done_with what.Nothing)
 
+-- the reply that names an accepted write
 abbrev pub accepted : ℕ → Reply
 accepted number = reply.Ok (done_with (what.Write number))
 
@@ -69,9 +75,11 @@ item name place = reply.Ok (done_with (what.Frame name (Some place)))
 abbrev pub frame : Command → Reply
 frame name = reply.Ok (done_with (what.Frame name None))
 
+-- the reply that names the decision
 abbrev pub decided : Decision → Reply
 decided decision = reply.Ok (done_with (what.Decided decision))
 
+-- the reply that names a copied block and its place
 abbrev pub resynced : ℕ → ℕ → Reply
 resynced block place = reply.Ok (done_with (what.Block (record { 0 = block }) place))
 
@@ -80,10 +88,12 @@ abbrev pub completing : ℕ → Reply → Reply
 completing number (reply.Ok report) = reply.Ok (record report { completed = Some number })
 completing number other = other
 
+-- the same reply, and a barrier ended this epoch
 abbrev pub with_barrier : ℕ → Reply → Reply
 with_barrier epoch (reply.Ok report) = reply.Ok (record report { barrier = Some epoch })
 with_barrier epoch other = other
 
+-- the same reply, and a resync ended
 abbrev pub with_sync : Reply → Reply
 with_sync (reply.Ok report) = reply.Ok (record report { synced = true })
 with_sync other = other

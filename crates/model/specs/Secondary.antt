@@ -42,6 +42,7 @@ secondary_opening settings disk tuple = record {
   connections = [];
 }
 
+-- a secondary that never opened stands as one whose connection is closed
 abbrev pub no_inward : SecondaryHistory → Inward
 no_inward h = record { base = h.opening_map; hello = h.tuple; taken = []; refused = false; applied = []; gone = []; due = []; pushed = 0; closed = true }
 
@@ -49,6 +50,7 @@ no_inward h = record { base = h.opening_map; hello = h.tuple; taken = []; refuse
 abbrev pub inward : SecondaryHistory → Inward
 inward h = last_of (no_inward h) h.connections
 
+-- changes the last connection
 abbrev pub with_inward : (Inward → Inward) → SecondaryHistory → SecondaryHistory
 with_inward f h = record h { connections = change_last f h.connections }
 
@@ -56,6 +58,7 @@ with_inward f h = record h { connections = change_last f h.connections }
 abbrev pub accepted_of : Inward → List Received
 accepted_of c = drop 3 (if c.refused then take (length c.taken - 1) c.taken else c.taken)
 
+-- the item of a frame, if it is one
 abbrev pub received_item : Received → Option Item
 received_item (Ok packet) = item_of packet
 received_item (Err fault) = None
@@ -68,6 +71,7 @@ items_taken c = filter_map received_item (accepted_of c)
 abbrev pub is_pending : Inward → ℕ × Item → Bool
 is_pending c entry = (has_blocks entry.1 && not (is_whole c.applied entry.0 entry.1)) && not (list_any (λ place. place == entry.0) c.gone)
 
+-- what was taken and is neither applied nor dropped, with its places
 abbrev pub pending : Inward → List (ℕ × Item)
 pending c = filter (is_pending c) (placed (items_taken c))
 
@@ -79,6 +83,7 @@ is_drained h = length (pending (inward h)) == 0
 abbrev pub map_of : Inward → BlockMap
 map_of c = overlay c.base (layers_of (items_taken c) c.applied)
 
+-- the secondary's disk now
 abbrev pub secondary_map : SecondaryHistory → BlockMap
 secondary_map h = map_of (inward h)
 

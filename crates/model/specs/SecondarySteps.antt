@@ -20,6 +20,7 @@ use Rattle.model.specs.Secondary.{Inward, SecondaryHistory, inward, with_inward,
 
 -- What follows an effect in the same step: each barrier taken is acknowledged once all of the epochs up to it are applied.
 
+-- the packet acknowledges this epoch's barrier
 abbrev pub is_barrier_answer : ℕ → Packet → Bool
 is_barrier_answer epoch (BarrierAckFrame number size) = number == epoch
 is_barrier_answer epoch _ = false
@@ -29,6 +30,7 @@ abbrev pub barriers_to_answer : Inward → List ℕ
 barriers_to_answer c =
     filter (λ epoch. is_applied_to c epoch && not (list_any (is_barrier_answer epoch) c.due)) (map suc (below (barriers_in (items_taken c))))
 
+-- the acknowledgement of an epoch, with the number of its writes
 abbrev pub barrier_answer : Inward → ℕ → Packet
 barrier_answer c epoch = BarrierAckFrame epoch (epoch_size (items_taken c) epoch)
 
@@ -36,26 +38,32 @@ barrier_answer c epoch = BarrierAckFrame epoch (epoch_size (items_taken c) epoch
 abbrev pub answering : Inward → Inward
 answering c = elim c.closed [ true ↦ c | false ↦ record c { due = c.due ++ map (barrier_answer c) (barriers_to_answer c) } ]
 
+-- a step that succeeded, and the acknowledgements that became due
 abbrev pub succeeding_secondary : What → SecondaryHistory → Reply × SecondaryHistory
 succeeding_secondary done h = (reply.Ok (done_with done), with_inward answering h)
 
+-- the first test that holds refuses the step, which then changes nothing
 abbrev pub tested_secondary : SecondaryHistory → List Test → (Unit {0} → Reply × SecondaryHistory) → Reply × SecondaryHistory
 tested_secondary h tests done = elim (first_refusal tests) [ Some refusal ↦ (reply.Refused refusal, h) | None ↦ done tt ]
 
 -- Open.
 
+-- when an opening is refused: an end is open, or items are pending
 abbrev pub open_secondary_tests : SecondaryHistory → List Test
 open_secondary_tests h = (not ((inward h).closed && is_drained h), NotDrained) ∷ []
 
+-- a new connection lies over what the disk holds now
 abbrev pub opened_secondary : SecondaryHistory → SecondaryHistory
 opened_secondary h =
     record h { connections = h.connections ++ record { base = secondary_map h; hello = h.tuple; taken = []; refused = false; applied = []; gone = []; due = []; pushed = 0; closed = false } ∷ [] }
 
+-- the secondary opens its end
 abbrev pub open_secondary : SecondaryHistory → Reply × SecondaryHistory
 open_secondary h = tested_secondary h (open_secondary_tests h) (λ _. succeeding_secondary what.Nothing (opened_secondary h))
 
 -- Taking a frame.
 
+-- what taking a frame says and leaves, or a protocol error
 abbrev pub Checked : Type 0
 Checked = Result (What × SecondaryHistory) Refusal
 
@@ -68,6 +76,7 @@ checking_hello (suc zero) (SizesFrame blocks) h =
 checking_hello (suc (suc n)) (UuidsFrame peer) h = Ok (what.Frame command.Uuids None, h)
 checking_hello n packet h = Err BadCommand
 
+-- the number of a write, and zero of anything else
 abbrev pub number_of_item : Item → ℕ
 number_of_item (WriteItem write) = write.number
 number_of_item _ = 0
@@ -84,6 +93,7 @@ is_apart item items = not (list_any (λ entry. items_meet entry.1 item) (items_o
 abbrev pub checked_if : Bool → What → SecondaryHistory → Checked
 checked_if good done h = if good then Ok (done, h) else Err BadField
 
+-- the secondary takes a tuple for its own
 abbrev pub adopting : Tuple → Bool → SecondaryHistory → SecondaryHistory
 adopting tuple consistent h = record h { tuple = tuple; consistent = consistent }
 
@@ -112,6 +122,7 @@ checking_item (UuidsFrame tuple) place c h =
     checked_if (is_in_resync c) (what.Frame command.Uuids (Some place)) (adopting tuple true h)
 checking_item packet place c h = Err BadCommand
 
+-- a frame is judged as one of the hello, and then as an item
 abbrev pub checking : Received → Inward → SecondaryHistory → Checked
 checking (Err fault) c h = Err fault
 checking (Ok packet) c h =
@@ -137,6 +148,7 @@ receive frame starved h =
 
 -- The disk.
 
+-- the item at this place is pending
 abbrev pub is_pending_at : Inward → ℕ → Bool
 is_pending_at c place = list_any (λ entry. entry.0 == place) (pending c)
 
@@ -144,6 +156,7 @@ is_pending_at c place = list_any (λ entry. entry.0 == place) (pending c)
 abbrev pub has_earlier : Inward → ℕ → Bool
 has_earlier c place = let items = items_taken c in list_any (λ entry. nat_lt (epoch_of items entry.0) (epoch_of items place)) (pending c)
 
+-- when applying is refused: not pending, or an earlier epoch is not applied
 abbrev pub peer_tests : SecondaryHistory → ℕ → List Test
 peer_tests h place = (not (is_pending_at (inward h) place), UnknownJob) ∷ (has_earlier (inward h) place, EpochOpen) ∷ []
 
@@ -157,6 +170,7 @@ applied_answer asked place (WriteItem write) = elim asked [ protocol.A ↦ [] | 
 applied_answer asked place (ResyncItem block contents) = RsWriteAckFrame (naming place (ResyncItem block contents)) ∷ []
 applied_answer asked place _ = []
 
+-- the item is on the disk, and its acknowledgement is due
 abbrev pub applying : Protocol → ℕ → Inward → Inward
 applying asked place c = elim (slice_get (items_taken c) place) [
   | None ↦ c
@@ -166,6 +180,7 @@ applying asked place c = elim (slice_get (items_taken c) place) [
   }
 ]
 
+-- the secondary's disk does an item
 abbrev pub peer : ℕ → SecondaryHistory → Reply × SecondaryHistory
 peer place h = tested_secondary h (peer_tests h place) (λ _. succeeding_secondary what.Nothing (with_inward (applying h.settings.protocol place) h))
 
@@ -179,21 +194,25 @@ failing place offsets c =
       closed = true;
     }
 
+-- the secondary's disk fails an item
 abbrev pub peer_fault : ℕ → List ℕ → SecondaryHistory → Reply × SecondaryHistory
 peer_fault place offsets h = tested_secondary h (peer_tests h place) (λ _. (reply.Ok (done_with what.Nothing), with_inward (failing place offsets) h))
 
 -- Pushing an acknowledgement. `room` is what the link answers.
 
+-- when sending is refused, in order
 abbrev pub ack_out_tests : SecondaryHistory → Bool → Bool → List Test
 ack_out_tests h room starved =
     let c = inward h in
     (c.closed, NotConnected) ∷ (nat_le (length (answers_due h.settings c)) c.pushed, NothingThere) ∷ (starved, NoMemory) ∷ (not room, LinkFull) ∷ []
 
+-- what the next acknowledgement is
 abbrev pub answering_with : SecondaryHistory → What
 answering_with h =
     let c = inward h in
     elim (slice_get (answers_due h.settings c) c.pushed) [ None ↦ what.Nothing | Some packet ↦ what.Frame (command_of packet) None ]
 
+-- the secondary sends an acknowledgement
 abbrev pub ack_out : Bool → Bool → SecondaryHistory → Reply × SecondaryHistory
 ack_out room starved h =
     tested_secondary h (ack_out_tests h room starved) (λ _. (reply.Ok (done_with (answering_with h)), with_inward (λ c. record c { pushed = suc c.pushed }) h))

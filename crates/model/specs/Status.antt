@@ -37,17 +37,20 @@ pub data LinkState : Type 0 where
   SyncSource : LinkState
   SyncTarget : LinkState
 
+-- roles as `/proc/drbd` names them (DRBD User's Guide, "Roles")
 pub data Role : Type 0 where
   Primary : Role
   Secondary : Role
   Unknown : Role
 
+-- disk states as `/proc/drbd` names them (DRBD User's Guide, "Disk states")
 pub data DiskState : Type 0 where
   UpToDate : DiskState
   Consistent : DiskState
   Inconsistent : DiskState
   DUnknown : DiskState
 
+-- the words of a status line (DRBD User's Guide, "Connection states", "Roles", "Disk states")
 pub record Words : Type 0 where
   pub link : LinkState
   pub own_role : Role
@@ -64,6 +67,7 @@ pub record PrimaryLine : Type 0 where
   pub ep : ℕ
   pub oos : ℕ
 
+-- the primary's words, by what its connection has come to
 abbrev pub primary_words : Outward → Words
 primary_words c =
     if c.closed then record { link = StandAlone; own_role = Primary; other_role = Unknown; own_disk = UpToDate; other_disk = DUnknown }
@@ -71,6 +75,7 @@ primary_words c =
     else if resync_runs c then record { link = SyncSource; own_role = Primary; other_role = Secondary; own_disk = UpToDate; other_disk = Inconsistent }
     else record { link = Connected; own_role = Primary; other_role = Secondary; own_disk = UpToDate; other_disk = UpToDate }
 
+-- the primary's status line (DRBD User's Guide, "Performance indicators")
 abbrev pub primary_line : PrimaryHistory → PrimaryLine
 primary_line h = record { words = primary_words (outward h); protocol = h.settings.protocol; pe = unanswered h; ap = incomplete h; ep = open_epochs h; oos = out_of_sync h }
 
@@ -84,6 +89,7 @@ pub record SecondaryLine : Type 0 where
   pub protocol : Protocol
   pub pending : ℕ
 
+-- the secondary's words, by whether it is consistent and what its connection has come to
 abbrev pub secondary_words : Bool → Inward → Words
 secondary_words consistent c =
     if c.closed || not (hello_is_done c)
@@ -91,6 +97,7 @@ secondary_words consistent c =
     else if consistent then record { link = Connected; own_role = Secondary; other_role = Primary; own_disk = UpToDate; other_disk = UpToDate }
     else record { link = SyncTarget; own_role = Secondary; other_role = Primary; own_disk = Inconsistent; other_disk = UpToDate }
 
+-- the secondary's status line
 abbrev pub secondary_line : SecondaryHistory → SecondaryLine
 secondary_line h = record { words = secondary_words h.consistent (inward h); protocol = h.settings.protocol; pending = length (pending (inward h)) }
 
@@ -105,6 +112,7 @@ linked_primary protocol pe ap ep oos = record {
   oos = oos;
 }
 
+-- the line of a secondary that is connected and in sync
 abbrev pub linked_secondary : Protocol → ℕ → SecondaryLine
 linked_secondary protocol pending = record {
   words = record { link = Connected; own_role = Secondary; other_role = Primary; own_disk = UpToDate; other_disk = UpToDate };
@@ -112,6 +120,7 @@ linked_secondary protocol pending = record {
   pending = pending;
 }
 
+-- the line of a primary without a connection
 abbrev pub lone_primary : Protocol → ℕ → ℕ → ℕ → ℕ → PrimaryLine
 lone_primary protocol pe ap ep oos = record {
   words = record { link = StandAlone; own_role = Primary; other_role = Unknown; own_disk = UpToDate; other_disk = DUnknown };

@@ -12,6 +12,7 @@ pub data Item : Type 0 where
   SyncUuidItem : (word : ℕ) → Item
   UuidsItem : (tuple : Tuple) → Item
 
+-- the item ends an epoch
 abbrev pub is_barrier : Item → Bool
 is_barrier (WriteItem write) = false
 is_barrier (ResyncItem block contents) = false
@@ -19,6 +20,7 @@ is_barrier (BarrierItem epoch) = true
 is_barrier (SyncUuidItem word) = false
 is_barrier (UuidsItem tuple) = false
 
+-- the item is a write
 abbrev pub is_write : Item → Bool
 is_write (WriteItem write) = true
 is_write (ResyncItem block contents) = false
@@ -34,6 +36,7 @@ first_of (BarrierItem epoch) = 0
 first_of (SyncUuidItem word) = 0
 first_of (UuidsItem tuple) = 0
 
+-- the blocks that an item puts on a disk
 abbrev pub contents_of : Item → List (List ℕ)
 contents_of (WriteItem write) = write.contents
 contents_of (ResyncItem block contents) = contents ∷ []
@@ -45,6 +48,7 @@ contents_of (UuidsItem tuple) = []
 abbrev pub has_blocks : Item → Bool
 has_blocks item = nat_lt 0 (length (contents_of item))
 
+-- how many barriers there are
 abbrev pub barriers_in : List Item → ℕ
 barriers_in items = length (filter is_barrier items)
 
@@ -61,6 +65,7 @@ abbrev pub placed_from : ℕ → List Item → List (ℕ × Item)
 placed_from place [] = []
 placed_from place (item ∷ items) = (place, item) ∷ placed_from (suc place) items
 
+-- the items with their places
 abbrev pub placed : List Item → List (ℕ × Item)
 placed items = placed_from 0 items
 
@@ -88,6 +93,7 @@ pub record IsLawful (max_epoch : ℕ) (items : List Item) : Type 0 where
 abbrev pub Part : Type 0
 Part = List (ℕ × ℕ)
 
+-- the part has this offset of the item at this place
 abbrev pub is_in : Part → ℕ → ℕ → Bool
 is_in part place offset = list_any (λ pair. (pair.0 == place) && (pair.1 == offset)) part
 
@@ -111,6 +117,7 @@ layers_from place [] part = []
 layers_from place (item ∷ items) part =
     record { first = first_of item; contents = contents_of item; laid = λ offset. is_in part place offset } ∷ layers_from (suc place) items part
 
+-- what the items of a part lay over a disk, from the first place on
 abbrev pub layers_of : List Item → Part → List Layer
 layers_of items part = layers_from 0 items part
 

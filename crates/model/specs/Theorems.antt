@@ -22,9 +22,11 @@ EveryRun Holds =
 abbrev pub EveryRunHasTheHeadline : Type 0
 EveryRunHasTheHeadline = EveryRun Headline
 
+-- the same of the cover
 abbrev pub EveryRunCoversDifferences : Type 0
 EveryRunCoversDifferences = EveryRun CoversDifferences
 
+-- the same of the write order, where nothing failed
 abbrev pub EveryRunKeepsWriteOrder : Type 0
 EveryRunKeepsWriteOrder = EveryRun (λ p s. IsUnharmed p s → KeepsWriteOrder p s)
 

@@ -22,6 +22,7 @@ IsOrdered p set =
     (m n offset place : ℕ) (earlier later : Accepted) → slice_get p.writes m ≡ Some earlier → slice_get p.writes n ≡ Some later → comes_before p earlier later ≡ true
     → set later.write.number offset ≡ true → offset < length later.write.contents → place < length earlier.write.contents → set earlier.write.number place ≡ true
 
+-- what a set of blocks has of a write
 abbrev pub layer_of : Blocks → Accepted → Layer
 layer_of set accepted = record { first = accepted.write.first; contents = accepted.write.contents; laid = λ offset. set accepted.write.number offset }
 
@@ -50,9 +51,11 @@ pub record Settlement : Type 0 where
   pub applied : ℕ
   pub unmarked : ℕ
 
+-- how many items with blocks are applied in full
 abbrev pub applied_items : Inward → ℕ
 applied_items d = length (filter (λ entry. has_blocks entry.1 && is_whole d.applied entry.0 entry.1) (placed (items_taken d)))
 
+-- the numbers of a settlement, read off both histories
 abbrev pub settlement : PrimaryHistory → SecondaryHistory → Settlement
 settlement p s = record {
   sent = items_sent (outward p);

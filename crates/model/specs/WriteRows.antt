@@ -16,9 +16,11 @@ use Rattle.model.specs.Status.{primary_line, secondary_line, linked_primary, lin
 abbrev pub one_write : List Event
 one_write = fill 2 1 170 ∷ LocalEvent 1 ∷ SendEvent ∷ ReceiveEvent ∷ PeerEvent 0 ∷ AckOutEvent ∷ AckInEvent ∷ []
 
+-- what one write answers, step by step
 abbrev pub one_write_replies : List Reply
 one_write_replies = accepted 1 ∷ done ∷ item command.Data 0 ∷ item command.Data 0 ∷ done ∷ frame command.WriteAck ∷ with_barrier 1 (completing 1 (frame command.WriteAck)) ∷ []
 
+-- One write under protocol C, from its submission to its completion.
 pub record OneWrite : Type 0 where
   pub connects : replies (connect 5 7) (fresh standard) ≡ connecting (decided NoSync)
   pub answers : replies one_write (connected standard) ≡ one_write_replies
@@ -30,9 +32,11 @@ pub record OneWrite : Type 0 where
 abbrev pub one_at_a_time : Settings
 one_at_a_time = record standard { backlog = 1 }
 
+-- a second write waits for the release of the first where the log has room for one
 abbrev pub two_in_turn : List Event
 two_in_turn = one_write ++ fill 3 1 187 ∷ SendEvent ∷ ReceiveEvent ∷ AckOutEvent ∷ AckInEvent ∷ fill 3 1 187 ∷ []
 
+-- what that answers, and how the disks differ then
 pub record TwoInTurn : Type 0 where
   pub answers : replies two_in_turn (connected one_at_a_time)
       ≡ one_write_replies ++ refused refusal.LogFull ∷ item command.Barrier 1 ∷ item command.Barrier 1 ∷ frame command.BarrierAck ∷ frame command.BarrierAck ∷ accepted 2 ∷ []
@@ -44,6 +48,7 @@ pub record TwoInTurn : Type 0 where
 abbrev pub asynchronous : Settings
 asynchronous = record standard { protocol = protocol.A }
 
+-- protocol A completes a write once it is sent and on the local disk, in either order
 pub record Asynchronous : Type 0 where
   pub sent_first : replies (fill 2 1 170 ∷ SendEvent ∷ LocalEvent 1 ∷ []) (connected asynchronous) ≡ accepted 1 ∷ item command.Data 0 ∷ with_barrier 1 (completing 1 done) ∷ []
   pub written_first : replies (fill 2 1 170 ∷ LocalEvent 1 ∷ SendEvent ∷ []) (connected asynchronous) ≡ accepted 1 ∷ done ∷ with_barrier 1 (completing 1 (item command.Data 0)) ∷ []
@@ -52,9 +57,11 @@ pub record Asynchronous : Type 0 where
 abbrev pub semisynchronous : Settings
 semisynchronous = record standard { protocol = protocol.B }
 
+-- under protocol B a write is completed, and then the peer's disk fails it
 abbrev pub received_and_lost : List Event
 received_and_lost = fill 2 1 170 ∷ LocalEvent 1 ∷ SendEvent ∷ ReceiveEvent ∷ AckOutEvent ∷ AckInEvent ∷ PeerFaultEvent 0 0 ∷ []
 
+-- what that answers: the write was promised as received, and the disks differ in a block that is not marked yet
 pub record ReceivedAndLost : Type 0 where
   pub answers : replies received_and_lost (connected semisynchronous)
       ≡ accepted 1 ∷ done ∷ item command.Data 0 ∷ item command.Data 0 ∷ frame command.RecvAck ∷ with_barrier 1 (completing 1 (frame command.RecvAck)) ∷ done ∷ []
@@ -77,6 +84,7 @@ two_epochs =
     ∷ fill 2 1 3 ∷ SendEvent ∷ SendEvent ∷ ReceiveEvent ∷ ReceiveEvent ∷ PeerEvent 3 ∷ PeerEvent 0 ∷ PeerEvent 3 ∷ PeerEvent 3
     ∷ AckOutEvent ∷ AckInEvent ∷ AckOutEvent ∷ AckInEvent ∷ AckOutEvent ∷ AckInEvent ∷ LocalEvent 3 ∷ []
 
+-- writes in two epochs, of which the second waits for the first
 pub record TwoEpochs : Type 0 where
   pub answers : replies two_epochs (connected standard)
       ≡ accepted 1 ∷ accepted 2 ∷ done ∷ done ∷ item command.Data 0 ∷ item command.Data 1 ∷ item command.Data 0 ∷ item command.Data 1 ∷ done ∷ frame command.WriteAck
