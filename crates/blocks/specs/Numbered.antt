@@ -3,6 +3,7 @@ use Rattle.std.specs.Prelude.{ℕ}
 use Rattle.blocks.specs.declared.refusal.Refusal.{Refusal}
 use Rattle.blocks.specs.declared.refusal.Refusal.TheVariants as refusal
 
+-- the number of a refusal, as administrators see it
 abbrev pub number_of : Refusal → ℕ
 number_of refusal.BadRange = 1
 number_of (refusal.Conflict _) = 2

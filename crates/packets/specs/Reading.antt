@@ -25,12 +25,14 @@ header_at bytes =
 abbrev pub checked : Bool → Packet → Result Packet Refusal
 checked fields p = if fields then Ok p else Err BadField
 
+-- the protocol of a number, or 23
 abbrev pub protocol_at : ℕ → Result Packet Refusal
 protocol_at number =
     if number == 1 then Ok (packet.Protocol A) else
     if number == 2 then Ok (packet.Protocol B) else
     if number == 3 then Ok (packet.Protocol C) else Err BadField
 
+-- the four words, in their order
 abbrev pub uuids_at : List ℕ → Packet
 uuids_at bytes = packet.Uuids (record {
   current = number_in 8 0 bytes;

@@ -22,6 +22,7 @@ abbrev pub IsPart : Option Header → List ℕ → Type 0
 IsPart None bytes = length bytes < 8
 IsPart (Some header) bytes = (8 ≤ length bytes) × (header_at bytes ≡ Ok header) × (length bytes < 8 + header.len)
 
+-- bytes with which a frame may begin, and which are none yet
 abbrev pub IsFront : List ℕ → Type 0
 IsFront bytes = (header : Option Header) × IsPart header bytes
 

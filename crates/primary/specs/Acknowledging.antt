@@ -12,6 +12,7 @@ awaits_at (Some home) ack sent w =
     not home.is_acked && nat_lt home.place sent && (ack.place == home.place) && (ack.number == w.number)
     && (ack.first.0 == w.range.first.0) && (ack.count == w.range.count)
 
+-- the write awaits this acknowledgement, now that so many items were sent
 abbrev pub awaits : Ack → ℕ → Write → Bool
 awaits ack sent w = awaits_at w.home ack sent w
 

@@ -51,22 +51,27 @@ abbrev pub sent_of : Option ConnectionState → List (List ℕ)
 sent_of None = []
 sent_of (Some connection) = connection.sent
 
+-- what waits in the link, if there is a connection and its link tells
 abbrev pub waiting_of : Option ConnectionState → Option (List (List ℕ))
 waiting_of None = None
 waiting_of (Some connection) = connection.waiting
 
+-- the link's room, if there is a connection and its link tells
 abbrev pub room_of : Option ConnectionState → Option ℕ
 room_of None = None
 room_of (Some connection) = connection.room
 
+-- the frames taken on the connection
 abbrev pub taken_of : Option ConnectionState → List (List ℕ)
 taken_of None = []
 taken_of (Some connection) = connection.taken
 
+-- what is queued for the primary, if there is a connection and its link tells
 abbrev pub queued_of : Option ConnectionState → Option (List (List ℕ))
 queued_of None = None
 queued_of (Some connection) = connection.queued
 
+-- the capacity of the link back, if there is a connection and its link tells
 abbrev pub capacity_of : Option ConnectionState → Option ℕ
 capacity_of None = None
 capacity_of (Some connection) = connection.capacity
@@ -75,6 +80,7 @@ capacity_of (Some connection) = connection.capacity
 abbrev pub with_waiting : Option (List (List ℕ)) → ℕ → ConnectionState → ConnectionState
 with_waiting waiting room connection = record connection { waiting = waiting; room = Some room }
 
+-- the connection with another queue at its taking end
 abbrev pub with_queued : List (List ℕ) → Option ℕ → ConnectionState → ConnectionState
 with_queued queued capacity connection = record connection { queued = Some queued; capacity = capacity }
 
@@ -88,6 +94,7 @@ abbrev pub due_in : Settings → Tuple → Option ConnectionState → Option Pac
 due_in settings tuple None = None
 due_in settings tuple (Some c) = next_due settings tuple c.hello_sent c.stream.due
 
+-- the place of the item that the next frame carries, if it is one
 abbrev pub place_in : Option ConnectionState → Option ℕ
 place_in None = None
 place_in (Some c) = place_told c.hello_sent c.stream

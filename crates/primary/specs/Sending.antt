@@ -26,6 +26,7 @@ next_due settings tuple step due = hello_packet settings tuple step
 abbrev pub hello_after : Hello → Hello
 hello_after step = after step
 
+-- once the hello is over, each frame sent is the first one due
 abbrev pub stream_after : Hello → StreamState → StreamState
 stream_after hello.Done stream = record stream { due = drop 1 stream.due }
 stream_after step stream = stream

@@ -21,6 +21,7 @@ pub record IsTaken (frame : List ℕ) (old new : ConnectionState) : Type 0 where
   pub waiting : new.waiting ≡ old.waiting
   pub room : new.room ≡ old.room
 
+-- the connection stands, and took one frame
 abbrev pub TakesOne : Option ConnectionState → Option ConnectionState → Type 0
 TakesOne (Some old) (Some new) = (frame : List ℕ) × IsTaken frame old new
 TakesOne (Some old) None = ⊥
@@ -46,6 +47,7 @@ pub record SameEnds (old new : ConnectionState) : Type 0 where
   pub waiting : new.waiting ≡ old.waiting
   pub room : new.room ≡ old.room
 
+-- the connection, if there is one, stands, and nothing went over its ends
 abbrev pub KeepsEnds : Option ConnectionState → Option ConnectionState → Type 0
 KeepsEnds (Some old) (Some new) = SameEnds old new
 KeepsEnds (Some old) None = ⊥

@@ -37,9 +37,11 @@ home_after step home = home
 abbrev pub write_after : Step → Write → Write
 write_after step w = record w { local = local_after step w.local; home = home_after step w.home }
 
+-- it is settled, and no epoch that is still to be acknowledged holds it
 abbrev pub is_released : Write → Bool
 is_released w = is_none w.home && is_settled w.local w.home
 
+-- the transfer log keeps a write until it is released
 abbrev pub kept_of : Write → Option Write
 kept_of w = if is_released w then None else Some w
 
@@ -53,6 +55,7 @@ abbrev pub epoch_of : Option Home → Option ℕ
 epoch_of None = None
 epoch_of (Some home) = Some home.epoch
 
+-- the epoch of a write that this step settles
 abbrev pub epoch_settled_by : Step → Write → Option ℕ
 epoch_settled_by step w =
     if not (is_settled w.local w.home) && is_settled (local_after step w.local) (home_after step w.home)

@@ -37,6 +37,7 @@ impl<S: Store> Primary<PlainOut, PlainIn, S> {
         } }
     {
         let Some(connection) = &mut self.connection else {
+            // the caller owes an open connection
             unreachable!();
         };
         connection.lay_outward(queue);
@@ -69,6 +70,7 @@ impl<S: Store> Primary<PlainOut, PlainIn, S> {
         } }
     {
         let Some(connection) = &mut self.connection else {
+            // the caller owes an open connection
             unreachable!();
         };
         connection.lay_inward(queue);

@@ -4,6 +4,7 @@ use Rattle.std.specs.VecDeque.{deque_len, deque_capacity}
 use Rattle.secondary.specs.declared.intake.Intake.{Intake}
 use Rattle.secondary.specs.State.{IntakeState}
 
+-- what the code keeps, as a clause sees it
 abbrev pub intake_of : Intake → IntakeState
 intake_of s = record {
   hello = s.hello;

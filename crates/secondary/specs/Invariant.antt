@@ -21,6 +21,7 @@ abbrev pub IsDue : Due → Type 0
 IsDue (due.Write first number count place) = (8 * first.0 < 2 ^ 64) × (0 < number) × (0 < count) × (count ≤ 32)
 IsDue (due.Barrier end) = Unit {0}
 
+-- what holds of the intake between calls
 pub record IsIntake (blocks : ℕ) (s : IntakeState) : Type 0 where
   pub hello : s.hello ≤ 3
   pub counted : s.barriers + length s.epoch ≤ s.next_place

@@ -27,6 +27,7 @@ hello_number hello = if hello == 0 then 11 else if hello == 1 then 13 else 12
 abbrev pub has_number : List ℕ → ℕ → Bool
 has_number frame number = nat_le 4 (length frame) && (slice_index frame 2 == 0) && (slice_index frame 3 == number)
 
+-- two protocols are the same
 abbrev pub same_protocol : Protocol → Protocol → Bool
 same_protocol protocol.A protocol.A = true
 same_protocol protocol.B protocol.B = true
@@ -47,6 +48,7 @@ abbrev pub hello_fault : Bool → Refusal → Refusal
 hello_fault named refusal.BadField = if named then refusal.BadField else refusal.BadCommand
 hello_fault named e = e
 
+-- a frame of the hello, read or faulty
 abbrev pub hello_read : Settings → ℕ → Bool → Result Packet Refusal → Result Taken Refusal
 hello_read settings hello named (Ok p) = hello_of settings hello p
 hello_read settings hello named (Err e) = Err (hello_fault named e)
@@ -61,6 +63,7 @@ is_next_write settings s number place span =
 abbrev pub is_next_barrier : IntakeState → ℕ → Bool
 is_next_barrier s number = nat_lt s.next_place 4294967295 && (number == s.barriers + 1)
 
+-- the item that a packet brings, checked, or the refusal
 abbrev pub item_of : Settings → IntakeState → Packet → Result Taken Refusal
 item_of settings s (packet.Data first number place contents) =
     if is_next_write settings s number place (record { first = first; count = length contents / 4096 })
@@ -69,6 +72,7 @@ item_of settings s (packet.Data first number place contents) =
 item_of settings s (packet.Barrier number) = if is_next_barrier s number then Ok (taken.Barrier (record { number = number; size = length s.epoch })) else Err refusal.BadField
 item_of settings s _ = Err refusal.BadCommand
 
+-- a frame after the hello, read or faulty
 abbrev pub item_read : Settings → IntakeState → Result Packet Refusal → Result Taken Refusal
 item_read settings s (Ok p) = item_of settings s p
 item_read settings s (Err e) = Err e

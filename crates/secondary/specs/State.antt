@@ -24,6 +24,7 @@ pub record IntakeState : Type 0 where
   -- the acknowledgements that are not sent
   pub due : List Due
 
+-- a whole secondary
 pub record SecondaryState : Type 0 where
   pub settings : Settings
   -- what the disk holds, block by block, and how many of its calls have failed

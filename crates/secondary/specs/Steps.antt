@@ -16,6 +16,7 @@ use Rattle.secondary.specs.State.{IntakeState, SecondaryState}
 abbrev pub nothing_taken : IntakeState
 nothing_taken = record { hello = 0; next_place = 0; last_number = 0; barriers = 0; epoch = []; pending = []; ended = []; due = [] }
 
+-- the blocks that an item covers
 abbrev pub span_of : Item → Span
 span_of item = record { first = item.first; count = length item.contents / 4096 }
 

@@ -51,6 +51,7 @@ fn range_of(item: &Item, blocks: u32) -> Range
 {
     let count = (item.contents.len() / BLOCK_BYTES) as u64;
     let Ok(range) = Range::new(item.first.0, count, blocks) else {
+        // a pending item was checked when it was taken
         unreachable!();
     };
     range

@@ -56,6 +56,7 @@ impl<S: Store + Drop> Secondary<PlainOut, PlainIn, S> {
         } }
     {
         let Some(mut ends) = self.ends.take() else {
+            // the caller owes an end that was opened
             unreachable!();
         };
         ends.outward.lay_queue(queue);
@@ -87,6 +88,7 @@ impl<S: Store + Drop> Secondary<PlainOut, PlainIn, S> {
         } }
     {
         let Some(mut ends) = self.ends.take() else {
+            // the caller owes an end that was opened
             unreachable!();
         };
         ends.inward.lay_queue(queue);

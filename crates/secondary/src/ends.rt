@@ -30,6 +30,7 @@ pub(crate) fn take_frame<O: FrameOut + Drop, I: FrameIn + Drop>(
         (option_and_then (λ e. I.queued e.inward) ends.old) (option_and_then (λ e. I.queued e.inward) ends.new) }
 {
     let Some(mut held) = ends.take() else {
+        // the caller owes that the ends are there
         unreachable!();
     };
     let taken = held.inward.take();
@@ -52,6 +53,7 @@ pub(crate) fn send_frame<O: FrameOut + Drop, I: FrameIn + Drop>(
         (option_and_then (λ e. O.room e.outward) ends.old) (option_and_then (λ e. O.room e.outward) ends.new) }
 {
     let Some(mut held) = ends.take() else {
+        // the caller owes that the ends are there
         unreachable!();
     };
     let offered = held.outward.offer(frame);
