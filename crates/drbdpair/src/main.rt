@@ -1,0 +1,26 @@
+//! `drbdpair` runs a pair of mirrored disks from a script, and prints what each command of it did.
+#![tactic(auto)]
+
+mod command;
+mod interpreter;
+mod number;
+mod print;
+mod program;
+mod script;
+#[cfg(test)]
+mod tests;
+
+use std::process::ExitCode;
+use std::{env, io};
+
+fn main(rt: HostRuntime) -> io::Result<ExitCode> {
+    let words = env::args(&rt)?.collect::<Vec<String>>(rt.alloc())?;
+    let status = program::run_on(
+        &rt,
+        words.as_slice(),
+        &mut rt.stdin(),
+        &mut rt.stdout(),
+        &mut rt.stderr(),
+    );
+    Ok(ExitCode::from(status))
+}
