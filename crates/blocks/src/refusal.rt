@@ -44,7 +44,7 @@ pub enum Refusal {
     EpochOpen,
     #[error("as many items as may be are waiting for the disk")]
     PendingFull,
-    #[error("the receipt is not one of this session's, or is given twice")]
+    #[error("the receipt is of no completed write here, or is given twice")]
     StrangeReceipt,
     #[error("the frame does not begin with the magic number")]
     BadMagic,
