@@ -25,7 +25,7 @@ grows-self c = record { stream = begins-self c.stream; pushed = omega arith; fra
 abbrev pub AllGrow : List Outward → List Outward → Type 0
 AllGrow cs ds = (k : ℕ) (c : Outward) → slice_get cs k ≡ Some c → (d : Outward) × (slice_get ds k ≡ Some d) × Grows c d
 
-any-grows : (p : Received → Bool) (xs ys : List Received) → IsBeginning xs ys → list_any p xs ≡ true → list_any p ys ≡ true
+pub any-grows : (p : Received → Bool) (xs ys : List Received) → IsBeginning xs ys → list_any p xs ≡ true → list_any p ys ≡ true
 any-grows p xs ys b h = subst (λ (l : List Received). list_any p l ≡ true) b.1 (list_any-append p xs b.0 ∙ or_left (list_any p xs) (list_any p b.0) h)
 
 -- what was answered stays so

@@ -28,7 +28,7 @@ no-more : (n : ℕ) (write : Write) → slice_get [] n ≡ Some (WriteItem write
 no-more n write at = absurd (cc)
 
 -- an end that stands has begun, and is open
-stands-parts : (c : Outward) → stands c ≡ true → (c.closed ≡ false) × (c.begun ≡ true)
+pub stands-parts : (c : Outward) → stands c ≡ true → (c.closed ≡ false) × (c.begun ≡ true)
 stands-parts c h = let parts = and_parts (not c.closed) c.begun h in (not-true c.closed parts.0, parts.1)
 
 keeps-pushing : (h : PrimaryHistory) → HasHomes h → (k : ℕ) → slice_get h.connections k ≡ Some (outward h) → KeepsConnection (outward h) (pushing (outward h))
@@ -54,13 +54,13 @@ keeps-self h homes k at = record {
 }
 
 -- the frames accepted of an end that refused nothing
-accepted-all : (c : Outward) → c.refused ≡ false → accepted_frames c ≡ c.taken
+pub accepted-all : (c : Outward) → c.refused ≡ false → accepted_frames c ≡ c.taken
 accepted-all c h = ap (λ b. if b then take (length c.taken - 1) c.taken else c.taken) h
 
-not-refused : (h : PrimaryHistory) → HasHomes h → (outward h).closed ≡ false → (k : ℕ) → slice_get h.connections k ≡ Some (outward h) → (outward h).refused ≡ false
+pub not-refused : (h : PrimaryHistory) → HasHomes h → (outward h).closed ≡ false → (k : ℕ) → slice_get h.connections k ≡ Some (outward h) → (outward h).refused ≡ false
 not-refused h homes standing k at = elim (cases_Bool (outward h).refused) [ inl was ↦ absurd (both_ways (outward h).closed standing (homes.refused k (outward h) at was)) | inr not_so ↦ not_so ]
 
-frames-taking : (c : Outward) (frame : Received) → c.refused ≡ false → IsBeginning (accepted_frames c) (accepted_frames (with_frame frame c))
+pub frames-taking : (c : Outward) (frame : Received) → c.refused ≡ false → IsBeginning (accepted_frames c) (accepted_frames (with_frame frame c))
 frames-taking c frame plain = (frame ∷ [], ap (λ (l : List Received). l ++ frame ∷ []) (accepted-all c plain) ∙ sym (accepted-all (with_frame frame c) plain))
 
 keeps-taking : (h : PrimaryHistory) (frame : Received) → HasHomes h → (outward h).closed ≡ false → (k : ℕ) → slice_get h.connections k ≡ Some (outward h) → KeepsConnection (outward h) (with_frame frame (outward h))
@@ -78,7 +78,7 @@ closed_end : Outward → Outward
 closed_end c = record c { closed = true }
 
 -- a frame that is refused is accepted by nobody
-frames-refusing : (c : Outward) (frame : Received) → c.refused ≡ false → accepted_frames (record c { taken = c.taken ++ frame ∷ []; refused = true; closed = true }) ≡ accepted_frames c
+pub frames-refusing : (c : Outward) (frame : Received) → c.refused ≡ false → accepted_frames (record c { taken = c.taken ++ frame ∷ []; refused = true; closed = true }) ≡ accepted_frames c
 frames-refusing c frame plain =
     let size : length (c.taken ++ frame ∷ []) - 1 ≡ length c.taken = let long = length-append c.taken (frame ∷ []) in omega arith in
     ap (λ n. take n (c.taken ++ frame ∷ [])) size ∙ (take-append_seam c.taken (frame ∷ []) ∙ sym (accepted-all c plain))
@@ -144,7 +144,7 @@ in-filter p (x ∷ xs) n a at = elim (cases_Bool (p x)) [
 
 -- What follows a step's effect.
 
-homes-completions : (h : PrimaryHistory) → HasHomes h → HasHomes (with_completions h)
+pub homes-completions : (h : PrimaryHistory) → HasHomes h → HasHomes (with_completions h)
 homes-completions h homes = record {
   numbered = homes.numbered;
   housed = homes.housed;
@@ -198,18 +198,18 @@ is-barrier-no-write : (epoch : ℕ) (write : Write) → BarrierItem epoch ≢ Wr
 is-barrier-no-write epoch write e = cc
 
 -- a running resync has begun
-runs-begun : (g : PrimaryHistory) → resync_is_over g ≡ true → (outward g).begun ≡ true
+pub runs-begun : (g : PrimaryHistory) → resync_is_over g ≡ true → (outward g).begun ≡ true
 runs-begun g over = go (resync_runs (outward g)) refl over
   where
     go : (b : Bool) → resync_runs (outward g) ≡ b → elim b as (λ _. Bool) [ false ↦ false | true ↦ (length (marked_blocks g) == 0) && (length (under_way (outward g)) == 0) ] ≡ true → (outward g).begun ≡ true
     go false eq over = absurd (cc)
     go true eq over = (stands-parts (outward g) (and_parts (stands (outward g)) (in_resync (outward g).stream) eq).0).1
 
-homes-ending : (g : PrimaryHistory) → resync_is_over g ≡ true → HasHomes g → HasHomes (ending_resync g)
+pub homes-ending : (g : PrimaryHistory) → resync_is_over g ≡ true → HasHomes g → HasHomes (ending_resync g)
 homes-ending g over homes = homes-change g (ending_resync g) (λ c. record c { stream = c.stream ++ UuidsItem (sync_end g.tuple) ∷ [] }) homes refl refl (same-writes g.writes) refl
     (keeps-appending g (UuidsItem (sync_end g.tuple)) (λ write e. cc) (runs-begun g over) homes)
 
-homes-parting : (g : PrimaryHistory) → epoch_is_over g ≡ true → HasHomes g → HasHomes (appending (BarrierItem (last_epoch (outward g).stream)) g)
+pub homes-parting : (g : PrimaryHistory) → epoch_is_over g ≡ true → HasHomes g → HasHomes (appending (BarrierItem (last_epoch (outward g).stream)) g)
 homes-parting g over homes =
     homes-appending g (BarrierItem (last_epoch (outward g).stream)) (is-barrier-no-write (last_epoch (outward g).stream)) (stands-parts (outward g) (and_parts (stands (outward g)) _ over).0).1 homes
 

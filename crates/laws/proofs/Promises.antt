@@ -10,10 +10,11 @@ use Rattle.blocks.specs.declared.settings.Protocol.TheVariants as protocol
 use Rattle.model.specs.Contents.{Write}
 use Rattle.model.specs.Stream.{Item, WriteItem, IsBeginning, is_whole}
 use Rattle.model.specs.Frames.{Packet, DataFrame, RsDataReplyFrame, BarrierFrame, ProtocolFrame, UuidsFrame, SizesFrame, SyncUuidFrame, RecvAckFrame, WriteAckFrame, RsWriteAckFrame, BarrierAckFrame, Acknowledged, Received, naming}
-use Rattle.model.specs.Primary.{Accepted, Outward, PrimaryHistory, primary_opening, items_sent, accepted_frames, same_naming, is_recv_ack, is_write_ack, is_answered_by}
-use Rattle.model.specs.Secondary.{Inward, SecondaryHistory, secondary_opening, items_taken, answers_due}
+use Rattle.model.specs.Primary.{Accepted, Outward, PrimaryHistory, items_sent, accepted_frames, same_naming, is_recv_ack, is_write_ack, is_answered_by}
+use Rattle.model.specs.Secondary.{Inward, SecondaryHistory, items_taken, answers_due}
 use Rattle.model.specs.LocalRuns.{primary_run, secondary_run}
 use Rattle.model.specs.Headline.{Promise}
+use Rattle.model.specs.Theorems.{Opening, primary_at, secondary_at}
 use Rattle.laws.specs.Statements.{JoinedRunsKeepPromises, PrimaryWritesOnce}
 use Rattle.laws.proofs.Beginnings.{begins-take, begins-self, begins-trans, takes_a_beginning}
 use Rattle.laws.proofs.Lists.{get-left}
@@ -24,14 +25,14 @@ use Rattle.laws.proofs.Homes.{HasHomes, IsLinked}
 use Rattle.laws.proofs.HomesMoves.{homes-kept, homes-opening}
 
 -- an element that passes a test that some element passes
-any-get : (p : Received → Bool) (xs : List Received) → list_any p xs ≡ true → (n : ℕ) × (x : Received) × (slice_get xs n ≡ Some x) × (p x ≡ true)
+pub any-get : (p : Received → Bool) (xs : List Received) → list_any p xs ≡ true → (n : ℕ) × (x : Received) × (slice_get xs n ≡ Some x) × (p x ≡ true)
 any-get p [] h = absurd (cc)
 any-get p (x ∷ xs) h = elim (or_cases (p x) (list_any p xs) h) [
   | inl here ↦ (0, x, refl, here)
   | inr later ↦ let rest = any-get p xs later in (suc rest.0, rest.1, rest.2, rest.3)
 ]
 
-get-beginning : {X : Type 0} (xs ys : List X) (n : ℕ) (x : X) → IsBeginning xs ys → slice_get xs n ≡ Some x → slice_get ys n ≡ Some x
+pub get-beginning : {X : Type 0} (xs ys : List X) (n : ℕ) (x : X) → IsBeginning xs ys → slice_get xs n ≡ Some x → slice_get ys n ≡ Some x
 get-beginning xs ys n x b at = subst (λ (l : List _). slice_get l n ≡ Some x) b.1 (get-left xs b.0 n x at)
 
 -- the acknowledgement in a frame that passes
@@ -64,34 +65,34 @@ write-ack of (Ok (RsWriteAckFrame ack)) h = absurd (cc)
 write-ack of (Ok (BarrierAckFrame number size)) h = absurd (cc)
 
 -- what names an item names its place
-same-place : (of ack : Acknowledged) → same_naming of ack ≡ true → of.place ≡ ack.place
+pub same-place : (of ack : Acknowledged) → same_naming of ack ≡ true → of.place ≡ ack.place
 same-place of ack h =
     let last = (and_parts ((of.first == ack.first) && (of.number == ack.number)) ((of.count == ack.count) && (of.place == ack.place)) h).1 in
     eqb-true of.place ack.place (and_parts (of.count == ack.count) (of.place == ack.place) last).1
 
 -- A packet among the frames that the secondary pushed is of its hello, or was due.
-abbrev read : Packet → Received
+abbrev pub read : Packet → Received
 read packet = Ok packet
 
-read-back : (packets : List Packet) (n : ℕ) (packet : Packet) → slice_get (map read packets) n ≡ Some (Ok packet) → slice_get packets n ≡ Some packet
+pub read-back : (packets : List Packet) (n : ℕ) (packet : Packet) → slice_get (map read packets) n ≡ Some (Ok packet) → slice_get packets n ≡ Some packet
 read-back [] n packet at = absurd (cc)
 read-back (x ∷ packets) zero packet at = let same : x ≡ packet = cc in ap (λ (p : Packet). Some p) same
 read-back (x ∷ packets) (suc n) packet at = read-back packets n packet at
 
-abbrev is_hello : Packet → Bool
+abbrev pub is_hello : Packet → Bool
 is_hello (ProtocolFrame asked) = true
 is_hello (SizesFrame blocks) = true
 is_hello (UuidsFrame tuple) = true
 is_hello _ = false
 
-behind-hello : (a b c packet : Packet) (due : List Packet) (n : ℕ) → is_hello a ≡ true → is_hello b ≡ true → is_hello c ≡ true → is_hello packet ≡ false → slice_get (a ∷ b ∷ c ∷ due) n ≡ Some packet → (m : ℕ) × (slice_get due m ≡ Some packet)
+pub behind-hello : (a b c packet : Packet) (due : List Packet) (n : ℕ) → is_hello a ≡ true → is_hello b ≡ true → is_hello c ≡ true → is_hello packet ≡ false → slice_get (a ∷ b ∷ c ∷ due) n ≡ Some packet → (m : ℕ) × (slice_get due m ≡ Some packet)
 behind-hello a b c packet due zero ha hb hc other at = absurd (let e : a ≡ packet = cc in cc (ap is_hello e, ha, other))
 behind-hello a b c packet due (suc zero) ha hb hc other at = absurd (let e : b ≡ packet = cc in cc (ap is_hello e, hb, other))
 behind-hello a b c packet due (suc (suc zero)) ha hb hc other at = absurd (let e : c ≡ packet = cc in cc (ap is_hello e, hc, other))
 behind-hello a b c packet due (suc (suc (suc n))) ha hb hc other at = (n, at)
 
 -- An accepted acknowledgement was due at the secondary.
-was-due : (settings : Settings) (c : Outward) (d : Inward) (n : ℕ) (packet : Packet) → is_hello packet ≡ false → IsBeginning c.taken (map read (take d.pushed (answers_due settings d))) → slice_get (accepted_frames c) n ≡ Some (Ok packet)
+pub was-due : (settings : Settings) (c : Outward) (d : Inward) (n : ℕ) (packet : Packet) → is_hello packet ≡ false → IsBeginning c.taken (map read (take d.pushed (answers_due settings d))) → slice_get (accepted_frames c) n ≡ Some (Ok packet)
     → (m : ℕ) × (slice_get d.due m ≡ Some packet)
 was-due settings c d n packet other joined at =
     let accepted : IsBeginning (accepted_frames c) c.taken = elim c.refused as (λ b. IsBeginning (if b then take (length c.taken - 1) c.taken else c.taken) c.taken) [ true ↦ begins-take (length c.taken - 1) c.taken | false ↦ begins-self c.taken ] in
@@ -122,15 +123,15 @@ promise-of protocol.C settings c d write place truthful joined items item answer
     subst (λ (i : Item). is_whole d.applied place i ≡ true) is (subst (λ n. is_whole d.applied n names.item ≡ true) (sym same) names.whole)
 
 -- two places of a list have one element each
-one-element : {X : Type 0} (xs : List X) (n : ℕ) (x y : X) → slice_get xs n ≡ Some x → slice_get xs n ≡ Some y → x ≡ y
+pub one-element : {X : Type 0} (xs : List X) (n : ℕ) (x y : X) → slice_get xs n ≡ Some x → slice_get xs n ≡ Some y → x ≡ y
 one-element xs n x y a b = cc
 
 pub keeps_promises : JoinedRunsKeepPromises
-keeps_promises settings local peer own peer_tuple marks here there joined =
-    let p : PrimaryHistory = primary_run here (primary_opening settings local own marks) in
-    let s : SecondaryHistory = secondary_run there (secondary_opening settings peer peer_tuple) in
-    let homes : HasHomes p = keeps-run HasHomes HasHomes homes-kept here (primary_opening settings local own marks) (homes-opening settings local own marks) in
-    let truthful : Each IsTruthful s.connections = all-run there (secondary_opening settings peer peer_tuple) tt in
+keeps_promises o here there any joined =
+    let p : PrimaryHistory = primary_run here (primary_at o) in
+    let s : SecondaryHistory = secondary_run there (secondary_at o) in
+    let homes : HasHomes p = keeps-run HasHomes HasHomes homes-kept here (primary_at o) (homes-opening o.settings o.local o.own o.marks) in
+    let truthful : Each IsTruthful s.connections = all-run there (secondary_at o) tt in
     record {
       promised = λ n k place entry c d at linked home ends.
           let l : IsLinked p.settings.protocol p.connections entry = homes.journal n entry at linked in
@@ -150,9 +151,9 @@ keeps_promises settings local peer own peer_tuple marks here there joined =
 
 -- A write has one place.
 pub writes_once : PrimaryWritesOnce
-writes_once settings disk tuple marks events k l place other c d a b atc atd ina inb number =
-    let p : PrimaryHistory = primary_run events (primary_opening settings disk tuple marks) in
-    let homes : HasHomes p = keeps-run HasHomes HasHomes homes-kept events (primary_opening settings disk tuple marks) (homes-opening settings disk tuple marks) in
+writes_once o events k l place other c d a b atc atd ina inb number =
+    let p : PrimaryHistory = primary_run events (primary_at o) in
+    let homes : HasHomes p = keeps-run HasHomes HasHomes homes-kept events (primary_at o) (homes-opening o.settings o.local o.own o.marks) in
     let x = homes.homed k place c a atc ina in
     let y = homes.homed l other d b atd inb in
     let nx : a.number ≡ suc x.0 = ap (λ (w : Write). w.number) (sym x.3) ∙ homes.numbered x.0 x.1 x.2 in

@@ -24,6 +24,7 @@ use Rattle.blocks.specs.declared.outcome.Reply.TheVariants as reply
 use Rattle.blocks.specs.declared.refusal.Refusal.TheVariants.{NothingThere, NotConnected, PendingFull, NoMemory, UnknownJob, EpochOpen}
 use Rattle.blocks.specs.declared.outcome.What.TheVariants as what
 use Rattle.model.specs.LocalRuns.{SecondaryEvent, OpensToo, Receives, Applies, FailsToApply, Acknowledges, ClosesToo, secondary_after, secondary_run}
+use Rattle.model.specs.Theorems.{Opening, secondary_at}
 use Rattle.laws.specs.Statements.{SecondaryHoldsEarlierEpochs}
 use Rattle.laws.proofs.Sound.{IsSound, starting, sound-taking, sound-same, sound-applying, dropped}
 
@@ -388,9 +389,9 @@ kept-opening settings disk tuple = record { good = tt; chained = tt }
 
 -- In the words of the headline.
 pub holds_earlier_epochs : SecondaryHoldsEarlierEpochs
-holds_earlier_epochs settings disk tuple events =
-    let h : SecondaryHistory = secondary_run events (secondary_opening settings disk tuple) in
-    let kept = kept-run events (secondary_opening settings disk tuple) (kept-opening settings disk tuple) in
+holds_earlier_epochs o events =
+    let h : SecondaryHistory = secondary_run events (secondary_at o) in
+    let kept = kept-run events (secondary_at o) (kept-opening o.settings o.peer o.peer_tuple) in
     record {
       closed_at = λ k d at.
           let sound = (each-get IsGood h.connections k d kept.good at).sound in

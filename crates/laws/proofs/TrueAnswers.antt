@@ -279,7 +279,7 @@ all-receive frame starved h all = tested-keeps AreTruthful h (((inward h).closed
 -- The disk.
 
 -- an item whose offsets are all in is whole
-in-below : (place n k : ℕ) → k < n → is_in (offsets_at place (below n)) place k ≡ true
+pub in-below : (place n k : ℕ) → k < n → is_in (offsets_at place (below n)) place k ≡ true
 in-below place zero k less = absurd (omega arith)
 in-below place (suc n) k less =
     let split : is_in (offsets_at place (below (suc n))) place k ≡ (is_in (offsets_at place (below n)) place k || is_in (offsets_at place (n ∷ [])) place k) =

@@ -1,37 +1,106 @@
--- The theorems that are proved, as the contracts name them.
-use Rattle.std.specs.Prelude.{ℕ, ◌≡◌, Bool, List, take, Some, slice_get}
-use Rattle.blocks.specs.declared.settings.Settings.{Settings}
-use Rattle.blocks.specs.declared.tuple.Tuple.{Tuple}
-use Rattle.model.specs.Contents.{BlockMap, Write}
+-- The theorems that are proved, as the contracts name them. Those of joined nodes and of the pair are stated over openings,
+-- with `JoinedRuns` and `EveryRun` of the model.
+use Rattle.std.specs.Prelude.{ℕ, ◌≡◌, ◌≤◌, ◌⊎◌, Bool, true, false, List, length, take, Some, slice_get}
+use Rattle.model.specs.Contents.{Write, IsDisk}
 use Rattle.model.specs.LocalRuns.{PrimaryEvent, primary_run, SecondaryEvent, secondary_run}
-use Rattle.model.specs.Primary.{Outward, PrimaryHistory, primary_opening, items_sent}
-use Rattle.model.specs.Secondary.{Inward, SecondaryHistory, secondary_opening, items_taken}
-use Rattle.model.specs.Stream.{WriteItem, IsBeginning}
-use Rattle.model.specs.Headline.{IsJoined, AreEnds, HoldsEarlierEpochs, KeepsPromises}
+use Rattle.model.specs.Primary.{Outward, PrimaryHistory, outward, stands, items_sent, active_extents}
+use Rattle.model.specs.Secondary.{Inward, SecondaryHistory, items_taken}
+use Rattle.model.specs.Stream.{WriteItem, IsBeginning, IsLawful}
+use Rattle.model.specs.Pair.{Event, run}
+use Rattle.model.specs.Headline.{IsJoined, AreEnds, TakesABeginning, StaysClosed, StaysClosedToo, HoldsEarlierEpochs, KeepsPromises, MarksDifferences, is_marked, is_covered}
+use Rattle.model.specs.Theorems.{Opening, primary_at, secondary_at, pair_at, AnyOpening, HasRanges, IsSoundOpening, EveryRun, JoinedRuns}
+use Rattle.laws.specs.Reflections.{FromItem, FromOpening}
 
--- What the secondary took on a connection is a beginning of what the primary sent on it.
+-- A primary by itself, whatever frames it takes.
+
+-- a write has at most one place, on at most one connection
+abbrev pub PrimaryWritesOnce : Type 0
+PrimaryWritesOnce =
+    (o : Opening) (events : List PrimaryEvent) (k l place other : ℕ) (c d : Outward) (a b : Write)
+    → slice_get (primary_run events (primary_at o)).connections k ≡ Some c
+    → slice_get (primary_run events (primary_at o)).connections l ≡ Some d
+    → slice_get c.stream place ≡ Some (WriteItem a) → slice_get d.stream other ≡ Some (WriteItem b) → a.number ≡ b.number → (k ≡ l) × (place ≡ other)
+
+-- each of its streams is lawful
+abbrev pub PrimaryStreamsAreLawful : Type 0
+PrimaryStreamsAreLawful =
+    (o : Opening) (events : List PrimaryEvent) → HasRanges o
+    → (k : ℕ) (c : Outward) → slice_get (primary_run events (primary_at o)).connections k ≡ Some c → IsLawful o.settings.max_epoch c.stream
+
+-- its unreleased writes lie in as many extents as there are slots, or in fewer
+abbrev pub PrimaryExtentsAreFew : Type 0
+PrimaryExtentsAreFew = (o : Opening) (events : List PrimaryEvent) → length (active_extents (primary_run events (primary_at o))) ≤ o.settings.slots
+
+-- a closed end stays as it is, from any history on
+abbrev pub PrimaryStaysClosed : Type 0
+PrimaryStaysClosed = (p : PrimaryHistory) (events : List PrimaryEvent) → StaysClosed p (primary_run events p)
+
+-- its half of the cover: a block that is neither marked nor under an unreleased write stands as the streams have it
+abbrev pub PrimaryReflects : Type 0
+PrimaryReflects =
+    (o : Opening) (events : List PrimaryEvent) → IsDisk o.settings.blocks o.local
+    → (block : ℕ) → is_covered (primary_run events (primary_at o)) block ≡ false → FromItem (primary_run events (primary_at o)) block ⊎ FromOpening (primary_run events (primary_at o)) block
+
+-- while no stream stands, every block under an unreleased write is marked
+abbrev pub PrimaryMarksAtRest : Type 0
+PrimaryMarksAtRest =
+    (o : Opening) (events : List PrimaryEvent) → IsDisk o.settings.blocks o.local → stands (outward (primary_run events (primary_at o))) ≡ false
+    → (block : ℕ) → is_covered (primary_run events (primary_at o)) block ≡ true → is_marked (primary_run events (primary_at o)) block ≡ true
+
+-- A secondary by itself, whatever frames it takes and however its disk fails.
+
+-- its disk holds every write of earlier epochs and part of one
+abbrev pub SecondaryHoldsEarlierEpochs : Type 0
+SecondaryHoldsEarlierEpochs = (o : Opening) (events : List SecondaryEvent) → HoldsEarlierEpochs (secondary_run events (secondary_at o))
+
+-- a closed end stays as it is, but for what is still applied, from any history on
+abbrev pub SecondaryStaysClosed : Type 0
+SecondaryStaysClosed = (s : SecondaryHistory) (events : List SecondaryEvent) → StaysClosedToo s (secondary_run events s)
+
+-- The two, joined.
+
+-- what the secondary took on a connection is a beginning of what the primary sent on it, of any two histories
 abbrev pub JoinedTakesABeginning : Type 0
 JoinedTakesABeginning =
     (p : PrimaryHistory) (s : SecondaryHistory) → IsJoined p s
     → (k : ℕ) (c : Outward) (d : Inward) → AreEnds p s k c d → IsBeginning (items_taken d) (take (items_sent c) c.stream)
 
--- Whatever frames a secondary takes and however its disk fails, its disk holds every write of earlier epochs and part of one.
-abbrev pub SecondaryHoldsEarlierEpochs : Type 0
-SecondaryHoldsEarlierEpochs =
-    (settings : Settings) (disk : BlockMap) (tuple : Tuple) (events : List SecondaryEvent) → HoldsEarlierEpochs (secondary_run events (secondary_opening settings disk tuple))
-
--- A primary and a secondary that ran by themselves, for any frames, and whose frames are joined: every write that was
--- completed over the link has what its protocol promises. No order between the steps of the two is part of it.
+-- every write completed over the link has what its protocol promises
 abbrev pub JoinedRunsKeepPromises : Type 0
-JoinedRunsKeepPromises =
-    (settings : Settings) (local peer : BlockMap) (own peer_tuple : Tuple) (marks : ℕ → Bool) (here : List PrimaryEvent) (there : List SecondaryEvent)
-    → IsJoined (primary_run here (primary_opening settings local own marks)) (secondary_run there (secondary_opening settings peer peer_tuple))
-    → KeepsPromises (primary_run here (primary_opening settings local own marks)) (secondary_run there (secondary_opening settings peer peer_tuple))
+JoinedRunsKeepPromises = JoinedRuns AnyOpening KeepsPromises
 
--- Whatever frames a primary takes, a write has at most one place, on at most one connection.
-abbrev pub PrimaryWritesOnce : Type 0
-PrimaryWritesOnce =
-    (settings : Settings) (disk : BlockMap) (tuple : Tuple) (marks : ℕ → Bool) (events : List PrimaryEvent) (k l place other : ℕ) (c d : Outward) (a b : Write)
-    → slice_get (primary_run events (primary_opening settings disk tuple marks)).connections k ≡ Some c
-    → slice_get (primary_run events (primary_opening settings disk tuple marks)).connections l ≡ Some d
-    → slice_get c.stream place ≡ Some (WriteItem a) → slice_get d.stream other ≡ Some (WriteItem b) → a.number ≡ b.number → (k ≡ l) × (place ≡ other)
+-- The pair: its two nodes ran by themselves, and are joined.
+pub record AreJoinedRuns (o : Opening) (p : PrimaryHistory) (s : SecondaryHistory) : Type 0 where
+  pub here : List PrimaryEvent
+  pub there : List SecondaryEvent
+  pub primary : p ≡ primary_run here (primary_at o)
+  pub secondary : s ≡ secondary_run there (secondary_at o)
+  pub joined : IsJoined p s
+
+-- every list of events leads to such a pair
+abbrev pub EveryRunIsJoined : Type 0
+EveryRunIsJoined = (o : Opening) (events : List (Event × Bool)) → AreJoinedRuns o (run events (pair_at o)).1.primary (run events (pair_at o)).1.secondary
+
+-- The clauses of the headline, each with the premises that it needs.
+
+-- what the secondary took is a beginning of a lawful stream, each write once
+abbrev pub EveryRunTakesABeginning : Type 0
+EveryRunTakesABeginning = EveryRun HasRanges TakesABeginning
+
+-- nothing changes at an end after its close, but what is still applied
+abbrev pub EveryRunStaysClosed : Type 0
+EveryRunStaysClosed =
+    (o : Opening) (events more : List (Event × Bool)) → StaysClosed (run events (pair_at o)).1.primary (run more (run events (pair_at o)).1).1.primary
+    × StaysClosedToo (run events (pair_at o)).1.secondary (run more (run events (pair_at o)).1).1.secondary
+
+-- the secondary's disk holds every write of earlier epochs and part of one
+abbrev pub EveryRunHoldsEarlierEpochs : Type 0
+EveryRunHoldsEarlierEpochs = EveryRun AnyOpening (λ p s. HoldsEarlierEpochs s)
+
+-- every write completed over the link has what its protocol promises
+abbrev pub EveryRunKeepsPromises : Type 0
+EveryRunKeepsPromises = EveryRun AnyOpening KeepsPromises
+
+-- while no stream stands, every block on which the disks differ is marked
+abbrev pub EveryRunMarksDifferences : Type 0
+EveryRunMarksDifferences = EveryRun IsSoundOpening MarksDifferences

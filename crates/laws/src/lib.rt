@@ -4,21 +4,74 @@
 //! `docs/PROOFS.md`.
 #![tactic(auto)]
 
-ghost use Rattle.laws.specs.Statements.{JoinedTakesABeginning, JoinedRunsKeepPromises, PrimaryWritesOnce, SecondaryHoldsEarlierEpochs};
+ghost use Rattle.laws.specs.Statements.{PrimaryWritesOnce, PrimaryStreamsAreLawful, PrimaryExtentsAreFew, PrimaryStaysClosed, PrimaryReflects, PrimaryMarksAtRest, SecondaryHoldsEarlierEpochs, SecondaryStaysClosed, JoinedTakesABeginning, JoinedRunsKeepPromises, EveryRunIsJoined, EveryRunTakesABeginning, EveryRunStaysClosed, EveryRunHoldsEarlierEpochs, EveryRunKeepsPromises, EveryRunMarksDifferences};
+ghost use Rattle.laws.specs.Examples.{OpeningsAreMet, OneWriteIsMet, CoverIsMet, ReflectionIsMet, RestIsMet};
+ghost use Rattle.model.specs.Theorems.{JoinedRunsHaveTheHeadline, JoinedRunsCoverDifferences, JoinedRunsSettle, EveryRunHasTheHeadline, EveryRunCoversDifferences};
 
-/// A primary by itself, for any frames taken: each write has one place, on one connection.
+/// A primary by itself, for any frames taken. Each write has one place, on one connection; streams are lawful; a closed
+/// end stays as it is; the extents of unreleased writes are no more than the activity log has slots.
 pub fn primary_alone()
     ensures once { PrimaryWritesOnce }
+    ensures lawful { PrimaryStreamsAreLawful }
+    ensures closed { PrimaryStaysClosed }
+    ensures extents { PrimaryExtentsAreFew }
 {}
 
-/// A secondary by itself, for any frames taken: its disk holds every write of earlier epochs and part of one.
+/// A primary's half of the cover, for any frames taken: a block that is neither marked nor under an unreleased write
+/// stands as the items of its streams have it that are surely applied, or as it did at the opening.
+pub fn primary_reflects()
+    ensures streams { PrimaryReflects }
+    ensures rest { PrimaryMarksAtRest }
+{}
+
+/// A secondary by itself, for any frames taken and any faults of its disk: the disk holds every write of earlier epochs
+/// and part of one, and a closed end takes and sends nothing more.
 pub fn secondary_alone()
     ensures epochs { SecondaryHoldsEarlierEpochs }
+    ensures closed { SecondaryStaysClosed }
 {}
 
-/// The two, where what each took begins what the other pushed: what the secondary took on each connection is a
-/// beginning of what the primary sent on it, and every write completed over the link has what its protocol promises.
+/// The two, where what each took begins what the other pushed, and no order between the steps of the one and of the
+/// other is known: what the secondary took on each connection begins what the primary sent on it; every write completed
+/// over the link has what its protocol promises; the whole headline holds, and the cover beside it; and once both are at
+/// rest, a settlement says so.
 pub fn joined()
     ensures beginning { JoinedTakesABeginning }
     ensures promises { JoinedRunsKeepPromises }
+    ensures headline { JoinedRunsHaveTheHeadline }
+    ensures cover { JoinedRunsCoverDifferences }
+    ensures settlement { JoinedRunsSettle }
+{}
+
+/// The pair: every list of events leads to two nodes that ran by themselves and are joined.
+pub fn pair_is_joined()
+    ensures joined { EveryRunIsJoined }
+{}
+
+/// The headline of the pair, for every list of events, wherever memory is wanting: a clause for each of its parts, and
+/// all of them together.
+pub fn headline()
+    ensures beginning { EveryRunTakesABeginning }
+    ensures closed { EveryRunStaysClosed }
+    ensures epochs { EveryRunHoldsEarlierEpochs }
+    ensures promises { EveryRunKeepsPromises }
+    ensures marks { EveryRunMarksDifferences }
+    ensures whole { EveryRunHasTheHeadline }
+{}
+
+/// The cover beside it, at every moment of a grounded history: a block on which the disks differ is marked or under an
+/// unreleased write, and those lie in no more extents than the activity log has slots.
+pub fn cover()
+    ensures covered { EveryRunCoversDifferences }
+{}
+
+/// The premises are met by histories of a worked write, and the conclusions speak of something there: a write completed
+/// over the link and applied, a block that differs and is under an unreleased write, and then marked, a block that is clean
+/// because its item is surely applied, two nodes at rest.
+pub fn premises_are_met()
+    ensures openings { OpeningsAreMet }
+    ensures write { OneWriteIsMet }
+    ensures cover { CoverIsMet }
+    ensures reflection { ReflectionIsMet }
+    ensures rest { RestIsMet }
 {}

@@ -1,5 +1,5 @@
 -- Blocks, writes and the contents of a disk.
-use Rattle.std.specs.Prelude.{ℕ, ◌+◌, ◌-◌, ◌/◌, nat_lt, nat_le, ◌==◌, Bool, ◌&&◌, if◌then◌else◌, List, [], ◌∷◌, length, slice_get, Option, Some, None}
+use Rattle.std.specs.Prelude.{ℕ, ◌+◌, ◌-◌, ◌/◌, ◌≡◌, nat_lt, nat_le, ◌==◌, Bool, ◌&&◌, if◌then◌else◌, List, [], ◌∷◌, length, slice_get, Option, Some, None, is_some}
 use Rattle.blocks.specs.declared.settings.Settings.{Settings}
 
 -- What a disk holds: for each block its bytes, and nothing past the end. A block may have any length here.
@@ -9,6 +9,10 @@ BlockMap = ℕ → Option (List ℕ)
 -- a disk of this many blocks, each with the same bytes
 abbrev pub filled : ℕ → List ℕ → BlockMap
 filled blocks bytes block = if nat_lt block blocks then Some bytes else None
+
+-- The disk of a device of this many blocks: it has each of them, and nothing past its end.
+abbrev pub IsDisk : ℕ → BlockMap → Type 0
+IsDisk blocks disk = (block : ℕ) → is_some (disk block) ≡ nat_lt block blocks
 
 -- A write: its number, its first block, and the contents of each block from there on.
 pub record Write : Type 0 where

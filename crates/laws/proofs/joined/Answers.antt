@@ -1,6 +1,8 @@
--- What was taken begins what was pushed; an acknowledgement that was taken was due, and what was due is true.
+-- What was taken begins what was pushed; an acknowledgement that was taken was due, and what was due is true; what is surely
+-- applied is then applied.
 use Rattle.laws.proofs.Beginnings.{takes_a_beginning}
 use Rattle.laws.proofs.Promises.{keeps_promises}
+use Rattle.laws.proofs.Headlines.{joined_headline, joined_covers, joined_settles}
 use Rattle.laws.proofs.joined.Goals as goal
 
 pub returns-clause-beginning : goal.returns-clause-beginning
@@ -8,3 +10,12 @@ returns-clause-beginning c = takes_a_beginning
 
 pub returns-clause-promises : goal.returns-clause-promises
 returns-clause-promises c = keeps_promises
+
+pub returns-clause-headline : goal.returns-clause-headline
+returns-clause-headline c = joined_headline
+
+pub returns-clause-cover : goal.returns-clause-cover
+returns-clause-cover c = joined_covers
+
+pub returns-clause-settlement : goal.returns-clause-settlement
+returns-clause-settlement c = joined_settles

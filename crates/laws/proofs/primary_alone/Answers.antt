@@ -1,6 +1,16 @@
--- By the invariant of a primary's runs.
+-- By the invariants of a primary's runs.
 use Rattle.laws.proofs.Promises.{writes_once}
+use Rattle.laws.proofs.Headlines.{streams_are_lawful, stays_closed, extents_are_few}
 use Rattle.laws.proofs.primary_alone.Goals as goal
 
-pub returns : goal.returns
-returns c = record { once = writes_once }
+pub returns-clause-once : goal.returns-clause-once
+returns-clause-once c = writes_once
+
+pub returns-clause-lawful : goal.returns-clause-lawful
+returns-clause-lawful c = streams_are_lawful
+
+pub returns-clause-closed : goal.returns-clause-closed
+returns-clause-closed c = stays_closed
+
+pub returns-clause-extents : goal.returns-clause-extents
+returns-clause-extents c = extents_are_few

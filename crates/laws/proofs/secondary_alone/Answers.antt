@@ -1,6 +1,10 @@
--- By the invariant of a secondary's runs.
+-- By the invariants of a secondary's runs.
 use Rattle.laws.proofs.SecondaryRuns.{holds_earlier_epochs}
+use Rattle.laws.proofs.Headlines.{stays_closed_too}
 use Rattle.laws.proofs.secondary_alone.Goals as goal
 
-pub returns : goal.returns
-returns c = record { epochs = holds_earlier_epochs }
+pub returns-clause-epochs : goal.returns-clause-epochs
+returns-clause-epochs c = holds_earlier_epochs
+
+pub returns-clause-closed : goal.returns-clause-closed
+returns-clause-closed c = stays_closed_too
