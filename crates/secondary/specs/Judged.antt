@@ -70,6 +70,7 @@ item_of settings s (packet.Data first number place contents) =
     then Ok (taken.Write (record { place = place; epoch = s.barriers + 1; number = number; first = first; contents = contents }))
     else Err refusal.BadField
 item_of settings s (packet.Barrier number) = if is_next_barrier s number then Ok (taken.Barrier (record { number = number; size = length s.epoch })) else Err refusal.BadField
+item_of settings s (packet.Uuids _) = Err refusal.BadField
 item_of settings s _ = Err refusal.BadCommand
 
 -- a frame after the hello, read or faulty

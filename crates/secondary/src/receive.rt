@@ -154,7 +154,8 @@ impl Intake {
                 let size = self.stream.epoch.len() as u32;
                 Ok(Taken::Barrier(EpochEnd { number, size }))
             }
-            Packet::Barrier { .. } => Err(Refusal::BadField),
+            // identifiers belong to a resync, and none runs
+            Packet::Barrier { .. } | Packet::Uuids(_) => Err(Refusal::BadField),
             _ => Err(Refusal::BadCommand),
         }
     }

@@ -161,6 +161,7 @@ fn a_frame_that_does_not_belong_closes_it(rt: HostRuntime) -> Result<(), Fail> {
     let alloc = rt.alloc();
     closes(&rt, alloc, &BARRIER_2, Refusal::BadField)?;
     closes(&rt, alloc, &BAD_BARRIER, Refusal::BadField)?;
+    closes(&rt, alloc, &UUIDS, Refusal::BadField)?;
     closes(&rt, alloc, &PROTOCOL_C, Refusal::BadCommand)?;
     closes(&rt, alloc, &WRITE_ACK, Refusal::BadCommand)?;
     closes(&rt, alloc, &BARRIER_1[..12], Refusal::BadLength)?;
