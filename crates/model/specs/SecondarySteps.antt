@@ -105,17 +105,21 @@ receiving place item h = elim h.settings.protocol [
   | protocol.C ↦ h
 ]
 
+-- a place has 32 bits, and the last of them is none (this project's rule)
+abbrev pub has_place : ℕ → Bool
+has_place place = nat_lt place 4294967295
+
 -- An item of the stream, judged on the history before it was taken, where `place` is the next place.
 abbrev pub checking_item : Packet → ℕ → Inward → SecondaryHistory → Checked
 checking_item (DataFrame write at) place c h =
     let items = items_taken c in
-    checked_if (((at == place) && is_range h.settings write.first (length write.contents)) && (is_above write.number items && is_apart (WriteItem write) items))
+    checked_if ((((at == place) && has_place place) && is_range h.settings write.first (length write.contents)) && (is_above write.number items && is_apart (WriteItem write) items))
     (what.Frame command.Data (Some place)) (receiving place (WriteItem write) h)
 checking_item (RsDataReplyFrame block contents at) place c h =
     let items = items_taken c in
-    checked_if (((at == place) && is_range h.settings block 1) && (is_in_resync c && is_apart (ResyncItem block contents) items)) (what.Frame command.RsDataReply (Some place)) h
+    checked_if ((((at == place) && has_place place) && is_range h.settings block 1) && (is_in_resync c && is_apart (ResyncItem block contents) items)) (what.Frame command.RsDataReply (Some place)) h
 checking_item (BarrierFrame number) place c h =
-    checked_if (number == last_epoch (items_taken c)) (what.Frame command.Barrier (Some place)) h
+    checked_if (has_place place && (number == last_epoch (items_taken c))) (what.Frame command.Barrier (Some place)) h
 checking_item (SyncUuidFrame word) place c h =
     checked_if ((place == 0) && nat_lt 0 word) (what.Frame command.SyncUuid (Some place)) (adopting (record h.tuple { current = word }) false h)
 checking_item (UuidsFrame tuple) place c h =
