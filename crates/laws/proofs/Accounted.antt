@@ -1,5 +1,11 @@
 -- Why an unmarked block is accounted for, whatever frames a primary takes: the last item there is surely applied, or is a
 -- write that is not released.
+pub mod Begins
+pub mod Kept
+pub mod Moves
+pub mod Reflected
+pub mod Steps
+pub mod Turns
 use Rattle.std.proofs.Common.{ℕ, zero, suc, ◌≡◌, ◌≤◌, ◌<◌, ◌⊎◌, inl, inr, Bool, true, false, cond, not, ◌&&◌, ◌||◌, List, [], ◌∷◌, ◌++◌, length, filter, Option, Some, None, slice_get, Ok, refl, sym, ◌∙◌, ap, subst, arith}
 use Rattle.std.specs.Prelude.{is_some}
 use Rattle.std.specs.List.{list_any}
@@ -15,16 +21,18 @@ use Rattle.model.specs.Frames.{Received, UuidsFrame, naming}
 use Rattle.model.specs.Identifiers.{decision}
 use Rattle.model.specs.Primary.{Accepted, Outward, PrimaryHistory, is_waiting, is_alone, is_confirmed, is_released, unreleased, accepted_frames, is_barrier_ack, is_rs_write_ack, barrier_acknowledged}
 use Rattle.laws.specs.Reflections.{touches, is_sure, NoneBegan, FirstBegan}
-use Rattle.laws.proofs.Places.{epoch-grows}
-use Rattle.laws.proofs.Homes.{HasHomes, Grows, AllGrow}
-use Rattle.laws.proofs.Latest.{Touch, latest}
-
-use Rattle.laws.proofs.TrackedKept.{IsKnown}
+use Rattle.laws.proofs.Streams.Places.{epoch-grows}
+use Rattle.laws.proofs.Primary.Homes.{Grows, AllGrow}
+use Rattle.laws.proofs.Blocks.Latest.{Touch, latest}
+use Rattle.laws.proofs.Tracked.Kept.{IsKnown}
+use Rattle.laws.proofs.Lists.Picks.{any-filtered}
+use Rattle.laws.proofs.Lists.Beginnings.{any-grows}
 
 -- An item is settled: the peer has said that it is on its disk, or it is a write that is not released.
 abbrev pub IsSure : PrimaryHistory → Touch → Type 0
 IsSure h touch = (c : Outward) × (slice_get h.connections touch.connection ≡ Some c) × (is_sure c touch.place touch.item ≡ true)
 
+-- the item is of a write that is not released
 abbrev pub IsHeld : PrimaryHistory → Touch → Type 0
 IsHeld h touch = (i : ℕ) × (accepted : Accepted) × (slice_get h.writes i ≡ Some accepted) × (accepted.home ≡ Some (touch.connection, touch.place)) × (is_released h accepted ≡ false)
 
@@ -47,29 +55,17 @@ IsFormer connections k d =
 pub record Carries (h later : PrimaryHistory) : Type 0 where
   pub grow : AllGrow h.connections later.connections
   pub former : (k : ℕ) (d : Outward) → slice_get later.connections k ≡ Some d → IsFormer h.connections k d
-  pub writes : (i : ℕ) (a : Accepted) → slice_get h.writes i ≡ Some a → (b : Accepted) × (slice_get later.writes i ≡ Some b) × (b.write ≡ a.write) × (b.home ≡ a.home) × (is_waiting a.outcome ≡ false → is_waiting b.outcome ≡ false)
+  pub writes : (i : ℕ) (a : Accepted) → slice_get h.writes i ≡ Some a
+      → (b : Accepted) × (slice_get later.writes i ≡ Some b) × (b.write ≡ a.write) × (b.home ≡ a.home) × (is_waiting a.outcome ≡ false → is_waiting b.outcome ≡ false)
 
 -- Streams that began: the same ones, with more frames taken.
 pub record KeepsBegun (h later : PrimaryHistory) : Type 0 where
   pub forward : (k : ℕ) (c : Outward) → slice_get h.connections k ≡ Some c → c.begun ≡ true → (d : Outward) × (slice_get later.connections k ≡ Some d) × (d.begun ≡ true) × IsBeginning c.taken d.taken
   pub back : (k : ℕ) (d : Outward) → slice_get later.connections k ≡ Some d → ((c : Outward) × (slice_get h.connections k ≡ Some c) × (d.begun ≡ c.begun)) ⊎ (d.begun ≡ false)
 
-any-beginning : (p : Received → Bool) (xs ys : List Received) → IsBeginning xs ys → list_any p xs ≡ true → list_any p ys ≡ true
-any-beginning p xs ys b h = subst (λ (l : List Received). list_any p l ≡ true) b.1 (list_any-append p xs b.0 ∙ or_left (list_any p xs) (list_any p b.0) h)
-
--- what a filter lets through and a test finds
-pub any-filtered : {X : Type 0} (p q : X → Bool) (xs : List X) (i : ℕ) (x : X) → slice_get xs i ≡ Some x → q x ≡ true → p x ≡ true → list_any p (filter q xs) ≡ true
-any-filtered p q [] i x at passes found = absurd (cc)
-any-filtered {X} p q (y ∷ xs) zero x at passes found =
-    let same : y ≡ x = cc in
-    subst (λ b. list_any p (cond b (y ∷ filter q xs) (filter q xs)) ≡ true) (sym (subst (λ (z : X). q z ≡ true) (sym same) passes))
-    (or_left (p y) (list_any p (filter q xs)) (subst (λ (z : X). p z ≡ true) (sym same) found))
-any-filtered p q (y ∷ xs) (suc i) x at passes found =
-    let rest = any-filtered p q xs i x at passes found in
-    elim (q y) as (λ b. list_any p (cond b (y ∷ filter q xs) (filter q xs)) ≡ true) [ true ↦ or_right (p y) (list_any p (filter q xs)) rest | false ↦ rest ]
-
 -- a write that is not released is in the transfer log
-pub held-covers : (h : PrimaryHistory) (block i : ℕ) (accepted : Accepted) → slice_get h.writes i ≡ Some accepted → is_released h accepted ≡ false → covers accepted.write block ≡ true → list_any (λ (a : Accepted). covers a.write block) (unreleased h) ≡ true
+pub held-covers : (h : PrimaryHistory) (block i : ℕ) (accepted : Accepted) → slice_get h.writes i ≡ Some accepted → is_released h accepted ≡ false → covers accepted.write block ≡ true
+    → list_any (λ (a : Accepted). covers a.write block) (unreleased h) ≡ true
 held-covers h block i accepted at held covered = any-filtered (λ (a : Accepted). covers a.write block) (λ (a : Accepted). not (is_released h a)) h.writes i accepted at (subst (λ b. not b ≡ true) (sym held) refl) covered
 
 -- the epoch of a place in a stream that grew
@@ -80,8 +76,8 @@ epoch-same stream longer place b within = ap (λ (l : List Item). epoch_of l pla
 pub sure-grows : (c d : Outward) (place : ℕ) (item : Item) → Grows c d → slice_get c.stream place ≡ Some item → is_sure c place item ≡ true → is_sure d place item ≡ true
 sure-grows c d place (WriteItem write) g at sure =
     let inside : place ≤ length c.stream = let within = slice_get_within c.stream place (WriteItem write) at in omega arith in
-    subst (λ (n : ℕ). barrier_acknowledged d n ≡ true) (sym (epoch-same c.stream d.stream place g.stream inside)) (any-beginning (is_barrier_ack (epoch_of c.stream place)) (accepted_frames c) (accepted_frames d) g.frames sure)
-sure-grows c d place (ResyncItem block contents) g at sure = any-beginning (is_rs_write_ack (naming place (ResyncItem block contents))) (accepted_frames c) (accepted_frames d) g.frames sure
+    subst (λ (n : ℕ). barrier_acknowledged d n ≡ true) (sym (epoch-same c.stream d.stream place g.stream inside)) (any-grows (is_barrier_ack (epoch_of c.stream place)) (accepted_frames c) (accepted_frames d) g.frames sure)
+sure-grows c d place (ResyncItem block contents) g at sure = any-grows (is_rs_write_ack (naming place (ResyncItem block contents))) (accepted_frames c) (accepted_frames d) g.frames sure
 sure-grows c d place (BarrierItem epoch) g at sure = sure
 sure-grows c d place (SyncUuidItem word) g at sure = sure
 sure-grows c d place (UuidsItem tuple) g at sure = sure

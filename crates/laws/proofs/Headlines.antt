@@ -1,46 +1,49 @@
 -- The theorems as the contracts name them: of the primary, of the secondary, of the two joined, and of the pair.
-use Rattle.std.proofs.Common.{ℕ, zero, suc, ◌≡◌, ◌-◌, ◌≤◌, ◌<◌, ◌⊎◌, inl, inr, Bool, true, false, cond, not, ◌&&◌, List, [], ◌∷◌, length, take, filter, Some, slice_get, refl, sym, ◌∙◌, ap, subst, arith, nat_lt, length-append}
+use Rattle.std.proofs.Common.{ℕ, zero, suc, ◌≡◌, ◌-◌, ◌≤◌, inl, inr, not, ◌&&◌, List, [], ◌∷◌, length, take, Some, slice_get, sym, ◌∙◌, ap, subst, arith}
 use Rattle.std.proofs.lemmas.Bool.{cases_Bool, both_ways, lt-ltb}
 use Rattle.blocks.specs.declared.settings.Settings.{Settings}
 use Rattle.model.specs.Contents.{IsDisk}
-use Rattle.model.specs.Stream.{Item, IsBeginning, IsLawful, below}
-use Rattle.model.specs.LocalRuns.{PrimaryEvent, primary_run, SecondaryEvent, secondary_run}
-use Rattle.model.specs.Primary.{Outward, PrimaryHistory, last_of, no_outward, outward, stands, local_map, items_sent, active_extents}
+use Rattle.model.specs.Stream.{Item, IsLawful, below}
+use Rattle.model.specs.LocalRuns.{PrimaryEvent, primary_run, secondary_run}
+use Rattle.model.specs.Primary.{PrimaryHistory, last_of, no_outward, outward, local_map, items_sent, active_extents}
 use Rattle.model.specs.Secondary.{Inward, SecondaryHistory, no_inward, inward, items_taken, secondary_map}
-use Rattle.model.specs.Pair.{Event, PairHistory, run, same_block}
-use Rattle.model.specs.WriteOrder.{settlement}
-use Rattle.model.specs.Headline.{IsJoined, AreEnds, TakesABeginning, StaysClosed, StaysClosedToo, HoldsEarlierEpochs, KeepsPromises, MarksDifferences, CoversDifferences, Headline, IsGrounded, is_marked, is_covered}
-use Rattle.model.specs.Theorems.{Opening, primary_at, secondary_at, pair_at, AnyOpening, HasRanges, IsSoundOpening, EveryRun, JoinedRuns, JoinedRunsHaveTheHeadline, JoinedRunsCoverDifferences, JoinedRunsSettle, IsAtRest, Settles, EveryRunHasTheHeadline, EveryRunCoversDifferences}
-use Rattle.laws.specs.Reflections.{FromItem, FromOpening}
-use Rattle.laws.specs.Statements.{PrimaryStreamsAreLawful, PrimaryExtentsAreFew, PrimaryStaysClosed, PrimaryReflects, PrimaryMarksAtRest, SecondaryHoldsEarlierEpochs, SecondaryStaysClosed, AreJoinedRuns, EveryRunIsJoined, EveryRunTakesABeginning, EveryRunStaysClosed, EveryRunHoldsEarlierEpochs, EveryRunKeepsPromises, EveryRunMarksDifferences}
-use Rattle.laws.proofs.PrimaryMoves.{keeps-run}
-use Rattle.laws.proofs.HomesMoves.{homes-opening}
-use Rattle.laws.proofs.Beginnings.{takes_a_beginning}
-use Rattle.laws.proofs.SecondaryRuns.{holds_earlier_epochs}
-use Rattle.laws.proofs.Promises.{keeps_promises, writes_once}
-use Rattle.laws.proofs.LawfulMoves.{primary_lawful}
-use Rattle.laws.proofs.ExtentsMoves.{primary_extents}
-use Rattle.laws.proofs.StaysClosed.{primary_stays_closed}
-use Rattle.laws.proofs.SecondaryStays.{secondary_stays_closed}
-use Rattle.laws.proofs.TrackedKept.{known-opening}
-use Rattle.laws.proofs.LastOpen.{last-open-kept}
+use Rattle.model.specs.Pair.{PairHistory, run, same_block}
+use Rattle.model.specs.Headline.{IsJoined, TakesABeginning, StaysClosed, StaysClosedToo, HoldsEarlierEpochs, KeepsPromises, MarksDifferences, CoversDifferences, Headline, is_marked, is_covered}
+use Rattle.model.specs.Theorems.{Opening, primary_at, secondary_at, pair_at, AnyOpening, HasRanges, IsSoundOpening, EveryRun, JoinedRuns, JoinedRunsHaveTheHeadline, JoinedRunsCoverDifferences, JoinedRunsSettle, EveryRunHasTheHeadline, EveryRunCoversDifferences}
+use Rattle.laws.specs.Statements.{PrimaryStreamsAreLawful, PrimaryExtentsAreFew, PrimaryStaysClosed, PrimaryReflects, PrimaryMarksAtRest, SecondaryStaysClosed, EveryRunIsJoined, EveryRunTakesABeginning, EveryRunStaysClosed, EveryRunHoldsEarlierEpochs, EveryRunKeepsPromises, EveryRunMarksDifferences}
+use Rattle.laws.proofs.Primary.Moves.{keeps-run}
+use Rattle.laws.proofs.Primary.HomesMoves.{homes-opening}
+use Rattle.laws.proofs.Lists.Beginnings.{length-begins}
+use Rattle.laws.proofs.Secondary.Runs.{holds_earlier_epochs}
+use Rattle.laws.proofs.Joining.Promises.{keeps_promises, writes_once}
+use Rattle.laws.proofs.Primary.LawfulMoves.{primary_lawful}
+use Rattle.laws.proofs.Primary.ExtentsMoves.{primary_extents}
+use Rattle.laws.proofs.Primary.StaysClosed.{primary_stays_closed}
+use Rattle.laws.proofs.Secondary.Stays.{secondary_stays_closed}
+use Rattle.laws.proofs.Tracked.Kept.{known-opening}
+use Rattle.laws.proofs.Primary.LastOpen.{last-open-kept}
 use Rattle.laws.proofs.Accounted.{IsAccounted}
-use Rattle.laws.proofs.AccountedKept.{accounted-kept, accounted-opening}
-use Rattle.laws.proofs.Reflected.{reflected, rest-marked}
-use Rattle.laws.proofs.Lists.{last-at}
-use Rattle.laws.proofs.OpeningDisks.{primary-end}
-use Rattle.laws.proofs.Openings.{kept-opening-primary}
-use Rattle.laws.proofs.Agreeing.{joined-agrees}
-use Rattle.laws.proofs.PairRuns.{pair_runs_are_joined, leads-run}
+use Rattle.laws.proofs.Accounted.Kept.{accounted-kept, accounted-opening}
+use Rattle.laws.proofs.Accounted.Reflected.{reflected, rest-marked}
+use Rattle.laws.proofs.Lists.Last.{last-at}
+use Rattle.laws.proofs.Joining.OpeningDisks.{primary-end}
+use Rattle.laws.proofs.Joining.Openings.{kept-opening-primary}
+use Rattle.laws.proofs.Joining.Agreeing.{joined-agrees}
+use Rattle.laws.proofs.Pair.Runs.{pair_runs_are_joined, leads-run}
+use Rattle.laws.proofs.Lists.Picks.{none-passes}
+use Rattle.laws.proofs.Joining.Taking.{takes_a_beginning}
 
 -- The primary by itself.
 
+-- the streams of a primary are lawful
 pub streams_are_lawful : PrimaryStreamsAreLawful
 streams_are_lawful o events ranges = primary_lawful o.settings o.local o.own o.marks events ranges
 
+-- its active extents are no more than its slots
 pub extents_are_few : PrimaryExtentsAreFew
 extents_are_few o events = primary_extents o.settings o.local o.own o.marks events
 
+-- a closed end of a primary stays as it is
 pub stays_closed : PrimaryStaysClosed
 stays_closed p events = primary_stays_closed events p
 
@@ -49,15 +52,18 @@ accounted-run : (o : Opening) (events : List PrimaryEvent) → IsDisk o.settings
 accounted-run o events sized =
     keeps-run IsAccounted IsAccounted accounted-kept events (primary_at o) (accounted-opening o.settings o.local o.own o.marks (known-opening o.settings o.local o.own o.marks (λ block inside. sized block ∙ lt-ltb block o.settings.blocks inside)))
 
+-- a block that is neither marked nor under an unreleased write stands as an item that is surely applied has it, or as at the opening
 pub reflects : PrimaryReflects
 reflects o events sized block clean = reflected (primary_run events (primary_at o)) block (accounted-run o events sized) clean
 
+-- while no stream stands, every block under an unreleased write is marked
 pub marks_at_rest : PrimaryMarksAtRest
 marks_at_rest o events sized resting block covered =
     rest-marked (primary_run events (primary_at o)) block (accounted-run o events sized) (keeps-run _ _ last-open-kept events (primary_at o) (λ k c at less. absurd (cc))) resting covered
 
 -- The secondary by itself.
 
+-- a closed end of a secondary stays as it is but for what is applied there
 pub stays_closed_too : SecondaryStaysClosed
 stays_closed_too s events = secondary_stays_closed events s
 
@@ -73,6 +79,7 @@ joined-beginning o here there ranges joined =
       once = writes_once o here;
     }
 
+-- where the two are joined, a block on which the disks differ is marked or under an unreleased write
 pub joined_covers : JoinedRunsCoverDifferences
 joined_covers o here there sound joined =
     let p : PrimaryHistory = primary_run here (primary_at o) in
@@ -88,6 +95,7 @@ joined_covers o here there sound joined =
 joined-marks : JoinedRuns IsSoundOpening MarksDifferences
 joined-marks o here there sound joined grounded resting block differs = marks_at_rest o here sound.local resting block ((joined_covers o here there sound joined).covered grounded block differs)
 
+-- where the two are joined, the whole headline holds
 pub joined_headline : JoinedRunsHaveTheHeadline
 joined_headline o here there sound joined = record {
   beginning = joined-beginning o here there sound.ranges joined;
@@ -95,10 +103,6 @@ joined_headline o here there sound joined = record {
   promises = keeps_promises o here there tt joined;
   marks = joined-marks o here there sound joined;
 }
-
--- no more is taken than was sent
-length-beginning : (xs ys : List Item) → IsBeginning xs ys → length xs ≤ length ys
-length-beginning xs ys b = let long = ap length (sym b.1) ∙ length-append xs b.0 in omega arith
 
 at-most : (n : ℕ) (xs : List Item) → length (take n xs) ≤ n
 at-most zero xs = omega arith
@@ -117,17 +121,13 @@ no-more-taken p s joined = elim (last-at (no_inward s) s.connections) [
             let index : length p.connections - 1 ≡ length s.connections - 1 = omega arith in
             let out : slice_get p.connections (length s.connections - 1) ≡ Some (outward p) = subst (λ (n : ℕ). slice_get p.connections n ≡ Some (outward p)) index last in
             let taken = takes_a_beginning p s joined (length s.connections - 1) (outward p) (inward s) (record { outward = out; inward = at }) in
-            let fewer = length-beginning (items_taken (inward s)) (take (items_sent (outward p)) (outward p).stream) taken in
+            let fewer = length-begins (items_taken (inward s)) (take (items_sent (outward p)) (outward p).stream) taken in
             let most : length (take (items_sent (outward p)) (outward p).stream) ≤ items_sent (outward p) = at-most (items_sent (outward p)) (outward p).stream in
             omega arith
       ]
 ]
 
--- none of the numbers passes the test
-none-passes : (p : ℕ → Bool) (xs : List ℕ) → ((x : ℕ) → p x ≡ false) → length (filter p xs) ≡ 0
-none-passes p [] none = refl
-none-passes p (x ∷ xs) none = subst (λ b. length (cond b (x ∷ filter p xs) (filter p xs)) ≡ 0) (sym (none x)) (none-passes p xs none)
-
+-- once both are at rest, a settlement says so
 pub joined_settles : JoinedRunsSettle
 joined_settles o here there sound joined rest =
     let p : PrimaryHistory = primary_run here (primary_at o) in
@@ -144,6 +144,7 @@ joined_settles o here there sound joined rest =
 
 -- The pair.
 
+-- every run of the pair leads to two nodes that ran by themselves and are joined
 pub every_run_is_joined : EveryRunIsJoined
 every_run_is_joined o events =
     let runs = pair_runs_are_joined o.settings o.local o.peer o.own o.peer_tuple o.marks events in
@@ -157,30 +158,36 @@ of-joined IsSuch Holds joined o events such =
     let ends = subst (λ s. IsJoined (primary_run runs.here (primary_at o)) s) runs.secondary both in
     subst (λ p. Holds p (run events (pair_at o)).1.secondary) (sym runs.primary) (subst (λ s. Holds (primary_run runs.here (primary_at o)) s) (sym runs.secondary) (joined o runs.here runs.there such ends))
 
+-- in every run of the pair the secondary takes a beginning of what was sent
 pub every_beginning : EveryRunTakesABeginning
 every_beginning = of-joined HasRanges TakesABeginning joined-beginning
 
+-- in every run of the pair the disk holds the earlier epochs
 pub every_epochs : EveryRunHoldsEarlierEpochs
 every_epochs = of-joined AnyOpening (λ p s. HoldsEarlierEpochs s) (λ o here there such joined. holds_earlier_epochs o there)
 
+-- in every run of the pair completions keep their promises
 pub every_promises : EveryRunKeepsPromises
 every_promises = of-joined AnyOpening KeepsPromises keeps_promises
 
+-- in every run of the pair the marks have the differences at rest
 pub every_marks : EveryRunMarksDifferences
 every_marks = of-joined IsSoundOpening MarksDifferences joined-marks
 
+-- in every run of the pair the cover holds
 pub every_cover : EveryRunCoversDifferences
 every_cover = of-joined IsSoundOpening CoversDifferences joined_covers
 
+-- every run of the pair has the whole headline
 pub every_headline : EveryRunHasTheHeadline
 every_headline = of-joined IsSoundOpening Headline joined_headline
 
+-- in every run of the pair closed ends stay as they are
 pub every_close : EveryRunStaysClosed
 every_close o events more =
     let first = leads-run events (pair_at o) (record { homes = homes-opening o.settings o.local o.own o.marks; pairs = tt }) in
     let mid : PairHistory = (run events (pair_at o)).1 in
-    let second = (leads-run more mid first.1).0 in
-    (
+    let second = (leads-run more mid first.1).0 in (
       subst (λ p. StaysClosed mid.primary p) (sym second.primary) (primary_stays_closed second.here mid.primary),
       subst (λ s. StaysClosedToo mid.secondary s) (sym second.secondary) (secondary_stays_closed second.there mid.secondary),
     )

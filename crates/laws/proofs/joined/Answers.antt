@@ -1,9 +1,9 @@
 -- What was taken begins what was pushed; an acknowledgement that was taken was due, and what was due is true; what is surely
 -- applied is then applied.
-use Rattle.laws.proofs.Beginnings.{takes_a_beginning}
-use Rattle.laws.proofs.Promises.{keeps_promises}
+use Rattle.laws.proofs.Joining.Promises.{keeps_promises}
 use Rattle.laws.proofs.Headlines.{joined_headline, joined_covers, joined_settles}
 use Rattle.laws.proofs.joined.Goals as goal
+use Rattle.laws.proofs.Joining.Taking.{takes_a_beginning}
 
 pub returns-clause-beginning : goal.returns-clause-beginning
 returns-clause-beginning c = takes_a_beginning

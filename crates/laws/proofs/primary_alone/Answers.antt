@@ -1,5 +1,5 @@
 -- By the invariants of a primary's runs.
-use Rattle.laws.proofs.Promises.{writes_once}
+use Rattle.laws.proofs.Joining.Promises.{writes_once}
 use Rattle.laws.proofs.Headlines.{streams_are_lawful, stays_closed, extents_are_few}
 use Rattle.laws.proofs.primary_alone.Goals as goal
 

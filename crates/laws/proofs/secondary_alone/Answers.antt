@@ -1,5 +1,5 @@
 -- By the invariants of a secondary's runs.
-use Rattle.laws.proofs.SecondaryRuns.{holds_earlier_epochs}
+use Rattle.laws.proofs.Secondary.Runs.{holds_earlier_epochs}
 use Rattle.laws.proofs.Headlines.{stays_closed_too}
 use Rattle.laws.proofs.secondary_alone.Goals as goal
 

@@ -1,0 +1,131 @@
+-- A primary's half of the cover, of every run of it.
+use Rattle.std.proofs.Common.{ℕ, suc, ◌≡◌, ◌-◌, ◌<◌, ◌⊎◌, inl, inr, Bool, true, false, not, ◌&&◌, ◌||◌, [], length, Option, Some, None, slice_get, refl, sym, ◌∙◌, ap, subst, arith, nat_lt}
+use Rattle.std.specs.List.{list_any}
+use Rattle.std.proofs.lemmas.Bool.{cases_Bool, both_ways, or_parts, or_cases, or_right, and_from, not-true, lt-ltb, cases_lt, le-ltb}
+use Rattle.std.proofs.lemmas.Option.{slice_get_within}
+use Rattle.model.specs.Contents.{covers}
+use Rattle.model.specs.Stream.{Item, WriteItem}
+use Rattle.model.specs.Primary.{Accepted, Outward, PrimaryHistory, is_waiting, is_confirmed, is_alone, is_released, unreleased, local_map, no_outward, outward, stands}
+use Rattle.model.specs.Headline.{is_marked, is_covered}
+use Rattle.laws.specs.Reflections.{touches, FromItem, FromOpening}
+use Rattle.laws.proofs.Blocks.Latest.{Touch, latest, sent_map, content_of}
+use Rattle.laws.proofs.Blocks.LatestPlaces.{latest-at, latest-none, latest-last}
+use Rattle.laws.proofs.Blocks.Overlays.{settled-is-local}
+use Rattle.laws.proofs.Tracked.Moves.{beyond-the-end}
+use Rattle.laws.proofs.Lists.Last.{last-at}
+use Rattle.laws.proofs.Lists.Picks.{pick-any, pick-filtered}
+use Rattle.laws.proofs.Primary.Homes.{HasHomes, alone-at}
+use Rattle.laws.proofs.Primary.LastOpen.{IsLastOpen}
+use Rattle.laws.proofs.Accounted.{IsAccounted, held-covers}
+use Rattle.laws.proofs.Accounted.Steps.{covered-inside}
+use Rattle.laws.proofs.Lists.Elements.{same-at}
+
+-- A block that is neither marked nor under an unreleased write.
+pub reflected : (h : PrimaryHistory) (block : ℕ) → IsAccounted h → is_covered h block ≡ false → FromItem h block ⊎ FromOpening h block
+reflected h block a clean = elim (cases_lt block h.settings.blocks) [
+  | inr past ↦
+      let out = beyond-the-end h block a.known.tracked past in
+      inr (record {
+        content = sym out.1;
+        unmarked = ap (λ b. b && h.opening_marks block) (le-ltb block h.settings.blocks past);
+        items = λ k place c i at there touched. absurd (both_ways (touches i block) (latest-none h.connections block out.0 k place c i at there) touched);
+        began = elim a.began [ inl none ↦ inl none | inr first ↦ inr (first.0, first.1, λ inside full. absurd (omega arith)) ];
+      })
+  | inl inside ↦
+      let parts = or_parts (is_marked h block) (list_any (λ (x : Accepted). covers x.write block) (unreleased h)) clean in
+      let unmarked : h.marks block ≡ false = sym (ap (λ b. b && h.marks block) (lt-ltb block h.settings.blocks inside)) ∙ parts.0 in
+      let free : (i : ℕ) (accepted : Accepted) → slice_get h.writes i ≡ Some accepted → is_released h accepted ≡ false → covers accepted.write block ≡ false = λ i accepted at held. elim (cases_Bool (covers accepted.write block)) [
+        | inl covered ↦ absurd (both_ways (list_any (λ (x : Accepted). covers x.write block) (unreleased h)) parts.1 (held-covers h block i accepted at held covered))
+        | inr not_so ↦ not_so
+      ] in
+      let same : sent_map h block ≡ local_map h block =
+      a.known.tracked.equal block inside unmarked ∙ settled-is-local h block (λ i accepted at waits. free i accepted at (ap (λ w. not w && (is_confirmed h accepted || is_alone h accepted)) waits)) in
+      by-last h block a inside unmarked free same (latest h.connections block) refl
+]
+  where
+    by-last : (h : PrimaryHistory) (block : ℕ) → IsAccounted h → block < h.settings.blocks → h.marks block ≡ false
+        → ((i : ℕ) (accepted : Accepted) → slice_get h.writes i ≡ Some accepted → is_released h accepted ≡ false → covers accepted.write block ≡ false)
+        → sent_map h block ≡ local_map h block → (v : Option Touch) → latest h.connections block ≡ v → FromItem h block ⊎ FromOpening h block
+    by-last h block a inside unmarked free same None is = inr (record {
+      content = sym (ap (content_of (h.opening_map block) block) is) ∙ same;
+      unmarked = ap (λ b. b && h.opening_marks block) (lt-ltb block h.settings.blocks inside) ∙ a.untouched block inside unmarked is;
+      items = λ k place c i at there touched. absurd (both_ways (touches i block) (latest-none h.connections block is k place c i at there) touched);
+      began = elim a.began [ inl none ↦ inl none | inr first ↦ inr (first.0, first.1, λ within full. first.2 full block within unmarked is) ];
+    })
+    by-last h block a inside unmarked free same (Some touch) is =
+        let there = latest-at h.connections block touch is in
+        elim (a.settled block touch unmarked is) [
+          | inr held ↦ absurd (
+              let accepted : Accepted = held.1 in
+              let home = a.known.tracked.homes.housed held.0 touch.connection touch.place accepted held.2 held.3 in
+              let end : there.0 ≡ home.0 = same-at h.connections touch.connection there.0 home.0 there.1 home.1 in
+              let item : touch.item ≡ WriteItem accepted.write = same-at home.0.stream touch.place touch.item (WriteItem accepted.write) (subst (λ (c : Outward). slice_get c.stream touch.place ≡ Some touch.item) end there.2) home.2 in
+              both_ways (covers accepted.write block) (free held.0 accepted held.2 held.4) (subst (λ (x : Item). touches x block ≡ true) item there.3))
+          | inl sure ↦
+              let end : there.0 ≡ sure.0 = same-at h.connections touch.connection there.0 sure.0 there.1 sure.1 in
+              inl (record {
+                connection = touch.connection;
+                place = touch.place;
+                end = sure.0;
+                item = touch.item;
+                at = sure.1;
+                there = subst (λ (c : Outward). slice_get c.stream touch.place ≡ Some touch.item) end there.2;
+                touched = there.3;
+                sure = sure.2;
+                content = sym (ap (content_of (h.opening_map block) block) is) ∙ same;
+                later = λ other next c i at stands touched after. absurd (elim (latest-last h.connections block touch is other next c i at stands touched) [
+                  | inl before ↦ elim after [ inl beyond_it ↦ omega arith | inr here ↦ let e = here.0 in omega arith ]
+                  | inr here ↦ elim after [ inl beyond_it ↦ let e = here.0 in omega arith | inr behind ↦ let less = behind.1 in let more = here.1 in omega arith ]
+                ]);
+              })
+        ]
+
+-- Where no stream stands, an unreleased write waits without a connection, so its blocks are marked.
+pub rest-marked : (h : PrimaryHistory) (block : ℕ) → IsAccounted h → IsLastOpen h → stands (outward h) ≡ false → is_covered h block ≡ true → is_marked h block ≡ true
+rest-marked h block a closed resting covered = elim (or_cases (is_marked h block) (list_any (λ (x : Accepted). covers x.write block) (unreleased h)) covered) [
+  | inl marked ↦ marked
+  | inr under ↦
+      let some = pick-any (λ (x : Accepted). covers x.write block) (unreleased h) under in
+      let stood = pick-filtered (λ (x : Accepted). not (is_released h x)) h.writes some.0 some.1 some.2 in
+      let alone = alone-at-rest h (homes-of h a) closed resting stood.0 some.1 stood.1 in
+      let waits : is_waiting some.1.outcome ≡ true = elim (cases_Bool (is_waiting some.1.outcome)) [
+        | inl is ↦ is
+        | inr done ↦ absurd (both_ways (is_released h some.1) (not-true (is_released h some.1) stood.2) (
+            subst (λ w. (not w && (is_confirmed h some.1 || is_alone h some.1)) ≡ true) (sym done) (or_right (is_confirmed h some.1) (is_alone h some.1) alone)))
+      ] in
+      and_from (nat_lt block h.settings.blocks) (h.marks block) (lt-ltb block h.settings.blocks (covered-inside h a.known stood.0 block some.1 stood.1 some.3)) (a.waiting stood.0 block some.1 stood.1 alone waits some.3)
+]
+  where
+    homes-of : (h : PrimaryHistory) → IsAccounted h → HasHomes h
+    homes-of h a = a.known.tracked.homes
+
+    -- no stream stands: each home is on a closed connection
+    alone-at-rest : (h : PrimaryHistory) → HasHomes h → IsLastOpen h → stands (outward h) ≡ false → (i : ℕ) (w : Accepted) → slice_get h.writes i ≡ Some w → is_alone h w ≡ true
+    alone-at-rest h homes closed resting i w at = go w.home refl
+      where
+        go : (v : Option (ℕ × ℕ)) → w.home ≡ v → is_alone h w ≡ true
+        go None is = ap (λ (v : Option (ℕ × ℕ)). elim v as (λ _. Bool) [ None ↦ true | Some home ↦ elim (slice_get h.connections home.0) as (λ _. Bool) [ None ↦ true | Some c ↦ c.closed ] ]) is
+        go (Some home) is =
+            let was = homes.housed i home.0 home.1 w at is in
+            let within = slice_get_within h.connections home.0 was.0 was.1 in
+            alone-at h w home was.0 is was.1 ∙ elim (cases_lt (suc home.0) (length h.connections)) [
+              | inl early ↦ closed home.0 was.0 was.1 early
+              | inr last ↦
+                  let index : home.0 ≡ length h.connections - 1 = omega arith in
+                  elim (last-at (no_outward h.tuple) h.connections) [
+                    | inl none ↦ absurd (let size : length h.connections ≡ 0 = ap length none in omega arith)
+                    | inr there ↦
+                        let end : was.0 ≡ outward h = same-at h.connections (length h.connections - 1) was.0 (outward h) (subst (λ (n : ℕ). slice_get h.connections n ≡ Some was.0) index was.1) there in
+                        elim (cases_Bool was.0.closed) [
+                          | inl shut ↦ shut
+                          | inr unshut ↦ absurd (
+                              let fresh : was.0.begun ≡ false = elim (cases_Bool was.0.begun) [
+                                | inr new ↦ new
+                                | inl begun ↦ absurd (both_ways (stands (outward h)) resting (subst (λ (c : Outward). stands c ≡ true) end (and_from (not was.0.closed) was.0.begun (subst (λ b. not b ≡ true) (sym unshut) refl) begun)))
+                              ] in
+                              let empty : was.0.stream ≡ [] = homes.empty home.0 was.0 was.1 fresh in
+                              let item = was.2 in
+                              cc (empty, item))
+                        ]
+                  ]
+            ]

@@ -1,0 +1,225 @@
+-- The moves that neither accept a write nor begin, clear or close anything keep the account of unmarked blocks.
+use Rattle.std.proofs.Common.{ℕ, ◌≡◌, ◌-◌, ◌+◌, ◌<◌, ◌⊎◌, inl, inr, Bool, true, false, List, [], ◌∷◌, ◌++◌, length, map, Option, Some, None, slice_get, refl, sym, ◌∙◌, ap, subst, arith, ◌==◌, nat_lt, nat_le}
+use Rattle.std.specs.Prelude.{if◌then◌else◌, option_map}
+use Rattle.std.proofs.lemmas.Bool.{cases_Bool, both_ways, and_parts, ltb-true}
+use Rattle.std.proofs.lemmas.Option.{slice_get-map}
+use Rattle.blocks.specs.declared.settings.Settings.{Settings}
+use Rattle.blocks.specs.declared.outcome.Decision.{Decision}
+use Rattle.blocks.specs.declared.outcome.Decision.TheVariants.{FullSync}
+use Rattle.model.specs.Contents.{covers}
+use Rattle.model.specs.Stream.{Item, IsBeginning}
+use Rattle.model.specs.Frames.{Received}
+use Rattle.model.specs.Primary.{LocalOutcome, Accepted, Outward, PrimaryHistory, no_outward, last_of, last_index, outward, change_last, accepted_frames, is_waiting}
+use Rattle.model.specs.PrimarySteps.{set_outcome}
+use Rattle.laws.specs.Reflections.{touches, NoneBegan, FirstBegan}
+use Rattle.laws.proofs.Lists.Beginnings.{begins-self}
+use Rattle.laws.proofs.Lists.Last.{get-change, get-change-back, change-none, last-at}
+use Rattle.laws.proofs.Primary.Moves.{with_frame, pushing}
+use Rattle.laws.proofs.Primary.Homes.{HasHomes, Grows, grows-self, AllGrow, open-at, outcome-write, outcome-home}
+use Rattle.laws.proofs.Blocks.Latest.{latest}
+use Rattle.laws.proofs.Blocks.LatestMoves.{latest-same-last, latest-appended}
+use Rattle.laws.proofs.Blocks.LatestPlaces.{latest-at}
+use Rattle.laws.proofs.Tracked.Kept.{IsKnown}
+use Rattle.laws.proofs.Accounted.{IsAccounted, Carries, KeepsBegun}
+use Rattle.laws.proofs.Accounted.Moves.{ComeFrom, settled-carries, waiting-carries, none-carries, first-carries}
+use Rattle.laws.proofs.Primary.Ends.{not-refused, frames-taking}
+
+-- What a move has to keep of the connection that it changes.
+pub record KeepsEnd (c d : Outward) : Type 0 where
+  pub grows : Grows c d
+  pub closed : d.closed ≡ true → c.closed ≡ true
+  pub taken : IsBeginning c.taken d.taken
+
+-- Writes that stay, in both directions.
+pub record KeepsWrites (ws vs : List Accepted) : Type 0 where
+  pub forward : (i : ℕ) (a : Accepted) → slice_get ws i ≡ Some a → (b : Accepted) × (slice_get vs i ≡ Some b) × (b.write ≡ a.write) × (b.home ≡ a.home) × (is_waiting a.outcome ≡ false → is_waiting b.outcome ≡ false)
+  pub back : (i : ℕ) (b : Accepted) → slice_get vs i ≡ Some b → (a : Accepted) × (slice_get ws i ≡ Some a) × (b.write ≡ a.write) × (b.home ≡ a.home) × (is_waiting b.outcome ≡ true → is_waiting a.outcome ≡ true)
+
+-- writes that stay as they are are kept
+pub keeps-writes : (ws : List Accepted) → KeepsWrites ws ws
+keeps-writes ws = record { forward = λ i a at. (a, at, refl, refl, λ w. w); back = λ i b at. (b, at, refl, refl, λ w. w) }
+
+-- the local disk has done or failed the write of a number
+pub keeps-outcome : (number : ℕ) (outcome : LocalOutcome) (ws : List Accepted) → is_waiting outcome ≡ false → KeepsWrites ws (map (set_outcome number outcome) ws)
+keeps-outcome number outcome ws done = record {
+  forward =
+      λ i a at. (set_outcome number outcome a, slice_get-map (set_outcome number outcome) ws i ∙ ap (option_map (set_outcome number outcome)) at, outcome-write number outcome a, outcome-home number outcome a, set-done a);
+  back = λ i b at. go i (slice_get ws i) refl b (sym (slice_get-map (set_outcome number outcome) ws i) ∙ at);
+}
+  where
+    set-done : (a : Accepted) → is_waiting a.outcome ≡ false → is_waiting (set_outcome number outcome a).outcome ≡ false
+    set-done a was = elim (a.write.number == number) as (λ b. is_waiting (if b then record a { outcome = outcome } else a).outcome ≡ false) [ true ↦ done | false ↦ was ]
+
+    set-back : (a : Accepted) → is_waiting (set_outcome number outcome a).outcome ≡ true → is_waiting a.outcome ≡ true
+    set-back a waits = elim (cases_Bool (is_waiting a.outcome)) [ inl is ↦ is | inr not_so ↦ absurd (both_ways (is_waiting (set_outcome number outcome a).outcome) (set-done a not_so) waits) ]
+
+    go : (i : ℕ) (v : Option Accepted) → slice_get ws i ≡ v → (b : Accepted) → option_map (set_outcome number outcome) v ≡ Some b
+        → (a : Accepted) × (slice_get ws i ≡ Some a) × (b.write ≡ a.write) × (b.home ≡ a.home) × (is_waiting b.outcome ≡ true → is_waiting a.outcome ≡ true)
+    go i None is b there = absurd (cc)
+    go i (Some a) is b there =
+        let same : set_outcome number outcome a ≡ b = cc in (
+          a,
+          is,
+          ap (λ (x : Accepted). x.write) (sym same) ∙ outcome-write number outcome a,
+          ap (λ (x : Accepted). x.home) (sym same) ∙ outcome-home number outcome a,
+          λ waits. set-back a (ap (λ (x : Accepted). is_waiting x.outcome) same ∙ waits),
+        )
+
+-- each write is still there, and does not wait again
+abbrev pub StayThere : List Accepted → List Accepted → Type 0
+StayThere ws vs = (i : ℕ) (a : Accepted) → slice_get ws i ≡ Some a → (b : Accepted) × (slice_get vs i ≡ Some b) × (b.write ≡ a.write) × (b.home ≡ a.home) × (is_waiting a.outcome ≡ false → is_waiting b.outcome ≡ false)
+
+-- a change of the last connection
+pub grows-change : (h later : PrimaryHistory) (f : Outward → Outward) → later.connections ≡ change_last f h.connections → Grows (outward h) (f (outward h)) → AllGrow h.connections later.connections
+grows-change h later f connections grows = subst (AllGrow h.connections) (sym connections) (λ k c at. elim (get-change f (no_outward h.tuple) h.connections k c at) [
+  | inl same ↦ (c, same, grows-self c)
+  | inr changed ↦ (f c, changed.0, subst (λ (x : Outward). Grows x (f x)) (sym changed.1) grows)
+])
+
+-- a change of the last connection that keeps its end carries what accounts for a block
+pub carries-change : (h later : PrimaryHistory) (f : Outward → Outward) → later.connections ≡ change_last f h.connections → StayThere h.writes later.writes → KeepsEnd (outward h) (f (outward h)) → Carries h later
+carries-change h later f connections writes keeps = record {
+  grow = grows-change h later f connections keeps.grows;
+  former = λ k d at. elim (get-change-back f (no_outward h.tuple) h.connections k d (subst (λ (l : List Outward). slice_get l k ≡ Some d) connections at)) [
+    | inl same ↦ inl (d, same, λ c. c, begins-self d.taken)
+    | inr changed ↦ inl (
+      outward h,
+      changed.1,
+      λ closed. keeps.closed (subst (λ (x : Outward). x.closed ≡ true) changed.0 closed),
+      subst (λ (x : Outward). IsBeginning (outward h).taken x.taken) (sym changed.0) keeps.taken,
+    )
+  ];
+  writes = writes;
+}
+
+-- a change of the last connection that begins nothing
+pub begun-change : (h later : PrimaryHistory) (f : Outward → Outward) → later.connections ≡ change_last f h.connections → (f (outward h)).begun ≡ (outward h).begun
+    → IsBeginning (outward h).taken (f (outward h)).taken → KeepsBegun h later
+begun-change h later f connections begun taken =
+    let none : Outward = no_outward h.tuple in
+    record {
+      forward = λ k c at was. subst (λ (l : List Outward). (d : Outward) × (slice_get l k ≡ Some d) × (d.begun ≡ true) × IsBeginning c.taken d.taken) (sym connections) (elim (get-change f none h.connections k c at) [
+        | inl same ↦ (c, same, was, begins-self c.taken)
+        | inr changed ↦ (
+          f c,
+          changed.0,
+          subst (λ (x : Outward). (f x).begun ≡ x.begun) (sym changed.1) begun ∙ was,
+          subst (λ (x : Outward). IsBeginning x.taken (f x).taken) (sym changed.1) taken,
+        )
+      ]);
+      back = λ k d at. elim (get-change-back f none h.connections k d (subst (λ (l : List Outward). slice_get l k ≡ Some d) connections at)) [
+        | inl same ↦ inl (d, same, refl)
+        | inr changed ↦ inl (outward h, changed.1, subst (λ (x : Outward). x.begun ≡ (outward h).begun) (sym changed.0) begun)
+      ];
+    }
+
+-- What is said of the streams that began.
+abbrev pub Began : PrimaryHistory → Type 0
+Began h = NoneBegan h ⊎ ((decided : Decision) × FirstBegan h decided × (decided ≡ FullSync → (block : ℕ) → block < h.settings.blocks → h.marks block ≡ false → latest h.connections block ≡ None → ⊥))
+
+-- a block that a write has lies in the device
+pub covered-inside : (h : PrimaryHistory) → IsKnown h → (i block : ℕ) (b : Accepted) → slice_get h.writes i ≡ Some b → covers b.write block ≡ true → block < h.settings.blocks
+covered-inside h known i block b at covered =
+    let parts = and_parts (nat_le b.write.first block) (nat_lt block (b.write.first + length b.write.contents)) covered in
+    let before : block < b.write.first + length b.write.contents = ltb-true block (b.write.first + length b.write.contents) parts.1 in
+    let within = known.tracked.writes_inside i b at in
+    omega arith
+
+-- Nothing closes, no mark of the device goes, and no block gets another last item: all is accounted for as before.
+pub accounted-from : (h later : PrimaryHistory) → IsAccounted h → IsKnown later → Carries h later → ComeFrom h later → later.settings ≡ h.settings → later.opening_marks ≡ h.opening_marks → Began later
+    → ((block : ℕ) → block < later.settings.blocks → later.marks block ≡ false → h.marks block ≡ false)
+    → ((block : ℕ) → later.marks block ≡ false → latest later.connections block ≡ latest h.connections block) → IsAccounted later
+accounted-from h later accounted known carries come settings opening_marks began marks last = record {
+  known = known;
+  waiting = λ i block b at alone waits covered.
+      let before = waiting-carries h later accounted carries come i block b at alone waits covered in
+      elim (cases_Bool (later.marks block)) [
+        | inl marked ↦ marked
+        | inr not_so ↦ absurd (both_ways (h.marks block) (marks block (covered-inside later known i block b at covered) not_so) before.4)
+      ];
+  settled = λ block touch unmarked is.
+      let was : latest h.connections block ≡ Some touch = sym (last block unmarked) ∙ is in
+      settled-carries h later block touch accounted carries (latest-at h.connections block touch was) (marks block (known.tracked.items_inside block touch is) unmarked) was;
+  untouched = λ block inside unmarked none.
+      ap (λ (m : ℕ → Bool). m block) opening_marks ∙ accounted.untouched block (subst (λ (s : Settings). block < s.blocks) settings inside) (marks block inside unmarked) (sym (last block unmarked) ∙ none);
+  began = began;
+}
+
+-- what began carries over
+pub began-carries : (h later : PrimaryHistory) → KeepsBegun h later → later.settings ≡ h.settings → later.opening_tuple ≡ h.opening_tuple → (NoneBegan h → later.tuple ≡ h.tuple)
+    → ((block : ℕ) → block < later.settings.blocks → later.marks block ≡ false → latest later.connections block ≡ None → (h.marks block ≡ false) × (latest h.connections block ≡ None)) → Began h → Began later
+began-carries h later keeps settings opening_tuple tuple clean began = elim began [
+  | inl none ↦ inl (none-carries h later keeps opening_tuple (tuple none) none)
+  | inr first ↦ inr (
+    first.0,
+    first-carries h later first.0 keeps opening_tuple first.1,
+    λ full block inside unmarked none. let was = clean block inside unmarked none in first.2 full block (subst (λ (s : Settings). block < s.blocks) settings inside) was.0 was.1,
+  )
+]
+
+-- a move that carries it and touches no block keeps the account
+pub accounted-carries : (h later : PrimaryHistory) → IsAccounted h → IsKnown later → Carries h later → ComeFrom h later → KeepsBegun h later
+    → later.settings ≡ h.settings → later.opening_marks ≡ h.opening_marks → later.opening_tuple ≡ h.opening_tuple → (NoneBegan h → later.tuple ≡ h.tuple)
+    → ((block : ℕ) → later.marks block ≡ false → h.marks block ≡ false) → ((block : ℕ) → later.marks block ≡ false → latest later.connections block ≡ latest h.connections block) → IsAccounted later
+accounted-carries h later accounted known carries come keeps settings opening_marks opening_tuple tuple marks last =
+    accounted-from h later accounted known carries come settings opening_marks
+    (began-carries h later keeps settings opening_tuple tuple (λ block inside unmarked none. (marks block unmarked, sym (last block unmarked) ∙ none)) accounted.began) (λ block inside unmarked. marks block unmarked) last
+
+-- the same, where the last connection changes and its stream does not
+pub accounted-change : (h later : PrimaryHistory) (f : Outward → Outward) → IsAccounted h → IsKnown later → later.connections ≡ change_last f h.connections
+    → KeepsWrites h.writes later.writes → KeepsEnd (outward h) (f (outward h)) → (f (outward h)).begun ≡ (outward h).begun → (f (outward h)).stream ≡ (outward h).stream
+    → later.settings ≡ h.settings → later.opening_marks ≡ h.opening_marks → later.opening_tuple ≡ h.opening_tuple → (NoneBegan h → later.tuple ≡ h.tuple)
+    → ((block : ℕ) → later.marks block ≡ false → h.marks block ≡ false) → IsAccounted later
+accounted-change h later f accounted known connections writes keeps begun stream settings opening_marks opening_tuple tuple marks =
+    accounted-carries h later accounted known (carries-change h later f connections writes.forward keeps) writes.back (begun-change h later f connections begun keeps.taken) settings opening_marks opening_tuple tuple marks
+    (λ block unmarked. ap (λ (l : List Outward). latest l block) connections ∙ latest-same-last (no_outward h.tuple) f h.connections block stream)
+
+-- no connection changes
+pub keeps-end : (c : Outward) → KeepsEnd c c
+keeps-end c = record { grows = grows-self c; closed = λ x. x; taken = begins-self c.taken }
+
+-- a move that changes no connection keeps the account
+pub accounted-still : (h later : PrimaryHistory) → IsAccounted h → IsKnown later → later.connections ≡ h.connections → KeepsWrites h.writes later.writes → later.settings ≡ h.settings
+    → later.opening_marks ≡ h.opening_marks → later.opening_tuple ≡ h.opening_tuple
+    → (NoneBegan h → later.tuple ≡ h.tuple) → ((block : ℕ) → later.marks block ≡ false → h.marks block ≡ false) → IsAccounted later
+accounted-still h later accounted known connections writes settings opening_marks opening_tuple tuple marks =
+    accounted-change h later (λ c. c) accounted known (connections ∙ sym (change-none h.connections)) writes (keeps-end (outward h)) refl refl settings opening_marks opening_tuple tuple marks
+
+-- one more frame was pushed, or taken
+pub keeps-pushed : (c : Outward) → KeepsEnd c (pushing c)
+keeps-pushed c = record { grows = record { stream = begins-self c.stream; pushed = omega arith; frames = begins-self (accepted_frames c) }; closed = λ x. x; taken = begins-self c.taken }
+
+-- an end that takes a frame more is kept
+pub keeps-taken : (c : Outward) (frame : Received) → c.refused ≡ false → KeepsEnd c (with_frame frame c)
+keeps-taken c frame plain = record { grows = record { stream = begins-self c.stream; pushed = omega arith; frames = frames-taking c frame plain }; closed = λ x. x; taken = (frame ∷ [], refl) }
+
+-- the open end has refused nothing
+pub open-plain : (h : PrimaryHistory) → HasHomes h → (outward h).closed ≡ false → (outward h).refused ≡ false
+open-plain h homes standing = not-refused h homes standing (length h.connections - 1) (open-at h standing)
+
+-- a stream that has begun is that of a connection
+pub begun-at : (h : PrimaryHistory) → (outward h).begun ≡ true → slice_get h.connections (length h.connections - 1) ≡ Some (outward h)
+begun-at h begun = elim (last-at (no_outward h.tuple) h.connections) [
+  | inl none ↦ absurd (both_ways (outward h).begun (ap (λ (l : List Outward). (last_of (no_outward h.tuple) l).begun) none) begun)
+  | inr at ↦ at
+]
+
+-- a stream that has begun is on a connection
+pub begun-some : (h : PrimaryHistory) → (outward h).begun ≡ true → h.connections ≡ [] → ⊥
+begun-some h begun none = both_ways (outward h).begun (ap (λ (l : List Outward). (last_of (no_outward h.tuple) l).begun) none) begun
+
+-- An item that touches marked blocks alone, or none, goes to the end of the stream.
+pub accounted-appending : (h later : PrimaryHistory) (item : Item) → ((block : ℕ) → h.marks block ≡ false → touches item block ≡ false) → IsAccounted h → IsKnown later
+    → (outward h).begun ≡ true → later.connections ≡ change_last (λ c. record c { stream = c.stream ++ item ∷ [] }) h.connections
+    → later.writes ≡ h.writes → later.settings ≡ h.settings → later.opening_marks ≡ h.opening_marks → later.opening_tuple ≡ h.opening_tuple → later.marks ≡ h.marks → IsAccounted later
+accounted-appending h later item none accounted known begun connections writes settings opening_marks opening_tuple marks =
+    let f : Outward → Outward = λ c. record c { stream = c.stream ++ item ∷ [] } in
+    let keeps : KeepsEnd (outward h) (f (outward h)) =
+    record { grows = record { stream = (item ∷ [], refl); pushed = omega arith; frames = begins-self (accepted_frames (outward h)) }; closed = λ x. x; taken = begins-self (outward h).taken } in
+    let kept : KeepsWrites h.writes later.writes = subst (KeepsWrites h.writes) (sym writes) (keeps-writes h.writes) in
+    accounted-carries h later accounted known (carries-change h later f connections kept.forward keeps) kept.back (begun-change h later f connections refl keeps.taken) settings opening_marks opening_tuple
+    (λ began. absurd (both_ways (outward h).begun (began.none (length h.connections - 1) (outward h) (begun-at h begun)) begun))
+    (λ block unmarked. ap (λ (m : ℕ → Bool). m block) (sym marks) ∙ unmarked)
+    (λ block unmarked. ap (λ (l : List Outward). latest l block) connections
+    ∙ (latest-appended (no_outward h.tuple) f item h.connections block (begun-some h begun) refl
+    ∙ ap (λ b. if b then Some (record { connection = last_index h.connections; place = length (outward h).stream; item = item }) else latest h.connections block) (none block (ap (λ (m : ℕ → Bool). m block) (sym marks) ∙ unmarked))))

@@ -1,0 +1,126 @@
+-- The two ends of joined nodes, and the opening disks: they agree on a block that stands as it did at the opening and was
+-- not marked there.
+use Rattle.std.proofs.Common.{ℕ, zero, suc, ◌≡◌, ◌<◌, inl, inr, Bool, true, false, ◌&&◌, List, [], ◌∷◌, map, take, Option, Some, None, slice_get, Ok, refl, sym, ◌∙◌, ap, subst, arith, nat_lt}
+use Rattle.std.specs.Prelude.{is_some}
+use Rattle.std.specs.List.{list_any}
+use Rattle.std.proofs.lemmas.Bool.{cases_Bool, both_ways, or_from, ltb-true, lt-ltb, cases_lt}
+use Rattle.std.proofs.lemmas.Option.{slice_get_within}
+use Rattle.blocks.specs.declared.settings.Settings.{Settings}
+use Rattle.blocks.specs.declared.tuple.Tuple.{Tuple}
+use Rattle.blocks.specs.declared.outcome.Decision.{Decision}
+use Rattle.model.specs.Contents.{BlockMap}
+use Rattle.model.specs.Frames.{UuidsFrame}
+use Rattle.model.specs.Identifiers.{decision}
+use Rattle.model.specs.Primary.{Outward, PrimaryHistory}
+use Rattle.model.specs.Secondary.{Inward, SecondaryHistory, items_taken, answers_due}
+use Rattle.model.specs.Pair.{same_block}
+use Rattle.model.specs.LocalRuns.{PrimaryEvent, primary_run, SecondaryEvent, secondary_run}
+use Rattle.model.specs.Headline.{AreEnds, IsJoined, IsGrounded, Cover, opening_marked}
+use Rattle.model.specs.Theorems.{Opening, IsSoundOpening, primary_at, secondary_at}
+use Rattle.laws.specs.Reflections.{FromOpening, FirstBegan}
+use Rattle.laws.proofs.Lists.Beginnings.{begins-take, get-beginning}
+use Rattle.laws.proofs.Primary.Homes.{HasHomes}
+use Rattle.laws.proofs.Primary.HomesMoves.{homes-kept, homes-opening}
+use Rattle.laws.proofs.Primary.Moves.{keeps-run}
+use Rattle.laws.proofs.Joining.Promises.{read-back}
+use Rattle.laws.proofs.Joining.Openings.{HasOpening, HasOpeningToo, kept-opening-primary, kept-opening-secondary}
+use Rattle.laws.proofs.Blocks.SameBlocks.{same-equal, decided-by}
+use Rattle.laws.proofs.Secondary.Tuples.{secondary_hello}
+use Rattle.laws.proofs.Joining.SureApplied.{taken-begins}
+use Rattle.laws.proofs.Secondary.TrueBarriers.{due_is_no_tuple}
+use Rattle.laws.proofs.Lists.Elements.{get-there, append-empty}
+use Rattle.laws.proofs.Joining.Taking.{read}
+
+-- Each connection of the one node has its end at the other.
+pub primary-end : (p : PrimaryHistory) (s : SecondaryHistory) → IsJoined p s → (k : ℕ) (d : Inward) → slice_get s.connections k ≡ Some d → (c : Outward) × AreEnds p s k c d
+primary-end p s joined k d at =
+    let within = slice_get_within s.connections k d at in
+    let same = joined.connections in
+    let found = get-there p.connections k (omega arith) in
+    (found.0, record { outward = found.1; inward = at })
+
+-- the other way
+pub secondary-end : (p : PrimaryHistory) (s : SecondaryHistory) → IsJoined p s → (k : ℕ) (c : Outward) → slice_get p.connections k ≡ Some c → (d : Inward) × AreEnds p s k c d
+secondary-end p s joined k c at =
+    let within = slice_get_within p.connections k c at in
+    let same = joined.connections in
+    let found = get-there s.connections k (omega arith) in
+    (found.0, record { outward = at; inward = found.1 })
+
+-- a tuple among the frames that a secondary owes is that of its hello, if none was due
+named : (settings : Settings) (d : Inward) (n : ℕ) (t : Tuple) → slice_get (answers_due settings d) n ≡ Some (UuidsFrame t) → ((m : ℕ) → slice_get d.due m ≡ Some (UuidsFrame t) → ⊥) → t ≡ d.hello
+named settings d zero t at none = absurd (cc)
+named settings d (suc zero) t at none = absurd (cc)
+named settings d (suc (suc zero)) t at none = let same : UuidsFrame d.hello ≡ UuidsFrame t = cc in cc
+named settings d (suc (suc (suc n))) t at none = absurd (none n at)
+
+-- The first stream that began was decided on the peer's opening tuple.
+pub first-peer : (o : Opening) (here : List PrimaryEvent) (there : List SecondaryEvent) (decided : Decision) → IsJoined (primary_run here (primary_at o)) (secondary_run there (secondary_at o))
+    → (first : FirstBegan (primary_run here (primary_at o)) decided) → first.peer ≡ o.peer_tuple
+first-peer o here there decided joined first =
+    let p : PrimaryHistory = primary_run here (primary_at o) in
+    let s : SecondaryHistory = secondary_run there (secondary_at o) in
+    let homes : HasHomes p = keeps-run HasHomes HasHomes homes-kept here (primary_at o) (homes-opening o.settings o.local o.own o.marks) in
+    let end = secondary-end p s joined first.connection first.end first.at in
+    let d : Inward = end.0 in
+    let pushed = get-beginning first.end.taken (map read (take d.pushed (answers_due s.settings d))) first.n (Ok (UuidsFrame first.peer)) (joined.back first.connection first.end d end.1) first.taken in
+    let owed = get-beginning (take d.pushed (answers_due s.settings d)) (answers_due s.settings d) first.n (UuidsFrame first.peer) (begins-take d.pushed (answers_due s.settings d)) (read-back (take d.pushed (answers_due s.settings d)) first.n (UuidsFrame first.peer) pushed) in
+    let hello : first.peer ≡ d.hello = named s.settings d first.n first.peer owed (λ m at. due_is_no_tuple o.settings o.peer o.peer_tuple there first.connection m d first.peer end.1.inward at) in
+    hello ∙ secondary_hello o.settings o.peer o.peer_tuple there first.connection d end.1.inward (λ j e less at.
+    let other = primary-end p s joined j e at in
+    let none : other.0.stream ≡ [] = homes.empty j other.0 other.1.outward (first.earlier j other.0 less other.1.outward) in
+    let begins = taken-begins o here there joined j other.0 e other.1 in
+    append-empty (items_taken e) begins.0 (begins.1 ∙ none))
+
+-- where no connection has begun, none is found
+none-begun : (cs : List Outward) → ((k : ℕ) (c : Outward) → slice_get cs k ≡ Some c → c.begun ≡ false) → list_any (λ (c : Outward). c.begun) cs ≡ false
+none-begun [] none = refl
+none-begun (c ∷ cs) none = or_from c.begun (list_any (λ (x : Outward). x.begun) cs) (none 0 c refl) (none-begun cs (λ k x at. none (suc k) x at))
+
+-- a block that some marks cover, and that is not marked, is the same on both disks
+covered-same : (marks : ℕ → Bool) (local peer : BlockMap) (block : ℕ) → Cover marks local peer → marks block ≡ false → local block ≡ peer block
+covered-same marks local peer block cover unmarked = elim (cases_Bool (same_block (local block) (peer block))) [
+  | inl same ↦ same-equal (local block) (peer block) same
+  | inr differ ↦ absurd (both_ways (marks block) unmarked (cover block differ))
+]
+
+-- past the end of both disks
+none-there : (v : Option (List ℕ)) → is_some v ≡ false → v ≡ None
+none-there None h = refl
+none-there (Some x) h = absurd (cc)
+
+-- The opening disks agree on a block that stands as it did at the opening.
+pub openings-agree : (o : Opening) (here : List PrimaryEvent) (there : List SecondaryEvent) → IsSoundOpening o → IsJoined (primary_run here (primary_at o)) (secondary_run there (secondary_at o))
+    → IsGrounded (primary_run here (primary_at o)) (secondary_run there (secondary_at o)) → (block : ℕ) → FromOpening (primary_run here (primary_at o)) block → o.local block ≡ o.peer block
+openings-agree o here there sound joined grounded block a =
+    let p : PrimaryHistory = primary_run here (primary_at o) in
+    let s : SecondaryHistory = secondary_run there (secondary_at o) in
+    let mine : HasOpening o p = kept-opening-primary o here in
+    let theirs : HasOpeningToo o s = kept-opening-secondary o there in
+    elim (cases_lt block o.settings.blocks) [
+      | inr past ↦
+          let out : nat_lt block o.settings.blocks ≡ false = elim (cases_Bool (nat_lt block o.settings.blocks)) [ inr outside ↦ outside | inl inside ↦ absurd (let less = ltb-true block o.settings.blocks inside in omega arith) ] in
+          none-there (o.local block) (sound.local block ∙ out) ∙ sym (none-there (o.peer block) (sound.peer block ∙ out))
+      | inl inside ↦
+          let within : nat_lt block p.settings.blocks ≡ true = ap (λ (x : Settings). nat_lt block x.blocks) mine.settings ∙ lt-ltb block o.settings.blocks inside in
+          let less : block < p.settings.blocks = subst (λ (x : Settings). block < x.blocks) (sym mine.settings) inside in
+          let bare : p.opening_marks block ≡ false = sym (ap (λ b. b && p.opening_marks block) within) ∙ a.unmarked in
+          let unmarked : o.marks block ≡ false = ap (λ (m : ℕ → Bool). m block) (sym mine.marks) ∙ bare in
+          elim grounded [
+            | inr cover ↦ ap (λ (m : BlockMap). m block) (sym mine.disk) ∙ (covered-same (opening_marked p) p.opening_map s.opening_map block cover a.unmarked ∙ ap (λ (m : BlockMap). m block) theirs.disk)
+            | inl begun ↦ elim a.began [
+              | inl none ↦ absurd (both_ways (list_any (λ (c : Outward). c.begun) p.connections) (none-begun p.connections none.none) begun)
+              | inr first ↦
+                  let peer : first.1.peer ≡ o.peer_tuple = first-peer o here there first.0 joined first.1 in
+                  let decides : decision o.own o.peer_tuple ≡ Ok first.0 =
+                  subst (λ (t : Tuple). decision o.own t ≡ Ok first.0) peer (subst (λ (t : Tuple). decision t first.1.peer ≡ Ok first.0) mine.tuple first.1.decides) in
+                  elim (decided-by o.own o.peer_tuple first.0 decides) [
+                    | inl full ↦ absurd (first.2 less full)
+                    | inr other ↦ elim other [
+                      | inl same ↦ covered-same o.marks o.local o.peer block (sound.identifiers.same_current same) unmarked
+                      | inr bitmap ↦ covered-same o.marks o.local o.peer block (sound.identifiers.from_bitmap bitmap.0 bitmap.1) unmarked
+                    ]
+                  ]
+            ]
+          ]
+    ]

@@ -1,0 +1,155 @@
+-- What a completion over the link promises, of a primary and a secondary that ran by themselves and whose frames are joined.
+use Rattle.std.proofs.Common.{ℕ, zero, suc, ◌≡◌, ◌-◌, ◌<◌, Bool, true, false, ◌&&◌, List, [], ◌∷◌, length, take, map, Some, slice_get, Ok, Err, refl, sym, ◌∙◌, ap, subst, arith, ◌==◌}
+use Rattle.std.specs.Prelude.{if◌then◌else◌}
+use Rattle.std.proofs.lemmas.Bool.{and_parts, eqb-true, ltb-true}
+use Rattle.std.proofs.lemmas.Option.{slice_get_within}
+use Rattle.blocks.specs.declared.settings.Settings.{Settings}
+use Rattle.blocks.specs.declared.settings.Protocol.{Protocol}
+use Rattle.blocks.specs.declared.settings.Protocol.TheVariants as protocol
+use Rattle.model.specs.Contents.{Write}
+use Rattle.model.specs.Stream.{Item, WriteItem, IsBeginning, is_whole}
+use Rattle.model.specs.Frames.{Packet, DataFrame, RsDataReplyFrame, BarrierFrame, ProtocolFrame, UuidsFrame, SizesFrame, SyncUuidFrame, RecvAckFrame, WriteAckFrame, RsWriteAckFrame, BarrierAckFrame, Acknowledged, Received, naming}
+use Rattle.model.specs.Primary.{Accepted, Outward, PrimaryHistory, items_sent, accepted_frames, same_naming, is_recv_ack, is_write_ack, is_answered_by}
+use Rattle.model.specs.Secondary.{Inward, SecondaryHistory, items_taken, answers_due}
+use Rattle.model.specs.LocalRuns.{primary_run, secondary_run}
+use Rattle.model.specs.Headline.{Promise}
+use Rattle.model.specs.Theorems.{primary_at, secondary_at}
+use Rattle.laws.specs.Statements.{JoinedRunsKeepPromises, PrimaryWritesOnce}
+use Rattle.laws.proofs.Lists.Beginnings.{begins-take, begins-self, begins-trans, get-beginning}
+use Rattle.laws.proofs.Secondary.TrueAnswers.{IsTruthful, all-run}
+use Rattle.laws.proofs.Primary.Moves.{keeps-run}
+use Rattle.laws.proofs.Primary.Homes.{HasHomes, IsLinked}
+use Rattle.laws.proofs.Primary.HomesMoves.{homes-kept, homes-opening}
+use Rattle.laws.proofs.Lists.Elements.{same-at}
+use Rattle.laws.proofs.Lists.Picks.{pick-any}
+use Rattle.laws.proofs.Joining.Taking.{takes_a_beginning, read}
+use Rattle.laws.proofs.Lists.Each.{Each, each-get}
+
+-- the acknowledgement in a frame that passes
+recv-ack : (of : Acknowledged) (frame : Received) → is_recv_ack of frame ≡ true → (ack : Acknowledged) × (frame ≡ Ok (RecvAckFrame ack)) × (same_naming of ack ≡ true)
+recv-ack of (Err fault) h = absurd (cc)
+recv-ack of (Ok (DataFrame write at)) h = absurd (cc)
+recv-ack of (Ok (RsDataReplyFrame block contents at)) h = absurd (cc)
+recv-ack of (Ok (BarrierFrame number)) h = absurd (cc)
+recv-ack of (Ok (ProtocolFrame asked)) h = absurd (cc)
+recv-ack of (Ok (UuidsFrame tuple)) h = absurd (cc)
+recv-ack of (Ok (SizesFrame blocks)) h = absurd (cc)
+recv-ack of (Ok (SyncUuidFrame word)) h = absurd (cc)
+recv-ack of (Ok (RecvAckFrame ack)) h = (ack, refl, h)
+recv-ack of (Ok (WriteAckFrame ack)) h = absurd (cc)
+recv-ack of (Ok (RsWriteAckFrame ack)) h = absurd (cc)
+recv-ack of (Ok (BarrierAckFrame number size)) h = absurd (cc)
+
+write-ack : (of : Acknowledged) (frame : Received) → is_write_ack of frame ≡ true → (ack : Acknowledged) × (frame ≡ Ok (WriteAckFrame ack)) × (same_naming of ack ≡ true)
+write-ack of (Err fault) h = absurd (cc)
+write-ack of (Ok (DataFrame write at)) h = absurd (cc)
+write-ack of (Ok (RsDataReplyFrame block contents at)) h = absurd (cc)
+write-ack of (Ok (BarrierFrame number)) h = absurd (cc)
+write-ack of (Ok (ProtocolFrame asked)) h = absurd (cc)
+write-ack of (Ok (UuidsFrame tuple)) h = absurd (cc)
+write-ack of (Ok (SizesFrame blocks)) h = absurd (cc)
+write-ack of (Ok (SyncUuidFrame word)) h = absurd (cc)
+write-ack of (Ok (RecvAckFrame ack)) h = absurd (cc)
+write-ack of (Ok (WriteAckFrame ack)) h = (ack, refl, h)
+write-ack of (Ok (RsWriteAckFrame ack)) h = absurd (cc)
+write-ack of (Ok (BarrierAckFrame number size)) h = absurd (cc)
+
+-- what names an item names its place
+pub same-place : (of ack : Acknowledged) → same_naming of ack ≡ true → of.place ≡ ack.place
+same-place of ack h =
+    let last = (and_parts ((of.first == ack.first) && (of.number == ack.number)) ((of.count == ack.count) && (of.place == ack.place)) h).1 in
+    eqb-true of.place ack.place (and_parts (of.count == ack.count) (of.place == ack.place) last).1
+
+-- a frame that was read is the one that was pushed
+pub read-back : (packets : List Packet) (n : ℕ) (packet : Packet) → slice_get (map read packets) n ≡ Some (Ok packet) → slice_get packets n ≡ Some packet
+read-back [] n packet at = absurd (cc)
+read-back (x ∷ packets) zero packet at = let same : x ≡ packet = cc in ap (λ (p : Packet). Some p) same
+read-back (x ∷ packets) (suc n) packet at = read-back packets n packet at
+
+-- the packets of a hello
+abbrev pub is_hello : Packet → Bool
+is_hello (ProtocolFrame asked) = true
+is_hello (SizesFrame blocks) = true
+is_hello (UuidsFrame tuple) = true
+is_hello _ = false
+
+-- a packet that is none of a hello stands behind the hello
+pub behind-hello : (a b c packet : Packet) (due : List Packet) (n : ℕ) → is_hello a ≡ true → is_hello b ≡ true → is_hello c ≡ true → is_hello packet ≡ false
+    → slice_get (a ∷ b ∷ c ∷ due) n ≡ Some packet → (m : ℕ) × (slice_get due m ≡ Some packet)
+behind-hello a b c packet due zero ha hb hc other at = absurd (let e : a ≡ packet = cc in cc (ap is_hello e, ha, other))
+behind-hello a b c packet due (suc zero) ha hb hc other at = absurd (let e : b ≡ packet = cc in cc (ap is_hello e, hb, other))
+behind-hello a b c packet due (suc (suc zero)) ha hb hc other at = absurd (let e : c ≡ packet = cc in cc (ap is_hello e, hc, other))
+behind-hello a b c packet due (suc (suc (suc n))) ha hb hc other at = (n, at)
+
+-- An accepted acknowledgement was due at the secondary.
+pub was-due : (settings : Settings) (c : Outward) (d : Inward) (n : ℕ) (packet : Packet) → is_hello packet ≡ false → IsBeginning c.taken (map read (take d.pushed (answers_due settings d)))
+    → slice_get (accepted_frames c) n ≡ Some (Ok packet)
+    → (m : ℕ) × (slice_get d.due m ≡ Some packet)
+was-due settings c d n packet other joined at =
+    let accepted : IsBeginning (accepted_frames c) c.taken = elim c.refused as (λ b. IsBeginning (if b then take (length c.taken - 1) c.taken else c.taken) c.taken) [ true ↦ begins-take (length c.taken - 1) c.taken | false ↦ begins-self c.taken ] in
+    let pushed = get-beginning c.taken (map read (take d.pushed (answers_due settings d))) n (Ok packet) joined (get-beginning (accepted_frames c) c.taken n (Ok packet) accepted at) in
+    let there = get-beginning (take d.pushed (answers_due settings d)) (answers_due settings d) n packet (begins-take d.pushed (answers_due settings d)) (read-back (take d.pushed (answers_due settings d)) n packet pushed) in
+    behind-hello _ _ _ packet d.due n refl refl refl other there
+
+promise-of : (asked : Protocol) (settings : Settings) (c : Outward) (d : Inward) (write : Write) (place : ℕ) → IsTruthful d → IsBeginning c.taken (map read (take d.pushed (answers_due settings d)))
+    → IsBeginning (items_taken d) (take (items_sent c) c.stream) → slice_get c.stream place ≡ Some (WriteItem write) → is_answered_by asked c place (WriteItem write) ≡ true → Promise asked c d write place
+promise-of protocol.A settings c d write place truthful joined items item answered = ltb-true place (items_sent c) answered
+promise-of protocol.B settings c d write place truthful joined items item answered =
+    let found = pick-any (is_recv_ack (naming place (WriteItem write))) (accepted_frames c) answered in
+    let ack = recv-ack (naming place (WriteItem write)) found.1 found.3 in
+    let due = was-due settings c d found.0 (RecvAckFrame ack.0) refl joined (found.2 ∙ ap (λ (f : Received). Some f) ack.1) in
+    let names = truthful.answers due.0 (RecvAckFrame ack.0) due.1 in
+    let same : place ≡ ack.0.place = same-place (naming place (WriteItem write)) ack.0 ack.2 in
+    subst (λ n. n < length (items_taken d)) (sym same) (slice_get_within (items_taken d) ack.0.place names.item names.there)
+promise-of protocol.C settings c d write place truthful joined items item answered =
+    let found = pick-any (is_write_ack (naming place (WriteItem write))) (accepted_frames c) answered in
+    let ack = write-ack (naming place (WriteItem write)) found.1 found.3 in
+    let due = was-due settings c d found.0 (WriteAckFrame ack.0) refl joined (found.2 ∙ ap (λ (f : Received). Some f) ack.1) in
+    let names = truthful.answers due.0 (WriteAckFrame ack.0) due.1 in
+    let same : place ≡ ack.0.place = same-place (naming place (WriteItem write)) ack.0 ack.2 in
+    let taken : slice_get (items_taken d) place ≡ Some names.item = subst (λ n. slice_get (items_taken d) n ≡ Some names.item) (sym same) names.there in
+    let sent : slice_get c.stream place ≡ Some names.item =
+    get-beginning (items_taken d) c.stream place names.item (begins-trans (items_taken d) (take (items_sent c) c.stream) c.stream items (begins-take (items_sent c) c.stream)) taken in
+    let is : names.item ≡ WriteItem write = cc in
+    subst (λ (i : Item). is_whole d.applied place i ≡ true) is (subst (λ n. is_whole d.applied n names.item ≡ true) (sym same) names.whole)
+
+-- each write that completed over the link has what its protocol promises
+pub keeps_promises : JoinedRunsKeepPromises
+keeps_promises o here there any joined =
+    let p : PrimaryHistory = primary_run here (primary_at o) in
+    let s : SecondaryHistory = secondary_run there (secondary_at o) in
+    let homes : HasHomes p = keeps-run HasHomes HasHomes homes-kept here (primary_at o) (homes-opening o.settings o.local o.own o.marks) in
+    let truthful : Each IsTruthful s.connections = all-run there (secondary_at o) tt in
+    record {
+      promised = λ n k place entry c d at linked home ends.
+          let l : IsLinked p.settings.protocol p.connections entry = homes.journal n entry at linked in
+          let one : ℕ × ℕ = (l.connection, l.place) in
+          let two : ℕ × ℕ = (k, place) in
+          let pairs : Some one ≡ Some two = sym l.home ∙ home in
+          let same : one ≡ two = cc in
+          let kk : l.connection ≡ k = ap (λ (x : ℕ × ℕ). x.0) same in
+          let pp : l.place ≡ place = ap (λ (x : ℕ × ℕ). x.1) same in
+          let end : l.end ≡ c = same-at p.connections k l.end c (subst (λ n. slice_get p.connections n ≡ Some l.end) kk l.there) ends.outward in
+          let item : slice_get c.stream place ≡ Some (WriteItem entry.write) = subst (λ (x : Outward). slice_get x.stream place ≡ Some (WriteItem entry.write)) end (subst (λ n. slice_get l.end.stream n ≡ Some (WriteItem entry.write)) pp l.item) in
+          let answered : is_answered_by p.settings.protocol c place (WriteItem entry.write) ≡ true =
+          subst (λ (x : Outward). is_answered_by p.settings.protocol x place (WriteItem entry.write) ≡ true) end (subst (λ n. is_answered_by p.settings.protocol l.end n (WriteItem entry.write) ≡ true) pp l.answered) in
+          promise-of p.settings.protocol s.settings c d entry.write place (each-get IsTruthful s.connections k d truthful ends.inward) (joined.back k c d ends) (takes_a_beginning p s joined k c d ends) item answered;
+      home = λ n entry at linked. let l : IsLinked p.settings.protocol p.connections entry = homes.journal n entry at linked in (l.connection, l.place, l.end, l.home, l.there, l.item);
+    }
+
+-- A write has one place.
+pub writes_once : PrimaryWritesOnce
+writes_once o events k l place other c d a b atc atd ina inb number =
+    let p : PrimaryHistory = primary_run events (primary_at o) in
+    let homes : HasHomes p = keeps-run HasHomes HasHomes homes-kept events (primary_at o) (homes-opening o.settings o.local o.own o.marks) in
+    let x = homes.homed k place c a atc ina in
+    let y = homes.homed l other d b atd inb in
+    let nx : a.number ≡ suc x.0 = ap (λ (w : Write). w.number) (sym x.3) ∙ homes.numbered x.0 x.1 x.2 in
+    let ny : b.number ≡ suc y.0 = ap (λ (w : Write). w.number) (sym y.3) ∙ homes.numbered y.0 y.1 y.2 in
+    let index : x.0 ≡ y.0 = omega arith in
+    let same : x.1 ≡ y.1 = same-at p.writes y.0 x.1 y.1 (subst (λ n. slice_get p.writes n ≡ Some x.1) index x.2) y.2 in
+    let one : ℕ × ℕ = (k, place) in
+    let two : ℕ × ℕ = (l, other) in
+    let homes : Some one ≡ Some two = sym x.4 ∙ (ap (λ (z : Accepted). z.home) same ∙ y.4) in
+    let pairs : one ≡ two = cc in
+    (ap (λ (z : ℕ × ℕ). z.0) pairs, ap (λ (z : ℕ × ℕ). z.1) pairs)

@@ -1,0 +1,5 @@
+-- The pair: its runs are runs of two nodes that are joined.
+pub mod Links
+pub mod Primary
+pub mod Runs
+pub mod Secondary

@@ -1,0 +1,223 @@
+-- A run of a pair is a run of each node by itself, and their frames are joined.
+use Rattle.std.proofs.Common.{ℕ, ◌≡◌, Bool, not, ◌&&◌, List, [], ◌∷◌, ◌++◌, length, Option, Some, None, slice_get, refl, sym, ◌∙◌, ap, subst, arith}
+use Rattle.std.specs.Prelude.{option_map, if◌then◌else◌}
+use Rattle.blocks.specs.declared.refusal.Refusal.{Refusal}
+use Rattle.blocks.specs.declared.refusal.Refusal.TheVariants.{BadRange, UnknownJob, NotDrained}
+use Rattle.blocks.specs.declared.settings.Settings.{Settings}
+use Rattle.blocks.specs.declared.tuple.Tuple.{Tuple}
+use Rattle.blocks.specs.declared.outcome.Reply.{Reply}
+use Rattle.blocks.specs.declared.outcome.Reply.TheVariants as reply
+use Rattle.blocks.specs.declared.outcome.What.TheVariants as what
+use Rattle.model.specs.Contents.{BlockMap}
+use Rattle.model.specs.Stream.{below, contents_of}
+use Rattle.model.specs.Refusals.{Test, first_refusal}
+use Rattle.model.specs.Primary.{PrimaryHistory, Outward, primary_opening, no_outward}
+use Rattle.model.specs.PrimarySteps.{open_tests, opened, open_primary, succeeding, tested, follows, is_unfinished, accepted_at, local_fault}
+use Rattle.model.specs.Secondary.{SecondaryHistory, Inward, secondary_opening, no_inward, inward, with_inward, is_drained, items_taken}
+use Rattle.model.specs.SecondarySteps.{answering, open_secondary_tests, opened_secondary, open_secondary, succeeding_secondary, tested_secondary, peer_tests, peer_fault}
+use Rattle.model.specs.LocalRuns.{PrimaryEvent, Opens, Submits, WritesLocally, FailsLocally, Sends, Takes, Resyncs, FailsResync, Closes, primary_after, primary_run, SecondaryEvent, OpensToo, Receives, Applies, FailsToApply, Acknowledges, ClosesToo, secondary_after, secondary_run}
+use Rattle.model.specs.Headline.{IsJoined}
+use Rattle.model.specs.Pair.{Event, OpenEvent, SubmitEvent, LocalEvent, LocalFaultEvent, SendEvent, ReceiveEvent, PeerEvent, PeerFaultEvent, AckOutEvent, AckInEvent, ResyncEvent, ResyncFaultEvent, ClosePrimaryEvent, CloseSecondaryEvent, PairHistory, pair_opening, has_room, next_frame, answers_have_room, next_answer, keeps_too_many, local_fault_kept, peer_fault_kept, open_pair_tests, open_pair, step, run}
+use Rattle.laws.proofs.Primary.Moves.{keeps-after}
+use Rattle.laws.proofs.Primary.Homes.{HasHomes}
+use Rattle.laws.proofs.Primary.HomesMoves.{homes-kept, homes-opening}
+use Rattle.laws.proofs.Pair.Links.{AreLinked}
+use Rattle.laws.proofs.Pair.Primary.{HasEnds, ends-following, ends-submit, ends-local, ends-fault, ends-send, ends-resync, ends-resync-fault, ends-close, ends-ack-in}
+use Rattle.laws.proofs.Pair.Secondary.{HasEndsToo, ends-answering, ends-receive, ends-peer, ends-fault-too, ends-push, ends-close-too}
+use Rattle.laws.proofs.Lists.Pairs.{Pairs, pairs-length, pairs-get, pairs-append}
+use Rattle.laws.proofs.Lists.Tests.{test-passed}
+
+-- The connections of a pair are linked, each end with the other, and the primary's streams are empty until they begin.
+pub record IsLinkedPair (h : PairHistory) : Type 0 where
+  pub homes : HasHomes h.primary
+  pub pairs : Pairs (AreLinked h.primary.settings h.secondary.settings) h.primary.connections h.secondary.connections
+
+-- Events of each node by itself lead from one history of a pair to another.
+pub record AreRuns (h later : PairHistory) : Type 0 where
+  pub here : List PrimaryEvent
+  pub there : List SecondaryEvent
+  pub primary : later.primary ≡ primary_run here h.primary
+  pub secondary : later.secondary ≡ secondary_run there h.secondary
+
+-- it does, and the pair is linked then
+abbrev LeadsTo : PairHistory → PairHistory → Type 0
+LeadsTo h later = AreRuns h later × IsLinkedPair later
+
+leads-self : (h : PairHistory) → IsLinkedPair h → LeadsTo h h
+leads-self h linked = (record { here = []; there = []; primary = refl; secondary = refl }, linked)
+
+-- an event of the primary
+leads-primary : (h : PairHistory) (event : PrimaryEvent) → IsLinkedPair h → HasEnds h.primary.settings h.secondary.settings h.secondary.connections (primary_after event h.primary)
+    → LeadsTo h (record h { primary = primary_after event h.primary })
+leads-primary h event linked ends = (
+  record { here = event ∷ []; there = []; primary = refl; secondary = refl },
+  record {
+    homes = keeps-after HasHomes HasHomes homes-kept event h.primary linked.homes;
+    pairs = subst (λ (s : Settings). Pairs (AreLinked s h.secondary.settings) (primary_after event h.primary).connections h.secondary.connections) (sym ends.settings) ends.pairs;
+  },
+)
+
+-- an event of the secondary
+leads-secondary : (h : PairHistory) (event : SecondaryEvent) → IsLinkedPair h → HasEndsToo h.primary.settings h.secondary.settings h.primary.connections (secondary_after event h.secondary)
+    → LeadsTo h (record h { secondary = secondary_after event h.secondary })
+leads-secondary h event linked ends = (
+  record { here = []; there = event ∷ []; primary = refl; secondary = refl },
+  record {
+    homes = linked.homes;
+    pairs = subst (λ (s : Settings). Pairs (AreLinked h.primary.settings s) h.primary.connections (secondary_after event h.secondary).connections) (sym ends.settings) ends.pairs;
+  },
+)
+
+-- Both ends open.
+
+primary-passed : (h : PrimaryHistory) (tests : List Test) (done : Unit {0} → Reply × PrimaryHistory) → first_refusal tests ≡ None → tested h tests done ≡ done tt
+primary-passed h tests done none = ap (λ (v : Option Refusal). elim v as (λ _. Reply × PrimaryHistory) [ Some refusal ↦ (reply.Refused refusal, h) | None ↦ done tt ]) none
+
+secondary-passed : (h : SecondaryHistory) (tests : List Test) (done : Unit {0} → Reply × SecondaryHistory) → first_refusal tests ≡ None → tested_secondary h tests done ≡ done tt
+secondary-passed h tests done none = ap (λ (v : Option Refusal). elim v as (λ _. Reply × SecondaryHistory) [ Some refusal ↦ (reply.Refused refusal, h) | None ↦ done tt ]) none
+
+-- two new ends are linked
+linked-new : (here there : Settings) (c : Outward) (d : Inward) → c.pushed ≡ 0 → c.taken ≡ [] → d.pushed ≡ 0 → d.taken ≡ [] → AreLinked here there c d
+linked-new here there c d sent taken answered taken_too = record {
+  out = rw taken_too (_, refl);
+  back = rw taken (_, refl);
+  sent = omega arith;
+  answered = omega arith;
+}
+
+opens-linked : (sync loss : ℕ) (h : PairHistory) → IsLinkedPair h
+    → Pairs (AreLinked h.primary.settings h.secondary.settings) (follows (opened h.primary sync loss)).history.connections (with_inward answering (opened_secondary h.secondary)).connections
+    × ((follows (opened h.primary sync loss)).history.settings ≡ h.primary.settings)
+opens-linked sync loss h linked =
+    let p : PrimaryHistory = h.primary in
+    let s : SecondaryHistory = h.secondary in
+    let both : HasEnds p.settings s.settings (opened_secondary s).connections (opened p sync loss) = record {
+      settings = refl;
+      pairs = pairs-append (AreLinked p.settings s.settings) p.connections s.connections _ _ linked.pairs (linked-new p.settings s.settings _ _ refl refl refl refl);
+    } in
+    let followed = ends-following p.settings s.settings (opened_secondary s).connections (no_inward s) (opened p sync loss) both in
+    let answered = ends-answering p.settings s.settings (follows (opened p sync loss)).history.connections (no_outward p.tuple) (opened_secondary s) (record { settings = refl; pairs = followed.pairs }) in
+    (answered.pairs, followed.settings)
+
+leads-open : (sync loss : ℕ) (starved : Bool) (h : PairHistory) → IsLinkedPair h → LeadsTo h (open_pair sync loss starved h).1
+leads-open sync loss starved h linked = go (first_refusal (open_pair_tests h sync loss starved)) refl
+  where
+    both : first_refusal (open_pair_tests h sync loss starved) ≡ None → LeadsTo h (record { primary = (open_primary sync loss starved h.primary).1; secondary = (open_secondary h.secondary).1 })
+    both none =
+        let tests = test-passed (not ((inward h.secondary).closed && is_drained h.secondary)) NotDrained (open_tests h.primary sync loss starved) none in
+        let here : (open_primary sync loss starved h.primary).1 ≡ (follows (opened h.primary sync loss)).history =
+        ap (λ (r : Reply × PrimaryHistory). r.1) (primary-passed h.primary (open_tests h.primary sync loss starved) (λ _. succeeding what.Nothing (opened h.primary sync loss)) tests.1) in
+        let free : first_refusal (open_secondary_tests h.secondary) ≡ None = ap (λ b. if b then Some NotDrained else None) tests.0 in
+        let there : (open_secondary h.secondary).1 ≡ with_inward answering (opened_secondary h.secondary) =
+        ap (λ (r : Reply × SecondaryHistory). r.1) (secondary-passed h.secondary (open_secondary_tests h.secondary) (λ _. succeeding_secondary what.Nothing (opened_secondary h.secondary)) free) in
+        let linked_too = opens-linked sync loss h linked in (
+          record { here = Opens sync loss starved ∷ []; there = OpensToo ∷ []; primary = refl; secondary = refl },
+          record {
+            homes = keeps-after HasHomes HasHomes homes-kept (Opens sync loss starved) h.primary linked.homes;
+            pairs =
+                rw (here, there) (subst (λ (s : Settings). Pairs (AreLinked s h.secondary.settings) (follows (opened h.primary sync loss)).history.connections (with_inward answering (opened_secondary h.secondary)).connections) (sym linked_too.1) linked_too.0);
+          },
+        )
+
+    go : (v : Option Refusal) → first_refusal (open_pair_tests h sync loss starved) ≡ v → LeadsTo h (elim v as (λ _. Reply × PairHistory) [
+      | Some refusal ↦ (reply.Refused refusal, h)
+      | None ↦ let primary = open_primary sync loss starved h.primary in (primary.0, record { primary = primary.1; secondary = (open_secondary h.secondary).1 })
+    ]).1
+    go (Some refusal) none = leads-self h linked
+    go None none = both none
+
+-- Faults, where more blocks may be said to be kept than there are.
+
+leads-local-fault : (number kept : ℕ) (h : PairHistory) → IsLinkedPair h → LeadsTo h (record h { primary = (local_fault_kept number kept h.primary).1 })
+leads-local-fault number kept h linked =
+    go (first_refusal ((not (is_unfinished h.primary number), UnknownJob) ∷ (keeps_too_many kept (option_map (λ accepted. length accepted.write.contents) (accepted_at h.primary number)), BadRange) ∷ []))
+  where
+    go : (v : Option Refusal) → LeadsTo h (record h { primary = (elim v as (λ _. Reply × PrimaryHistory) [ Some refusal ↦ (reply.Refused refusal, h.primary) | None ↦ local_fault number (below kept) h.primary ]).1 })
+    go (Some refusal) = leads-self h linked
+    go None =
+        leads-primary h (FailsLocally number (below kept)) linked (ends-fault h.primary.settings h.secondary.settings h.secondary.connections (no_inward h.secondary) number (below kept) h.primary (record { settings = refl; pairs = linked.pairs }))
+
+leads-peer-fault : (place kept : ℕ) (h : PairHistory) → IsLinkedPair h → LeadsTo h (record h { secondary = (peer_fault_kept place kept h.secondary).1 })
+leads-peer-fault place kept h linked =
+    go (first_refusal (peer_tests h.secondary place ++ (keeps_too_many kept (option_map (λ item. length (contents_of item)) (slice_get (items_taken (inward h.secondary)) place)), BadRange) ∷ []))
+  where
+    go : (v : Option Refusal)
+        → LeadsTo h (record h { secondary = (elim v as (λ _. Reply × SecondaryHistory) [ Some refusal ↦ (reply.Refused refusal, h.secondary) | None ↦ peer_fault place (below kept) h.secondary ]).1 })
+    go (Some refusal) = leads-self h linked
+    go None =
+        leads-secondary h (FailsToApply place (below kept)) linked (ends-fault-too h.primary.settings h.secondary.settings h.primary.connections (no_outward h.primary.tuple) place (below kept) h.secondary (record { settings = refl; pairs = linked.pairs }))
+
+-- One event of the pair is at most one of each node.
+leads-step : (event : Event) (starved : Bool) (h : PairHistory) → IsLinkedPair h → LeadsTo h (step event starved h).1
+leads-step event starved h linked = go event
+  where
+    here : HasEnds h.primary.settings h.secondary.settings h.secondary.connections h.primary
+    here = record { settings = refl; pairs = linked.pairs }
+
+    there : HasEndsToo h.primary.settings h.secondary.settings h.primary.connections h.secondary
+    there = record { settings = refl; pairs = linked.pairs }
+
+    go : (event : Event) → LeadsTo h (step event starved h).1
+    go (OpenEvent sync loss) = leads-open sync loss starved h linked
+    go (SubmitEvent first contents) =
+        leads-primary h (Submits first contents starved) linked (ends-submit h.primary.settings h.secondary.settings h.secondary.connections (no_inward h.secondary) first contents starved h.primary here)
+    go (LocalEvent number) = leads-primary h (WritesLocally number) linked (ends-local h.primary.settings h.secondary.settings h.secondary.connections (no_inward h.secondary) number h.primary here)
+    go (LocalFaultEvent number kept) = leads-local-fault number kept h linked
+    go SendEvent = leads-primary h (Sends (has_room h) starved) linked (ends-send h.primary.settings h.secondary.settings h.secondary.connections (no_inward h.secondary) (has_room h) starved h.primary here)
+    go ReceiveEvent =
+        leads-secondary h (Receives (next_frame h) starved) linked (ends-receive h.primary.settings h.secondary.settings h.primary.connections (no_outward h.primary.tuple) (next_frame h) starved h.secondary there refl)
+    go (PeerEvent place) = leads-secondary h (Applies place) linked (ends-peer h.primary.settings h.secondary.settings h.primary.connections (no_outward h.primary.tuple) place h.secondary there)
+    go (PeerFaultEvent place kept) = leads-peer-fault place kept h linked
+    go AckOutEvent =
+        leads-secondary h (Acknowledges (answers_have_room h) starved) linked (ends-push h.primary.settings h.secondary.settings h.primary.connections (no_outward h.primary.tuple) (answers_have_room h) starved h.secondary there)
+    go AckInEvent =
+        leads-primary h (Takes (next_answer h) starved) linked (ends-ack-in h.primary.settings h.secondary.settings h.secondary.connections (no_inward h.secondary) (next_answer h) starved h.primary linked.homes here refl)
+    go ResyncEvent = leads-primary h (Resyncs starved) linked (ends-resync h.primary.settings h.secondary.settings h.secondary.connections (no_inward h.secondary) starved h.primary here)
+    go ResyncFaultEvent = leads-primary h (FailsResync starved) linked (ends-resync-fault h.primary.settings h.secondary.settings h.secondary.connections (no_inward h.secondary) starved h.primary here)
+    go ClosePrimaryEvent = leads-primary h Closes linked (ends-close h.primary.settings h.secondary.settings h.secondary.connections (no_inward h.secondary) h.primary here)
+    go CloseSecondaryEvent = leads-secondary h ClosesToo linked (ends-close-too h.primary.settings h.secondary.settings h.primary.connections (no_outward h.primary.tuple) h.secondary there)
+
+-- Runs.
+
+primary-run-append : (first second : List PrimaryEvent) (h : PrimaryHistory) → primary_run (first ++ second) h ≡ primary_run second (primary_run first h)
+primary-run-append [] second h = refl
+primary-run-append (event ∷ first) second h = primary-run-append first second (primary_after event h)
+
+secondary-run-append : (first second : List SecondaryEvent) (h : SecondaryHistory) → secondary_run (first ++ second) h ≡ secondary_run second (secondary_run first h)
+secondary-run-append [] second h = refl
+secondary-run-append (event ∷ first) second h = secondary-run-append first second (secondary_after event h)
+
+runs-trans : (h mid later : PairHistory) → AreRuns h mid → AreRuns mid later → AreRuns h later
+runs-trans h mid later a b = record {
+  here = a.here ++ b.here;
+  there = a.there ++ b.there;
+  primary = b.primary ∙ (ap (primary_run b.here) a.primary ∙ sym (primary-run-append a.here b.here h.primary));
+  secondary = b.secondary ∙ (ap (secondary_run b.there) a.secondary ∙ sym (secondary-run-append a.there b.there h.secondary));
+}
+
+-- a run leads to two nodes that ran by themselves and are joined
+pub leads-run : (events : List (Event × Bool)) (h : PairHistory) → IsLinkedPair h → LeadsTo h (run events h).1
+leads-run [] h linked = leads-self h linked
+leads-run (event ∷ events) h linked =
+    let one = leads-step event.0 event.1 h linked in
+    let rest = leads-run events (step event.0 event.1 h).1 one.1 in
+    (runs-trans h (step event.0 event.1 h).1 (run events (step event.0 event.1 h).1).1 one.0 rest.0, rest.1)
+
+joined-pair : (h : PairHistory) → IsLinkedPair h → IsJoined h.primary h.secondary
+joined-pair h linked = record {
+  connections = pairs-length (AreLinked h.primary.settings h.secondary.settings) h.primary.connections h.secondary.connections linked.pairs;
+  out = λ k c d ends. (pairs-get (AreLinked h.primary.settings h.secondary.settings) h.primary.connections h.secondary.connections k c d linked.pairs ends.outward ends.inward).out;
+  back = λ k c d ends. (pairs-get (AreLinked h.primary.settings h.secondary.settings) h.primary.connections h.secondary.connections k c d linked.pairs ends.outward ends.inward).back;
+}
+
+-- Each node's part of a run of the pair is a run of that node by itself, and the frames of the two are joined: on each
+-- connection what one end took begins what the other pushed.
+pub pair_runs_are_joined : (settings : Settings) (local peer : BlockMap) (own peer_tuple : Tuple) (marks : ℕ → Bool) (events : List (Event × Bool))
+    → (here : List PrimaryEvent) × (there : List SecondaryEvent)
+    × ((run events (pair_opening settings local peer own peer_tuple marks)).1.primary ≡ primary_run here (primary_opening settings local own marks))
+    × ((run events (pair_opening settings local peer own peer_tuple marks)).1.secondary ≡ secondary_run there (secondary_opening settings peer peer_tuple))
+    × IsJoined (run events (pair_opening settings local peer own peer_tuple marks)).1.primary (run events (pair_opening settings local peer own peer_tuple marks)).1.secondary
+pair_runs_are_joined settings local peer own peer_tuple marks events =
+    let opening : PairHistory = pair_opening settings local peer own peer_tuple marks in
+    let all = leads-run events opening (record { homes = homes-opening settings local own marks; pairs = tt }) in
+    (all.0.here, all.0.there, all.0.primary, all.0.secondary, joined-pair (run events opening).1 all.1)

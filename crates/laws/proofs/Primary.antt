@@ -1,0 +1,12 @@
+-- A primary by itself: its moves, and what every run of it keeps.
+pub mod Ends
+pub mod Extents
+pub mod ExtentsMoves
+pub mod Homes
+pub mod HomesFollowing
+pub mod HomesMoves
+pub mod LastEpoch
+pub mod LastOpen
+pub mod LawfulMoves
+pub mod Moves
+pub mod StaysClosed

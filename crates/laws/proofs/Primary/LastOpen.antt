@@ -1,0 +1,91 @@
+-- Of a primary's connections the last one alone may be open.
+use Rattle.std.proofs.Common.{ℕ, suc, ◌≡◌, ◌+◌, ◌-◌, ◌<◌, inl, inr, Bool, true, false, List, [], ◌∷◌, ◌++◌, length, Option, Some, None, slice_get, sym, ◌∙◌, ap, subst, arith, length-append}
+use Rattle.std.proofs.lemmas.Bool.{cases_lt}
+use Rattle.std.proofs.lemmas.Option.{slice_get_within}
+use Rattle.blocks.specs.declared.outcome.Decision.{Decision}
+use Rattle.blocks.specs.declared.outcome.Decision.TheVariants.{NoSync, BitmapSync, FullSync}
+use Rattle.model.specs.Stream.{WriteItem}
+use Rattle.model.specs.Marks.{marking}
+use Rattle.model.specs.Primary.{Waiting, Failed, Accepted, Outward, PrimaryHistory, no_outward, outward, last_index, change_last, stands}
+use Rattle.model.specs.PrimarySteps.{appending, submission, submitted, opened, with_outcome, faulted, accepted_at}
+use Rattle.model.specs.Acknowledgements.{begun_with}
+use Rattle.laws.proofs.Lists.Last.{get-change-back, last-at, length-change}
+use Rattle.laws.proofs.Primary.Moves.{following-from, IsKeptByMoves}
+use Rattle.laws.proofs.Lists.Elements.{get-more}
+
+-- every connection before the last one is closed
+abbrev pub IsLastOpen : PrimaryHistory → Type 0
+IsLastOpen h = (k : ℕ) (c : Outward) → slice_get h.connections k ≡ Some c → suc k < length h.connections → c.closed ≡ true
+
+-- a change of the last connection keeps it
+changes : (cs : List Outward) (f : Outward → Outward) → ((k : ℕ) (c : Outward) → slice_get cs k ≡ Some c → suc k < length cs → c.closed ≡ true)
+    → (k : ℕ) (c : Outward) → slice_get (change_last f cs) k ≡ Some c → suc k < length (change_last f cs) → c.closed ≡ true
+changes [] f all k c at less = absurd (cc)
+changes (x ∷ cs) f all k c at less =
+    let size = length-change f (x ∷ cs) in
+    elim (get-change-back f x (x ∷ cs) k c at) [ inl same ↦ all k c same (omega arith) | inr changed ↦ absurd (let end = changed.2 in omega arith) ]
+
+-- a new connection comes where the last one is closed
+opens : (h : PrimaryHistory) (sync loss : ℕ) → (outward h).closed ≡ true → IsLastOpen h → IsLastOpen (opened h sync loss)
+opens h sync loss closed all k c at less =
+    let new : Outward = record { sync = sync; loss = loss; hello = h.tuple; stream = []; pushed = 0; taken = []; refused = false; begun = false; closed = false } in
+    let size : length (h.connections ++ new ∷ []) ≡ length h.connections + 1 = length-append h.connections (new ∷ []) in
+    elim (get-more h.connections new k c at) [
+      | inr added ↦ absurd (let here = added.0 in omega arith)
+      | inl old ↦
+          let within = slice_get_within h.connections k c old in
+          elim (cases_lt (suc k) (length h.connections)) [
+            | inl early ↦ all k c old early
+            | inr last ↦ elim (last-at (no_outward h.tuple) h.connections) [
+              | inl none ↦ absurd (let size_too : length h.connections ≡ 0 = ap length none in omega arith)
+              | inr there ↦
+                  let index : length h.connections - 1 ≡ k = omega arith in
+                  let here : slice_get h.connections k ≡ Some (outward h) = subst (λ (n : ℕ). slice_get h.connections n ≡ Some (outward h)) index there in
+                  let same : outward h ≡ c = let e : Some (outward h) ≡ Some c = sym here ∙ old in cc in
+                  subst (λ (x : Outward). x.closed ≡ true) same closed
+            ]
+          ]
+    ]
+
+submits : (h : PrimaryHistory) (first : ℕ) (contents : List (List ℕ)) → IsLastOpen h → IsLastOpen (submitted h first contents)
+submits h first contents all = go (stands (outward h))
+  where
+    go : (b : Bool) → IsLastOpen (elim b as (λ _. PrimaryHistory) [
+      | true ↦ appending (WriteItem (submission h first contents)) (record h { writes = h.writes ++ record { write = submission h first contents; journal_length = length h.journal; home = Some (last_index h.connections, length (outward h).stream); outcome = Waiting } ∷ [] })
+      | false ↦ record h { writes = h.writes ++ record { write = submission h first contents; journal_length = length h.journal; home = None; outcome = Waiting } ∷ []; marks = marking (submission h first contents) h.marks }
+    ])
+    go true = changes h.connections _ all
+    go false = all
+
+faults : (h : PrimaryHistory) (number : ℕ) (offsets : List ℕ) → IsLastOpen h → IsLastOpen (faulted number offsets h)
+faults h number offsets all = go (accepted_at h number)
+  where
+    go : (v : Option Accepted) → IsLastOpen (elim v as (λ _. PrimaryHistory) [ None ↦ h | Some accepted ↦ with_outcome number (Failed offsets) (record h { marks = marking accepted.write h.marks }) ])
+    go None = all
+    go (Some accepted) = all
+
+begins : (h : PrimaryHistory) (decided : Decision) → IsLastOpen h → IsLastOpen (begun_with decided h)
+begins h NoSync all = changes h.connections _ all
+begins h BitmapSync all = changes h.connections _ all
+begins h FullSync all = changes h.connections _ all
+
+-- Every move keeps it.
+pub last-open-kept : IsKeptByMoves IsLastOpen IsLastOpen
+last-open-kept = record {
+  following = following-from IsLastOpen IsLastOpen IsLastOpen (λ h all. all) (λ g over all. changes g.connections _ all) (λ g on all. all) (λ g over all. changes g.connections _ all) (λ g all. all);
+  opens = opens;
+  submits = λ h first contents may all. submits h first contents all;
+  writes = λ h number waits all. all;
+  faults = λ h number offsets waits all. faults h number offsets all;
+  sends = λ h standing due all. changes h.connections _ all;
+  greets = λ h frame standing new all. changes h.connections _ all;
+  begins = λ h peer decided standing new is all. begins _ decided (changes h.connections _ all);
+  receives = λ h ack standing begun may all. changes h.connections _ all;
+  applies = λ h ack standing begun may all. changes h.connections _ all;
+  clears = λ h ack standing begun may all. changes h.connections _ all;
+  confirms = λ h number size standing begun turn all. changes h.connections _ all;
+  refuses = λ h frame peer standing all. changes _ _ (changes _ _ (changes h.connections _ all));
+  resyncs = λ h block runs alone is all. changes h.connections _ all;
+  closes = λ h standing all. changes h.connections _ all;
+  receipts = λ h number all. all;
+}

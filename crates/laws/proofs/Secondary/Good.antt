@@ -1,0 +1,121 @@
+-- A secondary's connection as it has to be, over all that happens to it: sound, and closed once a frame of it was refused.
+use Rattle.std.proofs.Common.{ℕ, ◌≡◌, ◌-◌, inl, inr, true, false, List, [], ◌∷◌, ◌++◌, length, take, drop, map, Option, Some, None, slice_get, refl, sym, ◌∙◌, ap, arith}
+use Rattle.std.specs.Prelude.{filter_map, if◌then◌else◌}
+use Rattle.std.proofs.lemmas.Bool.{cases_Bool, both_ways}
+use Rattle.std.proofs.lemmas.List.{length-append}
+use Rattle.std.proofs.lemmas.List.Elements.{filter_map-append}
+use Rattle.std.proofs.Math.Seq.{take-append_seam}
+use Rattle.blocks.specs.declared.settings.Protocol.{Protocol}
+use Rattle.blocks.specs.declared.tuple.Tuple.{Tuple}
+use Rattle.model.specs.Contents.{BlockMap}
+use Rattle.model.specs.Stream.{Item, below, contents_of}
+use Rattle.model.specs.Frames.{Packet, Received}
+use Rattle.model.specs.Secondary.{Inward, items_taken, accepted_of, received_item}
+use Rattle.model.specs.SecondarySteps.{answering, barrier_answer, barriers_to_answer, is_pending_at, has_earlier, offsets_at, applied_answer, applying, failing}
+use Rattle.laws.proofs.Secondary.Sound.{IsSound, starting, sound-taking, sound-same, sound-applying, dropped}
+use Rattle.laws.proofs.Lists.Beginnings.{begins-drop}
+
+-- A connection as it has to be: sound, and closed once a frame of it was refused.
+pub record IsGood (d : Inward) : Type 0 where
+  pub sound : IsSound d
+  pub refused : d.refused ≡ true → d.closed ≡ true
+
+-- Acknowledgements that become due change nothing of this.
+pub good-due : (d : Inward) (due : List Packet) → IsGood d → IsGood (record d { due = due })
+good-due d due good = record { sound = sound-same d (record d { due = due }) good.sound refl refl refl (λ c. c); refused = good.refused }
+
+-- an end that answers barriers stays good
+pub good-answering : (d : Inward) → IsGood d → IsGood (answering d)
+good-answering d good = elim d.closed as (λ b. IsGood (elim b as (λ _. Inward) [ true ↦ d | false ↦ record d { due = d.due ++ map (barrier_answer d) (barriers_to_answer d) } ])) [
+  | true ↦ good
+  | false ↦ good-due d (d.due ++ map (barrier_answer d) (barriers_to_answer d)) good
+]
+
+-- and its opening disk stays
+pub base-answering : (d : Inward) (block : ℕ) → (answering d).base block ≡ d.base block
+base-answering d block =
+    elim d.closed as (λ b. (elim b as (λ _. Inward) [ true ↦ d | false ↦ record d { due = d.due ++ map (barrier_answer d) (barriers_to_answer d) } ]).base block ≡ d.base block) [ true ↦ refl | false ↦ refl ]
+
+-- a new connection is good
+pub good-new : (disk : BlockMap) (hello : Tuple) → IsGood (record { base = disk; hello = hello; taken = []; refused = false; applied = []; gone = []; due = []; pushed = 0; closed = false })
+good-new disk hello = record {
+  sound = record {
+    epoch = 0;
+    upto = omega arith;
+    before = λ place offset item at early less. absurd (cc);
+    after = λ place offset h. absurd (cc);
+    within = λ place offset h. absurd (cc);
+    stopped = inl refl;
+  };
+  refused = λ h. absurd (cc);
+}
+
+-- a frame more only adds to the items taken
+pub taking-more : (frame : Received) (d : Inward) → d.refused ≡ false → (more : List Item) × (items_taken (record d { taken = d.taken ++ frame ∷ [] }) ≡ items_taken d ++ more)
+taking-more frame d accepted =
+    let split = begins-drop 3 d.taken (d.taken ++ frame ∷ []) (frame ∷ [], refl) in
+    let old : accepted_of d ≡ drop 3 d.taken = ap (λ b. drop 3 (if b then take (length d.taken - 1) d.taken else d.taken)) accepted in
+    let new : accepted_of (record d { taken = d.taken ++ frame ∷ [] }) ≡ drop 3 (d.taken ++ frame ∷ []) =
+    ap (λ b. drop 3 (if b then take (length (d.taken ++ frame ∷ []) - 1) (d.taken ++ frame ∷ []) else (d.taken ++ frame ∷ []))) accepted in (
+      filter_map received_item split.0,
+      ap (filter_map received_item) (new ∙ sym split.1) ∙ (filter_map-append received_item (drop 3 d.taken) split.0
+          ∙ ap (λ (l : List Received). filter_map received_item l ++ filter_map received_item split.0) (sym old)),
+    )
+
+-- an open end that takes a frame stays good
+pub good-taking : (frame : Received) (d : Inward) → d.closed ≡ false → IsGood d → IsGood (record d { taken = d.taken ++ frame ∷ [] })
+good-taking frame d standing good =
+    let accepted : d.refused ≡ false = elim (cases_Bool d.refused) [ inl was ↦ absurd (both_ways d.closed standing (good.refused was)) | inr not_so ↦ not_so ] in
+    let more = taking-more frame d accepted in
+    record { sound = sound-taking d (record d { taken = d.taken ++ frame ∷ [] }) more.0 good.sound standing more.1 refl refl; refused = λ h. absurd (both_ways d.refused accepted h) }
+
+-- a frame that is refused brings nothing
+pub items-refusing : (frame : Received) (d : Inward) → d.refused ≡ false → items_taken (record d { taken = d.taken ++ frame ∷ []; refused = true; closed = true }) ≡ items_taken d
+items-refusing frame d accepted =
+    let old : accepted_of d ≡ drop 3 d.taken = ap (λ b. drop 3 (if b then take (length d.taken - 1) d.taken else d.taken)) accepted in
+    let size : length (d.taken ++ frame ∷ []) - 1 ≡ length d.taken = let long = length-append d.taken (frame ∷ []) in omega arith in
+    let whole : take (length (d.taken ++ frame ∷ []) - 1) (d.taken ++ frame ∷ []) ≡ d.taken = ap (λ n. take n (d.taken ++ frame ∷ [])) size ∙ take-append_seam d.taken (frame ∷ []) in
+    ap (λ (l : List Received). filter_map received_item (drop 3 l)) whole ∙ ap (filter_map received_item) (sym old)
+
+-- an open end that refuses a frame closes, and stays good
+pub good-refusing : (frame : Received) (d : Inward) → d.closed ≡ false → IsGood d → IsGood (record d { taken = d.taken ++ frame ∷ []; refused = true; closed = true })
+good-refusing frame d standing good =
+    let accepted : d.refused ≡ false = elim (cases_Bool d.refused) [ inl was ↦ absurd (both_ways d.closed standing (good.refused was)) | inr not_so ↦ not_so ] in
+    let old : accepted_of d ≡ drop 3 d.taken = ap (λ b. drop 3 (if b then take (length d.taken - 1) d.taken else d.taken)) accepted in
+    let size : length (d.taken ++ frame ∷ []) - 1 ≡ length d.taken = let long = length-append d.taken (frame ∷ []) in omega arith in
+    let whole : take (length (d.taken ++ frame ∷ []) - 1) (d.taken ++ frame ∷ []) ≡ d.taken = ap (λ n. take n (d.taken ++ frame ∷ [])) size ∙ take-append_seam d.taken (frame ∷ []) in
+    let items : items_taken (record d { taken = d.taken ++ frame ∷ []; refused = true; closed = true }) ≡ items_taken d =
+    ap (λ (l : List Received). filter_map received_item (drop 3 l)) whole ∙ ap (filter_map received_item) (sym old) in
+    record { sound = sound-same d (record d { taken = d.taken ++ frame ∷ []; refused = true; closed = true }) good.sound items refl refl (λ c. refl); refused = λ h. refl }
+
+-- an item that is applied leaves the opening disk
+pub base-applying : (asked : Protocol) (place : ℕ) (d : Inward) (block : ℕ) → (applying asked place d).base block ≡ d.base block
+base-applying asked place d block = go (slice_get (items_taken d) place)
+  where
+    go : (v : Option Item) → (elim v as (λ _. Inward) [
+      | None ↦ d
+      | Some item ↦ record d { applied = d.applied ++ offsets_at place (below (length (contents_of item))); due = elim d.closed [ true ↦ d.due | false ↦ d.due ++ applied_answer asked place item ] }
+    ]).base block ≡ d.base block
+    go None = refl
+    go (Some item) = refl
+
+-- a pending item is applied whose epoch has its turn
+pub good-applying : (asked : Protocol) (place : ℕ) (d : Inward) → is_pending_at d place ≡ true → has_earlier d place ≡ false → IsGood d → IsGood (applying asked place d)
+good-applying asked place d waiting none good = go (slice_get (items_taken d) place)
+  where
+    go : (v : Option Item) → IsGood (elim v as (λ _. Inward) [
+      | None ↦ d
+      | Some item ↦ record d { applied = d.applied ++ offsets_at place (below (length (contents_of item))); due = elim d.closed [ true ↦ d.due | false ↦ d.due ++ applied_answer asked place item ] }
+    ])
+    go None = good
+    go (Some item) = record {
+      sound = sound-applying d _ place (below (length (contents_of item))) good.sound (starting d place good.sound waiting none) refl refl (inl (refl, refl));
+      refused = good.refused;
+    }
+
+-- the disk fails at such an item, and the end closes
+pub good-failing : (place : ℕ) (offsets : List ℕ) (d : Inward) → is_pending_at d place ≡ true → has_earlier d place ≡ false → IsGood d → IsGood (failing place offsets d)
+good-failing place offsets d waiting none good = record {
+  sound = sound-applying d (failing place offsets d) place offsets good.sound (starting d place good.sound waiting none) refl refl (inr (refl, dropped d place offsets));
+  refused = λ h. refl;
+}

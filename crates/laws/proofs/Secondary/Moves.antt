@@ -1,0 +1,179 @@
+-- A secondary's steps, taken apart: what has to be shown of a property so that it holds after a step.
+use Rattle.std.proofs.Common.{ℕ, zero, suc, ◌≡◌, ◌<◌, Bool, true, false, cond, not, ◌&&◌, List, [], ◌∷◌, ◌++◌, length, Option, Some, None, is_none, Ok, Err, refl, nat_lt, nat_le}
+use Rattle.std.proofs.lemmas.Bool.{not-false, and_parts, leb-false}
+use Rattle.blocks.specs.declared.refusal.Refusal.{Refusal}
+use Rattle.blocks.specs.declared.refusal.Refusal.TheVariants.{NothingThere, NotConnected, PendingFull, NoMemory, LinkFull, UnknownJob, EpochOpen, NotDrained}
+use Rattle.blocks.specs.declared.outcome.What.{What}
+use Rattle.blocks.specs.declared.outcome.What.TheVariants as what
+use Rattle.blocks.specs.declared.outcome.Reply.{Reply}
+use Rattle.blocks.specs.declared.outcome.Reply.TheVariants as reply
+use Rattle.blocks.specs.declared.settings.Protocol.{Protocol}
+use Rattle.blocks.specs.declared.settings.Protocol.TheVariants as protocol
+use Rattle.blocks.specs.declared.tuple.Tuple.{Tuple}
+use Rattle.model.specs.Contents.{Write}
+use Rattle.model.specs.Stream.{Item, WriteItem}
+use Rattle.model.specs.Frames.{Packet, DataFrame, RsDataReplyFrame, BarrierFrame, ProtocolFrame, UuidsFrame, SizesFrame, SyncUuidFrame, RecvAckFrame, Received, naming}
+use Rattle.model.specs.Refusals.{Test, done_with}
+use Rattle.model.specs.Secondary.{Inward, SecondaryHistory, inward, with_inward, items_taken, received_item, is_drained, pending, answers_due}
+use Rattle.model.specs.SecondarySteps.{answering, succeeding_secondary, open_secondary_tests, opened_secondary, open_secondary, Checked, checking_hello, checking_item, checking, adopting, receiving, take_item, receive, peer_tests, is_pending_at, has_earlier, applying, peer, failing, peer_fault, ack_out_tests, answering_with, ack_out, close_secondary}
+use Rattle.model.specs.LocalRuns.{SecondaryEvent, OpensToo, Receives, Applies, FailsToApply, Acknowledges, ClosesToo, secondary_after}
+use Rattle.laws.proofs.Secondary.Runs.{tested-keeps}
+use Rattle.laws.proofs.Lists.Tests.{test-passed}
+
+-- a frame is taken
+abbrev pub framed : Received → Inward → Inward
+framed frame c = record c { taken = c.taken ++ frame ∷ [] }
+
+-- the write at this place is acknowledged as received
+abbrev pub receipting : ℕ → Write → Inward → Inward
+receipting place write c = record c { due = c.due ++ RecvAckFrame (naming place (WriteItem write)) ∷ [] }
+
+-- the last frame is refused, and the end closes
+abbrev pub refused_end : Inward → Inward
+refused_end c = record c { refused = true; closed = true }
+
+-- one more of the frames due is pushed
+abbrev pub pushed_one : Inward → Inward
+pushed_one c = record c { pushed = suc c.pushed }
+
+-- the end closes
+abbrev pub closed_end : Inward → Inward
+closed_end c = record c { closed = true }
+
+-- What a frame can lead to that an open end takes: it is accepted, a write of it may be acknowledged at once, a tuple of it
+-- may be adopted, or it is refused.
+pub record AfterFrame (R : SecondaryHistory → Type 0) (h : SecondaryHistory) (frame : Received) : Type 0 where
+  pub accepts : R (with_inward answering (with_inward (framed frame) h))
+  pub receipts : (write : Write) (at : ℕ) → frame ≡ Ok (DataFrame write at) → nat_lt (length (inward h).taken) 3 ≡ false
+      → R (with_inward answering (with_inward (receipting (length (items_taken (inward h))) write) (with_inward (framed frame) h)))
+  pub adopts : (item : Item) (tuple : Tuple) (consistent : Bool) → received_item frame ≡ Some item → nat_lt (length (inward h).taken) 3 ≡ false
+      → R (with_inward answering (adopting tuple consistent (with_inward (framed frame) h)))
+  pub refuses : R (with_inward refused_end (with_inward (framed frame) h))
+
+-- The same before the answers that follow.
+abbrev Judged : (SecondaryHistory → Type 0) → Checked → Type 0
+Judged R (Ok done) = R (with_inward answering done.1)
+Judged R (Err refusal) = Unit {0}
+
+judged-if : (R : SecondaryHistory → Type 0) (good : Bool) (done : What) (h : SecondaryHistory) (refusal : Refusal) → R (with_inward answering h) → Judged R (cond good (Ok (done, h)) (Err refusal))
+judged-if R true done h refusal r = r
+judged-if R false done h refusal r = tt
+
+judged-hello : (R : SecondaryHistory → Type 0) (n : ℕ) (packet : Packet) (h : SecondaryHistory) → R (with_inward answering h) → Judged R (checking_hello n packet h)
+judged-hello R zero (ProtocolFrame asked) h r = judged-if R _ _ h _ r
+judged-hello R (suc zero) (SizesFrame blocks) h r = judged-if R _ _ h _ r
+judged-hello R (suc (suc n)) (UuidsFrame tuple) h r = r
+judged-hello R n packet h r = tt
+
+judged-write : (R : SecondaryHistory → Type 0) (h : SecondaryHistory) (write : Write) (at : ℕ) → nat_lt (length (inward h).taken) 3 ≡ false → AfterFrame R h (Ok (DataFrame write at))
+    → R (with_inward answering (receiving (length (items_taken (inward h))) (WriteItem write) (with_inward (framed (Ok (DataFrame write at))) h)))
+judged-write R h write at late after = go h.settings.protocol
+  where
+    go : (asked : Protocol) → R (with_inward answering (elim asked as (λ _. SecondaryHistory) [
+      | protocol.A ↦ with_inward (framed (Ok (DataFrame write at))) h
+      | protocol.B ↦ with_inward (receipting (length (items_taken (inward h))) write) (with_inward (framed (Ok (DataFrame write at))) h)
+      | protocol.C ↦ with_inward (framed (Ok (DataFrame write at))) h
+    ]))
+    go protocol.A = after.accepts
+    go protocol.B = after.receipts write at refl late
+    go protocol.C = after.accepts
+
+judged-item : (R : SecondaryHistory → Type 0) (h : SecondaryHistory) (packet : Packet) → nat_lt (length (inward h).taken) 3 ≡ false → AfterFrame R h (Ok packet)
+    → Judged R (checking_item packet (length (items_taken (inward h))) (inward h) (with_inward (framed (Ok packet)) h))
+judged-item R h (DataFrame write at) late after = judged-if R _ _ _ _ (judged-write R h write at late after)
+judged-item R h (RsDataReplyFrame block contents at) late after = judged-if R _ _ _ _ after.accepts
+judged-item R h (BarrierFrame number) late after = judged-if R _ _ _ _ after.accepts
+judged-item R h (UuidsFrame tuple) late after = judged-if R _ _ _ _ (after.adopts _ tuple true refl late)
+judged-item R h (SyncUuidFrame word) late after = judged-if R _ _ _ _ (after.adopts _ (record h.tuple { current = word }) false refl late)
+judged-item R h packet late after = tt
+
+judged : (R : SecondaryHistory → Type 0) (h : SecondaryHistory) (frame : Received) → AfterFrame R h frame → Judged R (checking frame (inward h) (with_inward (framed frame) h))
+judged R h (Err fault) after = tt
+judged R h (Ok packet) after = go (nat_lt (length (inward h).taken) 3) refl
+  where
+    go : (early : Bool) → nat_lt (length (inward h).taken) 3 ≡ early → Judged R (elim early as (λ _. Checked) [
+      | true ↦ checking_hello (length (inward h).taken) packet (with_inward (framed (Ok packet)) h)
+      | false ↦ checking_item packet (length (items_taken (inward h))) (inward h) (with_inward (framed (Ok packet)) h)
+    ])
+    go true is = judged-hello R (length (inward h).taken) packet (with_inward (framed (Ok packet)) h) after.accepts
+    go false is = judged-item R h packet is after
+
+-- What holds before and after a frame was taken.
+pub after-take : (R : SecondaryHistory → Type 0) (h : SecondaryHistory) (frame : Received) → AfterFrame R h frame → R (take_item frame h).1
+after-take R h frame after = go (checking frame (inward h) (with_inward (framed frame) h)) (judged R h frame after)
+  where
+    go : (v : Checked) → Judged R v → R (elim v as (λ _. Reply × SecondaryHistory) [
+      | Ok done ↦ succeeding_secondary done.0 done.1
+      | Err refusal ↦ (reply.Refused refusal, with_inward refused_end (with_inward (framed frame) h))
+    ]).1
+    go (Ok done) j = j
+    go (Err refusal) j = after.refuses
+
+-- After a step that takes the next frame, if there is one.
+pub after-receive : (R : SecondaryHistory → Type 0) (h : SecondaryHistory) (frame : Option Received) (starved : Bool) → R h
+    → ((taken : Received) → frame ≡ Some taken → (inward h).closed ≡ false → AfterFrame R h taken) → R (receive frame starved h).1
+after-receive R h frame starved same takes = tested-keeps R h (((inward h).closed, NotConnected) ∷ rest) (λ _. elim frame as (λ _. Reply × SecondaryHistory) [ None ↦ (reply.Refused NothingThere, h) | Some taken ↦ take_item taken h ])
+    same (λ passed. go frame refl (test-passed (inward h).closed NotConnected rest passed).0)
+  where
+    rest : List Test
+    rest = (nat_le h.settings.pending (length (pending (inward h))), PendingFull) ∷ (starved, NoMemory) ∷ (is_none frame, NothingThere) ∷ []
+
+    go : (v : Option Received) → frame ≡ v → (inward h).closed ≡ false → R (elim v as (λ _. Reply × SecondaryHistory) [ None ↦ (reply.Refused NothingThere, h) | Some taken ↦ take_item taken h ]).1
+    go None is standing = same
+    go (Some taken) is standing = after-take R h taken (takes taken is standing)
+
+-- After an opening.
+pub after-open : (R : SecondaryHistory → Type 0) (h : SecondaryHistory) → R h → ((inward h).closed ≡ true → R (with_inward answering (opened_secondary h))) → R (open_secondary h).1
+after-open R h same opens = tested-keeps R h (open_secondary_tests h) (λ _. succeeding_secondary what.Nothing (opened_secondary h)) same (λ passed.
+    let one = test-passed (not ((inward h).closed && is_drained h)) NotDrained [] passed in
+    opens (and_parts (inward h).closed (is_drained h) (not-false ((inward h).closed && is_drained h) one.0)).0)
+
+-- After an item was applied.
+pub after-peer : (R : SecondaryHistory → Type 0) (h : SecondaryHistory) (place : ℕ) → R h
+    → (is_pending_at (inward h) place ≡ true → has_earlier (inward h) place ≡ false → R (with_inward answering (with_inward (applying h.settings.protocol place) h))) → R (peer place h).1
+after-peer R h place same applies = tested-keeps R h (peer_tests h place) (λ _. succeeding_secondary what.Nothing (with_inward (applying h.settings.protocol place) h)) same (λ passed.
+    let one = test-passed (not (is_pending_at (inward h) place)) UnknownJob ((has_earlier (inward h) place, EpochOpen) ∷ []) passed in
+    let two = test-passed (has_earlier (inward h) place) EpochOpen [] one.1 in
+    applies (not-false (is_pending_at (inward h) place) one.0) two.0)
+
+-- After an item failed.
+pub after-fault : (R : SecondaryHistory → Type 0) (h : SecondaryHistory) (place : ℕ) (offsets : List ℕ) → R h
+    → (is_pending_at (inward h) place ≡ true → has_earlier (inward h) place ≡ false → R (with_inward (failing place offsets) h)) → R (peer_fault place offsets h).1
+after-fault R h place offsets same fails = tested-keeps R h (peer_tests h place) (λ _. (reply.Ok (done_with what.Nothing), with_inward (failing place offsets) h)) same (λ passed.
+    let one = test-passed (not (is_pending_at (inward h) place)) UnknownJob ((has_earlier (inward h) place, EpochOpen) ∷ []) passed in
+    let two = test-passed (has_earlier (inward h) place) EpochOpen [] one.1 in
+    fails (not-false (is_pending_at (inward h) place) one.0) two.0)
+
+-- After an acknowledgement was pushed: one was due.
+pub after-push : (R : SecondaryHistory → Type 0) (h : SecondaryHistory) (room starved : Bool) → R h
+    → ((inward h).closed ≡ false → (inward h).pushed < length (answers_due h.settings (inward h)) → R (with_inward pushed_one h)) → R (ack_out room starved h).1
+after-push R h room starved same pushes = tested-keeps R h (ack_out_tests h room starved) (λ _. (reply.Ok (done_with (answering_with h)), with_inward pushed_one h)) same (λ passed.
+    let rest : List Test = (starved, NoMemory) ∷ (not room, LinkFull) ∷ [] in
+    let none : Bool = nat_le (length (answers_due h.settings (inward h))) (inward h).pushed in
+    let one = test-passed (inward h).closed NotConnected ((none, NothingThere) ∷ rest) passed in
+    let two = test-passed none NothingThere rest one.1 in
+    pushes one.0 (leb-false (length (answers_due h.settings (inward h))) (inward h).pushed two.0))
+
+-- After a close.
+pub after-close : (R : SecondaryHistory → Type 0) (h : SecondaryHistory) → R h → ((inward h).closed ≡ false → R (with_inward closed_end h)) → R (close_secondary h).1
+after-close R h same closes = tested-keeps R h (((inward h).closed, NotConnected) ∷ []) (λ _. (reply.Ok (done_with what.Nothing), with_inward closed_end h)) same (λ passed.
+    closes (test-passed (inward h).closed NotConnected [] passed).0)
+
+-- What has to hold of each effect, and where nothing was done, so that `R` holds after every event.
+pub record After (R : SecondaryHistory → Type 0) (h : SecondaryHistory) : Type 0 where
+  pub same : R h
+  pub opens : (inward h).closed ≡ true → R (with_inward answering (opened_secondary h))
+  pub takes : (frame : Received) → (inward h).closed ≡ false → AfterFrame R h frame
+  pub applies : (place : ℕ) → is_pending_at (inward h) place ≡ true → has_earlier (inward h) place ≡ false → R (with_inward answering (with_inward (applying h.settings.protocol place) h))
+  pub fails : (place : ℕ) (offsets : List ℕ) → is_pending_at (inward h) place ≡ true → has_earlier (inward h) place ≡ false → R (with_inward (failing place offsets) h)
+  pub pushes : (inward h).closed ≡ false → (inward h).pushed < length (answers_due h.settings (inward h)) → R (with_inward pushed_one h)
+  pub closes : (inward h).closed ≡ false → R (with_inward closed_end h)
+
+-- It then does.
+pub after-event : (R : SecondaryHistory → Type 0) (h : SecondaryHistory) (event : SecondaryEvent) → After R h → R (secondary_after event h)
+after-event R h OpensToo a = after-open R h a.same a.opens
+after-event R h (Receives frame starved) a = after-receive R h frame starved a.same (λ taken is standing. a.takes taken standing)
+after-event R h (Applies place) a = after-peer R h place a.same (a.applies place)
+after-event R h (FailsToApply place offsets) a = after-fault R h place offsets a.same (a.fails place offsets)
+after-event R h (Acknowledges room starved) a = after-push R h room starved a.same a.pushes
+after-event R h ClosesToo a = after-close R h a.same a.closes

@@ -1,0 +1,89 @@
+-- A closed end of a secondary stays as it is, but for what is still applied there, over every list of events.
+use Rattle.std.proofs.Common.{ℕ, ◌≡◌, inl, inr, Bool, true, false, List, [], ◌∷◌, ◌++◌, length, map, Option, Some, None, slice_get, refl, sym, ◌∙◌, ap, subst}
+use Rattle.std.proofs.lemmas.Bool.{both_ways}
+use Rattle.blocks.specs.declared.settings.Protocol.{Protocol}
+use Rattle.model.specs.Stream.{Item, below, contents_of}
+use Rattle.model.specs.Frames.{Packet}
+use Rattle.model.specs.Secondary.{Inward, SecondaryHistory, no_inward, inward, with_inward, items_taken}
+use Rattle.model.specs.SecondarySteps.{answering, barrier_answer, barriers_to_answer, opened_secondary, offsets_at, applied_answer, applying, failing, adopting}
+use Rattle.model.specs.LocalRuns.{SecondaryEvent, secondary_after, secondary_run}
+use Rattle.model.specs.Headline.{StaysClosedToo}
+use Rattle.laws.proofs.Lists.Last.{get-change, change-twice}
+use Rattle.laws.proofs.Secondary.Moves.{framed, receipting, refused_end, pushed_one, closed_end, after-event}
+use Rattle.laws.proofs.Lists.Elements.{get-left}
+
+-- a closed connection that stayed as it was
+abbrev pub IsSameClosed : Inward → Inward → Type 0
+IsSameClosed c d = (d.taken ≡ c.taken) × (d.pushed ≡ c.pushed) × (d.due ≡ c.due) × (d.closed ≡ true)
+
+-- where nothing happened
+stays-self : (s : SecondaryHistory) → StaysClosedToo s s
+stays-self s = record { same = λ k c at closed. (c, at, refl, refl, refl, closed) }
+
+stays-trans : (s t u : SecondaryHistory) → StaysClosedToo s t → StaysClosedToo t u → StaysClosedToo s u
+stays-trans s t u first second = record {
+  same = λ k c at closed.
+      let d = first.same k c at closed in
+      let e = second.same k d.0 d.1 d.5 in
+      (e.0, e.1, e.2 ∙ d.2, e.3 ∙ d.3, e.4 ∙ d.4, e.5);
+}
+
+-- a change of the last connection that leaves it if it is closed
+stays-change : (s later : SecondaryHistory) (f : Inward → Inward) → later.connections ≡ (with_inward f s).connections → ((inward s).closed ≡ true → IsSameClosed (inward s) (f (inward s))) → StaysClosedToo s later
+stays-change s later f connections keeps = record {
+  same = λ k c at closed. rw connections (elim (get-change f (no_inward s) s.connections k c at) [
+    | inl same ↦ (c, same, refl, refl, refl, closed)
+    | inr changed ↦
+        let last : IsSameClosed c (f c) = subst (λ (x : Inward). x.closed ≡ true → IsSameClosed x (f x)) (sym changed.1) keeps closed in
+        (f c, changed.0, last.0, last.1, last.2, last.3)
+  ]);
+}
+
+same-answering : (d : Inward) → d.closed ≡ true → IsSameClosed d (answering d)
+same-answering d closed = go d.closed refl
+  where
+    go : (b : Bool) → d.closed ≡ b → IsSameClosed d (elim b as (λ _. Inward) [ true ↦ d | false ↦ record d { due = d.due ++ map (barrier_answer d) (barriers_to_answer d) } ])
+    go true is = (refl, refl, refl, closed)
+    go false is = absurd (both_ways d.closed is closed)
+
+same-applying : (asked : Protocol) (place : ℕ) (d : Inward) → d.closed ≡ true → IsSameClosed d (applying asked place d)
+same-applying asked place d closed = go (slice_get (items_taken d) place)
+  where
+    go : (v : Option Item) → IsSameClosed d (elim v as (λ _. Inward) [
+      | None ↦ d
+      | Some item ↦ record d { applied = d.applied ++ offsets_at place (below (length (contents_of item))); due = elim d.closed [ true ↦ d.due | false ↦ d.due ++ applied_answer asked place item ] }
+    ])
+    go None = (refl, refl, refl, closed)
+    go (Some item) = (refl, refl, ap (λ b. elim b as (λ _. List Packet) [ true ↦ d.due | false ↦ d.due ++ applied_answer asked place item ]) closed, closed)
+
+-- the answers that follow
+stays-answering : (s t : SecondaryHistory) → StaysClosedToo s t → StaysClosedToo s (with_inward answering t)
+stays-answering s t stays = stays-trans s t (with_inward answering t) stays (stays-change t (with_inward answering t) answering refl (same-answering (inward t)))
+
+-- a change of an open end
+stays-open : (s later : SecondaryHistory) (f : Inward → Inward) → later.connections ≡ (with_inward f s).connections → (inward s).closed ≡ false → StaysClosedToo s later
+stays-open s later f connections standing = stays-change s later f connections (λ closed. absurd (both_ways (inward s).closed standing closed))
+
+-- one event
+stays-after : (event : SecondaryEvent) (s : SecondaryHistory) → StaysClosedToo s (secondary_after event s)
+stays-after event s = after-event (StaysClosedToo s) s event (record {
+  same = stays-self s;
+  opens = λ was. stays-answering s (opened_secondary s) (record { same = λ k c at closed. (c, get-left s.connections _ k c at, refl, refl, refl, closed) });
+  takes = λ frame standing. record {
+    accepts = stays-answering s _ (stays-open s (with_inward (framed frame) s) (framed frame) refl standing);
+    receipts = λ write at is late. stays-answering s _ (stays-open s (with_inward (receipting (length (items_taken (inward s))) write) (with_inward (framed frame) s)) (λ c. receipting (length (items_taken (inward s))) write (framed frame c))
+        (change-twice (framed frame) (receipting (length (items_taken (inward s))) write) s.connections) standing);
+    adopts = λ item tuple consistent is late. stays-answering s _ (stays-open s (adopting tuple consistent (with_inward (framed frame) s)) (framed frame) refl standing);
+    refuses = stays-open s (with_inward refused_end (with_inward (framed frame) s)) (λ c. refused_end (framed frame c)) (change-twice (framed frame) refused_end s.connections) standing;
+  };
+  applies = λ place waiting none. stays-answering s _ (stays-change s (with_inward (applying s.settings.protocol place) s) (applying s.settings.protocol place) refl (same-applying s.settings.protocol place (inward s)));
+  fails = λ place offsets waiting none. stays-change s (with_inward (failing place offsets) s) (failing place offsets) refl (λ closed. (refl, refl, refl, refl));
+  pushes = λ standing due. stays-open s (with_inward pushed_one s) pushed_one refl standing;
+  closes = λ standing. stays-open s (with_inward closed_end s) closed_end refl standing;
+})
+
+-- Whatever frames a secondary takes and however its disk fails: what a closed end took, what was due there and what it
+-- pushed stay so, and it stays closed.
+pub secondary_stays_closed : (events : List SecondaryEvent) (s : SecondaryHistory) → StaysClosedToo s (secondary_run events s)
+secondary_stays_closed [] s = stays-self s
+secondary_stays_closed (event ∷ events) s = stays-trans s (secondary_after event s) (secondary_run events (secondary_after event s)) (stays-after event s) (secondary_stays_closed events (secondary_after event s))

@@ -1,0 +1,257 @@
+-- What a primary's history keeps of its blocks is kept as a write is accepted, and as a block of a resync is appended.
+use Rattle.std.proofs.Common.{ℕ, suc, ◌≡◌, ◌+◌, ◌-◌, ◌≤◌, ◌<◌, ◌⊎◌, inl, inr, Bool, true, false, not, ◌&&◌, List, [], ◌∷◌, ◌++◌, length, map, filter, Option, Some, None, slice_get, refl, sym, ◌∙◌, ap, subst, arith, ◌==◌, nat_lt, nat_le}
+use Rattle.std.specs.Prelude.{if◌then◌else◌, is_some, unwrap_or}
+use Rattle.std.specs.List.{list_any}
+use Rattle.std.proofs.lemmas.Bool.{cases_Bool, both_ways, not-true, and_parts, and_from, not_from_false, or_parts, leb-true, lt-ltb, le-leb}
+use Rattle.std.proofs.lemmas.List.{map_push}
+use Rattle.std.proofs.lemmas.Option.{slice_get_within}
+use Rattle.model.specs.Contents.{Write, Layer, block_under, overlay, covers, overlap, extent_of}
+use Rattle.model.specs.Stream.{Item, WriteItem, ResyncItem, below, placed}
+use Rattle.model.specs.Marks.{marking}
+use Rattle.model.specs.Primary.{Waiting, Accepted, Outward, PrimaryHistory, no_outward, outward, last_index, change_last, stands, is_completed, is_open, open_writes, is_on_disk, local_layer, local_map, is_resync, was_resynced, under_way, resync_runs, in_resync, marked_blocks, free_block}
+use Rattle.model.specs.PrimarySteps.{appending, conflict, submission, submitted}
+use Rattle.laws.specs.Reflections.{touches}
+use Rattle.laws.proofs.Lists.Last.{length-change}
+use Rattle.laws.proofs.Primary.Moves.{MaySubmit}
+use Rattle.laws.proofs.Primary.Homes.{HasHomes}
+use Rattle.laws.proofs.Blocks.Latest.{latest, content_of, settling_layer, settling_map}
+use Rattle.laws.proofs.Blocks.LatestMoves.{latest-appended}
+use Rattle.laws.proofs.Tracked.{IsUnderWay, IsTracked}
+use Rattle.laws.proofs.Lists.Picks.{pick-none, pick-found, pick-filtered, filtered-pick, pick-below}
+use Rattle.laws.proofs.Blocks.Overlays.{overlay-append, overlay-some, under-outside, under-inside, settled-is-local}
+use Rattle.laws.proofs.Tracked.Moves.{some-connection, outward-change, Hangs, hangs}
+use Rattle.laws.proofs.Tracked.Outcomes.{waiting-open}
+use Rattle.laws.proofs.Lists.Elements.{get-more}
+use Rattle.laws.proofs.Streams.Places.{placed-at}
+use Rattle.laws.proofs.Blocks.Ranges.{between-parts}
+use Rattle.laws.proofs.Primary.Ends.{stands-parts}
+
+-- An item goes to the end of the stream.
+
+-- what touches a block last, with one item more
+appended : (h : PrimaryHistory) (item : Item) (block : ℕ) → (outward h).closed ≡ false → latest (change_last (λ c. record c { stream = c.stream ++ item ∷ [] }) h.connections) block
+    ≡ (if touches item block then Some (record { connection = last_index h.connections; place = length (outward h).stream; item = item }) else latest h.connections block)
+appended h item block standing = latest-appended (no_outward h.tuple) (λ c. record c { stream = c.stream ++ item ∷ [] }) item h.connections block (some-connection h standing) refl
+
+appended-touching : (h : PrimaryHistory) (item : Item) (block : ℕ) → (outward h).closed ≡ false → touches item block ≡ true
+    → latest (change_last (λ c. record c { stream = c.stream ++ item ∷ [] }) h.connections) block ≡ Some (record { connection = last_index h.connections; place = length (outward h).stream; item = item })
+appended-touching h item block standing touched =
+    appended h item block standing ∙ ap (λ b. if b then Some (record { connection = last_index h.connections; place = length (outward h).stream; item = item }) else latest h.connections block) touched
+
+appended-apart : (h : PrimaryHistory) (item : Item) (block : ℕ) → (outward h).closed ≡ false → touches item block ≡ false
+    → latest (change_last (λ c. record c { stream = c.stream ++ item ∷ [] }) h.connections) block ≡ latest h.connections block
+appended-apart h item block standing apart =
+    appended h item block standing ∙ ap (λ b. if b then Some (record { connection = last_index h.connections; place = length (outward h).stream; item = item }) else latest h.connections block) apart
+
+-- what is under way then was so, or is the new item
+hangs-appended : (h : PrimaryHistory) (item : Item) (place block : ℕ) (contents : List ℕ) → Hangs (record (outward h) { stream = (outward h).stream ++ item ∷ [] }) place block contents
+    → IsUnderWay h place block contents ⊎ ((place ≡ length (outward h).stream) × (ResyncItem block contents ≡ item))
+hangs-appended h item place block contents way = elim (get-more (outward h).stream item place (ResyncItem block contents) way.there) [
+  | inl old ↦ inl (record { standing = way.standing; there = old; unanswered = way.unanswered })
+  | inr new ↦ inr new
+]
+
+-- A write is accepted.
+
+-- what a block comes to hold with one write more
+settling-more : (h : PrimaryHistory) (added : Accepted) (block : ℕ) → overlay h.opening_map (map settling_layer (h.writes ++ added ∷ [])) block ≡ block_under (settling_layer added) block (settling_map h block)
+settling-more h added block =
+    ap (λ (layers : List Layer). overlay h.opening_map layers block) (map_push settling_layer h.writes added) ∙ overlay-append h.opening_map (map settling_layer h.writes) (settling_layer added) block
+
+settling-apart : (h : PrimaryHistory) (added : Accepted) (block : ℕ) → covers added.write block ≡ false → overlay h.opening_map (map settling_layer (h.writes ++ added ∷ [])) block ≡ settling_map h block
+settling-apart h added block apart = settling-more h added block ∙ under-outside (settling_layer added) block (settling_map h block) apart
+
+-- a new write has no block that is under way
+conflict-free : (h : PrimaryHistory) (write : Write) (place block : ℕ) (contents : List ℕ) → is_some (conflict h write) ≡ false → IsUnderWay h place block contents → covers write block ≡ false
+conflict-free h write place block contents free way =
+    let c : Outward = outward h in
+    let item : Item = ResyncItem block contents in
+    let there = filtered-pick (λ entry. is_resync entry.1 && not (was_resynced c entry.0 entry.1)) (placed c.stream) place (place, item) (placed-at 0 c.stream place item way.there ∙ ap (λ (n : ℕ). Some (n, item)) (omega arith)) (not_from_false (was_resynced c place item) way.unanswered) in
+    pick-none meets (under_way c) there.0 (place, item) (none way.standing (cases_Bool (list_any meets (elim (stands c) as (λ _. List (ℕ × Item)) [ true ↦ under_way c | false ↦ [] ])))) there.1
+  where
+    meets : ℕ × Item → Bool
+    meets entry = elim entry.1 as (λ _. Bool) [ ResyncItem block contents ↦ covers write block | _ ↦ false ]
+
+    none : stands (outward h) ≡ true
+        → (list_any meets (elim (stands (outward h)) as (λ _. List (ℕ × Item)) [ true ↦ under_way (outward h) | false ↦ [] ]) ≡ true) ⊎ (list_any meets (elim (stands (outward h)) as (λ _. List (ℕ × Item)) [ true ↦ under_way (outward h) | false ↦ [] ]) ≡ false)
+        → list_any meets (under_way (outward h)) ≡ false
+    none standing (inl met) =
+        absurd (let same : is_some (conflict h write) ≡ true =
+        ap (λ b. is_some (if b then Some 0 else slice_get (map (λ (accepted : Accepted). accepted.write.number) (filter (λ (accepted : Accepted). overlap accepted.write write) (open_writes h))) 0)) met in both_ways (is_some (conflict h write)) free same)
+    none standing (inr not_met) = subst (λ b. list_any meets (elim b as (λ _. List (ℕ × Item)) [ true ↦ under_way (outward h) | false ↦ [] ]) ≡ false) standing not_met
+
+-- A write is accepted of which the journal has none of its number: it lies in the device and has no block under way.
+pub tracked-submits : (h : PrimaryHistory) (first : ℕ) (contents : List (List ℕ)) → MaySubmit h first contents → is_completed h (suc (length h.writes)) ≡ false → IsTracked h
+    → HasHomes (submitted h first contents) → IsTracked (submitted h first contents)
+tracked-submits h first contents may fresh t = go (stands (outward h)) refl
+  where
+    write : Write
+    write = submission h first contents
+
+    fits : first + length contents ≤ h.settings.blocks
+    fits =
+        let all = (and_parts ((nat_lt 0 (length contents) && nat_le (length contents) 32) && nat_le (first + length contents) h.settings.blocks) (extent_of first == extent_of (first + length contents - 1)) may.range).0 in
+        leb-true (first + length contents) h.settings.blocks (and_parts (nat_lt 0 (length contents) && nat_le (length contents) 32) (nat_le (first + length contents) h.settings.blocks) all).1
+
+    inside : (home : Option (ℕ × ℕ)) (i : ℕ) (accepted : Accepted) → slice_get (h.writes ++ record { write = write; journal_length = length h.journal; home = home; outcome = Waiting } ∷ []) i ≡ Some accepted
+        → accepted.write.first + length accepted.write.contents ≤ h.settings.blocks
+    inside home i accepted at = elim (get-more h.writes (record { write = write; journal_length = length h.journal; home = home; outcome = Waiting }) i accepted at) [
+      | inl old ↦ t.writes_inside i accepted old
+      | inr new ↦ subst (λ (a : Accepted). a.write.first + length a.write.contents ≤ h.settings.blocks) (sym new.1) fits
+    ]
+
+    done : (home : Option (ℕ × ℕ)) (i : ℕ) (accepted : Accepted) → slice_get (h.writes ++ record { write = write; journal_length = length h.journal; home = home; outcome = Waiting } ∷ []) i ≡ Some accepted
+        → is_completed h accepted.write.number ≡ true → is_on_disk accepted.outcome ≡ true
+    done home i accepted at completed = elim (get-more h.writes (record { write = write; journal_length = length h.journal; home = home; outcome = Waiting }) i accepted at) [
+      | inl old ↦ t.on_disk i accepted old completed
+      | inr new ↦ absurd (both_ways (is_completed h (suc (length h.writes))) fresh (subst (λ (a : Accepted). is_completed h a.write.number ≡ true) new.1 completed))
+    ]
+
+    go : (b : Bool) → stands (outward h) ≡ b → HasHomes (elim b as (λ _. PrimaryHistory) [
+      | true ↦ appending (WriteItem (submission h first contents)) (record h { writes = h.writes ++ record { write = submission h first contents; journal_length = length h.journal; home = Some (last_index h.connections, length (outward h).stream); outcome = Waiting } ∷ [] })
+      | false ↦ record h { writes = h.writes ++ record { write = submission h first contents; journal_length = length h.journal; home = None; outcome = Waiting } ∷ []; marks = marking (submission h first contents) h.marks }
+    ]) → IsTracked (elim b as (λ _. PrimaryHistory) [
+      | true ↦ appending (WriteItem (submission h first contents)) (record h { writes = h.writes ++ record { write = submission h first contents; journal_length = length h.journal; home = Some (last_index h.connections, length (outward h).stream); outcome = Waiting } ∷ [] })
+      | false ↦ record h { writes = h.writes ++ record { write = submission h first contents; journal_length = length h.journal; home = None; outcome = Waiting } ∷ []; marks = marking (submission h first contents) h.marks }
+    ])
+    go false is homes =
+        let added : Accepted = record { write = write; journal_length = length h.journal; home = None; outcome = Waiting } in
+        record {
+          homes = homes;
+          sized = t.sized;
+          writes_inside = inside None;
+          items_inside = t.items_inside;
+          on_disk = done None;
+          free = λ place block contents i accepted way at opens. absurd (both_ways (stands (outward h)) is way.standing);
+          under_way = λ place block contents way. absurd (both_ways (stands (outward h)) is way.standing);
+          equal = λ block within unmarked.
+              let parts = or_parts (h.marks block) (covers write block) unmarked in
+              t.equal block within parts.0 ∙ sym (settling-apart h added block parts.1);
+        }
+    go true is homes =
+        let c : Outward = outward h in
+        let standing : c.closed ≡ false = (stands-parts c is).0 in
+        let home : Option (ℕ × ℕ) = Some (last_index h.connections, length c.stream) in
+        let added : Accepted = record { write = write; journal_length = length h.journal; home = home; outcome = Waiting } in
+        let item : Item = WriteItem write in
+        let f : Outward → Outward = λ x. record x { stream = x.stream ++ item ∷ [] } in
+        let later : PrimaryHistory = appending item (record h { writes = h.writes ++ added ∷ [] }) in
+        let before : (place block : ℕ) (contents : List ℕ) → IsUnderWay later place block contents → IsUnderWay h place block contents =
+        λ place block contents way.
+        elim (hangs-appended h item place block contents (subst (λ (x : Outward). Hangs x place block contents) (outward-change h (no_outward h.tuple) f standing) (hangs later place block contents way))) [
+          | inl old ↦ old
+          | inr new ↦ absurd (let e = new.1 in cc)
+        ] in
+        record {
+          homes = homes;
+          sized = t.sized;
+          writes_inside = inside home;
+          items_inside = λ block touch last. elim (cases_Bool (touches item block)) [
+            | inl touched ↦ let ends = between-parts first (length contents) block touched in let high = ends.1 in let low = fits in omega arith
+            | inr apart ↦ t.items_inside block touch (sym (appended-apart h item block standing apart) ∙ last)
+          ];
+          on_disk = done home;
+          free = λ place block inner i accepted way at opens. elim (get-more h.writes added i accepted at) [
+            | inl old ↦ t.free place block inner i accepted (before place block inner way) old opens
+            | inr new ↦ subst (λ (a : Accepted). covers a.write block ≡ false) (sym new.1) (conflict-free h write place block inner may.free (before place block inner way))
+          ];
+          under_way = λ place block inner way.
+              let old = before place block inner way in
+              let was = t.under_way place block inner old in
+              let apart : covers write block ≡ false = conflict-free h write place block inner may.free old in
+              let index : last_index h.connections ≡ last_index (change_last f h.connections) = ap (λ (n : ℕ). n - 1) (sym (length-change f h.connections)) in (
+                appended-apart h item block standing apart ∙ (was.0 ∙ ap (λ (n : ℕ). Some (record { connection = n; place = place; item = ResyncItem block inner })) index),
+                settling-apart h added block apart ∙ was.1,
+              );
+          equal = λ block within unmarked. elim (cases_Bool (touches item block)) [
+            | inl touched ↦
+                ap (content_of (h.opening_map block) block) (appended-touching h item block standing touched)
+                ∙ sym (settling-more h added block ∙ under-inside (settling_layer added) block (settling_map h block) touched refl)
+            | inr apart ↦ ap (content_of (h.opening_map block) block) (appended-apart h item block standing apart) ∙ (t.equal block within unmarked ∙ sym (settling-apart h added block apart))
+          ];
+        }
+
+-- A block of a resync is appended.
+
+some-unwrap : (v : Option (List ℕ)) → is_some v ≡ true → v ≡ Some (unwrap_or v [])
+some-unwrap None some = absurd (cc)
+some-unwrap (Some bytes) some = refl
+
+-- nothing is under way where that list is empty
+none-under-way : (h : PrimaryHistory) (place block : ℕ) (contents : List ℕ) → nat_lt 0 (length (under_way (outward h))) ≡ false → IsUnderWay h place block contents → ⊥
+none-under-way h place block contents none way =
+    let c : Outward = outward h in
+    let item : Item = ResyncItem block contents in
+    let there = filtered-pick (λ entry. is_resync entry.1 && not (was_resynced c entry.0 entry.1)) (placed c.stream) place (place, item) (placed-at 0 c.stream place item way.there ∙ ap (λ (n : ℕ). Some (n, item)) (omega arith)) (not_from_false (was_resynced c place item) way.unanswered) in
+    let within = slice_get_within (under_way c) there.0 (place, item) there.1 in
+    both_ways (nat_lt 0 (length (under_way c))) none (lt-ltb 0 (length (under_way c)) (omega arith))
+
+-- The block that a resync sends next: it is marked, it lies in the device, and no open write has it.
+record IsFree (h : PrimaryHistory) (block : ℕ) : Type 0 where
+  marked : h.marks block ≡ true
+  within : block < h.settings.blocks
+  free : (i : ℕ) (accepted : Accepted) → slice_get h.writes i ≡ Some accepted → is_open h accepted ≡ true → covers accepted.write block ≡ false
+
+free-found : (h : PrimaryHistory) (block : ℕ) → free_block h ≡ Some block → IsFree h block
+free-found h block is =
+    let found = pick-found (λ block. not (list_any (λ (accepted : Accepted). covers accepted.write block) (open_writes h))) (marked_blocks h) block is in
+    let among = pick-filtered h.marks (below h.settings.blocks) found.0 block found.1 in
+    let none : list_any (λ (accepted : Accepted). covers accepted.write block) (open_writes h) ≡ false = not-true (list_any (λ (accepted : Accepted). covers accepted.write block) (open_writes h)) found.2 in
+    record {
+      marked = among.2;
+      within = pick-below h.settings.blocks among.0 block among.1;
+      free = λ i accepted at opens.
+          let there = filtered-pick (is_open h) h.writes i accepted at opens in
+          pick-none (λ (a : Accepted). covers a.write block) (open_writes h) there.0 accepted none there.1;
+    }
+
+-- The block is appended with what the local disk has, which no waiting write will change.
+pub tracked-resyncs : (h : PrimaryHistory) (block : ℕ) → resync_runs (outward h) ≡ true → nat_lt 0 (length (under_way (outward h))) ≡ false → free_block h ≡ Some block → IsTracked h
+    → HasHomes (appending (ResyncItem block (unwrap_or (local_map h block) [])) h) → IsTracked (appending (ResyncItem block (unwrap_or (local_map h block) [])) h)
+tracked-resyncs h block runs none is t homes =
+    let c : Outward = outward h in
+    let standing : c.closed ≡ false = (stands-parts c (and_parts (stands c) (in_resync c.stream) runs).0).0 in
+    let contents : List ℕ = unwrap_or (local_map h block) [] in
+    let item : Item = ResyncItem block contents in
+    let f : Outward → Outward = λ x. record x { stream = x.stream ++ item ∷ [] } in
+    let later : PrimaryHistory = appending item h in
+    let next : IsFree h block = free-found h block is in
+    let local : local_map h block ≡ Some contents = some-unwrap (local_map h block) (overlay-some h.opening_map (map local_layer h.writes) block (t.sized block next.within)) in
+    let settled : settling_map h block ≡ Some contents = settled-is-local h block (λ i accepted at waits. next.free i accepted at (waiting-open h i accepted t at waits)) ∙ local in
+    let only : (other : ℕ) → touches item other ≡ true → other ≡ block = λ other touched. let ends = between-parts block 1 other touched in let low = ends.0 in let high = ends.1 in omega arith in
+    let touched : touches item block ≡ true = and_from (nat_le block block) (nat_lt block (block + 1)) (le-leb block block (omega arith)) (lt-ltb block (block + 1) (omega arith)) in
+    let last : latest (change_last f h.connections) block ≡ Some (record { connection = last_index h.connections; place = length c.stream; item = item }) = appended-touching h item block standing touched in
+    let new : (place other : ℕ) (inner : List ℕ) → IsUnderWay later place other inner → (place ≡ length c.stream) × (ResyncItem other inner ≡ item) = λ place other inner way.
+    elim (hangs-appended h item place other inner (subst (λ (x : Outward). Hangs x place other inner) (outward-change h (no_outward h.tuple) f standing) (hangs later place other inner way))) [
+      | inl old ↦ absurd (none-under-way h place other inner none old)
+      | inr is_new ↦ is_new
+    ] in
+    record {
+      homes = homes;
+      sized = t.sized;
+      writes_inside = t.writes_inside;
+      items_inside = λ other touch latest_is. elim (cases_Bool (touches item other)) [
+        | inl here ↦ subst (λ (n : ℕ). n < h.settings.blocks) (sym (only other here)) next.within
+        | inr apart ↦ t.items_inside other touch (sym (appended-apart h item other standing apart) ∙ latest_is)
+      ];
+      on_disk = t.on_disk;
+      free = λ place other inner i accepted way at opens.
+          let same : other ≡ block = let e = (new place other inner way).1 in cc in
+          subst (λ (n : ℕ). covers accepted.write n ≡ false) (sym same) (next.free i accepted at opens);
+      under_way = λ place other inner way.
+          let is_new = new place other inner way in
+          let same : other ≡ block = let e = is_new.1 in cc in
+          let bytes : inner ≡ contents = let e = is_new.1 in cc in
+          let index : last_index h.connections ≡ last_index (change_last f h.connections) = ap (λ (n : ℕ). n - 1) (sym (length-change f h.connections)) in (
+            ap (latest (change_last f h.connections)) same
+                ∙ (last
+                ∙ (ap (λ (n : ℕ). Some (record { connection = n; place = length c.stream; item = item })) index
+                ∙ (ap (λ (n : ℕ). Some (record { connection = last_index (change_last f h.connections); place = n; item = item })) (sym is_new.0)
+                ∙ ap (λ (x : Item). Some (record { connection = last_index (change_last f h.connections); place = place; item = x })) (sym is_new.1)))),
+            ap (settling_map h) same ∙ (settled ∙ ap (λ (l : List ℕ). Some l) (sym bytes)),
+          );
+      equal = λ other within unmarked. elim (cases_Bool (touches item other)) [
+        | inl here ↦ absurd (both_ways (h.marks block) (subst (λ (n : ℕ). h.marks n ≡ false) (only other here) unmarked) next.marked)
+        | inr apart ↦ ap (content_of (h.opening_map other) other) (appended-apart h item other standing apart) ∙ t.equal other within unmarked
+      ];
+    }

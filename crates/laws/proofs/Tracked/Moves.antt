@@ -1,0 +1,138 @@
+-- Moves of a primary that add nothing to its writes: no item that touches a block is added, and none comes under way.
+use Rattle.std.proofs.Common.{ℕ, ◌≡◌, ◌+◌, ◌-◌, ◌≤◌, ◌<◌, inl, inr, Bool, true, false, ◌||◌, List, [], ◌∷◌, ◌++◌, length, Option, Some, None, slice_get, refl, sym, ◌∙◌, ap, subst, arith, nat_lt, nat_le}
+use Rattle.std.specs.Prelude.{if◌then◌else◌, is_some}
+use Rattle.std.specs.List.{list_any}
+use Rattle.std.proofs.lemmas.Bool.{both_ways, le-ltb, and_right, or_parts}
+use Rattle.std.proofs.lemmas.List.Folds.{list_any-append}
+use Rattle.blocks.specs.declared.settings.Settings.{Settings}
+use Rattle.blocks.specs.declared.tuple.Tuple.{Tuple}
+use Rattle.model.specs.Contents.{BlockMap}
+use Rattle.model.specs.Stream.{Item, ResyncItem, first_of, contents_of, IsBeginning}
+use Rattle.model.specs.Frames.{Received, naming}
+use Rattle.model.specs.Marks.{Marks}
+use Rattle.model.specs.Primary.{Outward, PrimaryHistory, primary_opening, no_outward, last_of, outward, last_index, change_last, stands, accepted_frames, is_rs_write_ack, was_resynced, local_layer, local_map}
+use Rattle.laws.specs.Reflections.{touches}
+use Rattle.laws.proofs.Lists.Last.{last-change, length-change}
+use Rattle.laws.proofs.Primary.Homes.{HasHomes}
+use Rattle.laws.proofs.Primary.HomesMoves.{homes-opening}
+use Rattle.laws.proofs.Blocks.Latest.{Touch, latest, content_of, sent_map, settling_map}
+use Rattle.laws.proofs.Blocks.LatestMoves.{latest-appended}
+use Rattle.laws.proofs.Tracked.{IsUnderWay, IsTracked}
+use Rattle.laws.proofs.Blocks.Overlays.{overlay-none, under-outside}
+use Rattle.laws.proofs.Lists.Elements.{get-more}
+use Rattle.laws.proofs.Blocks.Ranges.{outside-range}
+
+-- At the opening nothing was written or sent.
+pub tracked-opening : (settings : Settings) (disk : BlockMap) (tuple : Tuple) (marks : ℕ → Bool) → ((block : ℕ) → block < settings.blocks → is_some (disk block) ≡ true)
+    → IsTracked (primary_opening settings disk tuple marks)
+tracked-opening settings disk tuple marks sized = record {
+  homes = homes-opening settings disk tuple marks;
+  sized = sized;
+  writes_inside = λ i accepted at. absurd (cc);
+  items_inside = λ block touch is. absurd (cc);
+  on_disk = λ i accepted at completed. absurd (cc);
+  free = λ place block contents i accepted way at opens. absurd (cc);
+  under_way = λ place block contents way. absurd (let s = way.standing in cc);
+  equal = λ block within unmarked. refl;
+}
+
+-- No item touches a block past the end of the device, and no write reaches it.
+pub beyond-the-end : (h : PrimaryHistory) (block : ℕ) → IsTracked h → h.settings.blocks ≤ block → (latest h.connections block ≡ None) × (local_map h block ≡ h.opening_map block)
+beyond-the-end h block t past = (
+  go (latest h.connections block) refl,
+  overlay-none local_layer h.opening_map h.writes block (λ i accepted at v. under-outside (local_layer accepted) block v (outside-range accepted.write.first (length accepted.write.contents) h.settings.blocks block (t.writes_inside i accepted at) past)),
+)
+  where
+    go : (v : Option Touch) → latest h.connections block ≡ v → v ≡ None
+    go None is = refl
+    go (Some touch) is = absurd (let inside = t.items_inside block touch is in omega arith)
+
+-- The last connection of an open end.
+
+-- an open end has a connection
+pub some-connection : (h : PrimaryHistory) → (outward h).closed ≡ false → h.connections ≡ [] → ⊥
+some-connection h standing none = both_ways (outward h).closed standing (ap (λ (l : List Outward). (last_of (no_outward h.tuple) l).closed) none)
+
+-- after a change of an open end's connection the last one is the changed one
+pub outward-change : (h : PrimaryHistory) (none : Outward) (f : Outward → Outward) → (outward h).closed ≡ false → last_of none (change_last f h.connections) ≡ f (outward h)
+outward-change h none f standing = elim (last-change f (no_outward h.tuple) none h.connections) [ inl empty ↦ absurd (some-connection h standing empty) | inr changed ↦ changed ]
+
+-- what `IsUnderWay` says, of a connection
+pub record Hangs (c : Outward) (place block : ℕ) (contents : List ℕ) : Type 0 where
+  pub standing : stands c ≡ true
+  pub there : slice_get c.stream place ≡ Some (ResyncItem block contents)
+  pub unanswered : was_resynced c place (ResyncItem block contents) ≡ false
+
+-- of the last connection the two say the same
+pub hangs : (h : PrimaryHistory) (place block : ℕ) (contents : List ℕ) → IsUnderWay h place block contents → Hangs (outward h) place block contents
+hangs h place block contents way = record { standing = way.standing; there = way.there; unanswered = way.unanswered }
+
+-- and back
+pub under-way : (h : PrimaryHistory) (place block : ℕ) (contents : List ℕ) → Hangs (outward h) place block contents → IsUnderWay h place block contents
+under-way h place block contents way = record { standing = way.standing; there = way.there; unanswered = way.unanswered }
+
+-- what was acknowledged stays so as frames are taken
+pub unanswered-before : (c d : Outward) (place : ℕ) (item : Item) → IsBeginning (accepted_frames c) (accepted_frames d) → was_resynced d place item ≡ false → was_resynced c place item ≡ false
+unanswered-before c d place item grows not_so =
+    let p : Received → Bool = is_rs_write_ack (naming place item) in
+    let both : (list_any p (accepted_frames c) || list_any p grows.0) ≡ false = sym (list_any-append p (accepted_frames c) grows.0) ∙ (ap (list_any p) grows.1 ∙ not_so) in
+    (or_parts (list_any p (accepted_frames c)) (list_any p grows.0) both).0
+
+-- Quiet moves.
+
+-- a history with other connections, marks, tuples and receipts
+abbrev pub changed : PrimaryHistory → List Outward → Marks → Tuple → Option Tuple → List ℕ → PrimaryHistory
+changed h connections marks tuple peer receipts = record h { connections = connections; marks = marks; tuple = tuple; peer = peer; receipts = receipts }
+
+-- The same items touch blocks last, what is under way was so, and what was sent is the same where no mark is.
+pub tracked-quiet : (h : PrimaryHistory) (connections : List Outward) (marks : Marks) (tuple : Tuple) (peer : Option Tuple) (receipts : List ℕ) → IsTracked h → HasHomes (changed h connections marks tuple peer receipts)
+    → ((block : ℕ) → latest connections block ≡ latest h.connections block)
+    → ((place block : ℕ) (contents : List ℕ) → IsUnderWay (changed h connections marks tuple peer receipts) place block contents → IsUnderWay h place block contents × (last_index connections ≡ last_index h.connections))
+    → ((block : ℕ) → block < h.settings.blocks → marks block ≡ false → sent_map h block ≡ settling_map h block) → IsTracked (changed h connections marks tuple peer receipts)
+tracked-quiet h connections marks tuple peer receipts t homes same under equal = record {
+  homes = homes;
+  sized = t.sized;
+  writes_inside = t.writes_inside;
+  items_inside = λ block touch is. t.items_inside block touch (sym (same block) ∙ is);
+  on_disk = t.on_disk;
+  free = λ place block contents i accepted way at opens. t.free place block contents i accepted (under place block contents way).0 at opens;
+  under_way = λ place block contents way.
+      let old = under place block contents way in
+      let was = t.under_way place block contents old.0 in
+      (same block ∙ (was.0 ∙ ap (λ (n : ℕ). Some (record { connection = n; place = place; item = ResyncItem block contents })) (sym old.1)), was.1);
+  equal = λ block within unmarked. ap (content_of (h.opening_map block) block) (same block) ∙ equal block within unmarked;
+}
+
+-- The last connection of an open end changes.
+pub tracked-turn : (h : PrimaryHistory) (f : Outward → Outward) (marks : Marks) (tuple : Tuple) (peer : Option Tuple) (receipts : List ℕ) → (outward h).closed ≡ false → IsTracked h
+    → HasHomes (changed h (change_last f h.connections) marks tuple peer receipts) → ((block : ℕ) → latest (change_last f h.connections) block ≡ latest h.connections block)
+    → ((place block : ℕ) (contents : List ℕ) → Hangs (f (outward h)) place block contents → Hangs (outward h) place block contents)
+    → ((block : ℕ) → block < h.settings.blocks → marks block ≡ false → sent_map h block ≡ settling_map h block) → IsTracked (changed h (change_last f h.connections) marks tuple peer receipts)
+tracked-turn h f marks tuple peer receipts standing t homes same under equal =
+    let later : PrimaryHistory = changed h (change_last f h.connections) marks tuple peer receipts in
+    tracked-quiet h (change_last f h.connections) marks tuple peer receipts t homes same (λ place block contents way. (
+      under-way h place block contents (under place block contents (subst (λ (c : Outward). Hangs c place block contents) (outward-change h (no_outward tuple) f standing) (hangs later place block contents way))),
+      ap (λ (n : ℕ). n - 1) (length-change f h.connections),
+    )) equal
+
+-- an item without blocks touches none
+pub untouched : (item : Item) (block : ℕ) → contents_of item ≡ [] → first_of item ≡ 0 → touches item block ≡ false
+untouched item block none first =
+    let size : length (contents_of item) ≡ 0 = ap length none in
+    and_right (nat_le (first_of item) block) (nat_lt block (first_of item + length (contents_of item))) (le-ltb block (first_of item + length (contents_of item)) (omega arith))
+
+-- An item without blocks goes to the end of the stream.
+pub tracked-appending : (h : PrimaryHistory) (item : Item) (tuple : Tuple) → (outward h).closed ≡ false → contents_of item ≡ [] → first_of item ≡ 0 → IsTracked h
+    → HasHomes (changed h (change_last (λ c. record c { stream = c.stream ++ item ∷ [] }) h.connections) h.marks tuple h.peer h.receipts)
+    → IsTracked (changed h (change_last (λ c. record c { stream = c.stream ++ item ∷ [] }) h.connections) h.marks tuple h.peer h.receipts)
+tracked-appending h item tuple standing none first t homes =
+    let f : Outward → Outward = λ c. record c { stream = c.stream ++ item ∷ [] } in
+    let c : Outward = outward h in
+    tracked-turn h f h.marks tuple h.peer h.receipts standing t homes
+    (λ block. latest-appended (no_outward h.tuple) f item h.connections block (some-connection h standing) refl ∙ ap (λ b. if b then Some (record { connection = last_index h.connections; place = length c.stream; item = item }) else latest h.connections block) (untouched item block none first))
+    (λ place block contents way. record {
+      standing = way.standing;
+      there = elim (get-more c.stream item place (ResyncItem block contents) way.there) [ inl old ↦ old | inr new ↦ absurd (let e = new.1 in let same : [] ≡ contents ∷ [] = sym none ∙ ap contents_of (sym e) in cc) ];
+      unanswered = way.unanswered;
+    })
+    t.equal
