@@ -1,6 +1,7 @@
 -- A secondary by itself: its moves, and what every run of it keeps.
 pub mod Applied
 pub mod Chained
+pub mod Drained
 pub mod Good
 pub mod Moves
 pub mod Runs

@@ -1,10 +1,10 @@
 -- The theorems that are proved, as the contracts name them. Those of joined nodes and of the pair are stated over openings,
 -- with `JoinedRuns` and `EveryRun` of the model.
-use Rattle.std.specs.Prelude.{ℕ, ◌≡◌, ◌≤◌, ◌⊎◌, Bool, true, false, List, length, take, Some, slice_get}
+use Rattle.std.specs.Prelude.{ℕ, suc, ◌≡◌, ◌<◌, ◌≤◌, ◌⊎◌, Bool, true, false, List, length, take, Some, slice_get}
 use Rattle.model.specs.Contents.{Write, IsDisk}
 use Rattle.model.specs.LocalRuns.{PrimaryEvent, primary_run, SecondaryEvent, secondary_run}
 use Rattle.model.specs.Primary.{Outward, PrimaryHistory, outward, stands, items_sent, active_extents}
-use Rattle.model.specs.Secondary.{Inward, SecondaryHistory, items_taken}
+use Rattle.model.specs.Secondary.{Inward, SecondaryHistory, items_taken, pending}
 use Rattle.model.specs.Stream.{WriteItem, IsBeginning, IsLawful}
 use Rattle.model.specs.Pair.{Event, run}
 use Rattle.model.specs.Headline.{IsJoined, AreEnds, TakesABeginning, StaysClosed, StaysClosedToo, HoldsEarlierEpochs, KeepsPromises, MarksDifferences, is_marked, is_covered}
@@ -52,6 +52,12 @@ PrimaryMarksAtRest =
 -- its disk holds every write of earlier epochs and part of one
 abbrev pub SecondaryHoldsEarlierEpochs : Type 0
 SecondaryHoldsEarlierEpochs = (o : Opening) (events : List SecondaryEvent) → HoldsEarlierEpochs (secondary_run events (secondary_at o))
+
+-- on a connection before the last one nothing is pending: it opens only when it is drained
+abbrev pub SecondaryDrainsFirst : Type 0
+SecondaryDrainsFirst =
+    (o : Opening) (events : List SecondaryEvent) (k : ℕ) (d : Inward) → slice_get (secondary_run events (secondary_at o)).connections k ≡ Some d
+    → suc k < length (secondary_run events (secondary_at o)).connections → length (pending d) ≡ 0
 
 -- a closed end stays as it is, but for what is still applied, from any history on
 abbrev pub SecondaryStaysClosed : Type 0

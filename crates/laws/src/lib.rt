@@ -4,7 +4,7 @@
 //! `docs/PROOFS.md`.
 #![tactic(auto)]
 
-ghost use Rattle.laws.specs.Statements.{PrimaryWritesOnce, PrimaryStreamsAreLawful, PrimaryExtentsAreFew, PrimaryStaysClosed, PrimaryReflects, PrimaryMarksAtRest, SecondaryHoldsEarlierEpochs, SecondaryStaysClosed, JoinedTakesABeginning, JoinedRunsKeepPromises, EveryRunIsJoined, EveryRunTakesABeginning, EveryRunStaysClosed, EveryRunHoldsEarlierEpochs, EveryRunKeepsPromises, EveryRunMarksDifferences};
+ghost use Rattle.laws.specs.Statements.{PrimaryWritesOnce, PrimaryStreamsAreLawful, PrimaryExtentsAreFew, PrimaryStaysClosed, PrimaryReflects, PrimaryMarksAtRest, SecondaryHoldsEarlierEpochs, SecondaryDrainsFirst, SecondaryStaysClosed, JoinedTakesABeginning, JoinedRunsKeepPromises, EveryRunIsJoined, EveryRunTakesABeginning, EveryRunStaysClosed, EveryRunHoldsEarlierEpochs, EveryRunKeepsPromises, EveryRunMarksDifferences};
 ghost use Rattle.laws.specs.Examples.{OpeningsAreMet, OneWriteIsMet, CoverIsMet, ReflectionIsMet, RestIsMet};
 ghost use Rattle.model.specs.Theorems.{JoinedRunsHaveTheHeadline, JoinedRunsCoverDifferences, JoinedRunsSettle, EveryRunHasTheHeadline, EveryRunCoversDifferences};
 
@@ -25,9 +25,10 @@ pub fn primary_reflects()
 {}
 
 /// A secondary by itself, for any frames taken and any faults of its disk: the disk holds every write of earlier epochs
-/// and part of one, and a closed end takes and sends nothing more.
+/// and part of one; on a connection before the last one nothing is pending; and a closed end takes and sends nothing more.
 pub fn secondary_alone()
     ensures epochs { SecondaryHoldsEarlierEpochs }
+    ensures drained { SecondaryDrainsFirst }
     ensures closed { SecondaryStaysClosed }
 {}
 

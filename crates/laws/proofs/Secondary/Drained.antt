@@ -1,0 +1,80 @@
+-- A secondary opens only when it is drained: on a connection before the last one nothing is pending.
+use Rattle.std.proofs.Common.{ℕ, suc, ◌≡◌, ◌+◌, ◌-◌, ◌<◌, inl, inr, true, false, not, ◌&&◌, List, [], ◌∷◌, ◌++◌, length, Some, slice_get, sym, ◌∙◌, ap, subst, arith, length-append, ◌==◌}
+use Rattle.std.proofs.lemmas.Bool.{cases_lt, and_parts, not-false, eqb-true}
+use Rattle.std.proofs.lemmas.Option.{slice_get_within}
+use Rattle.blocks.specs.declared.refusal.Refusal.TheVariants.{NotDrained}
+use Rattle.blocks.specs.declared.outcome.What.TheVariants as what
+use Rattle.model.specs.Primary.{change_last}
+use Rattle.model.specs.Secondary.{Inward, SecondaryHistory, no_inward, inward, secondary_map, pending, is_drained}
+use Rattle.model.specs.SecondarySteps.{answering, applying, failing, adopting, open_secondary_tests, opened_secondary, open_secondary, succeeding_secondary}
+use Rattle.model.specs.LocalRuns.{SecondaryEvent, OpensToo, Receives, Applies, FailsToApply, Acknowledges, ClosesToo, secondary_after, secondary_run}
+use Rattle.model.specs.Theorems.{Opening, secondary_at}
+use Rattle.laws.specs.Statements.{SecondaryDrainsFirst}
+use Rattle.laws.proofs.Lists.Last.{get-change-back, last-at, length-change}
+use Rattle.laws.proofs.Lists.Elements.{get-more}
+use Rattle.laws.proofs.Lists.Tests.{test-passed}
+use Rattle.laws.proofs.Secondary.Runs.{tested-keeps}
+use Rattle.laws.proofs.Secondary.Moves.{after-receive, after-peer, after-fault, after-push, after-close, framed, receipting, refused_end, pushed_one, closed_end}
+
+-- nothing is pending before the last connection
+abbrev AreDrained : List Inward → Type 0
+AreDrained ds = (k : ℕ) (d : Inward) → slice_get ds k ≡ Some d → suc k < length ds → length (pending d) ≡ 0
+
+abbrev IsDrainedBefore : SecondaryHistory → Type 0
+IsDrainedBefore h = AreDrained h.connections
+
+-- a change of the last connection keeps it
+changes : (ds : List Inward) (f : Inward → Inward) → AreDrained ds → AreDrained (change_last f ds)
+changes [] f all k d at less = absurd (cc)
+changes (x ∷ ds) f all k d at less =
+    let size = length-change f (x ∷ ds) in
+    elim (get-change-back f x (x ∷ ds) k d at) [ inl same ↦ all k d same (omega arith) | inr changed ↦ absurd (let end = changed.2 in omega arith) ]
+
+-- a new connection comes where nothing is pending on the last one
+opens : (h : SecondaryHistory) → is_drained h ≡ true → IsDrainedBefore h → IsDrainedBefore (opened_secondary h)
+opens h drained all k d at less =
+    let new : Inward = record { base = secondary_map h; hello = h.tuple; taken = []; refused = false; applied = []; gone = []; due = []; pushed = 0; closed = false } in
+    let size : length (h.connections ++ new ∷ []) ≡ length h.connections + 1 = length-append h.connections (new ∷ []) in
+    elim (get-more h.connections new k d at) [
+      | inr added ↦ absurd (let here = added.0 in omega arith)
+      | inl old ↦
+          let within = slice_get_within h.connections k d old in
+          elim (cases_lt (suc k) (length h.connections)) [
+            | inl early ↦ all k d old early
+            | inr last ↦ elim (last-at (no_inward h) h.connections) [
+              | inl none ↦ absurd (let size_too : length h.connections ≡ 0 = ap length none in omega arith)
+              | inr there ↦
+                  let index : length h.connections - 1 ≡ k = omega arith in
+                  let here : slice_get h.connections k ≡ Some (inward h) = subst (λ (n : ℕ). slice_get h.connections n ≡ Some (inward h)) index there in
+                  let same : inward h ≡ d = let e : Some (inward h) ≡ Some d = sym here ∙ old in cc in
+                  subst (λ (x : Inward). length (pending x) ≡ 0) same (eqb-true (length (pending (inward h))) 0 drained)
+            ]
+          ]
+    ]
+
+drained-open : (h : SecondaryHistory) → IsDrainedBefore h → IsDrainedBefore (open_secondary h).1
+drained-open h all = tested-keeps IsDrainedBefore h (open_secondary_tests h) (λ _. succeeding_secondary what.Nothing (opened_secondary h)) all (λ passed.
+    let one = test-passed (not ((inward h).closed && is_drained h)) NotDrained [] passed in
+    let free = and_parts (inward h).closed (is_drained h) (not-false ((inward h).closed && is_drained h) one.0) in
+    changes (opened_secondary h).connections answering (opens h free.1 all))
+
+drained-after : (event : SecondaryEvent) (h : SecondaryHistory) → IsDrainedBefore h → IsDrainedBefore (secondary_after event h)
+drained-after OpensToo h all = drained-open h all
+drained-after (Receives frame starved) h all = after-receive IsDrainedBefore h frame starved all (λ taken is standing. record {
+  accepts = changes _ answering (changes h.connections (framed taken) all);
+  receipts = λ write at frame_is late. changes _ answering (changes _ _ (changes h.connections (framed taken) all));
+  adopts = λ item tuple consistent brings late. changes _ answering (changes h.connections (framed taken) all);
+  refuses = changes _ refused_end (changes h.connections (framed taken) all);
+})
+drained-after (Applies place) h all = after-peer IsDrainedBefore h place all (λ waiting none. changes _ answering (changes h.connections (applying h.settings.protocol place) all))
+drained-after (FailsToApply place offsets) h all = after-fault IsDrainedBefore h place offsets all (λ waiting none. changes h.connections (failing place offsets) all)
+drained-after (Acknowledges room starved) h all = after-push IsDrainedBefore h room starved all (λ standing due. changes h.connections pushed_one all)
+drained-after ClosesToo h all = after-close IsDrainedBefore h all (λ standing. changes h.connections closed_end all)
+
+drained-run : (events : List SecondaryEvent) (h : SecondaryHistory) → IsDrainedBefore h → IsDrainedBefore (secondary_run events h)
+drained-run [] h all = all
+drained-run (event ∷ events) h all = drained-run events (secondary_after event h) (drained-after event h all)
+
+-- Whatever frames a secondary takes and however its disk fails: nothing is pending before the last connection.
+pub drains_first : SecondaryDrainsFirst
+drains_first o events k d at less = drained-run events (secondary_at o) (λ k d at less. absurd (cc)) k d at less
