@@ -1,14 +1,13 @@
 -- The worked histories meet the premises: what computes is computed, and the rest is by cases.
-use Rattle.std.proofs.Common.{ℕ, ◌≡◌, ◌≤◌, ◌<◌, inl, inr, Bool, true, false, List, [], ◌∷◌, ◌++◌, map, Option, Some, None, refl, sym, ◌∙◌, ap, arith, nat_lt, ◌==◌}
+use Rattle.std.proofs.Common.{ℕ, ◌≡◌, inl, inr, true, false, List, [], ◌∷◌, ◌++◌, map, Some, None, refl, sym, ◌∙◌, ap, arith, nat_lt, ◌==◌}
 use Rattle.std.specs.Prelude.{if◌then◌else◌, is_some}
 use Rattle.std.proofs.lemmas.Bool.{cases_Bool, both_ways, eqb-true}
 use Rattle.blocks.specs.SettingsRange.{IsInRange, standard}
-use Rattle.model.specs.Contents.{BlockMap, filled, IsDisk}
-use Rattle.model.specs.Pair.{Event, same_block}
-use Rattle.model.specs.Headline.{Cover, IsHonest}
+use Rattle.model.specs.Contents.{filled, IsDisk}
+use Rattle.model.specs.Pair.{same_block}
+use Rattle.model.specs.Headline.{Cover}
 use Rattle.model.specs.Rows.{connect}
 use Rattle.model.specs.WriteRows.{one_write}
-use Rattle.model.specs.Theorems.{IsSoundOpening}
 use Rattle.laws.specs.Examples.{new_pair, left_behind, OpeningsAreMet, OneWriteIsMet, CoverIsMet, ReflectionIsMet, RestIsMet}
 use Rattle.laws.proofs.Headlines.{every_run_is_joined}
 
@@ -37,7 +36,7 @@ marked-ahead : Cover (λ block. block == 2) left_behind.local (filled 8 (0 ∷ [
 marked-ahead block differs = elim (cases_Bool (block == 2)) [
   | inl two ↦ two
   | inr other ↦ absurd (both_ways (same_block (left_behind.local block) (filled 8 (0 ∷ []) block)) differs (
-    ap (λ b. same_block (if b then Some (170 ∷ []) else filled 8 (0 ∷ []) block) (filled 8 (0 ∷ []) block)) other ∙ filled-same block))
+      ap (λ b. same_block (if b then Some (170 ∷ []) else filled 8 (0 ∷ []) block) (filled 8 (0 ∷ []) block)) other ∙ filled-same block))
 ]
 
 pub openings_are_met : OpeningsAreMet

@@ -1,13 +1,13 @@
 -- The premises of the theorems are met, and their conclusions speak of something: histories that a short script reaches.
-use Rattle.std.specs.Prelude.{ℕ, ◌≡◌, ◌==◌, Bool, true, false, if◌then◌else◌, List, [], ◌∷◌, ◌++◌, length, Some}
+use Rattle.std.specs.Prelude.{◌≡◌, ◌==◌, true, false, if◌then◌else◌, List, [], ◌∷◌, ◌++◌, length, Some}
 use Rattle.blocks.specs.SettingsRange.{standard}
-use Rattle.model.specs.Contents.{Write, BlockMap, filled}
+use Rattle.model.specs.Contents.{Write, filled}
 use Rattle.model.specs.Stream.{WriteItem}
-use Rattle.model.specs.Primary.{Completion, Linked, outward, stands, unreleased, active_extents}
+use Rattle.model.specs.Primary.{Linked, outward, stands, unreleased, active_extents}
 use Rattle.model.specs.Secondary.{inward, items_taken}
 use Rattle.model.specs.Pair.{Event, LocalEvent, SendEvent, ReceiveEvent, AckOutEvent, AckInEvent, ClosePrimaryEvent, CloseSecondaryEvent, PairHistory, run_fed, differing, marked}
 use Rattle.model.specs.Headline.{IsJoined, IsGrounded, is_covered}
-use Rattle.model.specs.WriteOrder.{Settlement, settlement}
+use Rattle.model.specs.WriteOrder.{settlement}
 use Rattle.model.specs.Rows.{words, fill, connect}
 use Rattle.model.specs.WriteRows.{one_write}
 use Rattle.model.specs.Theorems.{Opening, pair_at, IsSoundOpening, IsAtRest}

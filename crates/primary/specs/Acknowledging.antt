@@ -1,5 +1,5 @@
 -- Which acknowledgements fit the log.
-use Rattle.std.specs.Prelude.{ℕ, ◌+◌, ◌==◌, ◌&&◌, not, nat_lt, Bool, true, false, if◌then◌else◌, List, [], ◌∷◌, Option, None, Some}
+use Rattle.std.specs.Prelude.{ℕ, ◌==◌, ◌&&◌, not, nat_lt, Bool, true, false, if◌then◌else◌, List, [], ◌∷◌, Option, None, Some}
 use Rattle.primary.specs.Writes.{is_waiting}
 use Rattle.primary.specs.declared.write.Ack.{Ack}
 use Rattle.primary.specs.declared.write.Home.{Home}

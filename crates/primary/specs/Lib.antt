@@ -8,3 +8,6 @@ pub mod Streams
 pub mod Submissions
 pub mod Taking
 pub mod Writes
+pub mod Judged
+pub mod Settling
+pub mod Outcomes

@@ -1,5 +1,5 @@
 -- The parts of a primary's state by name, and what calls make of it.
-use Rattle.std.specs.Prelude.{ℕ, ◌≡◌, ◌+◌, ◌≤◌, ◌&&◌, Bool, true, false, List, [], ◌++◌, take, drop, replicate, length, Option, None, Some}
+use Rattle.std.specs.Prelude.{ℕ, ◌≡◌, ◌+◌, ◌&&◌, Bool, true, false, List, [], ◌++◌, take, drop, replicate, Option, None, Some}
 use Rattle.blocks.specs.Contents.{blocks_of, overwritten, IsTorn}
 use Rattle.primary.specs.declared.write.Write.{Write}
 use Rattle.primary.specs.declared.hello.Hello.{Hello}
@@ -99,8 +99,8 @@ abbrev pub place_in : Option ConnectionState → Option ℕ
 place_in None = None
 place_in (Some c) = place_told c.hello_sent c.stream
 
--- one more frame was sent on the connection
-abbrev pub SendsOneOn : Option ConnectionState → Option ConnectionState → Type 0
-SendsOneOn (Some old) (Some new) = SendsOne old new
-SendsOneOn (Some old) None = ⊥
-SendsOneOn None new = ⊥
+-- one more frame was sent on the connection, which spells the packet that was due
+abbrev pub SendsOneOn : Option Packet → Option ConnectionState → Option ConnectionState → Type 0
+SendsOneOn due (Some old) (Some new) = SendsOne due old new
+SendsOneOn due (Some old) None = ⊥
+SendsOneOn due None new = ⊥

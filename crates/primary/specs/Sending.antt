@@ -5,6 +5,7 @@ use Rattle.blocks.specs.declared.outcome.Done.{Done}
 use Rattle.blocks.specs.declared.outcome.What.TheVariants as what
 use Rattle.blocks.specs.declared.settings.Settings.{Settings}
 use Rattle.blocks.specs.declared.tuple.Tuple.{Tuple}
+use Rattle.packets.specs.Spelling.{Spells}
 use Rattle.packets.specs.Table.{command_of}
 use Rattle.packets.specs.declared.packet.Packet.{Packet}
 use Rattle.primary.specs.declared.hello.Hello.{Hello}
@@ -55,6 +56,11 @@ pub record IsSent (frame : List ℕ) (old new : ConnectionState) : Type 0 where
     room = new.room;
   }
 
--- the same, for some frame
-abbrev pub SendsOne : ConnectionState → ConnectionState → Type 0
-SendsOne old new = (frame : List ℕ) × IsSent frame old new
+-- the frame spells this packet
+abbrev pub SpellsIt : Option Packet → List ℕ → Type 0
+SpellsIt None frame = ⊥
+SpellsIt (Some p) frame = Spells p frame
+
+-- one more frame was sent, which spells the packet that was due
+abbrev pub SendsOne : Option Packet → ConnectionState → ConnectionState → Type 0
+SendsOne due old new = (frame : List ℕ) × SpellsIt due frame × IsSent frame old new

@@ -4,6 +4,7 @@ ghost use Rattle.blocks.specs.declared.refusal.Refusal.TheVariants.{LinkFull, No
 ghost use Rattle.packets.specs.declared.packet.Packet.TheVariants as packet;
 ghost use Rattle.primary.specs.Hellos.{after};
 ghost use Rattle.primary.specs.Primaries.{has_stream, with_queued, with_waiting};
+ghost use Rattle.primary.specs.Judged.{HasNone};
 ghost use Rattle.std.specs.Option.{option_map};
 ghost use Rattle.primary.specs.State.{ConnectionState};
 ghost use Rattle.primary.specs.Taking.{IsEmpty, IsTaken};
@@ -147,6 +148,7 @@ impl<O: FrameOut, I: FrameIn> Connection<O, I> {
         ensures unchanged { OnErr result (self.new ≡ self.old) }
         ensures taken { IfOk result (λ frame. IsTaken frame self.old self.new) }
         ensures empty { IsEmpty self.old.queued → result ≡ Err NothingThere }
+        ensures none { OnErr result (HasNone self.old.queued) }
         ensures rest { self.new ≡ record self.old { taken = self.new.taken; queued = self.new.queued } }
     {
         self.inward.take()
@@ -167,7 +169,8 @@ impl<O: FrameOut, I: FrameIn> Connection<O, I> {
         ensures told { IfOk result (λ done. Tells done
             (next_due settings.now tuple self.old.hello_sent self.old.stream.due)
             (place_told self.old.hello_sent self.old.stream)) }
-        ensures sent { OnOk result (SendsOne self.old self.new) }
+        ensures sent { OnOk result (SendsOne
+            (next_due settings.now tuple self.old.hello_sent self.old.stream.due) self.old self.new) }
         ensures no_room { IfSome self.old.room (λ n. n ≡ 0 → IsErr result) }
         ensures full { IsErrOf result Refusal.LinkFull → IfSome self.old.room (λ n. n ≡ 0) }
         ensures refused { IfErr result (λ e. (e ≡ NothingThere) ⊎ (e ≡ NoMemory) ⊎ (e ≡ LinkFull)) }
@@ -191,7 +194,7 @@ impl<O: FrameOut, I: FrameIn> Connection<O, I> {
         ensures nothing_due { IsErrOf result Refusal.NothingThere ↔ (first_of self.old.stream.due ≡ None) }
         ensures told { IfOk result (λ done. Tells done (first_of self.old.stream.due)
             (Some (self.old.stream.places - length self.old.stream.due))) }
-        ensures sent { OnOk result (SendsOne self.old self.new) }
+        ensures sent { OnOk result (SendsOne (first_of self.old.stream.due) self.old self.new) }
         ensures no_room { IfSome self.old.room (λ n. n ≡ 0 → IsErr result) }
         ensures full { IsErrOf result Refusal.LinkFull → IfSome self.old.room (λ n. n ≡ 0) }
         ensures refused { IfErr result (λ e. (e ≡ NothingThere) ⊎ (e ≡ NoMemory) ⊎ (e ≡ LinkFull)) }

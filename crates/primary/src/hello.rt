@@ -2,9 +2,10 @@
 ghost use Rattle.std.specs.Prelude.{◌≡◌, IfSome};
 ghost use Rattle.packets.specs.Spelling.{IsSpellable};
 ghost use Rattle.primary.specs.Hellos.{after, hello_packet};
+ghost use Rattle.primary.specs.Judged.{has_number, hello_fault, hello_number};
 
 use blocks::{Refusal, Settings, Tuple};
-use packets::{Frame, Packet, decode};
+use packets::{Frame, Packet};
 
 /// Which frame of a hello comes next, one way. Each end sends the three in this order.
 #[derive(Clone, Copy, Debug, PartialEq, Eq)]
@@ -46,25 +47,34 @@ impl Hello {
         }
     }
 
-    /// The packet of a frame that is to be this one. A frame of another command is refused as such (21)
-    /// before its fields are judged.
-    pub(crate) fn read(self, frame: Frame) -> Result<Packet, Refusal> {
-        let is_named = self.names(&frame);
-        decode(frame).map_err(|fault| match fault {
-            Refusal::BadField if !is_named => Refusal::BadCommand,
-            _ => fault,
-        })
-    }
-
-    /// Whether the header of a frame has the command number of this one.
-    fn names(self, frame: &Frame) -> bool {
-        let number = match self {
+    /// Its command number; 0 once the hello is over.
+    pub(crate) fn number(self) -> u8
+        ensures { result ≡ hello_number self }
+    {
+        match self {
             Hello::Protocol => 0x0B,
             Hello::Sizes => 0x0D,
             Hello::Uuids => 0x0C,
-            Hello::Done => return false,
-        };
-        let bytes = frame.as_slice();
-        bytes.len() >= 4 && bytes[2] == 0 && bytes[3] == number
+            Hello::Done => 0,
+        }
+    }
+}
+
+/// Whether the frame's header has this command number.
+pub(crate) fn has_number(frame: &Frame, number: u8) -> bool
+    ensures { result ≡ has_number frame.now number }
+{
+    let bytes = frame.as_slice();
+    bytes.len() >= 4 && bytes[2] == 0 && bytes[3] == number
+}
+
+/// The refusal of a frame with this fault while the hello goes on. One that has not the next hello frame's
+/// command number is refused as such (21) before its fields are judged.
+pub(crate) fn hello_fault(is_named: bool, fault: Refusal) -> Refusal
+    ensures { result ≡ hello_fault is_named fault }
+{
+    match fault {
+        Refusal::BadField if !is_named => Refusal::BadCommand,
+        _ => fault,
     }
 }

@@ -66,7 +66,7 @@ impl<O: FrameOut, I: FrameIn, S: Store> Primary<O, I, S> {
 }
 
 /// Whether two words are fresh to these tuples, and not equal. Else `UsedIdentifier`.
-fn check_words(sync: u64, loss: u64, known: &[Tuple]) -> Result<(), Refusal>
+pub(crate) fn check_words(sync: u64, loss: u64, known: &[Tuple]) -> Result<(), Refusal>
     ensures accepted { IsOk result ↔ AreFresh sync loss known.now }
     ensures refused { IfErr result (λ e. e ≡ UsedIdentifier) }
 {

@@ -20,7 +20,8 @@ impl<O: FrameOut, I: FrameIn, S: Store> Primary<O, I, S> {
             ↔ (due_in self.old.settings self.old.tuple self.old.connection ≡ None)) }
         ensures told { IfOk result (λ done. Tells done
             (due_in self.old.settings self.old.tuple self.old.connection) (place_in self.old.connection)) }
-        ensures sent { OnOk result (SendsOneOn self.old.connection self.new.connection) }
+        ensures sent { OnOk result (SendsOneOn (due_in self.old.settings self.old.tuple self.old.connection)
+            self.old.connection self.new.connection) }
         ensures no_room { IfSome (room_of self.old.connection) (λ n. n ≡ 0 → IsErr result) }
         ensures full { IsErrOf result Refusal.LinkFull → IfSome (room_of self.old.connection) (λ n. n ≡ 0) }
         ensures refused { IfErr result (λ e.

@@ -1,6 +1,8 @@
 //! The stream of a connection, and its epochs.
 ghost use Rattle.std.specs.Prelude.{◌≡◌, ◌-◌, ◌*◌, ◌^◌, ◌<◌, ◌≤◌, length, true, false, Option, None, Some, OnOk, OnErr, IfOk, IfErr, IfSome};
-ghost use Rattle.std.specs.Prelude.{drop, slice_get};
+ghost use Rattle.std.specs.Prelude.{◌&&◌, not, nat_lt, drop, slice_get};
+ghost use Rattle.std.specs.List.{list_any};
+ghost use Rattle.primary.specs.Judged.{is_barrier, is_oldest};
 ghost use Rattle.std.specs.Option.{option_copied};
 ghost use Rattle.blocks.specs.declared.refusal.Refusal.TheVariants.{NoMemory};
 ghost use Rattle.packets.specs.Spelling.{IsSpellable};
@@ -143,21 +145,20 @@ impl Stream {
     }
 
     /// Whether the barrier of this number is appended and sent.
-    fn is_barrier_sent(&self, number: u32) -> bool {
+    fn is_barrier_sent(&self, number: u32) -> bool
+        ensures { result ≡ (nat_lt number self.now.epoch && not (list_any (is_barrier number) self.now.due)) }
+    {
         number < self.epoch
             && !self.due.iter().any(
                 |item| matches!(item, Packet::Barrier { number: due } if *due == number),
             )
     }
 
-    /// The epoch whose barrier is the oldest that was sent and is not acknowledged.
-    pub(crate) fn unacknowledged(&self) -> Option<u32> {
-        let oldest = self.acknowledged.checked_add(1)?;
-        if self.is_barrier_sent(oldest) {
-            Some(oldest)
-        } else {
-            None
-        }
+    /// Whether the barrier of this number is the oldest that was sent and is not acknowledged.
+    pub(crate) fn is_oldest(&self, number: u32) -> bool
+        ensures { result ≡ is_oldest number self.now }
+    {
+        number > 0 && number - 1 == self.acknowledged && self.is_barrier_sent(number)
     }
 
     /// Notes that the barrier of this epoch was acknowledged.

@@ -5,7 +5,9 @@ ghost use Rattle.blocks.specs.declared.refusal.Refusal.TheVariants.{BadRange, No
 ghost use Rattle.primary.specs.Primaries.{IsFailed, IsWritten, changed, has_stream, marked, placed_of};
 ghost use Rattle.primary.specs.Submissions.{IsAccepted, IsSubmission, home_in, obstacle, placing};
 ghost use Rattle.primary.specs.Taking.{KeepsEnds};
+ghost use Rattle.primary.specs.Settling.{barrier_of, is_unfinished, settled, settling, with_epoch_ended};
 ghost use Rattle.primary.specs.Writes.{next_local_in, unfinished_in};
+ghost use Rattle.primary.specs.declared.write.Step.TheVariants as step;
 ghost use Rattle.blocks.specs.declared.outcome.What.TheVariants as what;
 ghost use Rattle.std.specs.Option.{ForSome, option_to_list};
 
@@ -102,9 +104,13 @@ impl<O: FrameOut, I: FrameIn, S: Store> Primary<O, I, S> {
     pub fn local(&mut self, number: u64) -> Result<Done, Refusal>
         ensures unknown { IsErr result ↔ (unfinished_in self.old.log number ≡ None) }
         ensures written { ForSome (unfinished_in self.old.log number) (λ w.
-            self.new.faults ≡ self.old.faults → IsWritten w self.old self.new) }
+            self.new.faults ≡ self.old.faults → IsWritten w self.old self.new
+            × (self.new ≡ settling step.Written (is_unfinished number) (record self.old { disk = self.new.disk }))
+            × IfOk result (λ done. done ≡ settled what.Nothing step.Written (is_unfinished number) self.old)) }
         ensures failed { ForSome (unfinished_in self.old.log number) (λ w.
-            self.old.faults < self.new.faults → IsFailed w self.old self.new) }
+            self.old.faults < self.new.faults → IsFailed w self.old self.new
+            × (self.new ≡ settling step.Failed (is_unfinished number) (record self.old { disk = self.new.disk; faults = self.new.faults; marks = self.new.marks }))
+            × IfOk result (λ done. done ≡ settled what.Nothing step.Failed (is_unfinished number) self.old)) }
         ensures counted { self.old.faults ≤ self.new.faults }
         ensures others { self.new ≡ record self.old {
           disk = self.new.disk;
@@ -147,10 +153,14 @@ impl<O: FrameOut, I: FrameIn, S: Store> Primary<O, I, S> {
     /// the last one of an open connection.
     pub(crate) fn done(&mut self, what: What, settled: Settled) -> Done
         ensures others { self.new ≡ record self.old { connection = self.new.connection } }
-        ensures what { result.what ≡ what }
-        ensures completed { result.completed ≡ settled.completed }
-        ensures synced { result.synced ≡ false }
+        ensures told { result ≡ record {
+          what = what;
+          completed = settled.completed;
+          barrier = barrier_of settled.epoch self.old.connection;
+          synced = false;
+        } }
         ensures ends { KeepsEnds self.old.connection self.new.connection }
+        ensures ended { self.new.connection ≡ with_epoch_ended settled.epoch self.old.connection }
     {
         Done {
             what,
@@ -160,9 +170,12 @@ impl<O: FrameOut, I: FrameIn, S: Store> Primary<O, I, S> {
         }
     }
 
+    /// Appends the barrier of this epoch where it is missing, on an open connection.
     fn end_epoch(&mut self, epoch: Option<u32>) -> Option<u32>
         ensures others { self.new ≡ record self.old { connection = self.new.connection } }
+        ensures barrier { result ≡ barrier_of epoch self.old.connection }
         ensures ends { KeepsEnds self.old.connection self.new.connection }
+        ensures ended { self.new.connection ≡ with_epoch_ended epoch self.old.connection }
     {
         let Some(epoch) = epoch else {
             return None;

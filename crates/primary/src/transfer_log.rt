@@ -1,9 +1,12 @@
 //! The transfer log: the writes that are not released (DRBD's `drbd_req`, "transfer log").
-ghost use Rattle.std.specs.Prelude.{◌≡◌, ◌-◌, ◌<◌, [], ◌∷◌, ◌++◌, length, false, Option, None, Some, OnOk, OnErr, IfOk, IfErr, IfSome, IsOk, IsTrue, ◌↔◌};
+ghost use Rattle.std.specs.Prelude.{◌≡◌, ◌-◌, ◌<◌, [], ◌∷◌, ◌++◌, find, is_some, length, if◌then◌else◌, true, false, Option, None, Some, OnOk, OnErr, IfOk, IfErr, IfSome, IsOk, IsTrue, ◌↔◌};
 ghost use Rattle.std.specs.Option.{option_copied, option_to_list};
 ghost use Rattle.blocks.specs.declared.refusal.Refusal.TheVariants.{BadBarrierAck, NoMemory, UnknownAck};
 ghost use Rattle.primary.specs.Acknowledging.{is_awaited, is_ended};
+ghost use Rattle.primary.specs.Acknowledging.{awaits};
+ghost use Rattle.primary.specs.Settling.{completed_at, epoch_at, is_unfinished, log_after};
 ghost use Rattle.primary.specs.Writes.{Fits, LogState, next_local_in, unfinished_in};
+ghost use Rattle.primary.specs.declared.write.Step.TheVariants as step;
 
 use crate::write::{Ack, Changed, Settled, Step, Write};
 use blocks::Refusal;
@@ -118,9 +121,16 @@ impl TransferLog {
     pub(crate) fn finish(&mut self, number: u64, is_written: bool) -> Settled
         ensures journal { self.new.journal ≡ self.old.journal ++ option_to_list result.completed }
         ensures blocks { self.new.blocks ≡ self.old.blocks }
+        ensures writes { self.new.writes ≡ log_after (is_unfinished number)
+            (if is_written then step.Written else step.Failed) self.old.writes }
+        ensures completed { result.completed ≡ completed_at
+            (if is_written then step.Written else step.Failed) (find (is_unfinished number) self.old.writes) }
+        ensures epoch { result.epoch ≡ epoch_at
+            (if is_written then step.Written else step.Failed) (find (is_unfinished number) self.old.writes) }
     {
-        if self.unfinished(number).is_none() {
-            return Settled::NOTHING;
+        match &self.write {
+            Some(write) if write.number == number && write.local.is_waiting() => {}
+            _ => return Settled::NOTHING,
         }
         self.settle(if is_written {
             Step::Written
@@ -138,6 +148,12 @@ impl TransferLog {
         ensures accepted { IsOk result ↔ IsTrue (is_awaited ack.now sent self.old.writes) }
         ensures refused { IfErr result (λ e. e ≡ UnknownAck) }
         ensures unchanged { OnErr result (self.new ≡ self.old) }
+        ensures found { is_some (find (awaits ack.now sent) self.old.writes) ≡ is_awaited ack.now sent self.old.writes }
+        ensures writes { OnOk result (self.new.writes ≡ log_after (awaits ack.now sent) step.Acked self.old.writes) }
+        ensures completed { IfOk result (λ settled.
+            settled.completed ≡ completed_at step.Acked (find (awaits ack.now sent) self.old.writes)) }
+        ensures epoch { IfOk result (λ settled.
+            settled.epoch ≡ epoch_at step.Acked (find (awaits ack.now sent) self.old.writes)) }
     {
         match &self.write {
             Some(write) if write.awaits(ack, sent) => {}
@@ -146,9 +162,13 @@ impl TransferLog {
         Ok(self.settle(Step::Acked))
     }
 
+    /// The write that is in the log, if there is one, has come to this step.
     fn settle(&mut self, step: Step) -> Settled
         ensures journal { self.new.journal ≡ self.old.journal ++ option_to_list result.completed }
         ensures blocks { self.new.blocks ≡ self.old.blocks }
+        ensures writes { self.new.writes ≡ log_after (λ _. true) step self.old.writes }
+        ensures completed { result.completed ≡ completed_at step (find (λ _. true) self.old.writes) }
+        ensures epoch { result.epoch ≡ epoch_at step (find (λ _. true) self.old.writes) }
     {
         let Some(write) = self.write.take() else {
             return Settled::NOTHING;

@@ -1,20 +1,20 @@
 -- A secondary opens only when it is drained: on a connection before the last one nothing is pending.
-use Rattle.std.proofs.Common.{ℕ, suc, ◌≡◌, ◌+◌, ◌-◌, ◌<◌, inl, inr, true, false, not, ◌&&◌, List, [], ◌∷◌, ◌++◌, length, Some, slice_get, sym, ◌∙◌, ap, subst, arith, length-append, ◌==◌}
+use Rattle.std.proofs.Common.{ℕ, suc, ◌≡◌, ◌+◌, ◌-◌, ◌<◌, inl, inr, true, false, not, ◌&&◌, List, [], ◌∷◌, ◌++◌, length, Some, slice_get, sym, ◌∙◌, ap, subst, arith, length-append}
 use Rattle.std.proofs.lemmas.Bool.{cases_lt, and_parts, not-false, eqb-true}
 use Rattle.std.proofs.lemmas.Option.{slice_get_within}
 use Rattle.blocks.specs.declared.refusal.Refusal.TheVariants.{NotDrained}
 use Rattle.blocks.specs.declared.outcome.What.TheVariants as what
 use Rattle.model.specs.Primary.{change_last}
 use Rattle.model.specs.Secondary.{Inward, SecondaryHistory, no_inward, inward, secondary_map, pending, is_drained}
-use Rattle.model.specs.SecondarySteps.{answering, applying, failing, adopting, open_secondary_tests, opened_secondary, open_secondary, succeeding_secondary}
+use Rattle.model.specs.SecondarySteps.{answering, applying, failing, open_secondary_tests, opened_secondary, open_secondary, succeeding_secondary}
 use Rattle.model.specs.LocalRuns.{SecondaryEvent, OpensToo, Receives, Applies, FailsToApply, Acknowledges, ClosesToo, secondary_after, secondary_run}
-use Rattle.model.specs.Theorems.{Opening, secondary_at}
+use Rattle.model.specs.Theorems.{secondary_at}
 use Rattle.laws.specs.Statements.{SecondaryDrainsFirst}
 use Rattle.laws.proofs.Lists.Last.{get-change-back, last-at, length-change}
 use Rattle.laws.proofs.Lists.Elements.{get-more}
 use Rattle.laws.proofs.Lists.Tests.{test-passed}
 use Rattle.laws.proofs.Secondary.Runs.{tested-keeps}
-use Rattle.laws.proofs.Secondary.Moves.{after-receive, after-peer, after-fault, after-push, after-close, framed, receipting, refused_end, pushed_one, closed_end}
+use Rattle.laws.proofs.Secondary.Moves.{after-receive, after-peer, after-fault, after-push, after-close, framed, refused_end, pushed_one, closed_end}
 
 -- nothing is pending before the last connection
 abbrev AreDrained : List Inward → Type 0

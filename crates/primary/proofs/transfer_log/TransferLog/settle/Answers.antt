@@ -1,4 +1,4 @@
-use Rattle.std.proofs.Common.{◌≡◌, Some, None, sym, arith}
+use Rattle.std.proofs.Common.{◌≡◌, Some, None, sym}
 use Rattle.primary.proofs.transfer_log.TransferLog.settle.Goals as goal
 
 pub invariant_of-self-in-Some-completed : goal.invariant_of-self-in-Some-completed
