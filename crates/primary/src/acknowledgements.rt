@@ -33,11 +33,11 @@ impl<O: FrameOut, I: FrameIn, S: Store> Primary<O, I, S> {
         ensures empty { is_connected self.old.connection ≡ true → IsEmpty (queued_of self.old.connection)
             → result ≡ Err NothingThere }
         ensures taken { is_connected self.old.connection ≡ true → TakesIfThere self.old result self.new }
-        // A protocol error closes this end. It completes nothing yet, and releases nothing.
         // What a frame does that is taken, and which refusal comes of it.
         ensures done { is_connected self.old.connection ≡ true → IfOk result (λ done. IsTakenIn self.old done self.new) }
         ensures refused { is_connected self.old.connection ≡ true → IfErr result (λ e.
             IsNothingThere self.old e self.new ⊎ IsClosedBy self.old e self.new) }
+        // A protocol error closes this end. It completes nothing yet, and releases nothing.
         ensures closed { OnErr result (self.new ≡ record self.old {
           peer = self.new.peer;
           connection = self.new.connection;
