@@ -1,7 +1,10 @@
 -- A primary and a secondary whose frames are joined.
+pub mod Acknowledging
 pub mod Agreeing
+pub mod HonestEnds
 pub mod OpeningDisks
 pub mod Openings
 pub mod Promises
+pub mod Receiving
 pub mod SureApplied
 pub mod Taking

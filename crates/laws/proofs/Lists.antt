@@ -2,6 +2,7 @@
 pub mod Beginnings
 pub mod Each
 pub mod Elements
+pub mod Fronts
 pub mod Last
 pub mod Pairs
 pub mod Picks

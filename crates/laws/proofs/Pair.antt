@@ -1,4 +1,5 @@
 -- The pair: its runs are runs of two nodes that are joined.
+pub mod Honest
 pub mod Links
 pub mod Primary
 pub mod Runs

@@ -9,4 +9,5 @@ pub mod LastEpoch
 pub mod LastOpen
 pub mod LawfulMoves
 pub mod Moves
+pub mod Sendable
 pub mod StaysClosed

@@ -2,8 +2,13 @@
 pub mod Applied
 pub mod Chained
 pub mod Drained
+pub mod Fits
 pub mod Good
+pub mod InTurn
 pub mod Moves
+pub mod Orderly
+pub mod OrderlyRuns
+pub mod OrderlyTaking
 pub mod Runs
 pub mod Sound
 pub mod Stays

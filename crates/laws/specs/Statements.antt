@@ -1,12 +1,15 @@
 -- The theorems that are proved, as the contracts name them. Those of joined nodes and of the pair are stated over openings,
 -- with `JoinedRuns` and `EveryRun` of the model.
 use Rattle.std.specs.Prelude.{ℕ, suc, ◌≡◌, ◌<◌, ◌≤◌, ◌⊎◌, Bool, true, false, List, length, take, Some, slice_get}
+use Rattle.blocks.specs.declared.refusal.Refusal.{Refusal}
+use Rattle.blocks.specs.declared.refusal.Refusal.TheVariants.{BadRange, Conflict, LogFull, ActivityFull, JournalFull, StreamFull, NoMemory, LocalFault, NotCompleted, NothingToDo, LinkFull, NotConnected, NothingThere, ReadFault, BadSetting, UnknownJob, EpochOpen, PendingFull, StrangeReceipt, BadMagic, BadCommand, BadLength, BadField, BadBarrierAck, UnknownAck, PrimaryStale, SplitBrain, Unrelated, UsedIdentifier, OtherProtocol, OtherSize, NotDrained}
+use Rattle.blocks.specs.declared.outcome.Reply.TheVariants as reply
 use Rattle.model.specs.Contents.{Write, IsDisk}
 use Rattle.model.specs.LocalRuns.{PrimaryEvent, primary_run, SecondaryEvent, secondary_run}
 use Rattle.model.specs.Primary.{Outward, PrimaryHistory, outward, stands, items_sent, active_extents}
 use Rattle.model.specs.Secondary.{Inward, SecondaryHistory, items_taken, pending}
 use Rattle.model.specs.Stream.{WriteItem, IsBeginning, IsLawful}
-use Rattle.model.specs.Pair.{Event, run}
+use Rattle.model.specs.Pair.{Event, step, run}
 use Rattle.model.specs.Headline.{IsJoined, AreEnds, TakesABeginning, StaysClosed, StaysClosedToo, HoldsEarlierEpochs, KeepsPromises, MarksDifferences, is_marked, is_covered}
 use Rattle.model.specs.Theorems.{Opening, primary_at, secondary_at, pair_at, AnyOpening, HasRanges, IsSoundOpening, EveryRun, JoinedRuns}
 use Rattle.laws.specs.Reflections.{FromItem, FromOpening}
@@ -110,3 +113,44 @@ EveryRunKeepsPromises = EveryRun AnyOpening KeepsPromises
 -- while no stream stands, every block on which the disks differ is marked
 abbrev pub EveryRunMarksDifferences : Type 0
 EveryRunMarksDifferences = EveryRun IsSoundOpening MarksDifferences
+
+-- a frame that the other end could not have sent, or that belongs to other settings
+abbrev pub is_protocol_error : Refusal → Bool
+is_protocol_error BadRange = false
+is_protocol_error (Conflict number) = false
+is_protocol_error LogFull = false
+is_protocol_error ActivityFull = false
+is_protocol_error JournalFull = false
+is_protocol_error StreamFull = false
+is_protocol_error NoMemory = false
+is_protocol_error LocalFault = false
+is_protocol_error NotCompleted = false
+is_protocol_error NothingToDo = false
+is_protocol_error LinkFull = false
+is_protocol_error NotConnected = false
+is_protocol_error NothingThere = false
+is_protocol_error ReadFault = false
+is_protocol_error BadSetting = false
+is_protocol_error UnknownJob = false
+is_protocol_error EpochOpen = false
+is_protocol_error PendingFull = false
+is_protocol_error StrangeReceipt = false
+is_protocol_error BadMagic = true
+is_protocol_error BadCommand = true
+is_protocol_error BadLength = true
+is_protocol_error BadField = true
+is_protocol_error BadBarrierAck = true
+is_protocol_error UnknownAck = true
+is_protocol_error PrimaryStale = false
+is_protocol_error SplitBrain = false
+is_protocol_error Unrelated = false
+is_protocol_error UsedIdentifier = false
+is_protocol_error OtherProtocol = true
+is_protocol_error OtherSize = true
+is_protocol_error NotDrained = false
+
+-- No step of the pair is refused as a protocol error: the link holds only frames that the other end made.
+abbrev pub EveryStepIsHonest : Type 0
+EveryStepIsHonest =
+    (o : Opening) (events : List (Event × Bool)) (event : Event) (starved : Bool) (refusal : Refusal) → HasRanges o
+    → (step event starved (run events (pair_at o)).1).0 ≡ reply.Refused refusal → is_protocol_error refusal ≡ false

@@ -21,7 +21,8 @@ items_of_frame place (UuidsItem tuple) = refl
 abbrev pub read : Packet → Received
 read packet = Ok packet
 
-items_of_frames : (n place : ℕ) (stream : List Item) → filter_map received_item (map read (take n (frames_from place stream))) ≡ take n stream
+-- the items of the first so many frames of a stream are its first so many items
+pub items_of_frames : (n place : ℕ) (stream : List Item) → filter_map received_item (map read (take n (frames_from place stream))) ≡ take n stream
 items_of_frames zero place stream = refl
 items_of_frames (suc n) place [] = refl
 items_of_frames (suc n) place (item ∷ stream) =

@@ -42,7 +42,7 @@ pub record IsLawfulBetween (settings : Settings) (h : PrimaryHistory) : Type 0 w
 -- What follows a step's effect.
 
 -- the last end after a change of it
-last-changed : (h : PrimaryHistory) (f : Outward → Outward) (other : Outward) → (outward h).closed ≡ false → last_of other (change_last f h.connections) ≡ f (outward h)
+pub last-changed : (h : PrimaryHistory) (f : Outward → Outward) (other : Outward) → (outward h).closed ≡ false → last_of other (change_last f h.connections) ≡ f (outward h)
 last-changed h f other standing = elim (last-change f (no_outward h.tuple) other h.connections) [
   | inl none ↦ absurd (both_ways (outward h).closed standing (ap (λ (l : List Outward). (last_of (no_outward h.tuple) l).closed) none))
   | inr last ↦ last
@@ -60,7 +60,7 @@ not-over h c unsettled room = and_right (stands c) _ (or_from _ _ unsettled (fal
     omega arith)))
 
 -- behind a barrier begins an epoch without items
-barrier-empties : (items : List Item) (epoch : ℕ) → items_of_epoch (items ++ BarrierItem epoch ∷ []) (last_epoch (items ++ BarrierItem epoch ∷ [])) ≡ []
+pub barrier-empties : (items : List Item) (epoch : ℕ) → items_of_epoch (items ++ BarrierItem epoch ∷ []) (last_epoch (items ++ BarrierItem epoch ∷ [])) ≡ []
 barrier-empties items epoch =
     let grown = barriers-append items (BarrierItem epoch ∷ []) in
     let last : ℕ = last_epoch (items ++ BarrierItem epoch ∷ []) in

@@ -94,7 +94,7 @@ implied true false c ha hb h = absurd (cc)
 implied false b c ha hb h = absurd (cc)
 
 -- where all up to an epoch is applied, each item up to it is whole
-applied-whole : (d : Inward) (epoch place : ℕ) (item : Item) → is_applied_to d epoch ≡ true → slice_get (items_taken d) place ≡ Some item → epoch_of (items_taken d) place ≤ epoch
+pub applied-whole : (d : Inward) (epoch place : ℕ) (item : Item) → is_applied_to d epoch ≡ true → slice_get (items_taken d) place ≡ Some item → epoch_of (items_taken d) place ≤ epoch
     → has_blocks item ≡ true → is_whole d.applied place item ≡ true
 applied-whole d epoch place item applied there early blocks =
     let test : ℕ × Item → Bool = λ entry. not (nat_le (epoch_of (items_taken d) entry.0) epoch && has_blocks entry.1) || is_whole d.applied entry.0 entry.1 in
@@ -166,7 +166,7 @@ answer-true asked place (SyncUuidItem word) e is whole n packet at = absurd (cc)
 answer-true asked place (UuidsItem tuple) e is whole n packet at = absurd (cc)
 
 -- an item is whole once all of its offsets are applied
-applied-now : (before : Part) (place : ℕ) (item : Item) → is_whole (before ++ offsets_at place (below (length (contents_of item)))) place item ≡ true
+pub applied-now : (before : Part) (place : ℕ) (item : Item) → is_whole (before ++ offsets_at place (below (length (contents_of item)))) place item ≡ true
 applied-now before place item =
     let part : Part = offsets_at place (below (length (contents_of item))) in
     whole-from (before ++ part) place item (λ k less. in-append before part place k ∙ or_right (is_in before place k) (is_in part place k) (in-below place (length (contents_of item)) k less))

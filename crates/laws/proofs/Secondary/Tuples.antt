@@ -90,7 +90,7 @@ front-refusing : (frame : Received) (d : Inward) → d.refused ≡ false → Kee
 front-refusing frame d accepted = record { hello = refl; items = λ none. sym (items-refusing frame d accepted) ∙ none; refused = λ was r. refl }
 
 -- a frame of an item that is taken behind the hello is not lost
-taken-item : (frame : Received) (item : Item) (d : Inward) → d.refused ≡ false → nat_lt (length d.taken) 3 ≡ false → received_item frame ≡ Some item → items_taken (framed frame d) ≡ items_taken d ++ item ∷ []
+pub taken-item : (frame : Received) (item : Item) (d : Inward) → d.refused ≡ false → nat_lt (length d.taken) 3 ≡ false → received_item frame ≡ Some item → items_taken (framed frame d) ≡ items_taken d ++ item ∷ []
 taken-item frame item d accepted late is =
     let old : accepted_of d ≡ drop 3 d.taken = ap (λ b. drop 3 (if b then take (length d.taken - 1) d.taken else d.taken)) accepted in
     let new : accepted_of (framed frame d) ≡ drop 3 d.taken ++ frame ∷ [] =

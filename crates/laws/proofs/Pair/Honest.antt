@@ -1,0 +1,282 @@
+-- No step of a pair is refused as a protocol error.
+use Rattle.std.proofs.Common.{ℕ, suc, ◌≡◌, ◌-◌, ◌⊎◌, inl, inr, Bool, true, false, not, ◌&&◌, List, [], ◌∷◌, ◌++◌, length, take, map, Option, Some, None, is_none, slice_get, Ok, Err, refl, sym, ◌∙◌, ap, subst, arith, nat_le}
+use Rattle.std.specs.Prelude.{option_map, if◌then◌else◌, unwrap_or}
+use Rattle.std.proofs.lemmas.Bool.{both_ways}
+use Rattle.blocks.specs.declared.refusal.Refusal.{Refusal}
+use Rattle.blocks.specs.declared.refusal.Refusal.TheVariants.{BadRange, NoMemory, NothingToDo, NotConnected, NothingThere, ReadFault, UnknownJob, PendingFull}
+use Rattle.blocks.specs.declared.outcome.What.TheVariants as what
+use Rattle.blocks.specs.declared.outcome.Reply.{Reply}
+use Rattle.blocks.specs.declared.outcome.Reply.TheVariants as reply
+use Rattle.blocks.specs.declared.settings.Settings.{Settings}
+use Rattle.model.specs.Stream.{ResyncItem, IsBeginning, below, contents_of}
+use Rattle.model.specs.Frames.{Packet, Received}
+use Rattle.model.specs.Refusals.{Test, first_refusal, done_with}
+use Rattle.model.specs.Primary.{PrimaryHistory, Outward, OnDisk, no_outward, last_of, outward, with_outward, items_sent, frames_due, local_map, free_block}
+use Rattle.model.specs.PrimarySteps.{follows, appending, succeeding, open_tests, open_primary, opened, submit_tests, submitted, submit, is_unfinished, with_outcome, local_done, accepted_at, faulted, local_fault, send_tests, sending, send, resync_tests, resync_next, resync_fault, closing, close_primary}
+use Rattle.model.specs.Acknowledgements.{Taken, taking, take_frame, ack_in}
+use Rattle.model.specs.Secondary.{SecondaryHistory, Inward, no_inward, inward, with_inward, items_taken, pending, answers_due}
+use Rattle.model.specs.SecondarySteps.{succeeding_secondary, Checked, checking, take_item, receive, peer_tests, peer, peer_fault, applying, failing, answering_with, ack_out_tests, ack_out, open_secondary, close_secondary}
+use Rattle.model.specs.LocalRuns.{PrimaryEvent, primary_run, SecondaryEvent, secondary_run}
+use Rattle.model.specs.Headline.{IsJoined, AreEnds}
+use Rattle.model.specs.Pair.{Event, OpenEvent, SubmitEvent, LocalEvent, LocalFaultEvent, SendEvent, ReceiveEvent, PeerEvent, PeerFaultEvent, AckOutEvent, AckInEvent, ResyncEvent, ResyncFaultEvent, ClosePrimaryEvent, CloseSecondaryEvent, PairHistory, pushed_frames, pushed_answers, next_frame, next_answer, has_room, answers_have_room, open_pair_tests, open_pair, keeps_too_many, local_fault_kept, peer_fault_kept, step, run}
+use Rattle.model.specs.Theorems.{Opening, primary_at, secondary_at, pair_at, HasRanges}
+use Rattle.laws.specs.Statements.{is_protocol_error, EveryStepIsHonest}
+use Rattle.laws.proofs.Lists.Each.{each-get}
+use Rattle.laws.proofs.Lists.Last.{last-at}
+use Rattle.laws.proofs.Lists.Tests.{test-passed}
+use Rattle.laws.proofs.Primary.Moves.{with_frame, refusing, pushing}
+use Rattle.laws.proofs.Primary.Homes.{HasHomes}
+use Rattle.laws.proofs.Primary.LawfulMoves.{primary-between, primary_lawful}
+use Rattle.laws.proofs.Primary.Sendable.{IsFitEnd, primary_fit}
+use Rattle.laws.proofs.Secondary.Moves.{framed, refused_end}
+use Rattle.laws.proofs.Secondary.Orderly.{IsOrderly}
+use Rattle.laws.proofs.Secondary.OrderlyRuns.{secondary_orderly}
+use Rattle.laws.proofs.Joining.Openings.{kept-opening-primary, kept-opening-secondary}
+use Rattle.laws.proofs.Joining.Taking.{read, takes_a_beginning}
+use Rattle.laws.proofs.Joining.HonestEnds.{AreHonestEnds}
+use Rattle.laws.proofs.Joining.Receiving.{IsFine, receiving-fine}
+use Rattle.laws.proofs.Joining.Acknowledging.{IsFineToo, acknowledging-fine}
+use Rattle.laws.proofs.Pair.Runs.{pair_runs_are_joined}
+
+-- Two nodes whose ends of each connection are honest ones of a link.
+record AreHonest (settings : Settings) (p : PrimaryHistory) (s : SecondaryHistory) : Type 0 where
+  pub here : p.settings ≡ settings
+  pub there : s.settings ≡ settings
+  pub same : length p.connections ≡ length s.connections
+  pub ends : (k : ℕ) (c : Outward) (d : Inward) → AreEnds p s k c d → AreHonestEnds settings c d
+  pub begins : (k : ℕ) (c : Outward) (d : Inward) → AreEnds p s k c d → IsBeginning (items_taken d) (take (items_sent c) c.stream)
+
+-- two nodes that ran by themselves and whose frames are joined are so
+honest-joined : (o : Opening) (events : List PrimaryEvent) (others : List SecondaryEvent) → HasRanges o → IsJoined (primary_run events (primary_at o)) (secondary_run others (secondary_at o))
+    → AreHonest o.settings (primary_run events (primary_at o)) (secondary_run others (secondary_at o))
+honest-joined o events others ranges joined =
+    let p : PrimaryHistory = primary_run events (primary_at o) in
+    let s : SecondaryHistory = secondary_run others (secondary_at o) in
+    let homes : HasHomes p = (primary-between o.settings o.local o.own o.marks events ranges).0 in
+    let fit = primary_fit o.settings o.local o.own o.marks events ranges.max_epoch.0 in
+    let orderly = secondary_orderly o.settings o.peer o.peer_tuple others in
+    let here : p.settings ≡ o.settings = (kept-opening-primary o events).settings in
+    let there : s.settings ≡ o.settings = (kept-opening-secondary o others).settings in
+    record {
+      here = here;
+      there = there;
+      same = joined.connections;
+      begins = takes_a_beginning p s joined;
+      ends = λ k c d ends. record {
+        lawful = primary_lawful o.settings o.local o.own o.marks events ranges k c ends.outward;
+        fit = each-get (IsFitEnd o.settings) p.connections k c fit.ends ends.outward;
+        orderly = each-get (IsOrderly o.settings.protocol) s.connections k d orderly.ends ends.inward;
+        numbered = λ place write at.
+            let home = homes.homed k place c write ends.outward at in
+            let number = homes.numbered home.0 home.1 home.2 in
+            let same : home.1.write.number ≡ write.number = ap (λ w. w.number) home.3 in
+            omega arith;
+        refused = homes.refused k c ends.outward;
+        out = subst (λ (x : Settings). IsBeginning d.taken (map read (take c.pushed (frames_due x c)))) here (joined.out k c d ends);
+        back = subst (λ (x : Settings). IsBeginning c.taken (map read (take d.pushed (answers_due x d)))) there (joined.back k c d ends);
+      };
+    }
+
+-- so are the two nodes of a pair after every run
+honest-run : (o : Opening) (events : List (Event × Bool)) → HasRanges o → AreHonest o.settings (run events (pair_at o)).1.primary (run events (pair_at o)).1.secondary
+honest-run o events ranges =
+    let runs = pair_runs_are_joined o.settings o.local o.peer o.own o.peer_tuple o.marks events in
+    let both = subst (λ p. IsJoined p (run events (pair_at o)).1.secondary) runs.2 runs.4 in
+    let ends = subst (λ s. IsJoined (primary_run runs.0 (primary_at o)) s) runs.3 both in
+    subst (λ p. AreHonest o.settings p (run events (pair_at o)).1.secondary) (sym runs.2) (subst (λ s. AreHonest o.settings (primary_run runs.0 (primary_at o)) s) (sym runs.3) (honest-joined o runs.0 runs.1 ranges ends))
+
+-- the last ends, where one of them is open
+last-ends : (settings : Settings) (p : PrimaryHistory) (s : SecondaryHistory) → AreHonest settings p s → ((outward p).closed ≡ false) ⊎ ((inward s).closed ≡ false) → AreEnds p s (length p.connections - 1) (outward p) (inward s)
+last-ends settings p s a standing = go (last-at (no_outward p.tuple) p.connections) (last-at (no_inward s) s.connections)
+  where
+    none-here : p.connections ≡ [] → (outward p).closed ≡ true
+    none-here none = ap (λ (l : List Outward). (last_of (no_outward p.tuple) l).closed) none
+
+    none-there : s.connections ≡ [] → (inward s).closed ≡ true
+    none-there none = ap (λ (l : List Inward). (last_of (no_inward s) l).closed) none
+
+    no-length : {X : Type 0} (xs : List X) → length xs ≡ 0 → xs ≡ []
+    no-length [] size = refl
+    no-length (x ∷ xs) size = absurd (omega arith)
+
+    neither : p.connections ≡ [] → s.connections ≡ [] → ⊥
+    neither here there = elim standing [ inl still ↦ both_ways (outward p).closed still (none-here here) | inr still ↦ both_ways (inward s).closed still (none-there there) ]
+
+    go : (p.connections ≡ []) ⊎ (slice_get p.connections (length p.connections - 1) ≡ Some (outward p)) → (s.connections ≡ []) ⊎ (slice_get s.connections (length s.connections - 1) ≡ Some (inward s)) → AreEnds p s (length p.connections - 1) (outward p) (inward s)
+    go (inl none) other = absurd (neither none (no-length s.connections (sym a.same ∙ ap length none)))
+    go (inr here) (inl none) = absurd (neither (no-length p.connections (a.same ∙ ap length none)) none)
+    go (inr here) (inr there) = record { outward = here; inward = subst (λ n. slice_get s.connections (n - 1) ≡ Some (inward s)) (sym a.same) there }
+
+-- Replies.
+
+-- a reply that refuses nothing as a protocol error
+abbrev IsHonestReply : Reply → Type 0
+IsHonestReply (reply.Ok done) = Unit {0}
+IsHonestReply (reply.Refused refusal) = is_protocol_error refusal ≡ false
+IsHonestReply (reply.Closed count) = Unit {0}
+
+-- tests that refuse nothing as one
+abbrev AreMild : List Test → Type 0
+AreMild [] = Unit {0}
+AreMild (test ∷ tests) = (is_protocol_error test.1 ≡ false) × AreMild tests
+
+first-mild : (tests : List Test) → AreMild tests → (refusal : Refusal) → first_refusal tests ≡ Some refusal → is_protocol_error refusal ≡ false
+first-mild [] mild refusal is = absurd (cc)
+first-mild (test ∷ tests) mild refusal is = go test.0 is (first-mild tests mild.1 refusal)
+  where
+    go : (b : Bool) → (if b then Some test.1 else first_refusal tests) ≡ Some refusal → (first_refusal tests ≡ Some refusal → is_protocol_error refusal ≡ false) → is_protocol_error refusal ≡ false
+    go true same rest = let one : test.1 ≡ refusal = cc in subst (λ r. is_protocol_error r ≡ false) one mild.0
+    go false same rest = rest same
+
+-- what follows of tests, where those that refuse are mild
+by-tests : {X : Type 0} (tests : List Test) (h : X) (done : Unit {0} → Reply × X) → AreMild tests → (first_refusal tests ≡ None → IsHonestReply (done tt).0)
+    → IsHonestReply (elim (first_refusal tests) as (λ _. Reply × X) [ Some refusal ↦ (reply.Refused refusal, h) | None ↦ done tt ]).0
+by-tests {X} tests h done mild honest = go (first_refusal tests) refl
+  where
+    go : (v : Option Refusal) → first_refusal tests ≡ v → IsHonestReply (elim v as (λ _. Reply × X) [ Some refusal ↦ (reply.Refused refusal, h) | None ↦ done tt ]).0
+    go (Some refusal) is = first-mild tests mild refusal is
+    go None is = honest is
+
+-- Steps of the primary.
+
+honest-submit : (first : ℕ) (contents : List (List ℕ)) (starved : Bool) (h : PrimaryHistory) → IsHonestReply (submit first contents starved h).0
+honest-submit first contents starved h =
+    by-tests (submit_tests h first contents starved) h (λ _. succeeding (what.Write (suc (length h.writes))) (submitted h first contents)) (refl, (refl, (refl, (refl, (refl, (refl, (refl, (refl, tt)))))))) (λ none. tt)
+
+honest-local : (number : ℕ) (h : PrimaryHistory) → IsHonestReply (local_done number h).0
+honest-local number h = by-tests ((not (is_unfinished h number), UnknownJob) ∷ []) h (λ _. succeeding what.Nothing (with_outcome number OnDisk h)) (refl, tt) (λ none. tt)
+
+honest-fault : (number kept : ℕ) (h : PrimaryHistory) → IsHonestReply (local_fault_kept number kept h).0
+honest-fault number kept h =
+    by-tests ((not (is_unfinished h number), UnknownJob) ∷ (keeps_too_many kept (option_map (λ accepted. length accepted.write.contents) (accepted_at h number)), BadRange) ∷ []) h (λ _. local_fault number (below kept) h) (refl, (refl, tt)) (λ none.
+    by-tests ((not (is_unfinished h number), UnknownJob) ∷ []) h (λ _. succeeding what.Nothing (faulted number (below kept) h)) (refl, tt) (λ free. tt))
+
+honest-send : (room starved : Bool) (h : PrimaryHistory) → IsHonestReply (send room starved h).0
+honest-send room starved h = by-tests (send_tests h room starved) h (λ _. succeeding (sending h) (with_outward pushing h)) (refl, (refl, (refl, (refl, tt)))) (λ none. tt)
+
+honest-resync : (starved : Bool) (h : PrimaryHistory) → IsHonestReply (resync_next starved h).0
+honest-resync starved h = by-tests (resync_tests h starved) h (λ _. elim (free_block h) as (λ _. Reply × PrimaryHistory) [
+  | None ↦ (reply.Refused NothingToDo, h)
+  | Some block ↦ succeeding (what.Block (record { 0 = block }) (length (outward h).stream)) (appending (ResyncItem block (unwrap_or (local_map h block) [])) h)
+]) (refl, (refl, (refl, (refl, tt)))) (λ none. go (free_block h))
+  where
+    go : (v : Option ℕ) → IsHonestReply (elim v as (λ _. Reply × PrimaryHistory) [
+      | None ↦ (reply.Refused NothingToDo, h)
+      | Some block ↦ succeeding (what.Block (record { 0 = block }) (length (outward h).stream)) (appending (ResyncItem block (unwrap_or (local_map h block) [])) h)
+    ]).0
+    go None = refl
+    go (Some block) = tt
+
+honest-resync-fault : (starved : Bool) (h : PrimaryHistory) → IsHonestReply (resync_fault starved h).0
+honest-resync-fault starved h = by-tests (resync_tests h starved) h (λ _. (reply.Refused ReadFault, h)) (refl, (refl, (refl, (refl, tt)))) (λ none. refl)
+
+honest-close : (h : PrimaryHistory) → IsHonestReply (close_primary h).0
+honest-close h = by-tests (((outward h).closed, NotConnected) ∷ []) h (λ _. let after = follows (closing h) in (reply.Closed (length after.completed), after.history)) (refl, tt) (λ none. tt)
+
+-- a frame that is read is a packet that was pushed
+read-packet : (v : Option Packet) (frame : Received) → option_map (λ packet. Ok packet) v ≡ Some frame → (packet : Packet) × (v ≡ Some packet) × (frame ≡ Ok packet)
+read-packet None frame is = absurd (cc)
+read-packet (Some packet) frame is = (packet, refl, let same : Ok packet ≡ frame = cc in sym same)
+
+honest-frame : (settings : Settings) (h : PairHistory) (packet : Packet) → AreHonest settings h.primary h.secondary → (outward h.primary).closed ≡ false → slice_get (pushed_answers h) (length (outward h.primary).taken) ≡ Some packet
+    → IsHonestReply (take_frame (Ok packet) h.primary).0
+honest-frame settings h packet a standing next =
+    let p : PrimaryHistory = h.primary in
+    let s : SecondaryHistory = h.secondary in
+    let ends = last-ends settings p s a (inl standing) in
+    let at : slice_get (take (inward s).pushed (answers_due settings (inward s))) (length (outward p).taken) ≡ Some packet
+    = subst (λ (x : Settings). slice_get (take (inward s).pushed (answers_due x (inward s))) (length (outward p).taken) ≡ Some packet) a.there next in
+    go (taking (Ok packet) p (with_outward (with_frame (Ok packet)) p))
+    (acknowledging-fine settings p (with_outward (with_frame (Ok packet)) p) (inward s) packet a.here a.here (a.ends _ (outward p) (inward s) ends) standing (a.begins _ (outward p) (inward s) ends) at)
+  where
+    go : (v : Taken) → IsFineToo v → IsHonestReply (elim v as (λ _. Reply × PrimaryHistory) [
+      | Ok done ↦ succeeding done.0 done.1
+      | Err error ↦ (reply.Refused error.0, (follows (closing (with_outward refusing error.1))).history)
+    ]).0
+    go (Ok done) fine = tt
+    go (Err error) fine = fine
+
+honest-ack-in : (settings : Settings) (starved : Bool) (h : PairHistory) → AreHonest settings h.primary h.secondary → IsHonestReply (ack_in (next_answer h) starved h.primary).0
+honest-ack-in settings starved h a =
+    let rest : List Test = (not (outward h.primary).begun && starved, NoMemory) ∷ (is_none (next_answer h), NothingThere) ∷ [] in
+    by-tests (((outward h.primary).closed, NotConnected) ∷ rest) h.primary (λ _. elim (next_answer h) as (λ _. Reply × PrimaryHistory) [ None ↦ (reply.Refused NothingThere, h.primary) | Some taken ↦ take_frame taken h.primary ]) (refl, (refl, (refl, tt)))
+    (λ none. go (next_answer h) refl (test-passed (outward h.primary).closed NotConnected rest none).0)
+  where
+    go : (v : Option Received) → next_answer h ≡ v → (outward h.primary).closed ≡ false → IsHonestReply (elim v as (λ _. Reply × PrimaryHistory) [ None ↦ (reply.Refused NothingThere, h.primary) | Some taken ↦ take_frame taken h.primary ]).0
+    go None is standing = refl
+    go (Some taken) is standing =
+        let found = read-packet (slice_get (pushed_answers h) (length (outward h.primary).taken)) taken is in
+        subst (λ (f : Received). IsHonestReply (take_frame f h.primary).0) (sym found.2) (honest-frame settings h found.0 a standing found.1)
+
+-- Steps of the secondary.
+
+honest-item : (settings : Settings) (h : PairHistory) (packet : Packet) → AreHonest settings h.primary h.secondary → (inward h.secondary).closed ≡ false → slice_get (pushed_frames h) (length (inward h.secondary).taken) ≡ Some packet
+    → IsHonestReply (take_item (Ok packet) h.secondary).0
+honest-item settings h packet a standing next =
+    let p : PrimaryHistory = h.primary in
+    let s : SecondaryHistory = h.secondary in
+    let ends = last-ends settings p s a (inr standing) in
+    let at : slice_get (take (outward p).pushed (frames_due settings (outward p))) (length (inward s).taken) ≡ Some packet
+    = subst (λ (x : Settings). slice_get (take (outward p).pushed (frames_due x (outward p))) (length (inward s).taken) ≡ Some packet) a.here next in
+    go (checking (Ok packet) (inward s) (with_inward (framed (Ok packet)) s)) (receiving-fine settings (outward p) (inward s) packet (with_inward (framed (Ok packet)) s) (a.ends _ (outward p) (inward s) ends) standing a.there at)
+  where
+    go : (v : Checked) → IsFine v → IsHonestReply (elim v as (λ _. Reply × SecondaryHistory) [
+      | Ok done ↦ succeeding_secondary done.0 done.1
+      | Err refusal ↦ (reply.Refused refusal, with_inward refused_end (with_inward (framed (Ok packet)) h.secondary))
+    ]).0
+    go (Ok done) fine = tt
+    go (Err refusal) fine = fine
+
+honest-receive : (settings : Settings) (starved : Bool) (h : PairHistory) → AreHonest settings h.primary h.secondary → IsHonestReply (receive (next_frame h) starved h.secondary).0
+honest-receive settings starved h a =
+    let s : SecondaryHistory = h.secondary in
+    let rest : List Test = (nat_le s.settings.pending (length (pending (inward s))), PendingFull) ∷ (starved, NoMemory) ∷ (is_none (next_frame h), NothingThere) ∷ [] in
+    by-tests (((inward s).closed, NotConnected) ∷ rest) s (λ _. elim (next_frame h) as (λ _. Reply × SecondaryHistory) [ None ↦ (reply.Refused NothingThere, s) | Some taken ↦ take_item taken s ]) (refl, (refl, (refl, (refl, tt))))
+    (λ none. go (next_frame h) refl (test-passed (inward s).closed NotConnected rest none).0)
+  where
+    go : (v : Option Received) → next_frame h ≡ v → (inward h.secondary).closed ≡ false
+        → IsHonestReply (elim v as (λ _. Reply × SecondaryHistory) [ None ↦ (reply.Refused NothingThere, h.secondary) | Some taken ↦ take_item taken h.secondary ]).0
+    go None is standing = refl
+    go (Some taken) is standing =
+        let found = read-packet (slice_get (pushed_frames h) (length (inward h.secondary).taken)) taken is in
+        subst (λ (f : Received). IsHonestReply (take_item f h.secondary).0) (sym found.2) (honest-item settings h found.0 a standing found.1)
+
+honest-peer : (place : ℕ) (h : SecondaryHistory) → IsHonestReply (peer place h).0
+honest-peer place h = by-tests (peer_tests h place) h (λ _. succeeding_secondary what.Nothing (with_inward (applying h.settings.protocol place) h)) (refl, (refl, tt)) (λ none. tt)
+
+honest-peer-fault : (place kept : ℕ) (h : SecondaryHistory) → IsHonestReply (peer_fault_kept place kept h).0
+honest-peer-fault place kept h =
+    by-tests (peer_tests h place ++ (keeps_too_many kept (option_map (λ item. length (contents_of item)) (slice_get (items_taken (inward h)) place)), BadRange) ∷ []) h (λ _. peer_fault place (below kept) h) (refl, (refl, (refl, tt))) (λ none.
+    by-tests (peer_tests h place) h (λ _. (reply.Ok (done_with what.Nothing), with_inward (failing place (below kept)) h)) (refl, (refl, tt)) (λ free. tt))
+
+honest-push : (room starved : Bool) (h : SecondaryHistory) → IsHonestReply (ack_out room starved h).0
+honest-push room starved h = by-tests (ack_out_tests h room starved) h (λ _. (reply.Ok (done_with (answering_with h)), with_inward (λ c. record c { pushed = suc c.pushed }) h)) (refl, (refl, (refl, (refl, tt)))) (λ none. tt)
+
+honest-close-too : (h : SecondaryHistory) → IsHonestReply (close_secondary h).0
+honest-close-too h = by-tests (((inward h).closed, NotConnected) ∷ []) h (λ _. (reply.Ok (done_with what.Nothing), with_inward (λ c. record c { closed = true }) h)) (refl, tt) (λ none. tt)
+
+-- Steps of the pair.
+
+honest-open : (sync loss : ℕ) (starved : Bool) (h : PairHistory) → IsHonestReply (open_pair sync loss starved h).0
+honest-open sync loss starved h = by-tests (open_pair_tests h sync loss starved) h (λ _. let primary = open_primary sync loss starved h.primary in (primary.0, record { primary = primary.1; secondary = (open_secondary h.secondary).1 }))
+    (refl, (refl, (refl, (refl, (refl, tt))))) (λ none. by-tests (open_tests h.primary sync loss starved) h.primary (λ _. succeeding what.Nothing (opened h.primary sync loss)) (refl, (refl, (refl, (refl, tt)))) (λ free. tt))
+
+honest-step : (settings : Settings) (event : Event) (starved : Bool) (h : PairHistory) → AreHonest settings h.primary h.secondary → IsHonestReply (step event starved h).0
+honest-step settings (OpenEvent sync loss) starved h a = honest-open sync loss starved h
+honest-step settings (SubmitEvent first contents) starved h a = honest-submit first contents starved h.primary
+honest-step settings (LocalEvent number) starved h a = honest-local number h.primary
+honest-step settings (LocalFaultEvent number kept) starved h a = honest-fault number kept h.primary
+honest-step settings SendEvent starved h a = honest-send (has_room h) starved h.primary
+honest-step settings ReceiveEvent starved h a = honest-receive settings starved h a
+honest-step settings (PeerEvent place) starved h a = honest-peer place h.secondary
+honest-step settings (PeerFaultEvent place kept) starved h a = honest-peer-fault place kept h.secondary
+honest-step settings AckOutEvent starved h a = honest-push (answers_have_room h) starved h.secondary
+honest-step settings AckInEvent starved h a = honest-ack-in settings starved h a
+honest-step settings ResyncEvent starved h a = honest-resync starved h.primary
+honest-step settings ResyncFaultEvent starved h a = honest-resync-fault starved h.primary
+honest-step settings ClosePrimaryEvent starved h a = honest-close h.primary
+honest-step settings CloseSecondaryEvent starved h a = honest-close-too h.secondary
+
+-- No step of the pair is refused as a protocol error.
+pub every_step_is_honest : EveryStepIsHonest
+every_step_is_honest o events event starved refusal ranges is = subst IsHonestReply is (honest-step o.settings event starved (run events (pair_at o)).1 (honest-run o events ranges))

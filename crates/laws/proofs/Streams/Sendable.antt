@@ -1,0 +1,164 @@
+-- What may stand in a primary's stream beside being lawful: ranges of the device, the order of a resync, and so few items that
+-- each has a place.
+use Rattle.std.proofs.Common.{ℕ, ◌≡◌, ◌+◌, ◌≤◌, ◌<◌, inl, inr, Bool, true, false, cond, not, ◌&&◌, ◌||◌, List, [], ◌∷◌, ◌++◌, length, take, filter, Some, slice_get, refl, sym, ◌∙◌, ap, subst, arith, ◌==◌, length-append, nat_le}
+use Rattle.std.specs.List.{list_any}
+use Rattle.std.proofs.lemmas.Bool.{and_parts, or_cases, or_left, or_from, both_ways, leb-true}
+use Rattle.std.proofs.lemmas.List.Folds.{list_any-append}
+use Rattle.std.proofs.lemmas.List.{take-append-le}
+use Rattle.std.proofs.Math.Seq.{take-append_seam}
+use Rattle.std.proofs.lemmas.Option.{slice_get_within}
+use Rattle.blocks.specs.declared.settings.Settings.{Settings}
+use Rattle.blocks.specs.declared.tuple.Tuple.{Tuple}
+use Rattle.model.specs.Contents.{is_range}
+use Rattle.model.specs.Stream.{Item, WriteItem, ResyncItem, BarrierItem, SyncUuidItem, UuidsItem, is_write, last_epoch, items_of_epoch, epoch_size}
+use Rattle.model.specs.Primary.{is_resync, is_sync_start, is_sync_end, in_resync, Outward, PrimaryHistory, outward, stands}
+use Rattle.model.specs.PrimarySteps.{is_settled, epoch_is_over}
+use Rattle.laws.proofs.Lists.Elements.{get-more, get-there}
+use Rattle.laws.proofs.Lists.Picks.{pick-any, any-pick, any-none, pick-filtered}
+use Rattle.laws.proofs.Streams.Places.{barriers-append}
+use Rattle.laws.proofs.Streams.Lawful.{epoch-items-grow}
+use Rattle.laws.proofs.Primary.LawfulMoves.{barrier-empties}
+
+-- What is asked of an item by what stands before it: its blocks are a range of the device; SYNC_UUID comes first and its word
+-- is not zero; resync blocks and closing UUIDS come in a resync.
+abbrev pub MayStand : Settings → List Item → Item → Type 0
+MayStand settings front (WriteItem write) = is_range settings write.first (length write.contents) ≡ true
+MayStand settings front (ResyncItem block contents) = (is_range settings block 1 ≡ true) × (in_resync front ≡ true)
+MayStand settings front (BarrierItem epoch) = Unit {0}
+MayStand settings front (SyncUuidItem word) = (front ≡ []) × (0 < word)
+MayStand settings front (UuidsItem tuple) = in_resync front ≡ true
+
+-- a write or a block of a resync
+abbrev pub is_work : ℕ × Item → Bool
+is_work entry = is_write entry.1 || is_resync entry.1
+
+-- the last epoch has a write or a block of a resync, so a barrier may follow
+abbrev pub is_busy : List Item → Bool
+is_busy items = list_any is_work (items_of_epoch items (last_epoch items))
+
+-- one where it holds, and none where not
+abbrev pub one_if : Bool → ℕ
+one_if true = 1
+one_if false = 0
+
+-- A stream in which each item may stand, and where a barrier and the end of a resync still have places.
+pub record IsSendable (settings : Settings) (items : List Item) : Type 0 where
+  pub stands : (place : ℕ) (item : Item) → slice_get items place ≡ Some item → MayStand settings (take place items) item
+  pub short : length items + one_if (is_busy items) + one_if (in_resync items) ≤ 4294967290
+
+-- an item goes to its end that may stand there, and there is room
+sendable-append : (settings : Settings) (items : List Item) (item : Item) → IsSendable settings items → MayStand settings items item
+    → length items + 1 + one_if (is_busy (items ++ item ∷ [])) + one_if (in_resync (items ++ item ∷ [])) ≤ 4294967290 → IsSendable settings (items ++ item ∷ [])
+sendable-append settings items item s may room = record {
+  stands = λ place x at. elim (get-more items item place x at) [
+    | inl old ↦ subst (λ (l : List Item). MayStand settings l x) (sym (take-append-le place items (item ∷ []) (let n = slice_get_within items place x old in omega arith))) (s.stands place x old)
+    | inr new ↦
+        let front : take place (items ++ item ∷ []) ≡ items = ap (λ n. take n (items ++ item ∷ [])) new.0 ∙ take-append_seam items (item ∷ []) in
+        subst (λ (l : List Item). MayStand settings l x) (sym front) (subst (MayStand settings items) (sym new.1) may)
+  ];
+  short = let long : length (items ++ item ∷ []) ≡ length items + 1 = length-append items (item ∷ []) in omega arith;
+}
+
+at-most-one : (b : Bool) → one_if b ≤ 1
+at-most-one true = omega arith
+at-most-one false = omega arith
+
+-- a write or a resync block, where there are so few items
+pub sendable-work : (settings : Settings) (items : List Item) (item : Item) → IsSendable settings items → MayStand settings items item → length items < 4294967288 → IsSendable settings (items ++ item ∷ [])
+sendable-work settings items item s may few =
+    let a = at-most-one (is_busy (items ++ item ∷ [])) in
+    let b = at-most-one (in_resync (items ++ item ∷ [])) in
+    sendable-append settings items item s may (omega arith)
+
+-- an item that neither begins nor ends a resync leaves it
+resync-stays : (items : List Item) (item : Item) → is_sync_start item ≡ false → is_sync_end item ≡ false → in_resync (items ++ item ∷ []) ≡ in_resync items
+resync-stays items item start end = go (list_any is_sync_start items) (list_any is_sync_end items) (list_any-append is_sync_start items (item ∷ [])) (list_any-append is_sync_end items (item ∷ []))
+  where
+    go : (a b : Bool) → list_any is_sync_start (items ++ item ∷ []) ≡ (a || (is_sync_start item || false)) → list_any is_sync_end (items ++ item ∷ []) ≡ (b || (is_sync_end item || false))
+        → in_resync (items ++ item ∷ []) ≡ (a && not b)
+    go true true one two = rw (one, two) refl
+    go true false one two = rw (one, two, end) refl
+    go false b one two = rw (one, start) refl
+
+-- a barrier, behind a busy epoch
+pub sendable-barrier : (settings : Settings) (items : List Item) → IsSendable settings items → is_busy items ≡ true → IsSendable settings (items ++ BarrierItem (last_epoch items) ∷ [])
+sendable-barrier settings items s busy =
+    let item : Item = BarrierItem (last_epoch items) in
+    let idle : is_busy (items ++ item ∷ []) ≡ false = ap (list_any is_work) (barrier-empties items (last_epoch items)) in
+    let same : in_resync (items ++ item ∷ []) ≡ in_resync items = resync-stays items item refl refl in
+    let short = s.short in
+    let one : one_if (is_busy items) ≡ 1 = ap one_if busy in
+    let two : one_if (is_busy (items ++ item ∷ [])) ≡ 0 = ap one_if idle in
+    let three : one_if (in_resync (items ++ item ∷ [])) ≡ one_if (in_resync items) = ap one_if same in
+    sendable-append settings items item s tt (omega arith)
+
+-- the end of a resync leaves the last epoch as busy as it was
+busy-stays : (items : List Item) (tuple : Tuple) → is_busy (items ++ UuidsItem tuple ∷ []) ≡ is_busy items
+busy-stays items tuple =
+    let item : Item = UuidsItem tuple in
+    let grown = barriers-append items (item ∷ []) in
+    let same : last_epoch (items ++ item ∷ []) ≡ last_epoch items = omega arith in
+    let rest : (b : Bool) → list_any is_work (cond b ((length items, item) ∷ []) []) ≡ false = λ b. elim b as (λ t. list_any is_work (cond t ((length items, item) ∷ []) []) ≡ false) [ true ↦ refl | false ↦ refl ] in
+    ap (λ n. list_any is_work (items_of_epoch (items ++ item ∷ []) n)) same
+    ∙ (ap (list_any is_work) (epoch-items-grow items item (last_epoch items))
+    ∙ (list_any-append is_work (items_of_epoch items (last_epoch items)) (cond (last_epoch items == last_epoch items) ((length items, item) ∷ []) [])
+    ∙ (ap (λ b. is_busy items || b) (rest (last_epoch items == last_epoch items)) ∙ plain (is_busy items))))
+  where
+    plain : (b : Bool) → (b || false) ≡ b
+    plain true = refl
+    plain false = refl
+
+-- the end of a resync, where one runs
+pub sendable-end : (settings : Settings) (items : List Item) (tuple : Tuple) → IsSendable settings items → in_resync items ≡ true → IsSendable settings (items ++ UuidsItem tuple ∷ [])
+sendable-end settings items tuple s running =
+    let item : Item = UuidsItem tuple in
+    let over : in_resync (items ++ item ∷ []) ≡ false = ended (list_any is_sync_start (items ++ item ∷ [])) (list_any is_sync_end items) (list_any-append is_sync_end items (item ∷ [])) in
+    let short = s.short in
+    let one : one_if (in_resync items) ≡ 1 = ap one_if running in
+    let two : one_if (in_resync (items ++ item ∷ [])) ≡ 0 = ap one_if over in
+    let three : one_if (is_busy (items ++ item ∷ [])) ≡ one_if (is_busy items) = ap one_if (busy-stays items tuple) in
+    sendable-append settings items item s running (omega arith)
+  where
+    ended : (a b : Bool) → list_any is_sync_end (items ++ UuidsItem tuple ∷ []) ≡ (b || (true || false)) → (a && not (list_any is_sync_end (items ++ UuidsItem tuple ∷ []))) ≡ false
+    ended true true is = ap not is
+    ended true false is = ap not is
+    ended false b is = refl
+
+-- nothing
+pub sendable-empty : (settings : Settings) → IsSendable settings []
+sendable-empty settings = record { stands = λ place item at. absurd (cc); short = omega arith }
+
+-- the start of a resync
+pub sendable-start : (settings : Settings) (word : ℕ) → 0 < word → IsSendable settings (SyncUuidItem word ∷ [])
+sendable-start settings word fresh = sendable-work settings [] (SyncUuidItem word) (sendable-empty settings) (refl, fresh) (omega arith)
+
+-- An epoch that is over had a write or a block.
+pub over-busy : (settings : Settings) → 0 < settings.max_epoch → (h : PrimaryHistory) → h.settings ≡ settings → epoch_is_over h ≡ true → is_busy (outward h).stream ≡ true
+over-busy settings bound h same over = elim (or_cases settled full (and_parts (stands c) (settled || full) over).1) [
+  | inl some ↦ let found = pick-any (is_settled h c) entries some in any-pick is_work entries found.0 found.1 found.2 (work found.1 found.3)
+  | inr many ↦
+      let setting : h.settings.max_epoch ≡ settings.max_epoch = ap (λ (x : Settings). x.max_epoch) same in
+      let size = leb-true h.settings.max_epoch (epoch_size c.stream (last_epoch c.stream)) many in
+      let first = get-there (filter (λ (entry : ℕ × Item). is_write entry.1) entries) 0 (omega arith) in
+      let found = pick-filtered (λ (entry : ℕ × Item). is_write entry.1) entries 0 first.0 first.1 in
+      any-pick is_work entries found.0 first.0 found.1 (or_left (is_write first.0.1) (is_resync first.0.1) found.2)
+]
+  where
+    c : Outward
+    c = outward h
+
+    entries : List (ℕ × Item)
+    entries = items_of_epoch (outward h).stream (last_epoch (outward h).stream)
+
+    settled : Bool
+    settled = list_any (is_settled h (outward h)) (items_of_epoch (outward h).stream (last_epoch (outward h).stream))
+
+    full : Bool
+    full = nat_le h.settings.max_epoch (epoch_size (outward h).stream (last_epoch (outward h).stream))
+
+    work : (entry : ℕ × Item) → is_settled h (outward h) entry ≡ true → is_work entry ≡ true
+    work (place, WriteItem write) is = refl
+    work (place, ResyncItem block contents) is = refl
+    work (place, BarrierItem epoch) is = absurd (both_ways _ (or_from _ _ (any-none _ h.writes (λ accepted. refl)) refl) is)
+    work (place, SyncUuidItem word) is = absurd (both_ways _ (or_from _ _ (any-none _ h.writes (λ accepted. refl)) refl) is)
+    work (place, UuidsItem tuple) is = absurd (both_ways _ (or_from _ _ (any-none _ h.writes (λ accepted. refl)) refl) is)
