@@ -1,5 +1,5 @@
 //! The sending end of a link that stays in one thread.
-ghost use Rattle.std.specs.Prelude.{◌≡◌, ◌↔◌, Option, None, Some, [], ◌++◌, IsErr, OnOk, OnErr, IfErr, IfSome};
+ghost use Rattle.std.specs.Prelude.{◌≡◌, ◌≤◌, ◌↔◌, Option, None, Some, [], ◌++◌, length, IsErr, OnOk, OnErr, IfErr, IfSome};
 ghost use Rattle.std.specs.Option.{option_map};
 ghost use Rattle.link.specs.Directions.{InState, IsDirection, IsDirectionWith, accepting, room_in};
 
@@ -47,6 +47,7 @@ impl PlainOut {
         ensures left { self.new ≡ record { sent = self.old.sent; queue = None } }
         // What went into the queue is what this end has sent.
         ensures whole { IfSome result (λ q. self.old.sent ≡ q.taken ++ q.frames) }
+        ensures fits { IfSome result (λ q. length q.frames ≤ q.capacity) }
         ensures with_queue { IfSome result (λ q. (taker : InState)
             → IsDirection self.old taker → IsDirectionWith self.new taker q) }
     {

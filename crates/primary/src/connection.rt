@@ -1,5 +1,5 @@
 //! A connection with the secondary.
-ghost use Rattle.std.specs.Prelude.{◌≡◌, ◌↔◌, ◌⊎◌, Err, IsErr, IsErrOf, ◌-◌, ◌*◌, ◌<◌, ◌^◌, ◌++◌, [], true, false, length, Option, None, Some, OnOk, OnErr, IfOk, IfErr, IfSome};
+ghost use Rattle.std.specs.Prelude.{◌≡◌, ◌↔◌, ◌⊎◌, Err, IsErr, IsErrOf, ◌-◌, ◌*◌, ◌<◌, ◌≤◌, ◌^◌, ◌++◌, [], true, false, length, Option, None, Some, OnOk, OnErr, IfOk, IfErr, IfSome};
 ghost use Rattle.blocks.specs.declared.refusal.Refusal.TheVariants.{LinkFull, NoMemory, NothingThere};
 ghost use Rattle.packets.specs.declared.packet.Packet.TheVariants as packet;
 ghost use Rattle.primary.specs.Hellos.{after};
@@ -255,6 +255,7 @@ impl Connection<PlainOut, PlainIn> {
     pub(crate) fn give_outward(&mut self) -> Option<Queue>
         ensures given { option_map (λ q. q.frames) result ≡ self.old.waiting }
         ensures room { IfSome result (λ q. self.old.room ≡ Some (q.capacity - length q.frames)) }
+        ensures fits { IfSome result (λ q. length q.frames ≤ q.capacity) }
         ensures sent { IfSome result (λ q. self.old.sent ≡ q.taken ++ q.frames) }
         ensures left { self.new ≡ with_waiting None 0 self.old }
     {

@@ -1,7 +1,7 @@
 //! Lending the queues of a link whose two nodes run in one thread. A direction's queue rests at its sending
 //! end, and lies at its taking end for a take. None of these calls takes memory, or changes what was sent or
 //! taken.
-ghost use Rattle.std.specs.Prelude.{◌≡◌, ◌-◌, ◌++◌, [], length, Option, None, Some, IsSome, IfSome};
+ghost use Rattle.std.specs.Prelude.{◌≡◌, ◌≤◌, ◌-◌, ◌++◌, [], length, Option, None, Some, IsSome, IfSome};
 ghost use Rattle.std.specs.Option.{option_map};
 ghost use Rattle.primary.specs.Primaries.{capacity_of, changed, queued_of, room_of, sent_of, taken_of, waiting_of, with_queued, with_waiting};
 
@@ -16,6 +16,7 @@ impl<S: Store> Primary<PlainOut, PlainIn, S> {
     pub fn give_outward(&mut self) -> Option<Queue>
         ensures given { option_map (λ q. q.frames) result ≡ waiting_of self.old.connection }
         ensures room { IfSome result (λ q. room_of self.old.connection ≡ Some (q.capacity - length q.frames)) }
+        ensures fits { IfSome result (λ q. length q.frames ≤ q.capacity) }
         ensures sent { IfSome result (λ q. sent_of self.old.connection ≡ q.taken ++ q.frames) }
         ensures left { self.new ≡ record self.old {
           connection = changed (with_waiting None 0) self.old.connection;

@@ -179,6 +179,8 @@ impl<O: FrameOut, I: FrameIn, S: Store> Primary<O, I, S> {
         ensures refused { IfErr result (λ e. (e ≡ BadRange) ⊎ (e ≡ ReadFault)) }
         ensures unchanged { self.new ≡ record self.old { faults = self.new.faults } }
         ensures counted { IsErrOf result Refusal.ReadFault → self.old.faults < self.new.faults }
+        // The count is the disk's own, so with a disk that never fails it stays as it was.
+        ensures counted_by_disk { (disk : S) × (self.new.faults ≡ S.faults disk) }
     {
         if block.0 >= u64::from(self.settings.blocks) {
             return Err(Refusal::BadRange);

@@ -112,6 +112,8 @@ impl<O: FrameOut, I: FrameIn, S: Store> Primary<O, I, S> {
             × (self.new ≡ settling step.Failed (is_unfinished number) (record self.old { disk = self.new.disk; faults = self.new.faults; marks = self.new.marks }))
             × IfOk result (λ done. done ≡ settled what.Nothing step.Failed (is_unfinished number) self.old)) }
         ensures counted { self.old.faults ≤ self.new.faults }
+        // The count is the disk's own, so with a disk that never fails it stays as it was.
+        ensures counted_by_disk { (disk : S) × (self.new.faults ≡ S.faults disk) }
         ensures others { self.new ≡ record self.old {
           disk = self.new.disk;
           faults = self.new.faults;

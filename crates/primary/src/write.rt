@@ -58,7 +58,7 @@ pub struct Write {
 
 /// What happens to a write.
 #[derive(Clone, Copy)]
-pub(crate) enum Step {
+pub enum Step {
     /// The local disk holds it.
     Written,
     /// The local disk failed to write it.

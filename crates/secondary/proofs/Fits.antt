@@ -1,19 +1,18 @@
 -- What is kept when a frame is taken.
-use Rattle.std.proofs.Common.{ℕ, ◌≡◌, ◌+◌, ◌<◌, ◌≤◌, ◌∷◌, [], ◌++◌, List, Bool, true, false, cond, suc, Some, subst, take, drop, length, arith, rules, length-append}
+use Rattle.std.proofs.Common.{ℕ, ◌≡◌, ◌<◌, ◌≤◌, ◌∷◌, [], ◌++◌, List, Bool, true, false, cond, suc, Some, subst, take, drop, arith, length-append}
 use Rattle.std.specs.Prelude.{All, slice_get, remove, nat_le}
 use Rattle.std.proofs.lemmas.Option.{get_or_from_slice_get, slice_get_within}
 use Rattle.std.proofs.lemmas.Bool.Decides.{nat_tests}
 use Rattle.std.proofs.lemmas.List.Elements.{All-append, All-push, All-take, All-drop, All-filter, All-from_recursion, recursion_from_All}
 use Rattle.blocks.specs.Ranges.{IsRange}
 use Rattle.blocks.specs.declared.settings.Settings.{Settings}
-use Rattle.secondary.specs.declared.acknowledgements.Due.{Due}
 use Rattle.secondary.specs.declared.acknowledgements.Due.TheVariants as due
 use Rattle.secondary.specs.declared.acknowledgements.EpochEnd.{EpochEnd}
 use Rattle.secondary.specs.declared.peer_disk.Item.{Item}
 use Rattle.secondary.specs.declared.receive.Taken.{Taken}
 use Rattle.secondary.specs.declared.receive.Taken.TheVariants as taken
 use Rattle.secondary.specs.declared.stream.Span.{Span}
-use Rattle.secondary.specs.Acknowledged.{acknowledged, unacknowledged}
+use Rattle.secondary.specs.Acknowledged.{acknowledged}
 use Rattle.secondary.specs.Checks.{is_range}
 use Rattle.secondary.specs.Invariant.{IsWrite, IsDue, IsIntake, IsFit, HoldsWrite}
 use Rattle.secondary.specs.Judged.{is_next_write}

@@ -1,7 +1,6 @@
 -- What the test of a range says.
-use Rattle.std.proofs.Common.{ℕ, ◌≡◌, ◌+◌, ◌-◌, ◌/◌, ◌<◌, ◌≤◌, ◌==◌, Bool, true, false, ◌&&◌, ltb, leb, arith, rules, tests}
+use Rattle.std.proofs.Common.{ℕ, ◌≡◌, true, arith}
 use Rattle.std.proofs.lemmas.Bool.Decides.{nat_tests}
-use Rattle.std.proofs.lemmas.Grind.{common_steps}
 use Rattle.blocks.specs.Ranges.{IsRange}
 use Rattle.secondary.specs.Checks.{is_range}
 

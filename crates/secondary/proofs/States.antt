@@ -1,5 +1,5 @@
 -- Two states that agree in each part are one.
-use Rattle.std.proofs.Common.{ℕ, ◌≡◌, Bool, List, Option, refl}
+use Rattle.std.proofs.Common.{ℕ, ◌≡◌, Bool, List, Option}
 use Rattle.blocks.specs.declared.settings.Settings.{Settings}
 use Rattle.blocks.specs.declared.tuple.Tuple.{Tuple}
 use Rattle.secondary.specs.State.{IntakeState, SecondaryState}

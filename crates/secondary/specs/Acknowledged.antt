@@ -1,5 +1,5 @@
 -- Which barriers are acknowledged once which items are applied.
-use Rattle.std.specs.Prelude.{ℕ, List, [], ◌∷◌, ◌++◌, if◌then◌else◌}
+use Rattle.std.specs.Prelude.{List, [], ◌∷◌, if◌then◌else◌}
 use Rattle.secondary.specs.declared.peer_disk.Item.{Item}
 use Rattle.secondary.specs.declared.acknowledgements.Due.{Due}
 use Rattle.secondary.specs.declared.acknowledgements.Due.TheVariants as due

@@ -1,5 +1,5 @@
 -- What applying an item does.
-use Rattle.std.specs.Prelude.{ℕ, ◌≡◌, ◌<◌, ◌⊎◌, false, List, slice_get, Some}
+use Rattle.std.specs.Prelude.{ℕ, ◌≡◌, ◌<◌, ◌⊎◌, false, slice_get, Some}
 use Rattle.blocks.specs.Contents.{blocks_of, overwritten, IsTorn}
 use Rattle.secondary.specs.declared.peer_disk.Item.{Item}
 use Rattle.secondary.specs.Pending.{index_of}

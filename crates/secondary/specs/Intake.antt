@@ -1,5 +1,5 @@
 -- What a clause sees of an intake, and the room that it has.
-use Rattle.std.specs.Prelude.{ℕ, ◌+◌, ◌<◌, ◌≤◌, List, vec_len, vec_capacity}
+use Rattle.std.specs.Prelude.{◌+◌, ◌<◌, ◌≤◌, vec_len, vec_capacity}
 use Rattle.std.specs.VecDeque.{deque_len, deque_capacity}
 use Rattle.secondary.specs.declared.intake.Intake.{Intake}
 use Rattle.secondary.specs.State.{IntakeState}

@@ -1,5 +1,5 @@
 -- What is true of the secondary between its calls.
-use Rattle.std.specs.Prelude.{ℕ, ◌≡◌, ◌+◌, ◌*◌, ◌/◌, ◌<◌, ◌≤◌, ◌^◌, Bool, List, length, All, Option, IsTrue, IsSome}
+use Rattle.std.specs.Prelude.{ℕ, ◌≡◌, ◌+◌, ◌*◌, ◌/◌, ◌<◌, ◌≤◌, ◌^◌, Bool, length, All, Option, IsTrue, IsSome}
 use Rattle.blocks.specs.Ranges.{IsRange}
 use Rattle.secondary.specs.declared.acknowledgements.Due.{Due}
 use Rattle.secondary.specs.declared.acknowledgements.Due.TheVariants as due

@@ -1,7 +1,5 @@
 -- What a taken frame is to the secondary, or the refusal that closes it.
 use Rattle.std.specs.Prelude.{ℕ, ◌≡◌, ◌+◌, ◌/◌, ◌==◌, Bool, true, false, ◌&&◌, not, nat_lt, nat_le, List, length, slice_index, Result, Ok, Err, if◌then◌else◌}
-use Rattle.blocks.specs.declared.block.Block.{Block}
-use Rattle.blocks.specs.declared.command.Command.{Command}
 use Rattle.blocks.specs.declared.command.Command.TheVariants as command
 use Rattle.blocks.specs.declared.refusal.Refusal.{Refusal}
 use Rattle.blocks.specs.declared.refusal.Refusal.TheVariants as refusal
@@ -15,7 +13,6 @@ use Rattle.packets.specs.Spelling.{IsSpellable, Spells}
 use Rattle.secondary.specs.declared.receive.Taken.{Taken}
 use Rattle.secondary.specs.declared.receive.Taken.TheVariants as taken
 use Rattle.secondary.specs.declared.stream.Span.{Span}
-use Rattle.secondary.specs.declared.peer_disk.Item.{Item}
 use Rattle.secondary.specs.Checks.{is_range, shares_any}
 use Rattle.secondary.specs.State.{IntakeState}
 

@@ -1,5 +1,5 @@
 -- What taking a frame does.
-use Rattle.std.specs.Prelude.{ℕ, ◌≡◌, ◌⊎◌, false, List, [], ◌∷◌, ◌++◌, drop, Option, Some, None, MatchOption, IfSome, Ok, Err}
+use Rattle.std.specs.Prelude.{ℕ, ◌≡◌, ◌⊎◌, false, List, [], ◌∷◌, ◌++◌, drop, Some, None, MatchOption, IfSome, Ok, Err}
 use Rattle.std.specs.Option.{option_map}
 use Rattle.blocks.specs.declared.command.Command.TheVariants as command
 use Rattle.blocks.specs.declared.outcome.What.{What}

@@ -1,8 +1,7 @@
 -- Which refusal comes first.
-use Rattle.std.specs.Prelude.{ℕ, ◌==◌, Bool, ◌&&◌, not, nat_le, List, [], ◌∷◌, length, Option, Some, None, is_some, if◌then◌else◌}
+use Rattle.std.specs.Prelude.{ℕ, ◌==◌, Bool, ◌&&◌, not, nat_le, length, Option, Some, None, if◌then◌else◌}
 use Rattle.blocks.specs.declared.refusal.Refusal.{Refusal}
-use Rattle.blocks.specs.declared.refusal.Refusal.TheVariants.{BadRange, BadSetting, NotConnected, NothingThere, NotDrained, PendingFull, ReadFault, UnknownJob}
-use Rattle.blocks.specs.declared.settings.Protocol.{Protocol}
+use Rattle.blocks.specs.declared.refusal.Refusal.TheVariants.{BadRange, BadSetting, NotConnected, NothingThere, NotDrained, PendingFull, ReadFault}
 use Rattle.blocks.specs.declared.settings.Protocol.TheVariants as protocol
 use Rattle.blocks.specs.declared.settings.Settings.{Settings}
 use Rattle.secondary.specs.Judged.{same_protocol}

@@ -1,6 +1,5 @@
 -- What the calls of the secondary change.
-use Rattle.std.specs.Prelude.{ℕ, ◌+◌, ◌/◌, Bool, false, List, [], ◌∷◌, ◌++◌, length, drop, remove, filter, nat_le, Option, Some, None, if◌then◌else◌}
-use Rattle.blocks.specs.declared.block.TheConstants.{BLOCK_BYTES}
+use Rattle.std.specs.Prelude.{ℕ, ◌+◌, ◌/◌, Bool, false, List, [], ◌∷◌, ◌++◌, length, drop, remove, filter, nat_le, None, if◌then◌else◌}
 use Rattle.secondary.specs.declared.receive.Taken.{Taken}
 use Rattle.secondary.specs.declared.receive.Taken.TheVariants as taken
 use Rattle.secondary.specs.declared.acknowledgements.Due.{Due}

@@ -26,6 +26,9 @@ impl<O: FrameOut + Drop, I: FrameIn + Drop, S: Store + Drop> Secondary<O, I, S> 
         ensures unchanged { OnErr result (self.new ≡ self.old) }
         ensures done { IfOk result (λ done. done ≡ done_with Nothing) }
         ensures applied { OnOk result (IsApplied self.old place self.new) }
+        ensures size { length self.new.disk ≡ length self.old.disk }
+        // The count of faults is the disk's own, so with a disk that never fails it stays as it was.
+        ensures counted_by_disk { (disk : S) × (self.new.faults ≡ S.faults disk) }
     {
         let index = self.intake.disk.start(place)?;
         let item = self.intake.disk.item(index);

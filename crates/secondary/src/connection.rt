@@ -1,5 +1,5 @@
 //! Opening a connection, and lending a link's queues.
-ghost use Rattle.std.specs.Prelude.{◌≡◌, ◌-◌, [], ◌++◌, length, Some, None, IsSome, IfSome, OnOk, OnErr};
+ghost use Rattle.std.specs.Prelude.{◌≡◌, ◌≤◌, ◌-◌, [], ◌++◌, length, Some, None, IsSome, IfSome, OnOk, OnErr};
 ghost use Rattle.std.specs.Option.{option_map};
 ghost use Rattle.std.specs.Result.{result_err};
 ghost use Rattle.secondary.specs.Opened.{opened};
@@ -37,6 +37,7 @@ impl<S: Store + Drop> Secondary<PlainOut, PlainIn, S> {
     pub fn give_outward(&mut self) -> Option<Queue>
         ensures given { option_map (λ q. q.frames) result ≡ self.old.waiting }
         ensures room { IfSome result (λ q. self.old.room ≡ Some (q.capacity - length q.frames)) }
+        ensures fits { IfSome result (λ q. length q.frames ≤ q.capacity) }
         ensures sent { IfSome result (λ q. self.old.sent ≡ q.taken ++ q.frames) }
         ensures left { self.new ≡ record self.old { waiting = None; room = option_map (λ _. 0) self.old.room } }
     {

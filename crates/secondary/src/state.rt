@@ -148,6 +148,8 @@ impl<O: FrameOut + Drop, I: FrameIn + Drop, S: Store + Drop> Secondary<O, I, S> 
         ensures refused { IfErr result (λ e. e ≡ read_refusal self.old block.0) }
         ensures faulted { OnErr result (self.new ≡ record self.old { faults = self.new.faults }) }
         ensures counted { IsErrOf result ReadFault → self.old.faults < self.new.faults }
+        // The count is the disk's own, so with a disk that never fails it stays as it was.
+        ensures counted_by_disk { (disk : S) × (self.new.faults ≡ S.faults disk) }
         ensures same { length self.old.disk ≤ block.0 → self.new ≡ self.old }
     {
         if block.0 >= u64::from(self.settings.blocks) {

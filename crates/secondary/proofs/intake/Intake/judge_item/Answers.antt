@@ -1,5 +1,5 @@
 -- A write that may come next is one that the disk can take: its frame carries whole blocks and a number.
-use Rattle.std.proofs.Common.{◌/◌, ◌∙◌, sym}
+use Rattle.std.proofs.Common.{◌∙◌, sym}
 use Rattle.secondary.specs.Intake.{intake_of}
 use Rattle.secondary.proofs.Fits.{next_write_says}
 use Rattle.secondary.proofs.intake.Intake.judge_item.Goals as goal

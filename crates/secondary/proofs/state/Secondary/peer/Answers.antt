@@ -1,9 +1,6 @@
 -- The item that was started is the one that was written, and what was kept is kept.
-use Rattle.std.proofs.Common.{◌≡◌, ◌≤◌, ℕ, inl, inr, arith, rules, refl, Some, length}
-use Rattle.std.specs.List.{slice_get}
+use Rattle.std.proofs.Common.{inl, inr, rules, refl}
 use Rattle.secondary.specs.Intake.{intake_of}
-use Rattle.secondary.specs.Invariant.{IsIntake}
-use Rattle.secondary.specs.State.{IntakeState}
 use Rattle.secondary.proofs.States.{same_state}
 use Rattle.secondary.proofs.Fits.{applied_kept, fault_kept}
 use Rattle.secondary.proofs.state.Secondary.peer.Goals as goal
