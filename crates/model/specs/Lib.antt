@@ -9,6 +9,7 @@ pub mod Headline
 pub mod Identifiers
 pub mod LocalRuns
 pub mod Marks
+pub mod Meaning
 pub mod Pair
 pub mod Primary
 pub mod PrimarySteps

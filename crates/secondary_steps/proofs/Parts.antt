@@ -1,0 +1,72 @@
+-- Parts of a stream as they grow.
+use Rattle.std.proofs.Common.{ℕ, zero, suc, ◌≡◌, ◌<◌, inl, inr, Bool, true, ◌&&◌, ◌||◌, List, [], ◌∷◌, ◌++◌, length, refl, ◌∙◌, arith, ◌==◌}
+use Rattle.std.specs.List.{list_all}
+use Rattle.std.proofs.lemmas.Bool.{or_cases, or_left, and_parts, and_from, eqb-true, eq-eqb, cases_Bool, both_ways}
+use Rattle.std.proofs.lemmas.List.Folds.{list_any-append}
+use Rattle.model.specs.Stream.{Item, Part, is_in, is_whole, below, contents_of}
+use Rattle.model.specs.SecondarySteps.{offsets_at}
+
+-- what is in a joined part is in the one or the other
+pub in-append : (a b : Part) (place offset : ℕ) → is_in (a ++ b) place offset ≡ (is_in a place offset || is_in b place offset)
+in-append a b place offset = list_any-append (λ pair. (pair.0 == place) && (pair.1 == offset)) a b
+
+-- what is in a part stays in as the part grows
+pub in-grows : (a b : Part) (place offset : ℕ) → is_in a place offset ≡ true → is_in (a ++ b) place offset ≡ true
+in-grows a b place offset h = in-append a b place offset ∙ or_left (is_in a place offset) (is_in b place offset) h
+
+-- offsets of an item are at its place
+pub in-offsets : (place : ℕ) (offsets : List ℕ) (other offset : ℕ) → is_in (offsets_at place offsets) other offset ≡ true → place ≡ other
+in-offsets place [] other offset h = absurd (cc)
+in-offsets place (x ∷ offsets) other offset h =
+    elim (or_cases ((place == other) && (x == offset)) (is_in (offsets_at place offsets) other offset) h) [
+      | inl here ↦ eqb-true place other (and_parts (place == other) (x == offset) here).0
+      | inr later ↦ in-offsets place offsets other offset later
+    ]
+
+-- an item that was whole stays so
+all-grows : (a b : Part) (place : ℕ) (offsets : List ℕ) → list_all (λ offset. is_in a place offset) offsets ≡ true → list_all (λ offset. is_in (a ++ b) place offset) offsets ≡ true
+all-grows a b place [] h = refl
+all-grows a b place (x ∷ offsets) h =
+    let parts = and_parts (is_in a place x) (list_all (λ offset. is_in a place offset) offsets) h in
+    and_from (is_in (a ++ b) place x) (list_all (λ offset. is_in (a ++ b) place offset) offsets) (in-grows a b place x parts.0) (all-grows a b place offsets parts.1)
+
+-- a whole item stays whole as the part grows
+pub whole-grows : (a b : Part) (place : ℕ) (item : Item) → is_whole a place item ≡ true → is_whole (a ++ b) place item ≡ true
+whole-grows a b place item h = all-grows a b place (below (length (contents_of item))) h
+
+-- a test that all numbers below one pass, each of them passes
+list_all-append : (p : ℕ → Bool) (xs ys : List ℕ) → list_all p (xs ++ ys) ≡ true → (list_all p xs ≡ true) × (list_all p ys ≡ true)
+list_all-append p [] ys h = (refl, h)
+list_all-append p (x ∷ xs) ys h =
+    let parts = and_parts (p x) (list_all p (xs ++ ys)) h in
+    let rest = list_all-append p xs ys parts.1 in
+    (and_from (p x) (list_all p xs) parts.0 rest.0, rest.1)
+
+-- each number below passes a test that all pass
+pub all-below : (p : ℕ → Bool) (n k : ℕ) → list_all p (below n) ≡ true → k < n → p k ≡ true
+all-below p zero k h less = absurd (omega arith)
+all-below p (suc n) k h less =
+    let parts = list_all-append p (below n) (n ∷ []) h in
+    elim (cases_Bool (k == n)) [
+      | inl same ↦ rw (eqb-true k n same) (and_parts (p n) true parts.1).0
+      | inr other ↦ all-below p n k parts.0 (let ne : k ≡ n → ⊥ = λ e. both_ways (k == n) other (eq-eqb k n e) in omega arith)
+    ]
+
+-- a whole item has each of its offsets
+pub whole-has : (part : Part) (place offset : ℕ) (item : Item) → is_whole part place item ≡ true → offset < length (contents_of item) → is_in part place offset ≡ true
+whole-has part place offset item h less = all-below (λ o. is_in part place o) (length (contents_of item)) offset h less
+
+-- the other way: an item is whole if each offset is in
+all-from : (p : ℕ → Bool) (n : ℕ) → ((k : ℕ) → k < n → p k ≡ true) → list_all p (below n) ≡ true
+all-from p zero h = refl
+all-from p (suc n) h = all-join p (below n) (n ∷ []) (all-from p n (λ k less. h k (omega arith))) (and_from (p n) true (h n (omega arith)) refl)
+  where
+    all-join : (p : ℕ → Bool) (xs ys : List ℕ) → list_all p xs ≡ true → list_all p ys ≡ true → list_all p (xs ++ ys) ≡ true
+    all-join p [] ys a b = b
+    all-join p (x ∷ xs) ys a b =
+        let parts = and_parts (p x) (list_all p xs) a in
+        and_from (p x) (list_all p (xs ++ ys)) parts.0 (all-join p xs ys parts.1 b)
+
+-- an item whose offsets are all in is whole
+pub whole-from : (part : Part) (place : ℕ) (item : Item) → ((offset : ℕ) → offset < length (contents_of item) → is_in part place offset ≡ true) → is_whole part place item ≡ true
+whole-from part place item h = all-from (λ o. is_in part place o) (length (contents_of item)) h
