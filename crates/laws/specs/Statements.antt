@@ -9,7 +9,7 @@ use Rattle.model.specs.LocalRuns.{PrimaryEvent, primary_run, SecondaryEvent, sec
 use Rattle.model.specs.Primary.{Outward, PrimaryHistory, outward, stands, items_sent, active_extents}
 use Rattle.model.specs.Secondary.{Inward, SecondaryHistory, items_taken, pending}
 use Rattle.model.specs.Stream.{WriteItem, IsBeginning, IsLawful}
-use Rattle.model.specs.Pair.{Event, step, run}
+use Rattle.model.specs.Pair.{Event, PairHistory, step, run}
 use Rattle.model.specs.Headline.{IsJoined, AreEnds, TakesABeginning, StaysClosed, StaysClosedToo, HoldsEarlierEpochs, KeepsPromises, MarksDifferences, is_marked, is_covered}
 use Rattle.model.specs.Theorems.{Opening, primary_at, secondary_at, pair_at, AnyOpening, HasRanges, IsSoundOpening, EveryRun, JoinedRuns}
 use Rattle.laws.specs.Reflections.{FromItem, FromOpening}
@@ -154,3 +154,8 @@ abbrev pub EveryStepIsHonest : Type 0
 EveryStepIsHonest =
     (o : Opening) (events : List (Event × Bool)) (event : Event) (starved : Bool) (refusal : Refusal) → HasRanges o
     → (step event starved (run events (pair_at o)).1).0 ≡ reply.Refused refusal → is_protocol_error refusal ≡ false
+
+-- A step that is refused for want of memory leaves the pair's history as it was.
+abbrev pub StarvedStepsChangeNothing : Type 0
+StarvedStepsChangeNothing =
+    (event : Event) (starved : Bool) (h : PairHistory) → (step event starved h).0 ≡ reply.Refused NoMemory → (step event starved h).1 ≡ h
