@@ -1,0 +1,3 @@
+-- What the code has of a connection as the history changes.
+pub mod LastBarrier
+pub mod LaterHistory

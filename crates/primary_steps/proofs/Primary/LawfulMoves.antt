@@ -1,0 +1,257 @@
+-- Every move of a primary keeps its streams lawful, and after every step the last epoch of a stream that stands is open.
+use Rattle.std.proofs.Common.{ℕ, ◌≡◌, ◌<◌, inl, inr, Bool, true, false, cond, List, [], ◌∷◌, ◌++◌, length, Option, Some, None, slice_get, Ok, refl, sym, ◌∙◌, ap, subst, arith, ◌==◌, nat_lt, filter}
+use Rattle.std.specs.Prelude.{unwrap_or}
+use Rattle.std.specs.List.{list_any}
+use Rattle.std.proofs.lemmas.Bool.{both_ways, and_parts, and_right, or_from, leb-true, false_from_ne_true}
+use Rattle.std.proofs.lemmas.List.Folds.{list_any-append}
+use Rattle.blocks.specs.declared.settings.Settings.{Settings}
+use Rattle.blocks.specs.declared.tuple.Tuple.{Tuple}
+use Rattle.blocks.specs.declared.outcome.Decision.{Decision}
+use Rattle.blocks.specs.declared.outcome.Decision.TheVariants.{NoSync, BitmapSync, FullSync}
+use Rattle.blocks.specs.SettingsRange.{IsInRange}
+use Rattle.model.specs.Contents.{BlockMap}
+use Rattle.model.specs.Stream.{Item, WriteItem, ResyncItem, BarrierItem, SyncUuidItem, UuidsItem, is_write, last_epoch, items_of_epoch, epoch_size, IsLawful}
+use Rattle.model.specs.Frames.{UuidsFrame}
+use Rattle.model.specs.Identifiers.{sync_end}
+use Rattle.model.specs.Marks.{marking}
+use Rattle.model.specs.Primary.{Waiting, Failed, Accepted, Outward, PrimaryHistory, primary_opening, no_outward, outward, last_of, last_index, change_last, with_outward, stands, in_resync, local_map, under_way, free_block}
+use Rattle.model.specs.PrimarySteps.{is_settled, epoch_is_over, appending, resync_is_over, ending_resync, follows, submission, submitted, with_outcome, faulted, accepted_at, opened}
+use Rattle.model.specs.Acknowledgements.{begun_with}
+use Rattle.model.specs.LocalRuns.{PrimaryEvent, primary_run}
+use Rattle.primary_steps.proofs.Lists.Elements.{get-more}
+use Rattle.primary_steps.proofs.Lists.Last.{get-change-back, change-twice, last-change}
+use Rattle.primary_steps.proofs.Lists.Picks.{any-none}
+use Rattle.primary_steps.proofs.Primary.Homes.{HasHomes}
+use Rattle.primary_steps.proofs.Primary.HomesMoves.{homes-kept, homes-opening}
+use Rattle.primary_steps.proofs.Primary.LastEpoch.{end-open, write-follows, resync-follows}
+use Rattle.primary_steps.proofs.Primary.Moves.{following-from, IsKeptByMoves, MaySubmit, keeps-run, with_frame, refusing, pushing}
+use Rattle.primary_steps.proofs.Primary.Standing.{open-stands, over-stands, is_over_at}
+use Rattle.primary_steps.proofs.Streams.BarrierAtEnd.{last-empty}
+use Rattle.primary_steps.proofs.Streams.Lawful.{MayFollow, lawful-append, lawful-empty, meets-none, epoch-items-grow, size-grow}
+use Rattle.primary_steps.proofs.Streams.Places.{barriers-append}
+
+-- all streams are lawful
+pub record HasLawfulStreams (settings : Settings) (h : PrimaryHistory) : Type 0 where
+  pub setting : h.settings ≡ settings
+  pub lawful : (k : ℕ) (c : Outward) → slice_get h.connections k ≡ Some c → IsLawful settings.max_epoch c.stream
+
+-- and the last epoch of a stream that stands is not over
+pub record IsLawfulBetween (settings : Settings) (h : PrimaryHistory) : Type 0 where
+  pub streams : HasLawfulStreams settings h
+  pub on : epoch_is_over h ≡ false
+
+-- What follows a step's effect.
+
+-- the last end after a change of it
+pub last-changed : (h : PrimaryHistory) (f : Outward → Outward) (other : Outward) → (outward h).closed ≡ false → last_of other (change_last f h.connections) ≡ f (outward h)
+last-changed h f other standing = elim (last-change f (no_outward h.tuple) other h.connections) [
+  | inl none ↦ absurd (both_ways (outward h).closed standing (ap (λ (l : List Outward). (last_of (no_outward h.tuple) l).closed) none))
+  | inr last ↦ last
+]
+
+-- an epoch that has room and nothing settled is not over
+not-over : (h : PrimaryHistory) (c : Outward) → list_any (is_settled h c) (items_of_epoch c.stream (last_epoch c.stream)) ≡ false
+    → epoch_size c.stream (last_epoch c.stream) < h.settings.max_epoch → is_over_at h c ≡ false
+not-over h c unsettled room = and_right (stands c) _ (or_from _ _ unsettled (false_from_ne_true _ (λ full.
+    let more = leb-true h.settings.max_epoch (epoch_size c.stream (last_epoch c.stream)) full in
+    omega arith)))
+
+-- The last connection changes, and its stream stays lawful.
+lawful-change : (settings : Settings) (h later : PrimaryHistory) (f : Outward → Outward) → later.settings ≡ h.settings → later.connections ≡ change_last f h.connections
+    → ((k : ℕ) → slice_get h.connections k ≡ Some (outward h) → IsLawful settings.max_epoch (outward h).stream → IsLawful settings.max_epoch (f (outward h)).stream)
+    → HasLawfulStreams settings h → HasLawfulStreams settings later
+lawful-change settings h later f same connections keeps streams = record {
+  setting = same ∙ streams.setting;
+  lawful = λ k d at. elim (get-change-back f (no_outward h.tuple) h.connections k d (subst (λ (l : List Outward). slice_get l k ≡ Some d) connections at)) [
+    | inl old ↦ streams.lawful k d old
+    | inr changed ↦ subst (λ (x : Outward). IsLawful settings.max_epoch x.stream) (sym changed.0) (keeps k changed.1 (streams.lawful k (outward h) changed.1))
+  ];
+}
+
+-- no connection changes
+lawful-same : (settings : Settings) (h later : PrimaryHistory) → later.settings ≡ h.settings → later.connections ≡ h.connections → HasLawfulStreams settings h → HasLawfulStreams settings later
+lawful-same settings h later same connections streams = record {
+  setting = same ∙ streams.setting;
+  lawful = λ k d at. streams.lawful k d (subst (λ (l : List Outward). slice_get l k ≡ Some d) connections at);
+}
+
+-- the last epoch's barrier may follow
+barrier-follows : (max_epoch : ℕ) (items : List Item) → MayFollow max_epoch items (BarrierItem (last_epoch items))
+barrier-follows max_epoch items = record {
+  barrier = λ epoch is. let same : last_epoch items ≡ epoch = cc in sym same;
+  rising = λ place a b at is. absurd (cc);
+  apart = λ place item same at. meets-none item (BarrierItem (last_epoch items)) refl;
+  small = λ is. absurd (cc);
+}
+
+-- the end of a resync may follow every stream
+uuids-follow : (max_epoch : ℕ) (items : List Item) (tuple : Tuple) → MayFollow max_epoch items (UuidsItem tuple)
+uuids-follow max_epoch items tuple = record {
+  barrier = λ epoch is. absurd (cc);
+  rising = λ place a b at is. absurd (cc);
+  apart = λ place item same at. meets-none item (UuidsItem tuple) refl;
+  small = λ is. absurd (cc);
+}
+
+-- behind a barrier the last epoch is open
+lawful-parts : (settings : Settings) → 0 < settings.max_epoch → (g : PrimaryHistory) → epoch_is_over g ≡ true → HasLawfulStreams settings g
+    → IsLawfulBetween settings (appending (BarrierItem (last_epoch (outward g).stream)) g)
+lawful-parts settings bound g over streams =
+    let c : Outward = outward g in
+    let f : Outward → Outward = λ x. record x { stream = x.stream ++ BarrierItem (last_epoch c.stream) ∷ [] } in
+    let later : PrimaryHistory = appending (BarrierItem (last_epoch c.stream)) g in
+    let standing = open-stands c (and_parts (stands c) _ over).0 in
+    let last : outward later ≡ f c = last-changed g f (no_outward g.tuple) standing in
+    let empty = last-empty c.stream (last_epoch c.stream) in
+    let setting : g.settings.max_epoch ≡ settings.max_epoch = ap (λ (s : Settings). s.max_epoch) streams.setting in
+    let size : epoch_size (f c).stream (last_epoch (f c).stream) ≡ 0 = ap (λ (l : List (ℕ × Item)). length (filter (λ (entry : ℕ × Item). is_write entry.1) l)) empty in
+    record {
+      streams = lawful-change settings g later f refl refl (λ k at lawful. lawful-append settings.max_epoch c.stream (BarrierItem (last_epoch c.stream)) lawful (barrier-follows settings.max_epoch c.stream)) streams;
+      on = ap (is_over_at later) last ∙ not-over later (f c) (ap (list_any (is_settled later (f c))) empty) (omega arith);
+    }
+
+-- the end of a resync leaves the last epoch open
+lawful-ends : (settings : Settings) (g : PrimaryHistory) → resync_is_over g ≡ true → IsLawfulBetween settings g → IsLawfulBetween settings (ending_resync g)
+lawful-ends settings g over between =
+    let c : Outward = outward g in
+    let item : Item = UuidsItem (sync_end g.tuple) in
+    let f : Outward → Outward = λ x. record x { stream = x.stream ++ UuidsItem (sync_end g.tuple) ∷ [] } in
+    let later : PrimaryHistory = ending_resync g in
+    let stood = over-stands g over in
+    let last : outward later ≡ f c = last-changed g f (no_outward later.tuple) (open-stands c stood) in
+    let going = end-open g stood between.on in
+    let grown = barriers-append c.stream (UuidsItem (sync_end g.tuple) ∷ []) in
+    let same : last_epoch (c.stream ++ UuidsItem (sync_end g.tuple) ∷ []) ≡ last_epoch c.stream = omega arith in
+    let items : items_of_epoch (f c).stream (last_epoch (f c).stream) ≡ items_of_epoch c.stream (last_epoch c.stream) ++ cond (last_epoch c.stream == last_epoch c.stream) ((length c.stream, item) ∷ []) []
+    = ap (items_of_epoch (f c).stream) same ∙ epoch-items-grow c.stream item (last_epoch c.stream) in
+    let size : epoch_size (f c).stream (last_epoch (f c).stream) ≡ epoch_size c.stream (last_epoch c.stream)
+    = ap (epoch_size (f c).stream) same ∙ elim (size-grow c.stream item (last_epoch c.stream)) [ inl kept ↦ kept | inr more ↦ absurd (let no = more.0 in cc) ] in
+    let room = going.room in
+    let none : (b : Bool) → list_any (is_settled later (f c)) (cond b ((length c.stream, item) ∷ []) []) ≡ false = λ b. elim b as (λ t. list_any (is_settled later (f c)) (cond t ((length c.stream, item) ∷ []) []) ≡ false) [
+      | true ↦ or_from _ _ (or_from _ _ (any-none _ g.writes (λ accepted. refl)) refl) refl
+      | false ↦ refl
+    ] in
+    let unsettled : list_any (is_settled later (f c)) (items_of_epoch (f c).stream (last_epoch (f c).stream)) ≡ false
+    = ap (list_any (is_settled later (f c))) items ∙ (list_any-append (is_settled later (f c)) (items_of_epoch c.stream (last_epoch c.stream)) _ ∙ or_from _ _ going.unsettled (none (last_epoch c.stream == last_epoch c.stream))) in
+    record {
+      streams = lawful-change settings g later f refl refl (λ k at lawful. lawful-append settings.max_epoch c.stream item lawful (uuids-follow settings.max_epoch c.stream (sync_end g.tuple))) between.streams;
+      on = ap (is_over_at later) last ∙ not-over later (f c) unsettled (omega arith);
+    }
+
+-- what follows keeps the streams lawful, and leaves the last epoch open
+lawful-following : (settings : Settings) → 0 < settings.max_epoch → (h : PrimaryHistory) → HasLawfulStreams settings h → IsLawfulBetween settings (follows h).history
+lawful-following settings bound = following-from (HasLawfulStreams settings) (IsLawfulBetween settings) (IsLawfulBetween settings) (λ h streams. lawful-same settings h _ refl refl streams)
+    (lawful-parts settings bound) (λ g on streams. record { streams = streams; on = on }) (lawful-ends settings) (λ g between. between)
+
+-- Effects.
+
+-- an accepted write may go to the end
+lawful-submits : (settings : Settings) (h : PrimaryHistory) (first : ℕ) (contents : List (List ℕ)) → MaySubmit h first contents → HasHomes h → IsLawfulBetween settings h
+    → HasLawfulStreams settings (submitted h first contents)
+lawful-submits settings h first contents may homes between = go (stands (outward h)) refl
+  where
+    go : (b : Bool) → stands (outward h) ≡ b → HasLawfulStreams settings (elim b as (λ _. PrimaryHistory) [
+      | true ↦ appending (WriteItem (submission h first contents)) (record h { writes = h.writes ++ record { write = submission h first contents; journal_length = length h.journal; home = Some (last_index h.connections, length (outward h).stream); outcome = Waiting } ∷ [] })
+      | false ↦ record h { writes = h.writes ++ record { write = submission h first contents; journal_length = length h.journal; home = None; outcome = Waiting } ∷ []; marks = marking (submission h first contents) h.marks }
+    ])
+    go true is = lawful-change settings h _ (λ c. record c { stream = c.stream ++ WriteItem (submission h first contents) ∷ [] }) refl refl
+        (λ k at lawful. lawful-append settings.max_epoch (outward h).stream (WriteItem (submission h first contents)) lawful
+        (subst (λ (s : Settings). MayFollow s.max_epoch (outward h).stream (WriteItem (submission h first contents))) between.streams.setting (write-follows h k first contents homes at is between.on may.free))) between.streams
+    go false is = lawful-same settings h _ refl refl between.streams
+
+-- so may a block of a resync that is free
+lawful-resyncs : (settings : Settings) (h : PrimaryHistory) (block : ℕ) → stands (outward h) ≡ true → nat_lt 0 (length (under_way (outward h))) ≡ false → free_block h ≡ Some block
+    → HasHomes h → IsLawfulBetween settings h
+    → HasLawfulStreams settings (appending (ResyncItem block (unwrap_or (local_map h block) [])) h)
+lawful-resyncs settings h block standing alone free homes between =
+    lawful-change settings h _ (λ c. record c { stream = c.stream ++ ResyncItem block (unwrap_or (local_map h block) []) ∷ [] }) refl refl
+    (λ k at lawful. lawful-append settings.max_epoch (outward h).stream (ResyncItem block (unwrap_or (local_map h block) [])) lawful
+    (subst (λ (s : Settings). MayFollow s.max_epoch (outward h).stream (ResyncItem block (unwrap_or (local_map h block) []))) between.streams.setting
+    (resync-follows h k block (unwrap_or (local_map h block) []) homes at standing between.on alone free))) between.streams
+
+-- a fault changes no stream
+lawful-faults : (settings : Settings) (h : PrimaryHistory) (number : ℕ) (offsets : List ℕ) → HasLawfulStreams settings h → HasLawfulStreams settings (faulted number offsets h)
+lawful-faults settings h number offsets streams = go (accepted_at h number)
+  where
+    go : (v : Option Accepted) → HasLawfulStreams settings (elim v as (λ _. PrimaryHistory) [ None ↦ h | Some accepted ↦ with_outcome number (Failed offsets) (record h { marks = marking accepted.write h.marks }) ])
+    go None = streams
+    go (Some accepted) = lawful-same settings h _ refl refl streams
+
+-- a stream that begins is empty, or has the start of a resync
+lawful-begins : (settings : Settings) (h : PrimaryHistory) (peer : Tuple) (decided : Decision) → HasLawfulStreams settings h
+    → HasLawfulStreams settings (begun_with decided (record (with_outward (with_frame (Ok (UuidsFrame peer))) h) { peer = Some peer }))
+lawful-begins settings h peer decided streams = go decided
+  where
+    taken : PrimaryHistory
+    taken = record (with_outward (with_frame (Ok (UuidsFrame peer))) h) { peer = Some peer }
+
+    twice : (later : PrimaryHistory) (g : Outward → Outward) → later.settings ≡ h.settings → later.connections ≡ change_last g (change_last (with_frame (Ok (UuidsFrame peer))) h.connections)
+        → (IsLawful settings.max_epoch (outward h).stream → IsLawful settings.max_epoch (g (with_frame (Ok (UuidsFrame peer)) (outward h))).stream) → HasLawfulStreams settings later
+    twice later g same connections keeps =
+        lawful-change settings h later (λ c. g (with_frame (Ok (UuidsFrame peer)) c)) same (connections ∙ change-twice (with_frame (Ok (UuidsFrame peer))) g h.connections) (λ k at lawful. keeps lawful) streams
+
+    start : (word : ℕ) → IsLawful settings.max_epoch (SyncUuidItem word ∷ [])
+    start word = lawful-append settings.max_epoch [] (SyncUuidItem word) (lawful-empty settings.max_epoch) (record {
+      barrier = λ epoch is. absurd (cc);
+      rising = λ place a b at is. absurd (cc);
+      apart = λ place item same at. absurd (cc);
+      small = λ is. absurd (cc);
+    })
+
+    go : (v : Decision) → HasLawfulStreams settings (begun_with v (record (with_outward (with_frame (Ok (UuidsFrame peer))) h) { peer = Some peer }))
+    go NoSync = twice _ (λ c. record c { begun = true }) refl refl (λ lawful. lawful)
+    go BitmapSync = twice _ (λ c. record c { begun = true; stream = SyncUuidItem (outward taken).sync ∷ [] }) refl refl (λ lawful. start (outward taken).sync)
+    go FullSync = twice _ (λ c. record c { begun = true; stream = SyncUuidItem (outward taken).sync ∷ [] }) refl refl (λ lawful. start (outward taken).sync)
+
+-- a new connection has an empty stream
+lawful-opens : (settings : Settings) (h : PrimaryHistory) (sync loss : ℕ) → HasLawfulStreams settings h → HasLawfulStreams settings (opened h sync loss)
+lawful-opens settings h sync loss streams = record {
+  setting = streams.setting;
+  lawful = λ k c at. elim (get-more h.connections (record { sync = sync; loss = loss; hello = h.tuple; stream = []; pushed = 0; taken = []; refused = false; begun = false; closed = false }) k c at) [
+    | inl old ↦ streams.lawful k c old
+    | inr new ↦ subst (λ (x : Outward). IsLawful settings.max_epoch x.stream) (sym new.1) (lawful-empty settings.max_epoch)
+  ];
+}
+
+-- what holds between steps
+abbrev pub Before : Settings → PrimaryHistory → Type 0
+Before settings h = HasHomes h × IsLawfulBetween settings h
+
+-- what holds after a step's effect, before what follows from it
+abbrev pub After : Settings → PrimaryHistory → Type 0
+After settings h = HasHomes h × HasLawfulStreams settings h
+
+-- Every move keeps the streams lawful, beside the homes of the writes.
+pub lawful-kept : (settings : Settings) → 0 < settings.max_epoch → IsKeptByMoves (Before settings) (After settings)
+lawful-kept settings bound = record {
+  following = λ h p. (homes-kept.following h p.0, lawful-following settings bound h p.1);
+  opens = λ h sync loss closed fresh p. (homes-kept.opens h sync loss closed fresh p.0, lawful-opens settings h sync loss p.1.streams);
+  submits = λ h first contents may p. (homes-kept.submits h first contents may p.0, lawful-submits settings h first contents may p.0 p.1);
+  writes = λ h number waiting p. (homes-kept.writes h number waiting p.0, lawful-same settings h _ refl refl p.1.streams);
+  faults = λ h number offsets waiting p. (homes-kept.faults h number offsets waiting p.0, lawful-faults settings h number offsets p.1.streams);
+  sends = λ h standing due p. (homes-kept.sends h standing due p.0, lawful-change settings h _ pushing refl refl (λ k at lawful. lawful) p.1.streams);
+  greets = λ h frame standing new greeting p. (homes-kept.greets h frame standing new greeting p.0, lawful-change settings h _ (with_frame frame) refl refl (λ k at lawful. lawful) p.1.streams);
+  begins = λ h peer decided standing new third is p. (homes-kept.begins h peer decided standing new third is p.0, lawful-begins settings h peer decided p.1.streams);
+  receives = λ h ack standing begun may p. (homes-kept.receives h ack standing begun may p.0, lawful-change settings h _ (with_frame _) refl refl (λ k at lawful. lawful) p.1.streams);
+  applies = λ h ack standing begun may p. (homes-kept.applies h ack standing begun may p.0, lawful-change settings h _ (with_frame _) refl refl (λ k at lawful. lawful) p.1.streams);
+  clears = λ h ack standing begun may p. (homes-kept.clears h ack standing begun may p.0, lawful-change settings h _ (with_frame _) refl refl (λ k at lawful. lawful) p.1.streams);
+  confirms = λ h number size standing begun turn p. (homes-kept.confirms h number size standing begun turn p.0, lawful-change settings h _ (with_frame _) refl refl (λ k at lawful. lawful) p.1.streams);
+  refuses = λ h frame peer standing p. (
+    homes-kept.refuses h frame peer standing p.0,
+    lawful-change settings h _ (λ c. record c { taken = c.taken ++ frame ∷ []; refused = true; closed = true }) refl
+        (ap (change_last (λ (c : Outward). record c { closed = true })) (change-twice (with_frame frame) refusing h.connections) ∙ change-twice (λ c. refusing (with_frame frame c)) (λ c. record c { closed = true }) h.connections) (λ k at lawful. lawful) p.1.streams,
+  );
+  resyncs = λ h block runs alone is p. (homes-kept.resyncs h block runs alone is p.0, lawful-resyncs settings h block (and_parts (stands (outward h)) (in_resync (outward h).stream) runs).0 alone is p.0 p.1);
+  closes = λ h standing p. (homes-kept.closes h standing p.0, lawful-change settings h _ (λ c. record c { closed = true }) refl refl (λ k at lawful. lawful) p.1.streams);
+  receipts = λ h number p. (homes-kept.receipts h number p.0, record { streams = lawful-same settings h _ refl refl p.1.streams; on = p.1.on });
+}
+
+-- a new primary has no stream
+pub lawful-opening : (settings : Settings) (disk : BlockMap) (tuple : Tuple) (marks : ℕ → Bool) → IsLawfulBetween settings (primary_opening settings disk tuple marks)
+lawful-opening settings disk tuple marks = record { streams = record { setting = refl; lawful = λ k c at. absurd (cc) }; on = refl }
+
+-- what holds of a primary after every run from an opening: homes, and lawful streams
+pub primary-between : (settings : Settings) (disk : BlockMap) (tuple : Tuple) (marks : ℕ → Bool) (events : List PrimaryEvent) → IsInRange settings
+    → HasHomes (primary_run events (primary_opening settings disk tuple marks)) × IsLawfulBetween settings (primary_run events (primary_opening settings disk tuple marks))
+primary-between settings disk tuple marks events range =
+    keeps-run (Before settings) (After settings) (lawful-kept settings range.max_epoch.0) events (primary_opening settings disk tuple marks) (homes-opening settings disk tuple marks, lawful-opening settings disk tuple marks)

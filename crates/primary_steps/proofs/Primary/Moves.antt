@@ -1,0 +1,354 @@
+-- A primary's steps, taken apart: what has to be shown of a property so that every step keeps it.
+use Rattle.std.proofs.Common.{arith, ◌≤◌, ◌⊎◌, inl, inr, ℕ, zero, suc, ◌≡◌, ◌<◌, Bool, true, false, cond, not, ◌&&◌, ◌||◌, List, [], ◌∷◌, ◌++◌, length, Option, Some, None, is_none, Result, Ok, Err, refl, sym, subst, ◌==◌, nat_lt, nat_le}
+use Rattle.std.specs.Prelude.{find, is_some, unwrap_or}
+use Rattle.std.proofs.lemmas.Bool.{not-true, not-false, or_parts, and_parts, leb-false}
+use Rattle.blocks.specs.declared.refusal.Refusal.{Refusal}
+use Rattle.blocks.specs.declared.refusal.Refusal.TheVariants.{BadRange, Conflict, LogFull, ActivityFull, JournalFull, StreamFull, NoMemory, LocalFault, NothingToDo, LinkFull, NotConnected, NothingThere, ReadFault, UnknownJob, BadBarrierAck, UnknownAck, UsedIdentifier, OtherProtocol, OtherSize, NotDrained}
+use Rattle.blocks.specs.declared.outcome.Decision.{Decision}
+use Rattle.blocks.specs.declared.outcome.What.{What}
+use Rattle.blocks.specs.declared.outcome.What.TheVariants as what
+use Rattle.blocks.specs.declared.outcome.Reply.{Reply}
+use Rattle.blocks.specs.declared.outcome.Reply.TheVariants as reply
+use Rattle.blocks.specs.declared.command.Command.TheVariants as command
+use Rattle.blocks.specs.declared.settings.Protocol.{Protocol}
+use Rattle.blocks.specs.declared.settings.Protocol.TheVariants as protocol
+use Rattle.blocks.specs.declared.tuple.Tuple.{Tuple}
+use Rattle.model.specs.Contents.{is_range, extent_of}
+use Rattle.model.specs.Stream.{Item, ResyncItem, BarrierItem, is_write, last_epoch}
+use Rattle.model.specs.Frames.{Packet, DataFrame, RsDataReplyFrame, BarrierFrame, ProtocolFrame, UuidsFrame, SizesFrame, SyncUuidFrame, RecvAckFrame, WriteAckFrame, RsWriteAckFrame, BarrierAckFrame, Acknowledged, Received}
+use Rattle.model.specs.Identifiers.{are_fresh, decision, stands_in}
+use Rattle.model.specs.Refusals.{Test, first_refusal}
+use Rattle.model.specs.Primary.{OnDisk, Completion, PrimaryHistory, Outward, outward, with_outward, stands, frames_due, unreleased, local_map, resync_runs, under_way, free_block, is_resync, was_received, was_written, was_resynced}
+use Rattle.model.specs.Marks.{clearing}
+use Rattle.model.specs.PrimarySteps.{Followed, with_completions, epoch_is_over, resync_is_over, ending_resync, follows, appending, succeeding, tested, known_tuples, open_tests, opened, open_primary, conflict, activity_is_full, submission, submit_tests, submitted, submit, is_unfinished, with_outcome, local_done, faulted, local_fault, send_tests, sending, send, resync_tests, resync_next, resync_fault, closing, close_primary, take_completed_tests, receipted, take_completed}
+use Rattle.model.specs.Acknowledgements.{same_protocol, Taken, begun_with, meeting, taking_hello, names_sent, was_named, is_protocol, is_in_turn, taking_ack, taking, take_frame, ack_in}
+use Rattle.model.specs.LocalRuns.{PrimaryEvent, Opens, Submits, WritesLocally, FailsLocally, Sends, Takes, Resyncs, FailsResync, Closes, Receipts, primary_after, primary_run}
+use Rattle.primary_steps.proofs.TestedSteps.{test-passed}
+
+-- a frame is taken
+abbrev pub with_frame : Received → Outward → Outward
+with_frame frame c = record c { taken = c.taken ++ frame ∷ [] }
+
+-- an end that refused a frame
+abbrev pub refusing : Outward → Outward
+refusing c = record c { refused = true }
+
+-- an end that pushed a frame more
+abbrev pub pushing : Outward → Outward
+pushing c = record c { pushed = suc c.pushed }
+
+-- What is tested before a write is accepted.
+pub record MaySubmit (h : PrimaryHistory) (first : ℕ) (contents : List (List ℕ)) : Type 0 where
+  pub range : is_range h.settings first (length contents) ≡ true
+  pub free : is_some (conflict h (submission h first contents)) ≡ false
+  pub active : activity_is_full h (extent_of first) ≡ false
+
+-- What an accepted acknowledgement was tested for, on the history before it.
+pub record MayAcknowledge (h : PrimaryHistory) (kind : Item → Bool) (before : Outward → ℕ → Item → Bool) (ack : Acknowledged) : Type 0 where
+  pub names : names_sent kind ack (outward h) ≡ true
+  pub first : was_named before ack (outward h) ≡ false
+
+-- the first frame of a hello, or the second
+abbrev pub IsGreeting : ℕ → Received → Type 0
+IsGreeting n frame = ((n ≡ 0) × ((asked : Protocol) × (frame ≡ Ok (ProtocolFrame asked)))) ⊎ ((n ≡ 1) × ((blocks : ℕ) × (frame ≡ Ok (SizesFrame blocks))))
+
+-- `P` holds between steps, and `Q` after a step's effect, before what follows from it. A property is kept by every step if
+-- each effect leads from `P` to `Q`, and what follows leads back.
+pub record IsKeptByMoves (P Q : PrimaryHistory → Type 0) : Type 0 where
+  pub following : (h : PrimaryHistory) → Q h → P (follows h).history
+  pub opens : (h : PrimaryHistory) (sync loss : ℕ) → (outward h).closed ≡ true → are_fresh sync loss (known_tuples h) ≡ true → P h → Q (opened h sync loss)
+  pub submits : (h : PrimaryHistory) (first : ℕ) (contents : List (List ℕ)) → MaySubmit h first contents → P h → Q (submitted h first contents)
+  pub writes : (h : PrimaryHistory) (number : ℕ) → is_unfinished h number ≡ true → P h → Q (with_outcome number OnDisk h)
+  pub faults : (h : PrimaryHistory) (number : ℕ) (offsets : List ℕ) → is_unfinished h number ≡ true → P h → Q (faulted number offsets h)
+  pub sends : (h : PrimaryHistory) → (outward h).closed ≡ false → (outward h).pushed < length (frames_due h.settings (outward h)) → P h → Q (with_outward pushing h)
+  -- the frames that are accepted, each on the history with the frame taken
+  pub greets : (h : PrimaryHistory) (frame : Received) → (outward h).closed ≡ false → (outward h).begun ≡ false → IsGreeting (length (outward h).taken) frame → P h → Q (with_outward (with_frame frame) h)
+  pub begins : (h : PrimaryHistory) (peer : Tuple) (decided : Decision) → (outward h).closed ≡ false → (outward h).begun ≡ false → 2 ≤ length (outward h).taken → decision h.tuple peer ≡ Ok decided → P h
+      → Q (begun_with decided (record (with_outward (with_frame (Ok (UuidsFrame peer))) h) { peer = Some peer }))
+  pub receives : (h : PrimaryHistory) (ack : Acknowledged) → (outward h).closed ≡ false → (outward h).begun ≡ true → MayAcknowledge h is_write was_received ack → P h
+      → Q (with_outward (with_frame (Ok (RecvAckFrame ack))) h)
+  pub applies : (h : PrimaryHistory) (ack : Acknowledged) → (outward h).closed ≡ false → (outward h).begun ≡ true → MayAcknowledge h is_write was_written ack → P h
+      → Q (with_outward (with_frame (Ok (WriteAckFrame ack))) h)
+  pub clears : (h : PrimaryHistory) (ack : Acknowledged) → (outward h).closed ≡ false → (outward h).begun ≡ true → MayAcknowledge h is_resync was_resynced ack → P h
+      → Q (record (with_outward (with_frame (Ok (RsWriteAckFrame ack))) h) { marks = clearing ack.first h.marks })
+  pub confirms : (h : PrimaryHistory) (number size : ℕ) → (outward h).closed ≡ false → (outward h).begun ≡ true → is_in_turn h number size ≡ true → P h → Q (with_outward (with_frame (Ok (BarrierAckFrame number size))) h)
+  -- a protocol error: the frame is taken and refused, the peer's tuple may have been seen, and the end closes
+  pub refuses : (h : PrimaryHistory) (frame : Received) (peer : Option Tuple) → (outward h).closed ≡ false → P h → Q (closing (with_outward refusing (record (with_outward (with_frame frame) h) { peer = peer })))
+  pub resyncs : (h : PrimaryHistory) (block : ℕ) → resync_runs (outward h) ≡ true → nat_lt 0 (length (under_way (outward h))) ≡ false → free_block h ≡ Some block → P h
+      → Q (appending (ResyncItem block (unwrap_or (local_map h block) [])) h)
+  pub closes : (h : PrimaryHistory) → (outward h).closed ≡ false → P h → Q (closing h)
+  pub receipts : (h : PrimaryHistory) (number : ℕ) → P h → P (receipted number h)
+
+-- Tests.
+
+-- a step that its tests refuse leaves the history
+pub tested-keeps : (P : PrimaryHistory → Type 0) (h : PrimaryHistory) (tests : List Test) (done : Unit {0} → Reply × PrimaryHistory) → P h → (first_refusal tests ≡ None → P (done tt).1) → P (tested h tests done).1
+tested-keeps P h tests done same new = go (first_refusal tests) refl
+  where
+    go : (v : Option Refusal) → first_refusal tests ≡ v → P (elim v as (λ _. Reply × PrimaryHistory) [ Some refusal ↦ (reply.Refused refusal, h) | None ↦ done tt ]).1
+    go (Some refusal) is = same
+    go None is = new is
+
+-- What follows a step's effect, taken apart: the journal, then the barrier, then the end of a resync.
+
+-- the history, with the barrier of its last epoch where that is over
+abbrev pub after_barrier : PrimaryHistory → PrimaryHistory
+after_barrier g = elim (epoch_is_over g) [ true ↦ appending (BarrierItem (last_epoch (outward g).stream)) g | false ↦ g ]
+
+-- the history, with the end of its resync where that is over
+abbrev pub after_resync : PrimaryHistory → PrimaryHistory
+after_resync g = elim (resync_is_over g) [ true ↦ ending_resync g | false ↦ g ]
+
+-- the history of either case
+history-of : (b : Bool) (x y : Followed) → (elim b as (λ _. Followed) [ true ↦ x | false ↦ y ]).history ≡ elim b as (λ _. PrimaryHistory) [ true ↦ x.history | false ↦ y.history ]
+history-of true x y = refl
+history-of false x y = refl
+
+-- the history of what follows
+pub follows-history : (h : PrimaryHistory) → (follows h).history ≡ after_resync (after_barrier (with_completions h))
+follows-history h = history-of (resync_is_over (after_barrier (with_completions h))) _ _
+
+-- what holds in both cases
+pub by-case : (P : PrimaryHistory → Type 0) (b : Bool) (x y : PrimaryHistory) → (b ≡ true → P x) → (b ≡ false → P y) → P (elim b as (λ _. PrimaryHistory) [ true ↦ x | false ↦ y ])
+by-case P true x y one two = one refl
+by-case P false x y one two = two refl
+
+-- A property that the parts of what follows keep, from the effect to the end of the step.
+pub following-from : (Q R P : PrimaryHistory → Type 0) → ((h : PrimaryHistory) → Q h → Q (with_completions h))
+    → ((g : PrimaryHistory) → epoch_is_over g ≡ true → Q g → R (appending (BarrierItem (last_epoch (outward g).stream)) g))
+    → ((g : PrimaryHistory) → epoch_is_over g ≡ false → Q g → R g) → ((g : PrimaryHistory) → resync_is_over g ≡ true → R g → P (ending_resync g)) → ((g : PrimaryHistory) → R g → P g)
+    → (h : PrimaryHistory) → Q h → P (follows h).history
+following-from Q R P completes parts goes_on ends stays h q =
+    let done : PrimaryHistory = with_completions h in
+    let parted : R (after_barrier done) = by-case R (epoch_is_over done) (appending (BarrierItem (last_epoch (outward done).stream)) done) done (λ over. parts done over (completes h q)) (λ on. goes_on done on (completes h q)) in
+    subst P (sym (follows-history h)) (by-case P (resync_is_over (after_barrier done)) (ending_resync (after_barrier done)) (after_barrier done) (λ over. ends (after_barrier done) over parted) (λ on. stays (after_barrier done) parted))
+
+-- What comes of a taken frame: it is accepted, with `Q` then, or refused, and only the peer's tuple may have changed.
+abbrev Fine : (PrimaryHistory → Type 0) → PrimaryHistory → Taken → Type 0
+Fine Q taken (Ok done) = Q done.1
+Fine Q taken (Err error) = (peer : Option Tuple) × (error.1 ≡ record taken { peer = peer })
+
+-- a frame that is taken where a test holds, and refused where it fails
+fine-if : (Q : PrimaryHistory → Type 0) (taken done : PrimaryHistory) (good : Bool) (name : What) (refusal : Refusal) → (good ≡ true → Q done) → Fine Q taken (cond good (Ok (name, done)) (Err (refusal, taken)))
+fine-if Q taken done true name refusal q = q refl
+fine-if Q taken done false name refusal q = (taken.peer, refl)
+
+-- where no test refuses a submission it may be accepted, and the log has room for it
+pub submit-passed : (first : ℕ) (contents : List (List ℕ)) (starved : Bool) (h : PrimaryHistory) → first_refusal (submit_tests h first contents starved) ≡ None → MaySubmit h first contents × (nat_le h.settings.backlog (length (unreleased h)) ≡ false)
+submit-passed first contents starved h none =
+    let met : Option ℕ = conflict h (submission h first contents) in
+    let t8 : List Test = (starved, NoMemory) ∷ [] in
+    let t7 : List Test = (stands (outward h) && nat_le 4294967288 (length (outward h).stream), StreamFull) ∷ t8 in
+    let t6 : List Test = (activity_is_full h (extent_of first), ActivityFull) ∷ t7 in
+    let t5 : List Test = (is_some met, Conflict (unwrap_or met 0)) ∷ t6 in
+    let t4 : List Test = (nat_le h.settings.backlog (length (unreleased h)), LogFull) ∷ t5 in
+    let t3 : List Test = (nat_le 1048576 (length h.writes), JournalFull) ∷ t4 in
+    let t2 : List Test = (not (stands (outward h)) && (h.tuple.bitmap == 0), NotConnected) ∷ t3 in
+    let one = test-passed (not (is_range h.settings first (length contents))) BadRange t2 none in
+    let two = test-passed (not (stands (outward h)) && (h.tuple.bitmap == 0)) NotConnected t3 one.1 in
+    let three = test-passed (nat_le 1048576 (length h.writes)) JournalFull t4 two.1 in
+    let four = test-passed (nat_le h.settings.backlog (length (unreleased h))) LogFull t5 three.1 in
+    let five = test-passed (is_some met) (Conflict (unwrap_or met 0)) t6 four.1 in
+    let six = test-passed (activity_is_full h (extent_of first)) ActivityFull t7 five.1 in
+    (record { range = not-false (is_range h.settings first (length contents)) one.0; free = five.0; active = six.0 }, four.0)
+
+module _ (P Q : PrimaryHistory → Type 0) (K : IsKeptByMoves P Q) where
+  keeps-open : (sync loss : ℕ) (starved : Bool) (h : PrimaryHistory) → P h → P (open_primary sync loss starved h).1
+  keeps-open sync loss starved h p = tested-keeps P h (open_tests h sync loss starved) (λ _. succeeding what.Nothing (opened h sync loss)) p (λ none.
+      let first = test-passed (not (outward h).closed) NotDrained ((not (are_fresh sync loss (known_tuples h)), UsedIdentifier) ∷ (nat_le 4294967295 (length h.connections), StreamFull) ∷ (starved, NoMemory) ∷ []) none in
+      let second = test-passed (not (are_fresh sync loss (known_tuples h))) UsedIdentifier ((nat_le 4294967295 (length h.connections), StreamFull) ∷ (starved, NoMemory) ∷ []) first.1 in
+      K.following (opened h sync loss) (K.opens h sync loss (not-false (outward h).closed first.0) (not-false (are_fresh sync loss (known_tuples h)) second.0) p))
+
+  keeps-submit : (first : ℕ) (contents : List (List ℕ)) (starved : Bool) (h : PrimaryHistory) → P h → P (submit first contents starved h).1
+  keeps-submit first contents starved h p = tested-keeps P h (submit_tests h first contents starved) (λ _. succeeding (what.Write (suc (length h.writes))) (submitted h first contents)) p (λ none.
+      K.following (submitted h first contents) (K.submits h first contents (submit-passed first contents starved h none).0 p))
+
+  keeps-local : (number : ℕ) (h : PrimaryHistory) → P h → P (local_done number h).1
+  keeps-local number h p = tested-keeps P h ((not (is_unfinished h number), UnknownJob) ∷ []) (λ _. succeeding what.Nothing (with_outcome number OnDisk h)) p (λ none.
+      let one = test-passed (not (is_unfinished h number)) UnknownJob [] none in
+      K.following (with_outcome number OnDisk h) (K.writes h number (not-false (is_unfinished h number) one.0) p))
+
+  keeps-fault : (number : ℕ) (offsets : List ℕ) (h : PrimaryHistory) → P h → P (local_fault number offsets h).1
+  keeps-fault number offsets h p = tested-keeps P h ((not (is_unfinished h number), UnknownJob) ∷ []) (λ _. succeeding what.Nothing (faulted number offsets h)) p (λ none.
+      let one = test-passed (not (is_unfinished h number)) UnknownJob [] none in
+      K.following (faulted number offsets h) (K.faults h number offsets (not-false (is_unfinished h number) one.0) p))
+
+  keeps-send : (room starved : Bool) (h : PrimaryHistory) → P h → P (send room starved h).1
+  keeps-send room starved h p = tested-keeps P h (send_tests h room starved) (λ _. succeeding (sending h) (with_outward pushing h)) p (λ none.
+      let one = test-passed (outward h).closed NotConnected ((nat_le (length (frames_due h.settings (outward h))) (outward h).pushed, NothingThere) ∷ (starved, NoMemory) ∷ (not room, LinkFull) ∷ []) none in
+      let two = test-passed (nat_le (length (frames_due h.settings (outward h))) (outward h).pushed) NothingThere ((starved, NoMemory) ∷ (not room, LinkFull) ∷ []) one.1 in
+      K.following (with_outward pushing h) (K.sends h one.0 (leb-false (length (frames_due h.settings (outward h))) (outward h).pushed two.0) p))
+
+  keeps-close : (h : PrimaryHistory) → P h → P (close_primary h).1
+  keeps-close h p = tested-keeps P h (((outward h).closed, NotConnected) ∷ []) (λ _. let after = follows (closing h) in (reply.Closed (length after.completed), after.history)) p (λ none.
+      K.following (closing h) (K.closes h (test-passed (outward h).closed NotConnected [] none).0 p))
+
+  keeps-resync : (starved : Bool) (h : PrimaryHistory) → P h → P (resync_next starved h).1
+  keeps-resync starved h p = tested-keeps P h (resync_tests h starved) (λ _. elim (free_block h) as (λ _. Reply × PrimaryHistory) [
+    | None ↦ (reply.Refused NothingToDo, h)
+    | Some block ↦ succeeding (what.Block (record { 0 = block }) (length (outward h).stream)) (appending (ResyncItem block (unwrap_or (local_map h block) [])) h)
+  ]) p (λ none.
+      let c : Outward = outward h in
+      let rest : List Test = (nat_le 4294967288 (length c.stream), StreamFull) ∷ (starved, NoMemory) ∷ [] in
+      let idle : Bool = elim (resync_runs c) as (λ _. Bool) [ true ↦ is_none (free_block h) | false ↦ true ] in
+      let busy : Bool = not (resync_runs c) || (nat_lt 0 (length (under_way c)) || idle) in
+      let one = test-passed c.closed NotConnected ((busy, NothingToDo) ∷ rest) none in
+      let two = test-passed busy NothingToDo rest one.1 in
+      let parts = or_parts (not (resync_runs c)) (nat_lt 0 (length (under_way c)) || idle) two.0 in
+      let more = or_parts (nat_lt 0 (length (under_way c))) idle parts.1 in
+      go (free_block h) refl (not-false (resync_runs c) parts.0) more.0)
+    where
+      go : (v : Option ℕ) → free_block h ≡ v → resync_runs (outward h) ≡ true → nat_lt 0 (length (under_way (outward h))) ≡ false → P (elim v as (λ _. Reply × PrimaryHistory) [
+        | None ↦ (reply.Refused NothingToDo, h)
+        | Some block ↦ succeeding (what.Block (record { 0 = block }) (length (outward h).stream)) (appending (ResyncItem block (unwrap_or (local_map h block) [])) h)
+      ]).1
+      go None is runs alone = p
+      go (Some block) is runs alone = K.following (appending (ResyncItem block (unwrap_or (local_map h block) [])) h) (K.resyncs h block runs alone is p)
+
+  keeps-resync-fault : (starved : Bool) (h : PrimaryHistory) → P h → P (resync_fault starved h).1
+  keeps-resync-fault starved h p = tested-keeps P h (resync_tests h starved) (λ _. (reply.Refused ReadFault, h)) p (λ none. p)
+
+  keeps-meeting : (h : PrimaryHistory) → (outward h).closed ≡ false → (outward h).begun ≡ false → 2 ≤ length (outward h).taken → P h → (peer : Tuple)
+      → Fine Q (with_outward (with_frame (Ok (UuidsFrame peer))) h) (meeting peer (with_outward (with_frame (Ok (UuidsFrame peer))) h))
+  keeps-meeting h standing new third p peer = go (stands_in (outward taken).sync peer || stands_in (outward taken).loss peer) (decision h.tuple peer) refl
+    where
+      taken : PrimaryHistory
+      taken = with_outward (with_frame (Ok (UuidsFrame peer))) h
+
+      seen : PrimaryHistory
+      seen = record (with_outward (with_frame (Ok (UuidsFrame peer))) h) { peer = Some peer }
+
+      go : (used : Bool) (v : Result Decision Refusal) → decision h.tuple peer ≡ v → Fine Q (with_outward (with_frame (Ok (UuidsFrame peer))) h) (elim used as (λ _. Taken) [
+        | true ↦ Err (UsedIdentifier, record (with_outward (with_frame (Ok (UuidsFrame peer))) h) { peer = Some peer })
+        | false ↦ elim v as (λ _. Taken) [ Err refusal ↦ Err (refusal, record (with_outward (with_frame (Ok (UuidsFrame peer))) h) { peer = Some peer }) | Ok decided ↦ Ok (what.Decided decided, begun_with decided (record (with_outward (with_frame (Ok (UuidsFrame peer))) h) { peer = Some peer })) ]
+      ])
+      go true v is = (Some peer, refl)
+      go false (Err refusal) is = (Some peer, refl)
+      go false (Ok decided) is = K.begins h peer decided standing new third is p
+
+  keeps-hello : (h : PrimaryHistory) → (outward h).closed ≡ false → (outward h).begun ≡ false → P h → (n : ℕ) → n ≡ length (outward h).taken → (packet : Packet)
+      → Fine Q (with_outward (with_frame (Ok packet)) h) (taking_hello n packet (with_outward (with_frame (Ok packet)) h))
+  keeps-hello h standing new p zero is (DataFrame write at) = (h.peer, refl)
+  keeps-hello h standing new p zero is (RsDataReplyFrame block contents at) = (h.peer, refl)
+  keeps-hello h standing new p zero is (BarrierFrame number) = (h.peer, refl)
+  keeps-hello h standing new p zero is (ProtocolFrame asked) =
+      fine-if Q (with_outward (with_frame (Ok (ProtocolFrame asked))) h) (with_outward (with_frame (Ok (ProtocolFrame asked))) h) (same_protocol asked h.settings.protocol) (what.Frame command.Protocol None) OtherProtocol (λ _. K.greets h (Ok (ProtocolFrame asked)) standing new (inl (sym is, (asked, refl))) p)
+  keeps-hello h standing new p zero is (UuidsFrame tuple) = (h.peer, refl)
+  keeps-hello h standing new p zero is (SizesFrame blocks) = (h.peer, refl)
+  keeps-hello h standing new p zero is (SyncUuidFrame word) = (h.peer, refl)
+  keeps-hello h standing new p zero is (RecvAckFrame ack) = (h.peer, refl)
+  keeps-hello h standing new p zero is (WriteAckFrame ack) = (h.peer, refl)
+  keeps-hello h standing new p zero is (RsWriteAckFrame ack) = (h.peer, refl)
+  keeps-hello h standing new p zero is (BarrierAckFrame number size) = (h.peer, refl)
+  keeps-hello h standing new p (suc zero) is (DataFrame write at) = (h.peer, refl)
+  keeps-hello h standing new p (suc zero) is (RsDataReplyFrame block contents at) = (h.peer, refl)
+  keeps-hello h standing new p (suc zero) is (BarrierFrame number) = (h.peer, refl)
+  keeps-hello h standing new p (suc zero) is (ProtocolFrame asked) = (h.peer, refl)
+  keeps-hello h standing new p (suc zero) is (UuidsFrame tuple) = (h.peer, refl)
+  keeps-hello h standing new p (suc zero) is (SizesFrame blocks) =
+      fine-if Q (with_outward (with_frame (Ok (SizesFrame blocks))) h) (with_outward (with_frame (Ok (SizesFrame blocks))) h) (blocks == h.settings.blocks) (what.Frame command.Sizes None) OtherSize (λ _. K.greets h (Ok (SizesFrame blocks)) standing new (inr (sym is, (blocks, refl))) p)
+  keeps-hello h standing new p (suc zero) is (SyncUuidFrame word) = (h.peer, refl)
+  keeps-hello h standing new p (suc zero) is (RecvAckFrame ack) = (h.peer, refl)
+  keeps-hello h standing new p (suc zero) is (WriteAckFrame ack) = (h.peer, refl)
+  keeps-hello h standing new p (suc zero) is (RsWriteAckFrame ack) = (h.peer, refl)
+  keeps-hello h standing new p (suc zero) is (BarrierAckFrame number size) = (h.peer, refl)
+  keeps-hello h standing new p (suc (suc n)) is (DataFrame write at) = (h.peer, refl)
+  keeps-hello h standing new p (suc (suc n)) is (RsDataReplyFrame block contents at) = (h.peer, refl)
+  keeps-hello h standing new p (suc (suc n)) is (BarrierFrame number) = (h.peer, refl)
+  keeps-hello h standing new p (suc (suc n)) is (ProtocolFrame asked) = (h.peer, refl)
+  keeps-hello h standing new p (suc (suc n)) is (UuidsFrame tuple) = keeps-meeting h standing new (omega arith) p tuple
+  keeps-hello h standing new p (suc (suc n)) is (SizesFrame blocks) = (h.peer, refl)
+  keeps-hello h standing new p (suc (suc n)) is (SyncUuidFrame word) = (h.peer, refl)
+  keeps-hello h standing new p (suc (suc n)) is (RecvAckFrame ack) = (h.peer, refl)
+  keeps-hello h standing new p (suc (suc n)) is (WriteAckFrame ack) = (h.peer, refl)
+  keeps-hello h standing new p (suc (suc n)) is (RsWriteAckFrame ack) = (h.peer, refl)
+  keeps-hello h standing new p (suc (suc n)) is (BarrierAckFrame number size) = (h.peer, refl)
+
+  keeps-ack : (h : PrimaryHistory) → (outward h).closed ≡ false → (outward h).begun ≡ true → P h → (packet : Packet)
+      → Fine Q (with_outward (with_frame (Ok packet)) h) (taking_ack packet h (with_outward (with_frame (Ok packet)) h))
+  keeps-ack h standing begun p (DataFrame write at) = (h.peer, refl)
+  keeps-ack h standing begun p (RsDataReplyFrame block contents at) = (h.peer, refl)
+  keeps-ack h standing begun p (BarrierFrame number) = (h.peer, refl)
+  keeps-ack h standing begun p (ProtocolFrame asked) = (h.peer, refl)
+  keeps-ack h standing begun p (UuidsFrame tuple) = (h.peer, refl)
+  keeps-ack h standing begun p (SizesFrame blocks) = (h.peer, refl)
+  keeps-ack h standing begun p (SyncUuidFrame word) = (h.peer, refl)
+  keeps-ack h standing begun p (RecvAckFrame ack) =
+      let names : Bool = is_protocol protocol.B h && names_sent is_write ack (outward h) in
+      let again : Bool = was_named was_received ack (outward h) in
+      fine-if Q (with_outward (with_frame (Ok (RecvAckFrame ack))) h) (with_outward (with_frame (Ok (RecvAckFrame ack))) h) (names && not again) (what.Frame command.RecvAck None) UnknownAck (λ good.
+      let parts = and_parts names (not again) good in
+      K.receives h ack standing begun (record { names = (and_parts (is_protocol protocol.B h) (names_sent is_write ack (outward h)) parts.0).1; first = not-true again parts.1 }) p)
+  keeps-ack h standing begun p (WriteAckFrame ack) =
+      let names : Bool = is_protocol protocol.C h && names_sent is_write ack (outward h) in
+      let again : Bool = was_named was_written ack (outward h) in
+      fine-if Q (with_outward (with_frame (Ok (WriteAckFrame ack))) h) (with_outward (with_frame (Ok (WriteAckFrame ack))) h) (names && not again) (what.Frame command.WriteAck None) UnknownAck (λ good.
+      let parts = and_parts names (not again) good in
+      K.applies h ack standing begun (record { names = (and_parts (is_protocol protocol.C h) (names_sent is_write ack (outward h)) parts.0).1; first = not-true again parts.1 }) p)
+  keeps-ack h standing begun p (RsWriteAckFrame ack) =
+      let names : Bool = names_sent is_resync ack (outward h) in
+      let again : Bool = was_named was_resynced ack (outward h) in
+      fine-if Q (with_outward (with_frame (Ok (RsWriteAckFrame ack))) h) (record (with_outward (with_frame (Ok (RsWriteAckFrame ack))) h) { marks = clearing ack.first h.marks }) (names && not again) (what.Frame command.RsWriteAck None) UnknownAck (λ good.
+      let parts = and_parts names (not again) good in
+      K.clears h ack standing begun (record { names = parts.0; first = not-true again parts.1 }) p)
+  keeps-ack h standing begun p (BarrierAckFrame number size) =
+      fine-if Q (with_outward (with_frame (Ok (BarrierAckFrame number size))) h) (with_outward (with_frame (Ok (BarrierAckFrame number size))) h) (is_in_turn h number size) (what.Frame command.BarrierAck None) BadBarrierAck (λ good. K.confirms h number size standing begun good p)
+
+  keeps-taking : (h : PrimaryHistory) → (outward h).closed ≡ false → P h → (frame : Received) → Fine Q (with_outward (with_frame frame) h) (taking frame h (with_outward (with_frame frame) h))
+  keeps-taking h standing p (Err fault) = (h.peer, refl)
+  keeps-taking h standing p (Ok packet) = go (outward h).begun refl
+    where
+      go : (begun : Bool) → (outward h).begun ≡ begun → Fine Q (with_outward (with_frame (Ok packet)) h) (elim begun as (λ _. Taken) [
+        | true ↦ taking_ack packet h (with_outward (with_frame (Ok packet)) h)
+        | false ↦ taking_hello (length (outward h).taken) packet (with_outward (with_frame (Ok packet)) h)
+      ])
+      go true is = keeps-ack h standing is p packet
+      go false is = keeps-hello h standing is p (length (outward h).taken) refl packet
+
+  keeps-frame : (h : PrimaryHistory) → (outward h).closed ≡ false → P h → (frame : Received) → P (take_frame frame h).1
+  keeps-frame h standing p frame = go (taking frame h (with_outward (with_frame frame) h)) (keeps-taking h standing p frame)
+    where
+      go : (v : Taken) → Fine Q (with_outward (with_frame frame) h) v → P (elim v as (λ _. Reply × PrimaryHistory) [
+        | Ok done ↦ succeeding done.0 done.1
+        | Err error ↦ (reply.Refused error.0, (follows (closing (with_outward refusing error.1))).history)
+      ]).1
+      go (Ok done) fine = K.following done.1 fine
+      go (Err error) fine = subst (λ (e : PrimaryHistory). P (follows (closing (with_outward refusing e))).history) (sym fine.1) (K.following _ (K.refuses h frame fine.0 standing p))
+
+  keeps-ack-in : (frame : Option Received) (starved : Bool) (h : PrimaryHistory) → P h → P (ack_in frame starved h).1
+  keeps-ack-in frame starved h p =
+      let rest : List Test = (not (outward h).begun && starved, NoMemory) ∷ (is_none frame, NothingThere) ∷ [] in
+      tested-keeps P h (((outward h).closed, NotConnected) ∷ rest) (λ _. elim frame as (λ _. Reply × PrimaryHistory) [ None ↦ (reply.Refused NothingThere, h) | Some taken ↦ take_frame taken h ]) p
+      (λ none. go frame (test-passed (outward h).closed NotConnected rest none).0)
+    where
+      go : (v : Option Received) → (outward h).closed ≡ false → P (elim v as (λ _. Reply × PrimaryHistory) [ None ↦ (reply.Refused NothingThere, h) | Some taken ↦ take_frame taken h ]).1
+      go None standing = p
+      go (Some taken) standing = keeps-frame h standing p taken
+
+  keeps-receipt : (number : ℕ) (h : PrimaryHistory) → P h → P (take_completed number h).1
+  keeps-receipt number h p = go (first_refusal (take_completed_tests h number)) (find (λ entry. entry.write.number == number) h.journal)
+    where
+      go : (v : Option Refusal) (entry : Option Completion) → P (elim v as (λ _. Result Completion Refusal × PrimaryHistory) [
+        | Some refusal ↦ (Err refusal, h)
+        | None ↦ elim entry as (λ _. Result Completion Refusal × PrimaryHistory) [ None ↦ (Err LocalFault, receipted number h) | Some entry ↦ (Ok entry, receipted number h) ]
+      ]).1
+      go (Some refusal) entry = p
+      go None None = K.receipts h number p
+      go None (Some entry) = K.receipts h number p
+
+  -- every step keeps it, and so does every run
+  pub keeps-after : (event : PrimaryEvent) (h : PrimaryHistory) → P h → P (primary_after event h)
+  keeps-after (Opens sync loss starved) h p = keeps-open sync loss starved h p
+  keeps-after (Submits first contents starved) h p = keeps-submit first contents starved h p
+  keeps-after (WritesLocally number) h p = keeps-local number h p
+  keeps-after (FailsLocally number offsets) h p = keeps-fault number offsets h p
+  keeps-after (Sends room starved) h p = keeps-send room starved h p
+  keeps-after (Takes frame starved) h p = keeps-ack-in frame starved h p
+  keeps-after (Resyncs starved) h p = keeps-resync starved h p
+  keeps-after (FailsResync starved) h p = keeps-resync-fault starved h p
+  keeps-after Closes h p = keeps-close h p
+  keeps-after (Receipts number) h p = keeps-receipt number h p
+
+  pub keeps-run : (events : List PrimaryEvent) (h : PrimaryHistory) → P h → P (primary_run events h)
+  keeps-run [] h p = p
+  keeps-run (event ∷ events) h p = keeps-run events (primary_after event h) (keeps-after event h p)

@@ -1,0 +1,2 @@
+pub mod Has
+pub mod Statements
