@@ -1,4 +1,5 @@
 pub mod Disks
+pub mod Histories
 pub mod Linked
 pub mod Openings
 pub mod State

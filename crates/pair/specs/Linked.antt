@@ -1,17 +1,29 @@
--- How the two ends of a link fit together.
-use Rattle.std.specs.Prelude.{ℕ, ◌≡◌, List, ◌++◌, Option, Some, None, IsSome}
-use Rattle.primary.specs.State.{PrimaryState}
-use Rattle.primary.specs.Primaries.{sent_of, waiting_of, taken_of}
+-- How the two ends of a link fit together, while the queue of each direction rests at its sending end.
+use Rattle.std.specs.Prelude.{ℕ, ◌≡◌, ◌-◌, ◌≤◌, false, List, ◌++◌, length, Option, Some, None, IsSome}
+use Rattle.primary.specs.State.{ConnectionState}
 use Rattle.secondary.specs.State.{SecondaryState}
 
--- one direction: what was sent is what was taken, and then what waits in the queue
-abbrev pub Carries : List (List ℕ) → Option (List (List ℕ)) → List (List ℕ) → Type 0
-Carries sent None taken = Unit {0}
-Carries sent (Some waiting) taken = sent ≡ taken ++ waiting
+-- One direction: what was sent is what was taken, and then what waits in the queue. The queue holds up to `link` frames, and
+-- what it does not hold is its room.
+pub record Carries (link : ℕ) (sent : List (List ℕ)) (waiting : Option (List (List ℕ))) (room : Option ℕ) (taken : List (List ℕ)) : Type 0 where
+  pub frames : List (List ℕ)
+  pub here : waiting ≡ Some frames
+  pub left : room ≡ Some (link - length frames)
+  pub fits : length frames ≤ link
+  pub whole : sent ≡ taken ++ frames
 
--- both directions, and each node was opened where the other has a queue
-pub record IsLinked (p : PrimaryState) (s : SecondaryState) : Type 0 where
-  pub there : Carries (sent_of p.connection) (waiting_of p.connection) s.taken
-  pub back : Carries s.sent s.waiting (taken_of p.connection)
-  pub opened : IsSome (waiting_of p.connection) → IsSome s.queued
-  pub opened_back : IsSome s.waiting → IsSome p.connection
+-- both directions of an open connection; the secondary was opened too
+pub record AreEnds (link : ℕ) (c : ConnectionState) (s : SecondaryState) : Type 0 where
+  pub there : Carries link c.sent c.waiting c.room s.taken
+  pub back : Carries link s.sent s.waiting s.room c.taken
+  pub opened : IsSome s.queued
+
+-- the secondary was never opened
+pub record IsUnopened (s : SecondaryState) : Type 0 where
+  pub closed : s.is_open ≡ false
+  pub nothing : s.waiting ≡ None
+
+-- both nodes have a connection, or neither
+abbrev pub IsLinked : ℕ → Option ConnectionState → SecondaryState → Type 0
+IsLinked link None s = IsUnopened s
+IsLinked link (Some c) s = AreEnds link c s

@@ -1,12 +1,16 @@
 //! The two nodes and their link.
-ghost use Rattle.std.specs.Prelude.{◌≡◌, ◌≢◌, replicate, IfOk, IfErr, IsErrOf, ◌⊎◌};
+ghost use Rattle.std.specs.Prelude.{◌≡◌, ◌≢◌, ◌↔◌, replicate, IfOk, IfErr, IsErrOf, ◌⊎◌};
+ghost use Rattle.model.specs.Theorems.{pair_at};
+ghost use Rattle.pair.specs.Histories.{HasPair, fresh_opening};
 ghost use Rattle.pair.specs.Openings.{first_generation};
 ghost use Rattle.blocks.specs.declared.refusal.Refusal.TheVariants.{BadSetting, NoMemory};
 
 use blocks::{MemStore, Refusal, Settings, Tuple};
 use link::{PlainIn, PlainOut};
 use primary::Primary;
+use primary_steps::primary_steps;
 use secondary::Secondary;
+use secondary_steps::secondary_steps;
 use std::alloc::Global;
 use std::marker::Model;
 
@@ -25,11 +29,14 @@ impl Model for Pair {
 
     ghost Value = { PairState };
 
-    ghost use Rattle.pair.specs.Linked.{IsLinked};
+    ghost use Rattle.model.specs.Pair.{PairHistory};
+    ghost use Rattle.pair.specs.Histories.{HasPair};
 
     ghost view = { λ p. record { settings = p.settings; primary = p.primary; secondary = p.secondary } };
 
-    ghost invariant = { λ p. IsLinked p.primary p.secondary };
+    // Some history is had.
+    ghost invariant = { λ p. (h : PairHistory)
+        × HasPair (record { settings = p.settings; primary = p.primary; secondary = p.secondary }) h };
 }
 
 impl Pair {
@@ -40,12 +47,16 @@ impl Pair {
     /// had.
     pub fn fresh(alloc: Global, settings: Settings) -> Result<Pair, Refusal>
         ensures settings { IfOk result (λ p. p.settings ≡ settings) }
-        ensures other_settings { settings ≢ Settings.ONE_WRITE → IsErrOf result Refusal.BadSetting }
+        ensures other_settings { IsErrOf result Refusal.BadSetting ↔ (settings ≢ Settings.ONE_WRITE) }
         ensures identifiers { IfOk result (λ p. (p.primary.tuple ≡ first_generation) × (p.secondary.tuple ≡ first_generation)) }
         ensures local { IfOk result (λ p. p.primary.disk ≡ replicate settings.blocks (replicate 4096 0)) }
         ensures peer { IfOk result (λ p. p.secondary.disk ≡ replicate settings.blocks (replicate 4096 0)) }
+        ensures history { IfOk result (λ p. HasPair p (pair_at (fresh_opening settings))) }
         ensures refused { IfErr result (λ e. (e ≡ BadSetting) ⊎ (e ≡ NoMemory)) }
     {
+        // theorems for the proof: a new node has its opening's history
+        primary_steps();
+        secondary_steps();
         if settings != Settings::ONE_WRITE {
             return Err(Refusal::BadSetting);
         }

@@ -1,58 +1,79 @@
--- The secondary's queue is lent to the primary, and comes back with what the primary left of it.
-use Rattle.std.proofs.Common.{ℕ, ◌≡◌, List, ◌++◌, Option, Some, None, [], refl, sym, ◌∙◌, ap, subst}
-use Rattle.std.specs.Prelude.{IsSome}
-use Rattle.primary.specs.State.{PrimaryState}
-use Rattle.primary.specs.Primaries.{sent_of, waiting_of, taken_of, queued_of, changed, with_queued}
+-- The secondary's queue is lent to the primary for the one call, which is the event's step.
+use Rattle.std.proofs.Common.{◌≡◌, Some, None, refl, sym, ◌∙◌, ap, subst}
+use Rattle.primary_steps.specs.Statements.{reply_of}
 use Rattle.secondary.specs.State.{SecondaryState}
-use Rattle.pair.proofs.Carried.{given-taken, primary-moves, sent-queued, waiting-queued, taken-queued, queued-queued, some-changed}
+use Rattle.pair.specs.Histories.{Steps}
+use Rattle.pair.specs.State.{PairState}
+use Rattle.pair.specs.declared.event.Event.TheVariants.{AckIn}
+use Rattle.pair.proofs.AckIns.{given-taken, given-back, ack_in-steps, ack_in-unlinked}
+use Rattle.pair.proofs.Nexts.{with_nodes}
 use Rattle.pair.proofs.pair.Pair.ack_in.Goals as goal
 
 pub lay_inward-requires-clause-taken : goal.lay_inward-requires-clause-taken
 lay_inward-requires-clause-taken c =
-    given-taken c.self.inside.secondary.sent (taken_of c.self.inside.primary.connection) c.in-Some.queue.taken c.in-Some.queue.frames c.self.inside.secondary.waiting
-    c.self.invariant.back (sym c.in-Some.ensures.given) c.in-Some.ensures.sent
-
--- what the call below moved
-moved : goal.lay_outward-requires-clause-sent
-moved c =
-    let p : PrimaryState = c.self.inside.primary in
-    let s : SecondaryState = c.self.inside.secondary in
-    let laid : PrimaryState = c.lay_inward.new.self in
-    let taken : PrimaryState = c.ack_in-done.new.self in
-    let first = given-taken s.sent (taken_of p.connection) c.in-Some.queue.taken c.in-Some.queue.frames s.waiting c.self.invariant.back (sym c.in-Some.ensures.given) c.in-Some.ensures.sent in
-    let moves = primary-moves laid taken c.ack_in-done.result c.ack_in-done.ensures.unchanged c.ack_in-done.ensures.taken in
-    let here : laid.connection ≡ changed (with_queued c.in-Some.queue.frames (Some c.in-Some.queue.capacity)) p.connection = ap (λ (x : PrimaryState). x.connection) c.lay_inward.ensures in
-    let some : IsSome p.connection = c.self.invariant.opened_back (subst (λ (q : Option (List (List ℕ))). IsSome q) c.in-Some.ensures.given refl) in
-    let queued : queued_of laid.connection ≡ Some c.in-Some.queue.frames = ap queued_of here ∙ queued-queued p.connection c.in-Some.queue.frames (Some c.in-Some.queue.capacity) some in
-    let before : taken_of laid.connection ≡ taken_of p.connection = ap taken_of here ∙ taken-queued p.connection c.in-Some.queue.frames (Some c.in-Some.queue.capacity) in
-    let all = moves.moves.moved c.in-Some.queue.frames c.in-Some-give_inward.queue.frames queued c.in-Some-give_inward.ensures.frames in
-    ap (λ (x : SecondaryState). x.sent) c.give_outward.ensures.left ∙ (c.in-Some.ensures.sent
-    ∙ (ap (λ (l : List (List ℕ)). l ++ c.in-Some.queue.frames) (first ∙ sym before) ∙ (sym all ∙ ap (λ (l : List (List ℕ)). l ++ c.in-Some-give_inward.queue.frames) (sym c.in-Some-give_inward.ensures.taken))))
+    let p : PairState = record { settings = c.self.inside.settings; primary = c.self.inside.primary; secondary = c.self.inside.secondary } in
+    let known = c.self.invariant in
+    (given-taken p known.0 c.in-Some.queue known.1 c.in-Some.ensures.given c.in-Some.ensures.sent).0
 
 pub lay_outward-requires-clause-sent : goal.lay_outward-requires-clause-sent
-lay_outward-requires-clause-sent = moved
+lay_outward-requires-clause-sent c =
+    let p : PairState = record { settings = c.self.inside.settings; primary = c.self.inside.primary; secondary = c.self.inside.secondary } in
+    let known = c.self.invariant in
+    let call = c.ack_in-done.ensures in
+    let back = given-back p known.0 c.in-Some.queue c.lay_inward.new.self c.ack_in-done.new.self c.ack_in-done.result known.1 c.in-Some.ensures.given c.in-Some.ensures.sent c.lay_inward.ensures call.unchanged call.taken in
+    ap (λ (x : SecondaryState). x.sent) c.give_outward.ensures.left ∙ back.1 c.in-Some-give_inward.queue c.in-Some-give_inward.ensures.frames c.in-Some-give_inward.ensures.taken
+
+-- the step, of the pair as it is inside
+steps : (c : goal.After-lay_outward) → (p : PairState) → p ≡ record { settings = c.self.inside.settings; primary = c.self.inside.primary; secondary = c.self.inside.secondary }
+    → Steps AckIn p (reply_of c.ack_in-done.result) (with_nodes p c.give_inward.new.self c.lay_outward.new.self)
+steps c p is =
+    let call = c.ack_in-done.ensures in
+    let here : PairState = record { settings = c.self.inside.settings; primary = c.self.inside.primary; secondary = c.self.inside.secondary } in
+    subst (λ (q : PairState). Steps AckIn q (reply_of c.ack_in-done.result) (with_nodes q c.give_inward.new.self c.lay_outward.new.self)) (sym is)
+    (ack_in-steps c.round_trip.ensures c.honest_link.ensures.honest c.primary_steps.ensures.words c.primary_steps.ensures.hello c.primary_steps.ensures.ack_in here c.in-Some.queue c.in-Some-give_inward.queue c.give_outward.new.self c.lay_outward.new.self c.lay_inward.new.self c.ack_in-done.new.self
+    c.give_inward.new.self c.ack_in-done.result
+    (record {
+      given = c.in-Some.ensures.given;
+      room = c.in-Some.ensures.room;
+      fits = c.in-Some.ensures.fits;
+      whole = c.in-Some.ensures.sent;
+      left = c.give_outward.ensures.left;
+      here = c.lay_inward.ensures;
+      capacity = c.in-Some-give_inward.ensures.given;
+      rest = c.in-Some-give_inward.ensures.frames;
+      taken_too = c.in-Some-give_inward.ensures.taken;
+      left_too = c.give_inward.ensures.left;
+      laid_back = c.lay_outward.ensures;
+    }) call.not_connected call.unchanged call.taken call.done call.refused call.others)
 
 pub invariant_of-self-in-Some-give_inward : goal.invariant_of-self-in-Some-give_inward
-invariant_of-self-in-Some-give_inward c =
-    let p : PrimaryState = c.self.inside.primary in
-    let s : SecondaryState = c.self.inside.secondary in
-    let laid : PrimaryState = c.lay_inward.new.self in
-    let taken : PrimaryState = c.ack_in-done.new.self in
-    let moves = primary-moves laid taken c.ack_in-done.result c.ack_in-done.ensures.unchanged c.ack_in-done.ensures.taken in
-    let here : laid.connection ≡ changed (with_queued c.in-Some.queue.frames (Some c.in-Some.queue.capacity)) p.connection = ap (λ (x : PrimaryState). x.connection) c.lay_inward.ensures in
-    let ended : c.give_inward.new.self.connection ≡ changed (with_queued [] None) taken.connection = ap (λ (x : PrimaryState). x.connection) c.give_inward.ensures.left in
-    let some : IsSome p.connection = c.self.invariant.opened_back (subst (λ (q : Option (List (List ℕ))). IsSome q) c.in-Some.ensures.given refl) in
-    let some_laid : IsSome laid.connection = rw here (some-changed p.connection _ some) in
-    let back : c.lay_outward.new.self.waiting ≡ Some c.in-Some-give_inward.queue.frames = ap (λ (x : SecondaryState). x.waiting) c.lay_outward.ensures in
-    let sent : c.lay_outward.new.self.sent ≡ c.give_outward.new.self.sent = ap (λ (x : SecondaryState). x.sent) c.lay_outward.ensures in
-    let theirs : c.lay_outward.new.self.taken ≡ s.taken = ap (λ (x : SecondaryState). x.taken) c.lay_outward.ensures ∙ ap (λ (x : SecondaryState). x.taken) c.give_outward.ensures.left in
-    let queued : c.lay_outward.new.self.queued ≡ s.queued = ap (λ (x : SecondaryState). x.queued) c.lay_outward.ensures ∙ ap (λ (x : SecondaryState). x.queued) c.give_outward.ensures.left in
-    let sent_same : sent_of c.give_inward.new.self.connection ≡ sent_of p.connection = ap sent_of ended ∙ (sent-queued taken.connection [] None ∙ (moves.sent ∙ (ap sent_of here ∙ sent-queued p.connection _ _))) in
-    let waiting_same : waiting_of c.give_inward.new.self.connection ≡ waiting_of p.connection = ap waiting_of ended ∙ (waiting-queued taken.connection [] None ∙ (moves.waiting ∙ (ap waiting_of here ∙ waiting-queued p.connection _ _))) in
-    let taken_same : taken_of c.give_inward.new.self.connection ≡ taken_of taken.connection = ap taken_of ended ∙ taken-queued taken.connection [] None in
-    record {
-      there = rw (sent_same, waiting_same, theirs) c.self.invariant.there;
-      back = rw (sent, back, taken_same) (moved c.before ∙ ap (λ (l : List (List ℕ)). l ++ c.in-Some-give_inward.queue.frames) c.in-Some-give_inward.ensures.taken);
-      opened = λ held. rw queued (c.self.invariant.opened (rw (← waiting_same) held));
-      opened_back = λ held. rw ended (some-changed taken.connection _ (moves.there some_laid));
-    }
+invariant_of-self-in-Some-give_inward c = let known = c.self.invariant in (_, (steps c _ refl known.0 known.1).history)
+
+pub returns-in-Some-give_inward-clause-step : goal.returns-in-Some-give_inward-clause-step
+returns-in-Some-give_inward-clause-step c =
+    let p : PairState = record { settings = c.self.inside.settings; primary = c.self.inside.primary; secondary = c.self.inside.secondary } in
+    subst (λ (q : PairState). Steps AckIn q (reply_of c.ack_in-done.result) (with_nodes p c.give_inward.new.self c.lay_outward.new.self)) c.self.view_is (steps c p refl)
+
+pub invariant_of-self-in_default-give_inward : goal.invariant_of-self-in_default-give_inward
+invariant_of-self-in_default-give_inward c =
+    let p : PairState = record { settings = c.self.inside.settings; primary = c.self.inside.primary; secondary = c.self.inside.secondary } in
+    let known = c.self.invariant in
+    let call = c.ack_in-done.ensures in
+    let back = given-back p known.0 c.in-Some.queue c.lay_inward.new.self c.ack_in-done.new.self c.ack_in-done.result known.1 c.in-Some.ensures.given c.in-Some.ensures.sent c.lay_inward.ensures call.unchanged call.taken in
+    let lost : None ≡ Some c.in-Some.queue.capacity = c.in_default-give_inward.ensures.given ∙ back.0 in
+    absurd (cc)
+
+pub returns-in_default-give_inward-clause-step : goal.returns-in_default-give_inward-clause-step
+returns-in_default-give_inward-clause-step c =
+    let p : PairState = record { settings = c.self.inside.settings; primary = c.self.inside.primary; secondary = c.self.inside.secondary } in
+    let known = c.self.invariant in
+    let call = c.ack_in-done.ensures in
+    let back = given-back p known.0 c.in-Some.queue c.lay_inward.new.self c.ack_in-done.new.self c.ack_in-done.result known.1 c.in-Some.ensures.given c.in-Some.ensures.sent c.lay_inward.ensures call.unchanged call.taken in
+    let lost : None ≡ Some c.in-Some.queue.capacity = c.in_default-give_inward.ensures.given ∙ back.0 in
+    absurd (cc)
+
+pub returns-in_default-clause-step : goal.returns-in_default-clause-step
+returns-in_default-clause-step c =
+    let p : PairState = record { settings = c.self.inside.settings; primary = c.self.inside.primary; secondary = c.self.inside.secondary } in
+    subst (λ (q : PairState). Steps AckIn q (reply_of c.ack_in.result) (with_nodes p c.ack_in.new.self c.give_outward.new.self)) c.self.view_is
+    (ack_in-unlinked p c.give_outward.new.self c.ack_in.new.self c.ack_in.result (sym c.in_default.ensures.given) c.give_outward.ensures.left c.ack_in.ensures.not_connected c.ack_in.ensures.unchanged)

@@ -1,48 +1,60 @@
--- The primary's queue is lent to the secondary, and comes back with what the secondary left of it.
-use Rattle.std.proofs.Common.{ℕ, ◌≡◌, List, ◌++◌, Some, None, refl, sym, ◌∙◌, ap}
+-- The primary's queue is lent to the secondary for the one call, which is the event's step.
+use Rattle.std.proofs.Common.{◌≡◌, refl, sym, ◌∙◌, ap, subst}
+use Rattle.primary.specs.Primaries.{sent_of}
 use Rattle.primary.specs.State.{PrimaryState}
-use Rattle.primary.specs.Primaries.{sent_of, waiting_of, changed, with_waiting}
-use Rattle.secondary.specs.State.{SecondaryState}
-use Rattle.pair.proofs.Carried.{given-taken, secondary-moves, sent-waiting, taken-waiting, some-changed, carries-laid, some-mapped}
+use Rattle.primary_steps.specs.Statements.{reply_of}
+use Rattle.pair.specs.Histories.{Steps}
+use Rattle.pair.specs.State.{PairState}
+use Rattle.pair.specs.declared.event.Event.TheVariants.{Receive}
+use Rattle.pair.proofs.Nexts.{with_nodes}
+use Rattle.pair.proofs.Receives.{given-taken, given-back, sent-lent, receive-steps, receive-unlinked}
 use Rattle.pair.proofs.pair.Pair.receive.Goals as goal
 
 pub lay_inward-requires-clause-taken : goal.lay_inward-requires-clause-taken
 lay_inward-requires-clause-taken c =
-    given-taken (sent_of c.self.inside.primary.connection) c.self.inside.secondary.taken c.in-Some.queue.taken c.in-Some.queue.frames (waiting_of c.self.inside.primary.connection)
-    c.self.invariant.there (sym c.in-Some.ensures.given) c.in-Some.ensures.sent
+    let p : PairState = record { settings = c.self.inside.settings; primary = c.self.inside.primary; secondary = c.self.inside.secondary } in
+    let known = c.self.invariant in
+    given-taken p known.0 c.in-Some.queue known.1 c.in-Some.ensures.given c.in-Some.ensures.sent
 
 pub lay_outward-requires-clause-sent : goal.lay_outward-requires-clause-sent
 lay_outward-requires-clause-sent c =
-    let p : PrimaryState = c.self.inside.primary in
-    let s : SecondaryState = c.self.inside.secondary in
-    let first = given-taken (sent_of p.connection) s.taken c.in-Some.queue.taken c.in-Some.queue.frames (waiting_of p.connection) c.self.invariant.there (sym c.in-Some.ensures.given) c.in-Some.ensures.sent in
-    let moves = secondary-moves c.lay_inward.new.self c.receive-done.new.self c.receive-done.result c.receive-done.ensures.received c.receive-done.ensures.refused in
-    let queued : c.lay_inward.new.self.queued ≡ Some c.in-Some.queue.frames = ap (λ (x : SecondaryState). x.queued) c.lay_inward.ensures in
-    let taken : c.lay_inward.new.self.taken ≡ s.taken = ap (λ (x : SecondaryState). x.taken) c.lay_inward.ensures in
-    let moved = moves.moves.moved c.in-Some.queue.frames c.in-Some-give_inward.queue.frames queued c.in-Some-give_inward.ensures.frames in
-    ap (λ (x : PrimaryState). sent_of x.connection) c.give_outward.ensures.left ∙ (sent-waiting p.connection _ _ ∙ (c.in-Some.ensures.sent
-    ∙ (ap (λ (l : List (List ℕ)). l ++ c.in-Some.queue.frames) (first ∙ sym taken) ∙ (sym moved ∙ ap (λ (l : List (List ℕ)). l ++ c.in-Some-give_inward.queue.frames) (sym c.in-Some-give_inward.ensures.taken)))))
+    let p : PairState = record { settings = c.self.inside.settings; primary = c.self.inside.primary; secondary = c.self.inside.secondary } in
+    let known = c.self.invariant in
+    let before = given-taken p known.0 c.in-Some.queue known.1 c.in-Some.ensures.given c.in-Some.ensures.sent in
+    ap (λ (x : PrimaryState). sent_of x.connection) c.give_outward.ensures.left ∙ (sent-lent c.self.inside.primary.connection
+    ∙ given-back p c.in-Some.queue c.in-Some-give_inward.queue c.lay_inward.new.self c.receive-done.new.self c.receive-done.result before c.in-Some.ensures.sent c.lay_inward.ensures c.receive-done.ensures.received c.receive-done.ensures.refused c.in-Some-give_inward.ensures.frames c.in-Some-give_inward.ensures.taken)
+
+-- the step, of the pair as it is inside
+steps : (c : goal.After-lay_outward) → (p : PairState) → p ≡ record { settings = c.self.inside.settings; primary = c.self.inside.primary; secondary = c.self.inside.secondary }
+    → Steps Receive p (reply_of c.receive-done.result) (with_nodes p c.lay_outward.new.self c.give_inward.new.self)
+steps c p is =
+    let here : PairState = record { settings = c.self.inside.settings; primary = c.self.inside.primary; secondary = c.self.inside.secondary } in
+    subst (λ (q : PairState). Steps Receive q (reply_of c.receive-done.result) (with_nodes q c.lay_outward.new.self c.give_inward.new.self)) (sym is)
+    (receive-steps c.round_trip.ensures c.secondary_steps.ensures.receive here c.in-Some.queue c.in-Some-give_inward.queue c.give_outward.new.self c.lay_outward.new.self c.lay_inward.new.self c.receive-done.new.self c.give_inward.new.self c.receive-done.result
+    (record {
+      given = c.in-Some.ensures.given;
+      room = c.in-Some.ensures.room;
+      fits = c.in-Some.ensures.fits;
+      whole = c.in-Some.ensures.sent;
+      left = c.give_outward.ensures.left;
+      here = c.lay_inward.ensures;
+      capacity = c.in-Some-give_inward.ensures.given;
+      rest = c.in-Some-give_inward.ensures.frames;
+      taken_too = c.in-Some-give_inward.ensures.taken;
+      left_too = c.give_inward.ensures.left;
+      laid_back = c.lay_outward.ensures;
+    }) c.receive-done.ensures.first c.receive-done.ensures.received c.receive-done.ensures.refused)
 
 pub invariant_of-self-in-Some-give_inward : goal.invariant_of-self-in-Some-give_inward
-invariant_of-self-in-Some-give_inward c =
-    let p : PrimaryState = c.self.inside.primary in
-    let s : SecondaryState = c.self.inside.secondary in
-    let lent : PrimaryState = c.give_outward.new.self in
-    let laid : SecondaryState = c.lay_inward.new.self in
-    let received : SecondaryState = c.receive-done.new.self in
-    let moves = secondary-moves laid received c.receive-done.result c.receive-done.ensures.received c.receive-done.ensures.refused in
-    let back : c.lay_outward.new.self.connection ≡ changed (with_waiting (Some c.in-Some-give_inward.queue.frames) _) lent.connection = ap (λ (x : PrimaryState). x.connection) c.lay_outward.ensures in
-    let given : lent.connection ≡ changed (with_waiting None 0) p.connection = ap (λ (x : PrimaryState). x.connection) c.give_outward.ensures.left in
-    let ended = c.give_inward.ensures.left in
-    let taken : c.give_inward.new.self.taken ≡ received.taken = ap (λ (x : SecondaryState). x.taken) ended in
-    let sent : c.give_inward.new.self.sent ≡ s.sent = ap (λ (x : SecondaryState). x.sent) ended ∙ (moves.sent ∙ ap (λ (x : SecondaryState). x.sent) c.lay_inward.ensures) in
-    let waiting : c.give_inward.new.self.waiting ≡ s.waiting = ap (λ (x : SecondaryState). x.waiting) ended ∙ (moves.waiting ∙ ap (λ (x : SecondaryState). x.waiting) c.lay_inward.ensures) in
-    let queued : laid.queued ≡ Some c.in-Some.queue.frames = ap (λ (x : SecondaryState). x.queued) c.lay_inward.ensures in
-    let whole : sent_of lent.connection ≡ received.taken ++ c.in-Some-give_inward.queue.frames =
-    lay_outward-requires-clause-sent c.before ∙ ap (λ (l : List (List ℕ)). l ++ c.in-Some-give_inward.queue.frames) c.in-Some-give_inward.ensures.taken in
-    record {
-      there = rw (back, taken) (carries-laid lent.connection c.in-Some-give_inward.queue.frames received.taken _ whole);
-      back = rw (back, sent, waiting, taken-waiting lent.connection _ _, given, taken-waiting p.connection _ _) c.self.invariant.back;
-      opened = λ some. rw (ap (λ (x : SecondaryState). x.queued) ended) (some-mapped _ received.queued (moves.moves.kept (rw queued refl)));
-      opened_back = λ some. rw (back, given) (some-changed (changed (with_waiting None 0) p.connection) _ (some-changed p.connection _ (c.self.invariant.opened_back (rw (← waiting) some))));
-    }
+invariant_of-self-in-Some-give_inward c = let known = c.self.invariant in (_, (steps c _ refl known.0 known.1).history)
+
+pub returns-in-Some-give_inward-clause-step : goal.returns-in-Some-give_inward-clause-step
+returns-in-Some-give_inward-clause-step c =
+    let p : PairState = record { settings = c.self.inside.settings; primary = c.self.inside.primary; secondary = c.self.inside.secondary } in
+    subst (λ (q : PairState). Steps Receive q (reply_of c.receive-done.result) (with_nodes p c.lay_outward.new.self c.give_inward.new.self)) c.self.view_is (steps c p refl)
+
+pub returns-in_default-clause-step : goal.returns-in_default-clause-step
+returns-in_default-clause-step c =
+    let p : PairState = record { settings = c.self.inside.settings; primary = c.self.inside.primary; secondary = c.self.inside.secondary } in
+    subst (λ (q : PairState). Steps Receive q (reply_of c.receive.result) (with_nodes p c.give_outward.new.self c.receive.new.self)) c.self.view_is
+    (receive-unlinked p c.give_outward.new.self c.receive.new.self c.receive.result (sym c.in_default.ensures.given) c.give_outward.ensures.left c.receive.ensures.first c.receive.ensures.refused)
