@@ -12,7 +12,7 @@ use Rattle.primary.specs.Streams.{is_unended, with_barrier}
 use Rattle.primary_steps.specs.Has.{HasOutward, packet_of}
 use Rattle.primary_steps.proofs.Lists.Beginnings.{begins-append, get-beginning}
 use Rattle.primary_steps.proofs.Streams.BarrierAtEnd.{last-barrier, last-empty, writes-barrier, due-barrier}
-use Rattle.primary_steps.proofs.Streams.WriteAtEnd.{frames-grow}
+use Rattle.primary_steps.proofs.Streams.WriteAtEnd.{frames-begin}
 
 -- the end with the barrier in its stream
 abbrev pub parting : Outward → Outward
@@ -54,7 +54,7 @@ has-barred x h c epoch last pushed out = record {
         let old = out.sent.each n frame at in (
           old.0,
           get-beginning (frames_due h.settings c) (frames_due h.settings (parting c)) n old.0
-              (begins-append (hello_of h.settings c.hello) (frames_of c.stream) (frames_of (c.stream ++ BarrierItem number ∷ [])) (frames-grow 0 c.stream (BarrierItem number ∷ []))) old.1,
+              (begins-append (hello_of h.settings c.hello) (frames_of c.stream) (frames_of (c.stream ++ BarrierItem number ∷ [])) (frames-begin 0 c.stream (BarrierItem number ∷ []))) old.1,
           old.2,
         );
   };

@@ -55,6 +55,6 @@ due-write n items write within =
     ∙ ap (λ (k : ℕ). filter_map packet_of (drop n front) ++ packet.Data (record { 0 = write.first }) write.number k (concat write.contents) ∷ []) index))
 
 -- its frames begin those of the stream that grew
-pub frames-grow : (start : ℕ) (items more : List Item) → IsBeginning (frames_from start items) (frames_from start (items ++ more))
-frames-grow start [] more = (frames_from start more, refl)
-frames-grow start (x ∷ items) more = let rest = frames-grow (start + 1) items more in (rest.0, ap (λ (l : List Packet). frame_of start x ∷ l) rest.1)
+pub frames-begin : (start : ℕ) (items more : List Item) → IsBeginning (frames_from start items) (frames_from start (items ++ more))
+frames-begin start [] more = (frames_from start more, refl)
+frames-begin start (x ∷ items) more = let rest = frames-begin (start + 1) items more in (rest.0, ap (λ (l : List Packet). frame_of start x ∷ l) rest.1)

@@ -30,7 +30,7 @@ use Rattle.primary_steps.proofs.Primary.Answering.{IsAnswering}
 use Rattle.primary_steps.proofs.Primary.Reached.{reached-more}
 use Rattle.primary_steps.proofs.Primary.Submitted.{added, next_home, streamed, alone, writing, map-added, alone-unreleased, streamed-unreleased}
 use Rattle.primary_steps.proofs.Streams.Lawful.{epoch-end}
-use Rattle.primary_steps.proofs.Streams.WriteAtEnd.{last-write, last-one, due-write, frames-grow}
+use Rattle.primary_steps.proofs.Streams.WriteAtEnd.{last-write, last-one, due-write, frames-begin}
 use Rattle.primary_steps.proofs.Submitting.CutBytes.{AreBlocks}
 
 -- what a write of the log has of the one that was accepted, beside its home
@@ -151,7 +151,7 @@ has-placed h first bytes w x c is pushed none out = record {
         let old = out.sent.each n frame at in (
           old.0,
           get-beginning (frames_due h.settings c) (frames_due h.settings (writing write c)) n old.0
-              (begins-append (hello_of h.settings c.hello) (frames_of c.stream) (frames_of (c.stream ++ WriteItem write ∷ [])) (frames-grow 0 c.stream (WriteItem write ∷ []))) old.1,
+              (begins-append (hello_of h.settings c.hello) (frames_of c.stream) (frames_of (c.stream ++ WriteItem write ∷ [])) (frames-begin 0 c.stream (WriteItem write ∷ []))) old.1,
           old.2,
         );
   };
