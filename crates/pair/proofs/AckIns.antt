@@ -206,7 +206,7 @@ ack_in-steps trip honest words short law p q r lent back laid taken ended result
     back_has : HasSecondary back h.secondary
     back_has = lent-secondary p.secondary back h.secondary (subst (λ (x : SecondaryState). x ≡ record p.secondary { waiting = x.waiting; room = x.room; queued = x.queued; capacity = x.capacity }) (sym back_is) refl) has.secondary
 
-    go : (v : Option ConnectionState) → p.primary.connection ≡ v → HasConnection v h.primary → IsLinked p.settings.link v p.secondary → IsStep AckIn p (reply_of result) (with_nodes p ended back) h
+    go : (v : Option ConnectionState) → p.primary.connection ≡ v → HasConnection v h.primary → IsLinked p.settings.link v p.secondary → IsStep AckIn (reply_of result) (with_nodes p ended back) h
     go None is there linked = let given : Some q.frames ≡ None = lends.given ∙ linked.nothing in absurd (cc)
     go (Some c) is there linked = record {
       same = stepped.0 ∙ ap (λ (b : Bool). (model.ack_in (next_answer h) b h.primary).0) (sym fed);
@@ -251,7 +251,7 @@ pub ack_in-unlinked : (p : PairState) (lent : SecondaryState) (taken : PrimarySt
     → (is_connected p.primary.connection ≡ false → result ≡ Err NotConnected) → (is_connected p.primary.connection ≡ false → taken ≡ p.primary) → Steps AckIn p (reply_of result) (with_nodes p taken lent)
 ack_in-unlinked p lent taken result none left unconnected unchanged h has = go p.primary.connection refl has.primary.connection has.link
   where
-    go : (v : Option ConnectionState) → p.primary.connection ≡ v → HasConnection v h.primary → IsLinked p.settings.link v p.secondary → IsStep AckIn p (reply_of result) (with_nodes p taken lent) h
+    go : (v : Option ConnectionState) → p.primary.connection ≡ v → HasConnection v h.primary → IsLinked p.settings.link v p.secondary → IsStep AckIn (reply_of result) (with_nodes p taken lent) h
     go (Some c) is there linked = let held : Some linked.back.frames ≡ None = sym linked.back.here ∙ none in absurd (cc)
     go None is there linked = record {
       same = ap reply_of answer ∙ sym (ap (λ (x : Reply × PrimaryHistory). x.0) (steps b));

@@ -101,7 +101,7 @@ ack_out-steps p t result law first refused unchanged sent h has = go p.primary.c
         let sum : length p.secondary.sent ≡ length c.taken + length linked.back.frames = ap length linked.back.whole ∙ length-append c.taken linked.back.frames in
         ap (nat_lt ((inward hs).pushed - length (outward h.primary).taken)) size ∙ room-left p.settings.link (inward hs).pushed (length (outward h.primary).taken) (length linked.back.frames) (omega arith)
 
-    go : (v : Option ConnectionState) → p.primary.connection ≡ v → HasConnection v h.primary → IsLinked p.settings.link v p.secondary → IsStep AckOut p (reply_of result) (with_nodes p p.primary t) h
+    go : (v : Option ConnectionState) → p.primary.connection ≡ v → HasConnection v h.primary → IsLinked p.settings.link v p.secondary → IsStep AckOut (reply_of result) (with_nodes p p.primary t) h
     go (Some c) is there linked =
         let n : ℕ = p.settings.link - length linked.back.frames in
         let same : answers_have_room h ≡ nat_lt 0 n = room c there linked in

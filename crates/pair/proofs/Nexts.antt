@@ -61,7 +61,7 @@ has-next p h s t event starved has here there keeps = record {
 -- a step of the primary
 pub primary-step : (p : PairState) (h : PairHistory) (s : PrimaryState) (event : Event) (answer : Reply) (taking : Bool → Reply × PrimaryHistory) (starved : Bool) → HasPair p h
     → ((b : Bool) → model.step (event_of event) b h ≡ ((taking b).0, record h { primary = (taking b).1 })) → answer ≡ (taking starved).0 → HasPrimary s (taking starved).1 → taking starved ≡ taking (is_starved answer)
-    → Keeps p s p.secondary → IsStep event p answer (with_nodes p s p.secondary) h
+    → Keeps p s p.secondary → IsStep event answer (with_nodes p s p.secondary) h
 primary-step p h s event answer taking starved has steps said gets settles keeps =
     let b : Bool = is_starved answer in
     let is = steps b in
@@ -75,7 +75,7 @@ primary-step p h s event answer taking starved has steps said gets settles keeps
 -- a step of the secondary
 pub secondary-step : (p : PairState) (h : PairHistory) (t : SecondaryState) (event : Event) (answer : Reply) (taking : Bool → Reply × SecondaryHistory) (starved : Bool) → HasPair p h
     → ((b : Bool) → model.step (event_of event) b h ≡ ((taking b).0, record h { secondary = (taking b).1 })) → answer ≡ (taking starved).0 → HasSecondary t (taking starved).1 → taking starved ≡ taking (is_starved answer)
-    → Keeps p p.primary t → IsStep event p answer (with_nodes p p.primary t) h
+    → Keeps p p.primary t → IsStep event answer (with_nodes p p.primary t) h
 secondary-step p h t event answer taking starved has steps said gets settles keeps =
     let b : Bool = is_starved answer in
     let is = steps b in
@@ -87,7 +87,7 @@ secondary-step p h t event answer taking starved has steps said gets settles kee
     }
 
 -- a step that is refused, whether starved or not
-pub refused-step : (p next : PairState) (h : PairHistory) (event : Event) (answer : Reply) (e : Refusal) → HasPair p h → next ≡ p → answer ≡ reply.Refused e → ((b : Bool) → model.step (event_of event) b h ≡ (reply.Refused e, h)) → IsStep event p answer next h
+pub refused-step : (p next : PairState) (h : PairHistory) (event : Event) (answer : Reply) (e : Refusal) → HasPair p h → next ≡ p → answer ≡ reply.Refused e → ((b : Bool) → model.step (event_of event) b h ≡ (reply.Refused e, h)) → IsStep event answer next h
 refused-step p next h event answer e has same said steps = record {
   same = said ∙ sym (ap (λ (x : Reply × PairHistory). x.0) (steps (is_starved answer)));
   history = subst (λ (q : PairState). HasPair q (model.step (event_of event) (is_starved answer) h).1) (sym same) (subst (HasPair p) (sym (ap (λ (x : Reply × PairHistory). x.1) (steps (is_starved answer)))) has);

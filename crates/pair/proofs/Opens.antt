@@ -153,7 +153,7 @@ opening h sync loss starved v = elim v [
 ]
 
 -- a step that is refused leaves the pair
-refused-step : (p : PairState) (h : PairHistory) (sync loss : ℕ) (e : Refusal) → HasPair p h → first_refusal (open_pair_tests h sync loss (is_starved (reply.Refused e))) ≡ Some e → IsStep (Open sync loss) p (reply.Refused e) p h
+refused-step : (p : PairState) (h : PairHistory) (sync loss : ℕ) (e : Refusal) → HasPair p h → first_refusal (open_pair_tests h sync loss (is_starved (reply.Refused e))) ≡ Some e → IsStep (Open sync loss) (reply.Refused e) p h
 refused-step p h sync loss e has refusal =
     let is : open_pair sync loss (is_starved (reply.Refused e)) h ≡ (reply.Refused e, h) = ap (opening h sync loss (is_starved (reply.Refused e))) refusal in
     record { same = sym (ap (λ (x : Reply × PairHistory). x.0) is); history = subst (HasPair p) (sym (ap (λ (x : Reply × PairHistory). x.1) is)) has }

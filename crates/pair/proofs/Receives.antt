@@ -220,7 +220,7 @@ receive-steps trip law p q r lent back laid taken ended result lends first recei
     takes = receive-takes laid taken result received refused
 
     -- the step, where the queue holds what the history says
-    takes_it : IsWaiting laid (next_frame h) laid.queued → IsStep Receive p (reply_of result) (with_nodes p back ended) h
+    takes_it : IsWaiting laid (next_frame h) laid.queued → IsStep Receive (reply_of result) (with_nodes p back ended) h
     takes_it waiting =
         let done = law laid taken hs (next_frame h) result laid_has waiting first received refused in
         let b : Bool = is_starved (reply_of result) in
@@ -246,7 +246,7 @@ receive-steps trip law p q r lent back laid taken ended result lends first recei
               });
         }
 
-    go : (v : Option ConnectionState) → p.primary.connection ≡ v → HasConnection v h.primary → IsLinked p.settings.link v p.secondary → IsStep Receive p (reply_of result) (with_nodes p back ended) h
+    go : (v : Option ConnectionState) → p.primary.connection ≡ v → HasConnection v h.primary → IsLinked p.settings.link v p.secondary → IsStep Receive (reply_of result) (with_nodes p back ended) h
     go None is there linked = let given : Some q.frames ≡ None = lends.given ∙ ap waiting_of is in absurd (cc)
     go (Some c) is there linked =
         let same : Some q.frames ≡ Some linked.there.frames = lends.given ∙ (ap waiting_of is ∙ linked.there.here) in
@@ -260,7 +260,7 @@ pub receive-unlinked : (p : PairState) (lent : PrimaryState) (taken : SecondaryS
     → IfSome (receive_refusal p.secondary) (λ e. result ≡ Err e) → IfErr result (λ e. IsNotTaken p.secondary e taken ⊎ IsClosedBy p.secondary e taken) → Steps Receive p (reply_of result) (with_nodes p lent taken)
 receive-unlinked p lent taken result none left first refused h has = go p.primary.connection refl has.primary.connection has.link
   where
-    go : (v : Option ConnectionState) → p.primary.connection ≡ v → HasConnection v h.primary → IsLinked p.settings.link v p.secondary → IsStep Receive p (reply_of result) (with_nodes p lent taken) h
+    go : (v : Option ConnectionState) → p.primary.connection ≡ v → HasConnection v h.primary → IsLinked p.settings.link v p.secondary → IsStep Receive (reply_of result) (with_nodes p lent taken) h
     go (Some c) is there linked = let held : Some linked.there.frames ≡ None = sym linked.there.here ∙ (sym (ap waiting_of is) ∙ none) in absurd (cc)
     go None is there linked = refused-step p (with_nodes p lent taken) h Receive (reply_of result) NotConnected has same (ap reply_of answer) steps
       where

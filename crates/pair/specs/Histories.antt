@@ -64,13 +64,13 @@ with_starved (event ∷ events) (reply ∷ replies) = (event_of event, is_starve
 with_starved _ _ = []
 
 -- The step of the history: the reply is its reply, and the pair then has the history that it leads to.
-pub record IsStep (event : Event) (p : PairState) (reply : Reply) (next : PairState) (h : PairHistory) : Type 0 where
+pub record IsStep (event : Event) (reply : Reply) (next : PairState) (h : PairHistory) : Type 0 where
   pub same : reply ≡ (model.step (event_of event) (is_starved reply) h).0
   pub history : HasPair next (model.step (event_of event) (is_starved reply) h).1
 
 -- the call is the event's step, on whichever history the pair has
 abbrev pub Steps : Event → PairState → Reply → PairState → Type 0
-Steps event p reply next = (h : PairHistory) → HasPair p h → IsStep event p reply next h
+Steps event p reply next = (h : PairHistory) → HasPair p h → IsStep event reply next h
 
 -- The opening of two zero-filled disks of one generation with no marks.
 abbrev pub fresh_opening : Settings → Opening
