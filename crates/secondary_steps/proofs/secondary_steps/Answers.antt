@@ -1,8 +1,8 @@
 -- Each call of a secondary is its step.
-use Rattle.secondary_steps.proofs.Acknowledges.{ack_out_is_its_step}
-use Rattle.secondary_steps.proofs.Opens.{new_has_its_opening, open_is_its_step}
-use Rattle.secondary_steps.proofs.PeerSteps.{peer_is_its_step_over_its_disk}
-use Rattle.secondary_steps.proofs.ReceiveSteps.{receive_is_its_step}
+use Rattle.secondary_steps.proofs.Acknowledging.AckOutStep.{ack_out_is_its_step}
+use Rattle.secondary_steps.proofs.Applying.PeerStep.{peer_is_its_step_over_its_disk}
+use Rattle.secondary_steps.proofs.OpenStep.{new_has_its_opening, open_is_its_step}
+use Rattle.secondary_steps.proofs.Receiving.ReceiveStep.{receive_is_its_step}
 use Rattle.secondary_steps.proofs.secondary_steps.Goals as goal
 
 pub returns-clause-new : goal.returns-clause-new

@@ -1,0 +1,228 @@
+-- What holds of a secondary's connection, whatever frames it takes: the part applied is closed at an epoch.
+use Rattle.std.proofs.Common.{ℕ, ◌≡◌, ◌+◌, ◌≤◌, ◌<◌, ◌⊎◌, inl, inr, Bool, true, false, not, ◌&&◌, List, [], ◌∷◌, ◌++◌, length, map, filter, Some, slice_get, refl, sym, ◌∙◌, ap, subst, arith, ◌==◌, nat_lt}
+use Rattle.std.specs.List.{list_any}
+use Rattle.std.proofs.lemmas.Bool.{or_parts, cases_Bool, both_ways, not-true, not-false, not_from_false, cases_lt, and_parts, and_from, and_cases, lt-ltb, or_cases}
+use Rattle.std.proofs.lemmas.List.Folds.{list_any-append}
+use Rattle.std.proofs.lemmas.List.{length-append}
+use Rattle.std.proofs.lemmas.Option.{slice_get_within}
+use Rattle.model.specs.Stream.{Item, Part, is_in, has_blocks, is_whole, contents_of, epoch_of, last_epoch}
+use Rattle.model.specs.Secondary.{Inward, items_taken, is_pending, pending}
+use Rattle.model.specs.SecondarySteps.{offsets_at, is_pending_at, has_earlier, failing}
+use Rattle.secondary_steps.proofs.Lists.Elements.{get-front}
+use Rattle.secondary_steps.proofs.Streams.Epochs.{epoch-grows, epoch-behind, last-grows, epoch-upto}
+use Rattle.secondary_steps.proofs.Streams.Parts.{in-append, in-grows, in-offsets, whole-grows, whole-has, whole-from}
+use Rattle.secondary_steps.proofs.Streams.PlacedItems.{none-at, At, some-at, listed-at}
+
+-- The part applied is closed at `epoch` and lies in what was taken; once an item failed or was dropped the end is closed,
+-- and nothing of a later epoch is pending.
+pub record IsSound (d : Inward) : Type 0 where
+  pub epoch : ℕ
+  pub upto : epoch ≤ last_epoch (items_taken d)
+  pub before : (place offset : ℕ) (item : Item) → slice_get (items_taken d) place ≡ Some item → epoch_of (items_taken d) place < epoch → offset < length (contents_of item) → is_in d.applied place offset ≡ true
+  pub after : (place offset : ℕ) → is_in d.applied place offset ≡ true → epoch_of (items_taken d) place ≤ epoch
+  pub within : (place offset : ℕ) → is_in d.applied place offset ≡ true → place < length (items_taken d)
+  pub stopped : (d.gone ≡ []) ⊎ ((d.closed ≡ true) × ((place : ℕ) (item : Item) → slice_get (items_taken d) place ≡ Some item → is_pending d (place, item) ≡ true → epoch_of (items_taken d) place ≤ epoch))
+
+-- an open end gave nothing up
+pub none-gone : (d : Inward) → IsSound d → d.closed ≡ false → d.gone ≡ []
+none-gone d s standing = elim s.stopped [ inl free ↦ free | inr shut ↦ absurd (let t = shut.0 in cc (standing, t)) ]
+
+-- What is sound depends on what was taken, applied and given up, and on whether the end is closed. Taking more keeps it while
+-- the end is open.
+pub sound-taking : (d e : Inward) (more : List Item) → IsSound d → d.closed ≡ false → items_taken e ≡ items_taken d ++ more → e.applied ≡ d.applied → e.gone ≡ d.gone → IsSound e
+sound-taking d e more s standing items applied gone =
+    let old : List Item = items_taken d in
+    let stays : d.gone ≡ [] = none-gone d s standing in
+    record {
+      epoch = s.epoch;
+      upto = rw items (let grows = last-grows old more in let here = s.upto in omega arith);
+      before = λ place offset item at early less.
+          let at' : slice_get (old ++ more) place ≡ Some item = rw (← items) at in
+          let early' : epoch_of (old ++ more) place < s.epoch = rw (← items) early in
+          elim (cases_lt place (length old)) [
+            | inl inside ↦
+                let there : slice_get old place ≡ Some item = sym (get-front old more place inside) ∙ at' in
+                let same = epoch-grows old more place (omega arith) in
+                rw applied (s.before place offset item there (omega arith) less)
+            | inr behind ↦ absurd (let later = epoch-behind old more place behind in let top = s.upto in omega arith)
+          ];
+      after = λ place offset h.
+          let h' : is_in d.applied place offset ≡ true = rw (← applied) h in
+          let inside = s.within place offset h' in
+          let same = epoch-grows old more place (omega arith) in
+          let here = s.after place offset h' in
+          rw items (omega arith);
+      within = λ place offset h.
+          let inside = s.within place offset (rw (← applied) h) in
+          rw (items, length-append old more) (omega arith);
+      stopped = inl (gone ∙ stays);
+    }
+
+-- what else changes does not matter, and closing keeps it
+pub sound-same : (d e : Inward) → IsSound d → items_taken e ≡ items_taken d → e.applied ≡ d.applied → e.gone ≡ d.gone → (d.closed ≡ true → e.closed ≡ true) → IsSound e
+sound-same d e s items applied gone closed = record {
+  epoch = s.epoch;
+  upto = rw items s.upto;
+  before = λ place offset item at early less. rw applied (s.before place offset item (rw (← items) at) (rw (← items) early) less);
+  after = λ place offset h. rw items (s.after place offset (rw (← applied) h));
+  within = λ place offset h. rw items (s.within place offset (rw (← applied) h));
+  stopped = elim s.stopped [
+    | inl none ↦ inl (gone ∙ none)
+    | inr shut ↦ inr (
+      closed shut.0,
+      λ place item at waits.
+          let waits' : is_pending d (place, item) ≡ true = rw (← applied, ← gone) waits in
+          rw items (shut.1 place item (rw (← items) at) waits'),
+    )
+  ];
+}
+
+-- Starting an item: what is known of its place and its epoch.
+pub record Started (d : Inward) (place : ℕ) (s : IsSound d) : Type 0 where
+  pub item : Item
+  pub there : slice_get (items_taken d) place ≡ Some item
+  pub inside : place < length (items_taken d)
+  pub waits : is_pending d (place, item) ≡ true
+  -- its epoch is not before the one that the part is closed at, and after an item failed it is that one
+  pub not_before : s.epoch ≤ epoch_of (items_taken d) place
+  pub not_after : (d.gone ≡ []) ⊎ (epoch_of (items_taken d) place ≡ s.epoch)
+  -- everything of earlier epochs is applied
+  pub earlier : (other offset : ℕ) (old : Item) → slice_get (items_taken d) other ≡ Some old → epoch_of (items_taken d) other < epoch_of (items_taken d) place → offset < length (contents_of old) → is_in d.applied other offset ≡ true
+
+-- the parts of being pending
+waits-parts : (d : Inward) (place : ℕ) (item : Item) → is_pending d (place, item) ≡ true → (has_blocks item ≡ true) × (is_whole d.applied place item ≡ false) × (list_any (λ (p : ℕ). p == place) d.gone ≡ false)
+waits-parts d place item h =
+    let a = and_parts (has_blocks item && not (is_whole d.applied place item)) (not (list_any (λ (p : ℕ). p == place) d.gone)) h in
+    let b = and_parts (has_blocks item) (not (is_whole d.applied place item)) a.0 in
+    (b.0, not-true (is_whole d.applied place item) b.1, not-true (list_any (λ (p : ℕ). p == place) d.gone) a.1)
+
+-- what is known of a place that is pending with no earlier epoch pending
+pub starting : (d : Inward) (place : ℕ) (s : IsSound d) → is_pending_at d place ≡ true → has_earlier d place ≡ false → Started d place s
+starting d place s waiting none =
+    let items : List Item = items_taken d in
+    let found : At (is_pending d) 0 items place = some-at (is_pending d) 0 items place waiting in
+    let is : found.offset ≡ place = omega (arith, found.is) in
+    let there : slice_get items place ≡ Some found.item = subst (λ n. slice_get items n ≡ Some found.item) is found.there in
+    let waits : is_pending d (place, found.item) ≡ true = found.passes in
+    let parts = waits-parts d place found.item waits in
+    let not_before : s.epoch ≤ epoch_of items place = elim (cases_lt (epoch_of items place) s.epoch) [
+      | inl early ↦ absurd (both_ways (is_whole d.applied place found.item) parts.1 (whole-from d.applied place found.item (λ offset less. s.before place offset found.item there early less)))
+      | inr late ↦ late
+    ] in
+    let not_after : (d.gone ≡ []) ⊎ (epoch_of items place ≡ s.epoch) = elim s.stopped [
+      | inl free ↦ inl free
+      | inr shut ↦ inr (let top = shut.1 place found.item there waits in omega arith)
+    ] in
+    record {
+      item = found.item;
+      there = there;
+      inside = slice_get_within items place found.item there;
+      waits = waits;
+      not_before = not_before;
+      not_after = not_after;
+      earlier = λ other offset old at early less. elim not_after [
+        | inr same ↦ s.before other offset old at (omega arith) less
+        | inl free ↦ elim (cases_Bool (is_pending d (other, old))) [
+          | inl also ↦
+              let test : ℕ × Item → Bool = λ (entry : ℕ × Item). nat_lt (epoch_of items entry.0) (epoch_of items place) in
+              let from : 0 + other ≡ other = omega arith in
+              let late : test (other, old) ≡ false = subst (λ (n : ℕ). test (n, old) ≡ false) from (none-at (is_pending d) test 0 items other old at none (subst (λ (n : ℕ). is_pending d (n, old) ≡ true) (sym from) also)) in
+              absurd (both_ways (nat_lt (epoch_of items other) (epoch_of items place)) late (lt-ltb (epoch_of items other) (epoch_of items place) early))
+          | inr past ↦ whole-has d.applied other offset old (applied-already d other old free past (some-blocks old offset less)) less
+        ]
+      ];
+    }
+  where
+    -- an item with an offset has blocks
+    some-blocks : (item : Item) (offset : ℕ) → offset < length (contents_of item) → has_blocks item ≡ true
+    some-blocks item offset less = lt-ltb 0 (length (contents_of item)) (omega arith)
+
+    -- what is not pending, with nothing given up, is applied
+    applied-already : (d : Inward) (place : ℕ) (item : Item) → d.gone ≡ [] → is_pending d (place, item) ≡ false → has_blocks item ≡ true → is_whole d.applied place item ≡ true
+    applied-already d place item free past blocks =
+        let none : list_any (λ (p : ℕ). p == place) d.gone ≡ false = rw free refl in
+        elim (and_cases (has_blocks item && not (is_whole d.applied place item)) (not (list_any (λ (p : ℕ). p == place) d.gone)) past) [
+          | inl a ↦ elim (and_cases (has_blocks item) (not (is_whole d.applied place item)) a) [
+            | inl b ↦ absurd (both_ways (has_blocks item) b blocks)
+            | inr b ↦ not-false (is_whole d.applied place item) b
+          ]
+          | inr a ↦ absurd (both_ways (not (list_any (λ (p : ℕ). p == place) d.gone)) a (not_from_false (list_any (λ (p : ℕ). p == place) d.gone) none))
+        ]
+
+-- what is pending after some blocks were applied was so before
+pending-before : (d e : Inward) (more : Part) (place : ℕ) (item : Item) → e.applied ≡ d.applied ++ more → e.gone ≡ d.gone → is_pending e (place, item) ≡ true → is_pending d (place, item) ≡ true
+pending-before d e more place item applied gone waits =
+    let parts = waits-parts e place item waits in
+    let unfinished : is_whole d.applied place item ≡ false = elim (cases_Bool (is_whole d.applied place item)) [
+      | inl whole ↦ absurd (both_ways (is_whole e.applied place item) parts.1 (rw applied (whole-grows d.applied more place item whole)))
+      | inr part ↦ part
+    ] in
+    let there : list_any (λ (p : ℕ). p == place) d.gone ≡ false = rw (← gone) parts.2 in
+    and_from (has_blocks item && not (is_whole d.applied place item)) (not (list_any (λ (p : ℕ). p == place) d.gone))
+    (and_from (has_blocks item) (not (is_whole d.applied place item)) parts.0 (not_from_false (is_whole d.applied place item) unfinished)) (not_from_false (list_any (λ (p : ℕ). p == place) d.gone) there)
+
+-- Applying some blocks of an item that may be started keeps the part closed, at that item's epoch.
+pub sound-applying : (d e : Inward) (place : ℕ) (offsets : List ℕ) (s : IsSound d) → Started d place s → items_taken e ≡ items_taken d → e.applied ≡ d.applied ++ offsets_at place offsets
+    → ((e.gone ≡ d.gone) × (e.closed ≡ d.closed)) ⊎ ((e.closed ≡ true) × ((other : ℕ) (item : Item) → slice_get (items_taken d) other ≡ Some item → is_pending e (other, item) ≡ true → epoch_of (items_taken d) other ≤ epoch_of (items_taken d) place)) → IsSound e
+sound-applying d e place offsets s start items applied rest =
+    let old : List Item = items_taken d in
+    let here : ℕ = epoch_of old place in
+    let is_new : (other offset : ℕ) → is_in e.applied other offset ≡ true → (is_in d.applied other offset ≡ true) ⊎ (place ≡ other) =
+    λ other offset h. elim (or_cases (is_in d.applied other offset) (is_in (offsets_at place offsets) other offset) (sym (in-append d.applied (offsets_at place offsets) other offset) ∙ rw (← applied) h)) [
+      | inl before ↦ inl before
+      | inr added ↦ inr (in-offsets place offsets other offset added)
+    ] in
+    record {
+      epoch = here;
+      upto = rw items (epoch-upto old place);
+      before = λ other offset item at early less.
+          let same : epoch_of (items_taken e) other ≡ epoch_of old other = ap (λ (l : List Item). epoch_of l other) items in
+          rw applied (in-grows d.applied (offsets_at place offsets) other offset (start.earlier other offset item (rw (← items) at) (omega arith) less));
+      after = λ other offset h. rw items (elim (is_new other offset h) [
+        | inl before ↦ let top = s.after other offset before in let low = start.not_before in omega arith
+        | inr same ↦ let e : epoch_of old place ≡ epoch_of old other = ap (epoch_of old) same in omega arith
+      ]);
+      within = λ other offset h. rw items (elim (is_new other offset h) [
+        | inl before ↦ s.within other offset before
+        | inr same ↦ let inside = start.inside in omega arith
+      ]);
+      stopped = elim rest [
+        | inl kept ↦ elim s.stopped [
+          | inl free ↦ inl (kept.0 ∙ free)
+          | inr shut ↦ inr (
+            kept.1 ∙ shut.0,
+            λ other item at waits.
+                let at' : slice_get old other ≡ Some item = rw (← items) at in
+                let waited : is_pending d (other, item) ≡ true = pending-before d e (offsets_at place offsets) other item applied kept.0 waits in
+                let top = shut.1 other item at' waited in
+                let low = start.not_before in
+                rw items (omega arith),
+          )
+        ]
+        | inr shut ↦ inr (shut.0, λ other item at waits. rw items (shut.1 other item (rw (← items) at) waits))
+      ];
+    }
+
+-- After a fault, what is still pending is of no later epoch than the item that failed: the others were dropped.
+pub dropped : (d : Inward) (place : ℕ) (offsets : List ℕ) (other : ℕ) (item : Item) → slice_get (items_taken d) other ≡ Some item → is_pending (failing place offsets d) (other, item) ≡ true
+    → epoch_of (items_taken d) other ≤ epoch_of (items_taken d) place
+dropped d place offsets other item at waits =
+    let items : List Item = items_taken d in
+    let later : ℕ × Item → Bool = λ (entry : ℕ × Item). nat_lt (epoch_of items place) (epoch_of items entry.0) in
+    let parts = waits-parts (failing place offsets d) other item waits in
+    let places : List ℕ = map (λ (entry : ℕ × Item). entry.0) (filter later (pending d)) in
+    let kept = or_parts (list_any (λ (p : ℕ). p == other) d.gone) (list_any (λ (p : ℕ). p == other) (place ∷ places)) (sym (list_any-append (λ (p : ℕ). p == other) d.gone (place ∷ places)) ∙ parts.2) in
+    let unlisted = (or_parts (place == other) (list_any (λ (p : ℕ). p == other) places) kept.1).1 in
+    let unfinished : is_whole d.applied other item ≡ false = elim (cases_Bool (is_whole d.applied other item)) [
+      | inl whole ↦ absurd (both_ways (is_whole (d.applied ++ offsets_at place offsets) other item) parts.1 (whole-grows d.applied (offsets_at place offsets) other item whole))
+      | inr part ↦ part
+    ] in
+    let waited : is_pending d (other, item) ≡ true = and_from (has_blocks item && not (is_whole d.applied other item)) (not (list_any (λ (p : ℕ). p == other) d.gone))
+    (and_from (has_blocks item) (not (is_whole d.applied other item)) parts.0 (not_from_false (is_whole d.applied other item) unfinished)) (not_from_false (list_any (λ (p : ℕ). p == other) d.gone) kept.0) in
+    elim (cases_lt (epoch_of items place) (epoch_of items other)) [
+      | inl after ↦
+          let from : 0 + other ≡ other = omega arith in
+          let listed = listed-at (is_pending d) later 0 items other item at (subst (λ (n : ℕ). is_pending d (n, item) ≡ true) (sym from) waited) (subst (λ (n : ℕ). later (n, item) ≡ true) (sym from) (lt-ltb (epoch_of items place) (epoch_of items other) after)) in
+          absurd (both_ways (list_any (λ (p : ℕ). p == other) places) unlisted (subst (λ (n : ℕ). list_any (λ (p : ℕ). p == n) places ≡ true) from listed))
+      | inr no_later ↦ no_later
+    ]
