@@ -1,5 +1,6 @@
 pub mod AckIns
 pub mod AckOuts
+pub mod Asked
 pub mod Fed
 pub mod Frames
 pub mod Fresh

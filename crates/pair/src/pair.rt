@@ -1,5 +1,7 @@
 //! The two nodes and their link.
 ghost use Rattle.std.specs.Prelude.{◌≡◌, ◌≢◌, ◌↔◌, replicate, IfOk, IfErr, IsErrOf, ◌⊎◌};
+ghost use Rattle.model.specs.Pair as model;
+ghost use Rattle.model.specs.Pair.{PairHistory};
 ghost use Rattle.model.specs.Theorems.{pair_at};
 ghost use Rattle.pair.specs.Histories.{HasPair, fresh_opening};
 ghost use Rattle.pair.specs.Openings.{first_generation};
@@ -86,7 +88,8 @@ impl Pair {
 
     /// The identifiers of the two disks, the primary's first.
     pub fn tuples(&self) -> (Tuple, Tuple)
-        ensures { result ≡ (self.now.primary.tuple, self.now.secondary.tuple) }
+        ensures both { result ≡ (self.now.primary.tuple, self.now.secondary.tuple) }
+        ensures of_history { (h : PairHistory) → HasPair self.now h → result ≡ model.tuples h }
     {
         (self.primary.tuple(), self.secondary.tuple())
     }

@@ -4,6 +4,7 @@ use Rattle.std.specs.Prelude.{is_ok, if◌then◌else◌}
 use Rattle.primary.specs.State.{PrimaryState}
 use Rattle.secondary.specs.State.{SecondaryState}
 use Rattle.pair.specs.State.{PairState}
+use Rattle.pair.proofs.Asked.{differs-is}
 use Rattle.pair.proofs.Readings.{reading, reading-by, both-read, one-read}
 use Rattle.pair.proofs.pair.Pair.differs.Goals as goal
 use Rattle.pair.proofs.pair.Pair.differs.Goals.{then-read_local+then-read_peer, else-read_local, else-read_local-via-then-read_local+else-read_peer, else-read_local-via-else-read_local}
@@ -37,3 +38,6 @@ returns-clause-differs c =
           ])
           w.result-is
     ]
+
+pub returns-clause-of_history : goal.returns-clause-of_history
+returns-clause-of_history c = λ h has. let told = returns-clause-differs c in differs-is c.args.self.now h c.args.block.0 c.if-read_local.result has told.0 told.1
