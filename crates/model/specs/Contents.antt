@@ -1,6 +1,7 @@
 -- Blocks, writes and the contents of a disk.
 use Rattle.std.specs.Prelude.{ℕ, ◌+◌, ◌-◌, ◌/◌, ◌≡◌, nat_lt, nat_le, ◌==◌, Bool, ◌&&◌, if◌then◌else◌, List, [], ◌∷◌, length, slice_get, Option, Some, None, is_some}
 use Rattle.blocks.specs.declared.settings.Settings.{Settings}
+pub use Rattle.blocks.specs.Ranges.{is_between, ranges_meet}
 
 -- What a disk holds: for each block its bytes, and nothing past the end. A block may have any length here.
 abbrev pub BlockMap : Type 0
@@ -20,17 +21,9 @@ pub record Write : Type 0 where
   pub first : ℕ
   pub contents : List (List ℕ)
 
--- whether a block is one of the `count` from `first` on
-abbrev pub is_between : ℕ → ℕ → ℕ → Bool
-is_between first count block = nat_le first block && nat_lt block (first + count)
-
 -- whether a write has the block
 abbrev pub covers : Write → ℕ → Bool
 covers write block = is_between write.first (length write.contents) block
-
--- whether two ranges share a block
-abbrev pub ranges_meet : ℕ → ℕ → ℕ → ℕ → Bool
-ranges_meet first count other other_count = (nat_lt first (other + other_count) && nat_lt other (first + count)) && (nat_lt 0 count && nat_lt 0 other_count)
 
 -- whether two writes share a block
 abbrev pub overlap : Write → Write → Bool

@@ -1,3 +1,4 @@
+pub use Rattle.blocks.specs.Identifiers
 pub mod Acknowledgements
 pub mod CloseRows
 pub mod Contents
@@ -6,7 +7,6 @@ pub mod DiskRows
 pub mod ForeignRows
 pub mod Frames
 pub mod Headline
-pub mod Identifiers
 pub mod LocalRuns
 pub mod Marks
 pub mod Meaning

@@ -3,6 +3,7 @@ use Rattle.std.specs.Prelude.{ℕ, zero, suc, ◌≡◌, ◌<◌, ◌≤◌, nat
 use Rattle.std.specs.List.{list_any, list_all}
 use Rattle.blocks.specs.declared.tuple.Tuple.{Tuple}
 use Rattle.model.specs.Contents.{Write, Layer, ranges_meet}
+pub use Rattle.blocks.specs.Ranges.{below}
 
 -- What goes over a connection in order, after the hello (`drbd_protocol.h`; places: this project's).
 pub data Item : Type 0 where
@@ -96,11 +97,6 @@ Part = List (ℕ × ℕ)
 -- the part has this offset of the item at this place
 abbrev pub is_in : Part → ℕ → ℕ → Bool
 is_in part place offset = list_any (λ pair. (pair.0 == place) && (pair.1 == offset)) part
-
--- the numbers below this one
-abbrev pub below : ℕ → List ℕ
-below zero = []
-below (suc n) = below n ++ n ∷ []
 
 -- whether a part has all blocks of an item
 abbrev pub is_whole : Part → ℕ → Item → Bool

@@ -84,8 +84,8 @@ module _ (settings : Settings) (bound : 0 < settings.max_epoch) where
       let one = test-passed (not (outward h).closed) NotDrained t2 none in
       let two = test-passed (not (are_fresh sync loss (known_tuples h))) UsedIdentifier t3 one.1 in
       let fresh = not-false (are_fresh sync loss (known_tuples h)) two.0 in
-      let words = (and_parts _ _ (and_parts _ _ fresh).0).0 in
-      let word = ltb-true 0 sync (and_parts (nat_lt 0 sync) (nat_lt 0 loss) words).0 in
+      let sync_word = (and_parts _ _ (and_parts _ _ fresh).0).0 in
+      let word = ltb-true 0 sync (and_parts (nat_lt 0 sync) _ sync_word).0 in
       fit-following (opened h sync loss) (record {
         setting = a.setting;
         ends = each-append (IsFitEnd settings) h.connections _ a.ends (record { stream = sendable-empty settings; fresh = word; early = λ standing new. omega arith; late = λ begun. absurd (cc) });

@@ -12,10 +12,13 @@ use Rattle.blocks.specs.declared.refusal.Refusal.TheVariants.{PrimaryStale, Spli
 abbrev pub stands_in : ℕ → Tuple → Bool
 stands_in word t = ((word == t.current) || (word == t.bitmap)) || ((word == t.first_historical) || (word == t.second_historical))
 
--- a sync word and a loss word that may be used: not zero, not equal, and in no known tuple
+-- a word that may begin a generation: not zero, and in no known tuple
+abbrev pub is_fresh : ℕ → List Tuple → Bool
+is_fresh word known = nat_lt 0 word && not (list_any (stands_in word) known)
+
+-- a sync word and a loss word that may be used: both fresh, and not equal
 abbrev pub are_fresh : ℕ → ℕ → List Tuple → Bool
-are_fresh sync loss known =
-    ((nat_lt 0 sync && nat_lt 0 loss) && not (sync == loss)) && not (list_any (λ t. stands_in sync t || stands_in loss t) known)
+are_fresh sync loss known = (is_fresh sync known && is_fresh loss known) && not (sync == loss)
 
 -- The primary lost its connection: the data goes on in a new generation, and the bitmap records from the old one.
 abbrev pub lost : ℕ → Tuple → Tuple
