@@ -1,12 +1,13 @@
 -- The worked histories meet the premises: what computes is computed, and the rest is by cases.
 use Rattle.std.proofs.Common.{ℕ, ◌≡◌, inl, inr, true, false, List, [], ◌∷◌, ◌++◌, map, Some, None, refl, sym, ◌∙◌, ap, arith, nat_lt, ◌==◌}
 use Rattle.std.specs.Prelude.{if◌then◌else◌, is_some}
-use Rattle.std.proofs.lemmas.Bool.{cases_Bool, both_ways, eqb-true}
+use Rattle.std.proofs.lemmas.Bool.{cases_Bool, both_ways, eqb-true, and_from}
 use Rattle.blocks.specs.SettingsRange.{IsInRange, standard}
 use Rattle.model.specs.Contents.{filled, IsDisk}
 use Rattle.model.specs.Pair.{same_block}
 use Rattle.model.specs.Headline.{Cover}
 use Rattle.model.specs.Rows.{connect}
+use Rattle.model.specs.Theorems.{marks_at}
 use Rattle.model.specs.WriteRows.{one_write}
 use Rattle.laws.specs.Examples.{new_pair, left_behind, OpeningsAreMet, OneWriteIsMet, CoverIsMet, ReflectionIsMet, RestIsMet}
 use Rattle.laws.proofs.Headlines.{every_run_is_joined}
@@ -22,7 +23,7 @@ filled-disk blocks bytes block = elim (nat_lt block blocks) as (λ b. is_some (i
 filled-same : (block : ℕ) → same_block (filled 8 (0 ∷ []) block) (filled 8 (0 ∷ []) block) ≡ true
 filled-same block = elim (nat_lt block 8) as (λ b. same_block (if b then Some (0 ∷ []) else None) (if b then Some (0 ∷ []) else None) ≡ true) [ true ↦ refl | false ↦ refl ]
 
-equal-disks : Cover (λ block. false) (filled 8 (0 ∷ [])) (filled 8 (0 ∷ []))
+equal-disks : Cover (marks_at new_pair) (filled 8 (0 ∷ [])) (filled 8 (0 ∷ []))
 equal-disks block differs = absurd (both_ways (same_block (filled 8 (0 ∷ []) block) (filled 8 (0 ∷ []) block)) differs (filled-same block))
 
 -- one block holds something else
@@ -32,17 +33,17 @@ ahead-disk block = elim (cases_Bool (block == 2)) [
   | inr other ↦ ap (λ b. is_some (if b then Some (170 ∷ []) else filled 8 (0 ∷ []) block)) other ∙ filled-disk 8 (0 ∷ []) block
 ]
 
-marked-ahead : Cover (λ block. block == 2) left_behind.local (filled 8 (0 ∷ []))
+marked-ahead : Cover (marks_at left_behind) left_behind.local (filled 8 (0 ∷ []))
 marked-ahead block differs = elim (cases_Bool (block == 2)) [
-  | inl two ↦ two
+  | inl two ↦ and_from (nat_lt block 8) (block == 2) (ap (λ n. nat_lt n 8) (eqb-true block 2 two)) two
   | inr other ↦ absurd (both_ways (same_block (left_behind.local block) (filled 8 (0 ∷ []) block)) differs (
       ap (λ b. same_block (if b then Some (170 ∷ []) else filled 8 (0 ∷ []) block) (filled 8 (0 ∷ []) block)) other ∙ filled-same block))
 ]
 
 pub openings_are_met : OpeningsAreMet
 openings_are_met = record {
-  equal = record { ranges = ranges; local = filled-disk 8 (0 ∷ []); peer = filled-disk 8 (0 ∷ []); identifiers = record { own_data = omega arith; same_current = λ same. equal-disks; from_bitmap = λ some same. equal-disks } };
-  marked = record { ranges = ranges; local = ahead-disk; peer = filled-disk 8 (0 ∷ []); identifiers = record { own_data = omega arith; same_current = λ same. marked-ahead; from_bitmap = λ some same. marked-ahead } };
+  equal = record { ranges = record { here = ranges; there = ranges }; local = filled-disk 8 (0 ∷ []); peer = filled-disk 8 (0 ∷ []); identifiers = record { own_data = omega arith; same_current = λ same. equal-disks; from_bitmap = λ some same. equal-disks } };
+  marked = record { ranges = record { here = ranges; there = ranges }; local = ahead-disk; peer = filled-disk 8 (0 ∷ []); identifiers = record { own_data = omega arith; same_current = λ same. marked-ahead; from_bitmap = λ some same. marked-ahead } };
   differing = refl;
 }
 
@@ -61,4 +62,4 @@ pub reflection_is_met : ReflectionIsMet
 reflection_is_met = record { written = refl; touched = refl; sure = refl; untouched = refl }
 
 pub rest_is_met : RestIsMet
-rest_is_met = record { rest = record { primary = refl; secondary = refl; drained = refl }; numbers = refl }
+rest_is_met = record { rest = refl; numbers = refl }

@@ -26,18 +26,18 @@ use Rattle.laws.proofs.Accounted.{IsAccounted}
 use Rattle.laws.proofs.Accounted.Kept.{accounted-kept, accounted-opening}
 use Rattle.laws.proofs.Accounted.Reflected.{reflected, rest-marked}
 use Rattle.laws.proofs.Lists.Last.{last-at}
-use Rattle.laws.proofs.Joining.OpeningDisks.{primary-end}
 use Rattle.laws.proofs.Joining.Openings.{kept-opening-primary}
 use Rattle.laws.proofs.Joining.Agreeing.{joined-agrees}
 use Rattle.laws.proofs.Pair.Runs.{pair_runs_are_joined, leads-run}
 use Rattle.laws.proofs.Lists.Picks.{none-passes}
 use Rattle.laws.proofs.Joining.Taking.{takes_a_beginning}
+use Rattle.laws.proofs.Settling.{settles}
 
 -- The primary by itself.
 
 -- the streams of a primary are lawful
 pub streams_are_lawful : PrimaryStreamsAreLawful
-streams_are_lawful o events ranges = primary_lawful o.settings o.local o.own o.marks events ranges
+streams_are_lawful o events ranges = primary_lawful o.settings o.local o.own o.marks events ranges.here
 
 -- its active extents are no more than its slots
 pub extents_are_few : PrimaryExtentsAreFew
@@ -104,55 +104,22 @@ joined_headline o here there sound joined = record {
   marks = joined-marks o here there sound joined;
 }
 
-at-most : (n : ℕ) (xs : List Item) → length (take n xs) ≤ n
-at-most zero xs = omega arith
-at-most (suc n) [] = omega arith
-at-most (suc n) (x ∷ xs) = let rest = at-most n xs in omega arith
-
-no-more-taken : (p : PrimaryHistory) (s : SecondaryHistory) → IsJoined p s → length (items_taken (inward s)) ≤ items_sent (outward p)
-no-more-taken p s joined = elim (last-at (no_inward s) s.connections) [
-  | inl none ↦ let nothing : length (items_taken (inward s)) ≡ 0 = ap (λ (l : List Inward). length (items_taken (last_of (no_inward s) l))) none in omega arith
-  | inr at ↦
-      let same = joined.connections in
-      let end = primary-end p s joined (length s.connections - 1) (inward s) at in
-      elim (last-at (no_outward p.tuple) p.connections) [
-        | inl none ↦ absurd (let there = end.1.outward in cc (none, there))
-        | inr last ↦
-            let index : length p.connections - 1 ≡ length s.connections - 1 = omega arith in
-            let out : slice_get p.connections (length s.connections - 1) ≡ Some (outward p) = subst (λ (n : ℕ). slice_get p.connections n ≡ Some (outward p)) index last in
-            let taken = takes_a_beginning p s joined (length s.connections - 1) (outward p) (inward s) (record { outward = out; inward = at }) in
-            let fewer = length-begins (items_taken (inward s)) (take (items_sent (outward p)) (outward p).stream) taken in
-            let most : length (take (items_sent (outward p)) (outward p).stream) ≤ items_sent (outward p) = at-most (items_sent (outward p)) (outward p).stream in
-            omega arith
-      ]
-]
-
 -- once both are at rest, a settlement says so
 pub joined_settles : JoinedRunsSettle
-joined_settles o here there sound joined rest =
-    let p : PrimaryHistory = primary_run here (primary_at o) in
-    let s : SecondaryHistory = secondary_run there (secondary_at o) in
-    let marks = joined-marks o here there sound joined in
-    record {
-      headline = joined_headline o here there sound joined;
-      taken = no-more-taken p s joined;
-      unmarked = λ grounded. none-passes (λ block. not (same_block (local_map p block) (secondary_map s block)) && not (is_marked p block)) (below p.settings.blocks) (λ block. elim (cases_Bool (same_block (local_map p block) (secondary_map s block))) [
-        | inl same ↦ ap (λ b. not b && not (is_marked p block)) same
-        | inr differs ↦ ap (λ b. not b && not (is_marked p block)) differs ∙ ap not (marks grounded (ap (λ b. not b && (outward p).begun) rest.primary) block differs)
-      ]);
-    }
+joined_settles o here there sound joined =
+    settles (primary_run here (primary_at o)) (secondary_run there (secondary_at o)) joined (joined_headline o here there sound joined) (accounted-run o here sound.local).known.numbers.1
 
 -- The pair.
 
 -- every run of the pair leads to two nodes that ran by themselves and are joined
 pub every_run_is_joined : EveryRunIsJoined
 every_run_is_joined o events =
-    let runs = pair_runs_are_joined o.settings o.local o.peer o.own o.peer_tuple o.marks events in
+    let runs = pair_runs_are_joined o events in
     record { here = runs.0; there = runs.1; primary = runs.2; secondary = runs.3; joined = runs.4 }
 
 -- what joined nodes have, every run of the pair has
 of-joined : (IsSuch : Opening → Type 0) (Holds : PrimaryHistory → SecondaryHistory → Type 0) → JoinedRuns IsSuch Holds → EveryRun IsSuch Holds
-of-joined IsSuch Holds joined o events such =
+of-joined IsSuch Holds joined o events shares such =
     let runs = every_run_is_joined o events in
     let both = subst (λ p. IsJoined p (run events (pair_at o)).1.secondary) runs.primary runs.joined in
     let ends = subst (λ s. IsJoined (primary_run runs.here (primary_at o)) s) runs.secondary both in
@@ -185,7 +152,7 @@ every_headline = of-joined IsSoundOpening Headline joined_headline
 -- in every run of the pair closed ends stay as they are
 pub every_close : EveryRunStaysClosed
 every_close o events more =
-    let first = leads-run events (pair_at o) (record { homes = homes-opening o.settings o.local o.own o.marks; pairs = tt }) in
+    let first = leads-run events (pair_at o) (record { homes = homes-opening o.settings o.local o.own o.marks; pairs = tt; counted = λ j d at. absurd (cc) }) in
     let mid : PairHistory = (run events (pair_at o)).1 in
     let second = (leads-run more mid first.1).0 in (
       subst (λ p. StaysClosed mid.primary p) (sym second.primary) (primary_stays_closed second.here mid.primary),

@@ -1,6 +1,7 @@
 -- A primary and a secondary whose frames are joined.
 pub mod Acknowledging
 pub mod Agreeing
+pub mod Ends
 pub mod HonestEnds
 pub mod OpeningDisks
 pub mod Openings

@@ -8,5 +8,6 @@ pub mod Accounted
 pub mod Secondary
 pub mod Joining
 pub mod Pair
+pub mod Settling
 pub mod Headlines
 pub mod Examples

@@ -4,6 +4,7 @@ pub mod Each
 pub mod Elements
 pub mod Fronts
 pub mod Last
+pub mod Once
 pub mod Pairs
 pub mod Picks
 pub mod Tests

@@ -4,4 +4,4 @@ pub mod Links
 pub mod Primary
 pub mod Runs
 pub mod Secondary
-pub mod Starved
+pub mod Refused

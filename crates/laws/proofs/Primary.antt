@@ -8,6 +8,7 @@ pub mod HomesMoves
 pub mod LastEpoch
 pub mod LastOpen
 pub mod LawfulMoves
+pub mod Met
 pub mod Moves
 pub mod Sendable
 pub mod StaysClosed

@@ -6,6 +6,7 @@ pub mod Fits
 pub mod Good
 pub mod InTurn
 pub mod Moves
+pub mod Numbers
 pub mod Orderly
 pub mod OrderlyRuns
 pub mod OrderlyTaking

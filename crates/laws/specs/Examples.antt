@@ -1,5 +1,5 @@
 -- The premises of the theorems are met, and their conclusions speak of something: histories that a short script reaches.
-use Rattle.std.specs.Prelude.{◌≡◌, ◌==◌, true, false, if◌then◌else◌, List, [], ◌∷◌, ◌++◌, length, Some}
+use Rattle.std.specs.Prelude.{◌≡◌, ◌==◌, true, false, if◌then◌else◌, List, [], ◌∷◌, ◌++◌, length, Some, Ok}
 use Rattle.blocks.specs.SettingsRange.{standard}
 use Rattle.model.specs.Contents.{Write, filled}
 use Rattle.model.specs.Stream.{WriteItem}
@@ -7,20 +7,21 @@ use Rattle.model.specs.Primary.{Linked, outward, stands, unreleased, active_exte
 use Rattle.model.specs.Secondary.{inward, items_taken}
 use Rattle.model.specs.Pair.{Event, LocalEvent, SendEvent, ReceiveEvent, AckOutEvent, AckInEvent, ClosePrimaryEvent, CloseSecondaryEvent, PairHistory, run_fed, differing, marked}
 use Rattle.model.specs.Headline.{IsJoined, IsGrounded, is_covered}
-use Rattle.model.specs.WriteOrder.{settlement}
+use Rattle.model.specs.Settlement.{is_at_rest, settle}
 use Rattle.model.specs.Rows.{words, fill, connect}
 use Rattle.model.specs.WriteRows.{one_write}
-use Rattle.model.specs.Theorems.{Opening, pair_at, IsSoundOpening, IsAtRest}
+use Rattle.model.specs.Theorems.{Opening, pair_at, IsSoundOpening}
 use Rattle.laws.specs.Reflections.{touches, is_sure}
 
 -- A new pair of eight blocks of one byte each, with equal identifiers.
 abbrev pub new_pair : Opening
-new_pair = record { settings = standard; local = filled 8 (0 ∷ []); peer = filled 8 (0 ∷ []); own = words 1 0 0 0; peer_tuple = words 1 0 0 0; marks = λ block. false }
+new_pair = record { settings = standard; peer_settings = standard; local = filled 8 (0 ∷ []); peer = filled 8 (0 ∷ []); own = words 1 0 0 0; peer_tuple = words 1 0 0 0; marks = λ block. false }
 
 -- A pair whose peer was away for a write of block 2, which is marked.
 abbrev pub left_behind : Opening
 left_behind = record {
   settings = standard;
+  peer_settings = standard;
   local = λ block. if block == 2 then Some (170 ∷ []) else filled 8 (0 ∷ []) block;
   peer = filled 8 (0 ∷ []);
   own = words 7 1 0 0;
@@ -88,5 +89,5 @@ settled = released ++ ClosePrimaryEvent ∷ CloseSecondaryEvent ∷ []
 
 -- two nodes at rest, and their settlement
 pub record RestIsMet : Type 0 where
-  pub rest : IsAtRest (reached settled).primary (reached settled).secondary
-  pub numbers : settlement (reached settled).primary (reached settled).secondary ≡ record { sent = 2; taken = 2; applied = 1; unmarked = 0 }
+  pub rest : is_at_rest (reached settled).primary (reached settled).secondary ≡ true
+  pub numbers : settle (reached settled).primary (reached settled).secondary (record { number = 1; first = 2; count = 1; kind = Linked; home = Some (1, 0) } ∷ []) false ≡ Ok (record { sent = 2; taken = 2; applied = 1; confirmed = 1; unmarked = 0 })

@@ -6,12 +6,12 @@ use Rattle.blocks.specs.declared.refusal.Refusal.TheVariants.{BadRange, Conflict
 use Rattle.blocks.specs.declared.outcome.Reply.TheVariants as reply
 use Rattle.model.specs.Contents.{Write, IsDisk}
 use Rattle.model.specs.LocalRuns.{PrimaryEvent, primary_run, SecondaryEvent, secondary_run}
-use Rattle.model.specs.Primary.{Outward, PrimaryHistory, outward, stands, items_sent, active_extents}
-use Rattle.model.specs.Secondary.{Inward, SecondaryHistory, items_taken, pending}
+use Rattle.model.specs.Primary.{Outward, PrimaryHistory, outward, outward_at, stands, items_sent, active_extents}
+use Rattle.model.specs.Secondary.{Inward, SecondaryHistory, inward_at, items_taken, pending, inward}
 use Rattle.model.specs.Stream.{WriteItem, IsBeginning, IsLawful}
-use Rattle.model.specs.Pair.{Event, PairHistory, step, run}
-use Rattle.model.specs.Headline.{IsJoined, AreEnds, TakesABeginning, StaysClosed, StaysClosedToo, HoldsEarlierEpochs, KeepsPromises, MarksDifferences, is_marked, is_covered}
-use Rattle.model.specs.Theorems.{Opening, primary_at, secondary_at, pair_at, AnyOpening, HasRanges, IsSoundOpening, EveryRun, JoinedRuns}
+use Rattle.model.specs.Pair.{Event, PairHistory, step, run, ReceiveEvent, AckInEvent}
+use Rattle.model.specs.Headline.{IsJoined, TakesABeginning, StaysClosed, StaysClosedToo, HoldsEarlierEpochs, KeepsPromises, MarksDifferences, is_marked, is_covered}
+use Rattle.model.specs.Theorems.{Opening, primary_at, secondary_at, pair_at, SharesSettings, AnyOpening, HasRanges, IsSoundOpening, EveryRun, JoinedRuns}
 use Rattle.laws.specs.Reflections.{FromItem, FromOpening}
 
 -- A primary by itself, whatever frames it takes.
@@ -72,7 +72,7 @@ SecondaryStaysClosed = (s : SecondaryHistory) (events : List SecondaryEvent) →
 abbrev pub JoinedTakesABeginning : Type 0
 JoinedTakesABeginning =
     (p : PrimaryHistory) (s : SecondaryHistory) → IsJoined p s
-    → (k : ℕ) (c : Outward) (d : Inward) → AreEnds p s k c d → IsBeginning (items_taken d) (take (items_sent c) c.stream)
+    → (number : ℕ) → IsBeginning (items_taken (inward_at s number)) (take (items_sent (outward_at p number)) (outward_at p number).stream)
 
 -- every write completed over the link has what its protocol promises
 abbrev pub JoinedRunsKeepPromises : Type 0
@@ -152,10 +152,34 @@ is_protocol_error NotDrained = false
 -- No step of the pair is refused as a protocol error: the link holds only frames that the other end made.
 abbrev pub EveryStepIsHonest : Type 0
 EveryStepIsHonest =
-    (o : Opening) (events : List (Event × Bool)) (event : Event) (starved : Bool) (refusal : Refusal) → HasRanges o
+    (o : Opening) (events : List (Event × Bool)) (event : Event) (starved : Bool) (refusal : Refusal) → SharesSettings o → HasRanges o
     → (step event starved (run events (pair_at o)).1).0 ≡ reply.Refused refusal → is_protocol_error refusal ≡ false
 
--- A step that is refused for want of memory leaves the pair's history as it was.
-abbrev pub StarvedStepsChangeNothing : Type 0
-StarvedStepsChangeNothing =
-    (event : Event) (starved : Bool) (h : PairHistory) → (step event starved h).0 ≡ reply.Refused NoMemory → (step event starved h).1 ≡ h
+-- A refusal of a frame that was taken: it has a fault, the other end could not have sent it, or its hello does not fit.
+abbrev pub is_refused_frame : Refusal → Bool
+is_refused_frame PrimaryStale = true
+is_refused_frame SplitBrain = true
+is_refused_frame Unrelated = true
+is_refused_frame UsedIdentifier = true
+is_refused_frame refusal = is_protocol_error refusal
+
+-- an event refuses a frame
+abbrev pub is_refused_by : Event → Refusal → Bool
+is_refused_by ReceiveEvent refusal = is_refused_frame refusal
+is_refused_by AckInEvent refusal = is_refused_frame refusal
+is_refused_by event refusal = false
+
+-- the end that took it is closed
+abbrev pub is_closed_by : Event → PairHistory → Bool
+is_closed_by ReceiveEvent h = (inward h.secondary).closed
+is_closed_by event h = (outward h.primary).closed
+
+-- A step that is refused leaves the pair's history as it was, unless it refuses a frame; also where memory was wanting.
+abbrev pub RefusedStepsChangeNothing : Type 0
+RefusedStepsChangeNothing =
+    (event : Event) (starved : Bool) (h : PairHistory) (refusal : Refusal) → (step event starved h).0 ≡ reply.Refused refusal → is_refused_by event refusal ≡ false → (step event starved h).1 ≡ h
+
+-- One that refuses a frame closes the end that took it.
+abbrev pub RefusedFramesClose : Type 0
+RefusedFramesClose =
+    (event : Event) (starved : Bool) (h : PairHistory) (refusal : Refusal) → (step event starved h).0 ≡ reply.Refused refusal → is_refused_by event refusal ≡ true → is_closed_by event (step event starved h).1 ≡ true

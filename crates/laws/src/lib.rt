@@ -4,7 +4,7 @@
 //! `docs/PROOFS.md`.
 #![tactic(auto)]
 
-ghost use Rattle.laws.specs.Statements.{PrimaryWritesOnce, PrimaryStreamsAreLawful, PrimaryExtentsAreFew, PrimaryStaysClosed, PrimaryReflects, PrimaryMarksAtRest, SecondaryHoldsEarlierEpochs, SecondaryDrainsFirst, SecondaryStaysClosed, JoinedTakesABeginning, JoinedRunsKeepPromises, EveryRunIsJoined, EveryRunTakesABeginning, EveryRunStaysClosed, EveryRunHoldsEarlierEpochs, EveryRunKeepsPromises, EveryRunMarksDifferences, EveryStepIsHonest, StarvedStepsChangeNothing};
+ghost use Rattle.laws.specs.Statements.{PrimaryWritesOnce, PrimaryStreamsAreLawful, PrimaryExtentsAreFew, PrimaryStaysClosed, PrimaryReflects, PrimaryMarksAtRest, SecondaryHoldsEarlierEpochs, SecondaryDrainsFirst, SecondaryStaysClosed, JoinedTakesABeginning, JoinedRunsKeepPromises, EveryRunIsJoined, EveryRunTakesABeginning, EveryRunStaysClosed, EveryRunHoldsEarlierEpochs, EveryRunKeepsPromises, EveryRunMarksDifferences, EveryStepIsHonest, RefusedStepsChangeNothing, RefusedFramesClose};
 ghost use Rattle.laws.specs.Examples.{OpeningsAreMet, OneWriteIsMet, CoverIsMet, ReflectionIsMet, RestIsMet};
 ghost use Rattle.model.specs.Theorems.{JoinedRunsHaveTheHeadline, JoinedRunsCoverDifferences, JoinedRunsSettle, EveryRunHasTheHeadline, EveryRunCoversDifferences};
 
@@ -71,10 +71,11 @@ pub fn honest_link()
     ensures honest { EveryStepIsHonest }
 {}
 
-/// Want of memory changes nothing: a step of the pair that is refused with 7 leaves its history as it was, for each of the
-/// fourteen events.
-pub fn want_of_memory()
-    ensures unchanged { StarvedStepsChangeNothing }
+/// Every refusal, want of memory among them: a refused step of the pair leaves its history as it was, for each of the fourteen
+/// events; but where it refuses a frame that was taken, the end that took it is closed then.
+pub fn refusals()
+    ensures unchanged { RefusedStepsChangeNothing }
+    ensures closed { RefusedFramesClose }
 {}
 
 /// The premises are met by histories of a worked write, and the conclusions speak of something there: a write completed

@@ -1,5 +1,5 @@
 -- The frames of a link, as packets, and how a taken frame is read.
-use Rattle.std.specs.Prelude.{ℕ, ◌+◌, List, [], ◌∷◌, length, Option, Some, None, Result}
+use Rattle.std.specs.Prelude.{ℕ, ◌+◌, ◌-◌, Bool, if◌then◌else◌, List, [], ◌∷◌, length, take, Option, Some, None, Result}
 use Rattle.blocks.specs.declared.tuple.Tuple.{Tuple}
 use Rattle.blocks.specs.declared.settings.Settings.{Settings}
 use Rattle.blocks.specs.declared.settings.Protocol.{Protocol}
@@ -7,7 +7,7 @@ use Rattle.blocks.specs.declared.refusal.Refusal.{Refusal}
 use Rattle.blocks.specs.declared.command.Command.{Command}
 use Rattle.blocks.specs.declared.command.Command.TheVariants as command
 use Rattle.model.specs.Contents.{Write}
-use Rattle.model.specs.Stream.{Item, WriteItem, ResyncItem, BarrierItem, SyncUuidItem, UuidsItem}
+use Rattle.model.specs.Stream.{Item, WriteItem, ResyncItem, BarrierItem, SyncUuidItem, UuidsItem, first_of, number_of, contents_of}
 
 -- What an acknowledgement names: the first block, the number of the write (0 for a resync), how many blocks, the place.
 pub record Acknowledged : Type 0 where
@@ -72,11 +72,11 @@ item_of (BarrierAckFrame number size) = None
 
 -- how an acknowledgement names an item
 abbrev pub naming : ℕ → Item → Acknowledged
-naming place (WriteItem write) = record { first = write.first; number = write.number; count = length write.contents; place = place }
-naming place (ResyncItem block contents) = record { first = block; number = 0; count = 1; place = place }
-naming place (BarrierItem epoch) = record { first = 0; number = 0; count = 0; place = place }
-naming place (SyncUuidItem word) = record { first = 0; number = 0; count = 0; place = place }
-naming place (UuidsItem tuple) = record { first = 0; number = 0; count = 0; place = place }
+naming place item = record { first = first_of item; number = number_of item; count = length (contents_of item); place = place }
+
+-- The frames taken that count: the last one does not, where it was refused.
+abbrev pub counting : Bool → List Received → List Received
+counting refused taken = if refused then take (length taken - 1) taken else taken
 
 -- Each end's hello: its protocol, its size, and its tuple as it was when the end opened.
 abbrev pub hello_of : Settings → Tuple → List Packet

@@ -1,48 +1,54 @@
 -- What administrators rely on, stated of a primary's and a secondary's history. Nothing is proved here.
-use Rattle.std.specs.Prelude.{ℕ, suc, ◌≡◌, ◌<◌, ◌≤◌, nat_lt, Bool, true, false, ◌&&◌, ◌||◌, ◌⊎◌, length, take, map, Some, slice_get, Ok}
+use Rattle.std.specs.Prelude.{ℕ, suc, ◌≡◌, ◌<◌, ◌≤◌, nat_lt, Bool, true, false, ◌&&◌, ◌||◌, ◌⊎◌, List, length, take, map, Some, slice_get, Ok}
 use Rattle.std.specs.List.{list_any}
 use Rattle.blocks.specs.declared.tuple.Tuple.{Tuple}
 use Rattle.blocks.specs.declared.settings.Protocol.{Protocol}
 use Rattle.blocks.specs.declared.settings.Protocol.TheVariants as protocol
 use Rattle.model.specs.Contents.{BlockMap, Write, covers}
-use Rattle.model.specs.Stream.{WriteItem, IsLawful, IsBeginning, IsClosedAt, is_in, is_whole}
-use Rattle.model.specs.Primary.{Completion, Linked, Outward, PrimaryHistory, outward, stands, frames_due, items_sent, local_map, unreleased, active_extents}
-use Rattle.model.specs.Secondary.{Inward, SecondaryHistory, items_taken, map_of, secondary_map, answers_due}
+use Rattle.model.specs.Stream.{Item, WriteItem, contents_of, IsLawful, IsBeginning, IsClosedAt, is_in, is_whole}
+use Rattle.model.specs.Frames.{Received}
+use Rattle.model.specs.Primary.{Completion, Linked, Outward, PrimaryHistory, outward, outward_at, stands, frames_due, items_sent, local_map, unreleased, active_extents}
+use Rattle.model.specs.Secondary.{Inward, SecondaryHistory, inward_at, items_taken, map_of, secondary_map, answers_due}
 use Rattle.model.specs.Pair.{same_block}
 
--- the two ends of one connection
-pub record AreEnds (p : PrimaryHistory) (s : SecondaryHistory) (connection : ℕ) (c : Outward) (d : Inward) : Type 0 where
-  pub outward : slice_get p.connections connection ≡ Some c
-  pub inward : slice_get s.connections connection ≡ Some d
+-- the frames that one end of a connection pushed, as the other end reads them
+abbrev pub pushed_by : PrimaryHistory → Outward → List Received
+pushed_by p c = map (λ packet. Ok packet) (take c.pushed (frames_due p.settings c))
 
--- The link. On each connection, what one end took begins what the other pushed, both ways.
+-- the acknowledgements that the other end pushed
+abbrev pub pushed_back_by : SecondaryHistory → Inward → List Received
+pushed_back_by s d = map (λ packet. Ok packet) (take d.pushed (answers_due s.settings d))
+
+-- The link. On each connection, by its number, what one end took begins what the other pushed, both ways. Where a node never
+-- opened the connection, nothing was pushed at its end and nothing taken.
 pub record IsJoined (p : PrimaryHistory) (s : SecondaryHistory) : Type 0 where
-  pub connections : length p.connections ≡ length s.connections
-  pub out : (k : ℕ) (c : Outward) (d : Inward) → AreEnds p s k c d → IsBeginning d.taken (map (λ packet. Ok packet) (take c.pushed (frames_due p.settings c)))
-  pub back : (k : ℕ) (c : Outward) (d : Inward) → AreEnds p s k c d → IsBeginning c.taken (map (λ packet. Ok packet) (take d.pushed (answers_due s.settings d)))
+  pub out : (number : ℕ) → IsBeginning (inward_at s number).taken (pushed_by p (outward_at p number))
+  pub back : (number : ℕ) → IsBeginning (outward_at p number).taken (pushed_back_by s (inward_at s number))
 
 -- First clause: what the secondary took on each connection is a beginning of what the primary sent, and that of a lawful
 -- stream; each write has one place.
 pub record TakesABeginning (p : PrimaryHistory) (s : SecondaryHistory) : Type 0 where
-  pub taken : (k : ℕ) (c : Outward) (d : Inward) → AreEnds p s k c d → IsBeginning (items_taken d) (take (items_sent c) c.stream)
+  pub taken : (number : ℕ) → IsBeginning (items_taken (inward_at s number)) (take (items_sent (outward_at p number)) (outward_at p number).stream)
   pub lawful : (k : ℕ) (c : Outward) → slice_get p.connections k ≡ Some c → IsLawful p.settings.max_epoch c.stream
   pub once : (k l place other : ℕ) (c d : Outward) (a b : Write) → slice_get p.connections k ≡ Some c → slice_get p.connections l ≡ Some d
       → slice_get c.stream place ≡ Some (WriteItem a) → slice_get d.stream other ≡ Some (WriteItem b) → a.number ≡ b.number → (k ≡ l) × (place ≡ other)
 
--- A closed end stays as it is: the primary's connection as a whole, the secondary's but for what is still applied.
+-- A closed end stays as it is: the primary's connection as a whole, the secondary's but for what is still applied and dropped.
 pub record StaysClosed (p later : PrimaryHistory) : Type 0 where
   pub same : (k : ℕ) (c : Outward) → slice_get p.connections k ≡ Some c → c.closed ≡ true → slice_get later.connections k ≡ Some c
 
 -- the secondary's side of the same
 pub record StaysClosedToo (s later : SecondaryHistory) : Type 0 where
   pub same : (k : ℕ) (c : Inward) → slice_get s.connections k ≡ Some c → c.closed ≡ true
-      → (d : Inward) × (slice_get later.connections k ≡ Some d) × (d.taken ≡ c.taken) × (d.pushed ≡ c.pushed) × (d.due ≡ c.due) × (d.closed ≡ true)
+      → (d : Inward) × (slice_get later.connections k ≡ Some d) × (d ≡ record c { applied = d.applied; gone = d.gone })
 
 -- Second clause: the secondary's disk holds every write of earlier epochs and part of one. On each connection the part
--- applied is closed at some epoch and was taken, and it lies over what the disk held when the connection opened.
+-- applied is closed at some epoch and names blocks of items that were taken alone, and it lies over what the disk held when
+-- the connection opened.
 pub record HoldsEarlierEpochs (s : SecondaryHistory) : Type 0 where
   pub closed_at : (k : ℕ) (d : Inward) → slice_get s.connections k ≡ Some d → (epoch : ℕ) × IsClosedAt epoch (items_taken d) d.applied
-  pub taken : (k place offset : ℕ) (d : Inward) → slice_get s.connections k ≡ Some d → is_in d.applied place offset ≡ true → place < length (items_taken d)
+  pub taken : (k place offset : ℕ) (d : Inward) → slice_get s.connections k ≡ Some d → is_in d.applied place offset ≡ true
+      → (item : Item) × (slice_get (items_taken d) place ≡ Some item) × (offset < length (contents_of item))
   pub goes_on : (k block : ℕ) (d e : Inward) → slice_get s.connections k ≡ Some d → slice_get s.connections (suc k) ≡ Some e → e.base block ≡ map_of d block
   pub begins : (block : ℕ) (d : Inward) → slice_get s.connections 0 ≡ Some d → d.base block ≡ s.opening_map block
 
@@ -55,8 +61,8 @@ Promise protocol.C c d write place = is_whole d.applied place (WriteItem write) 
 
 -- Third clause: every write that was completed over the link has what its protocol promises.
 pub record KeepsPromises (p : PrimaryHistory) (s : SecondaryHistory) : Type 0 where
-  pub promised : (n k place : ℕ) (entry : Completion) (c : Outward) (d : Inward) → slice_get p.journal n ≡ Some entry → entry.kind ≡ Linked → entry.home ≡ Some (k, place)
-      → AreEnds p s k c d → Promise p.settings.protocol c d entry.write place
+  pub promised : (n k place : ℕ) (entry : Completion) → slice_get p.journal n ≡ Some entry → entry.kind ≡ Linked → entry.home ≡ Some (k, place)
+      → Promise p.settings.protocol (outward_at p (suc k)) (inward_at s (suc k)) entry.write place
   pub home : (n : ℕ) (entry : Completion) → slice_get p.journal n ≡ Some entry → entry.kind ≡ Linked
       → (k : ℕ) × (place : ℕ) × (c : Outward) × (entry.home ≡ Some (k, place)) × (slice_get p.connections k ≡ Some c) × (slice_get c.stream place ≡ Some (WriteItem entry.write))
 

@@ -9,7 +9,6 @@ pub mod Frames
 pub mod Headline
 pub mod LocalRuns
 pub mod Marks
-pub mod Meaning
 pub mod Pair
 pub mod Primary
 pub mod PrimarySteps
@@ -18,8 +17,10 @@ pub mod ResyncRows
 pub mod Rows
 pub mod Secondary
 pub mod SecondarySteps
+pub mod Settlement
 pub mod Status
 pub mod Stream
 pub mod Theorems
+pub mod UsageRows
 pub mod WriteOrder
 pub mod WriteRows

@@ -39,9 +39,9 @@ abbrev pub primary_run : List PrimaryEvent → PrimaryHistory → PrimaryHistory
 primary_run [] h = h
 primary_run (event ∷ events) h = primary_run events (primary_after event h)
 
--- What may happen to a secondary.
+-- What may happen to a secondary. Where it opens it has not seen so many connections that the primary opened since its last.
 pub data SecondaryEvent : Type 0 where
-  OpensToo : SecondaryEvent
+  OpensToo : (unseen : ℕ) → SecondaryEvent
   Receives : (frame : Option Received) (starved : Bool) → SecondaryEvent
   Applies : (place : ℕ) → SecondaryEvent
   FailsToApply : (place : ℕ) (offsets : List ℕ) → SecondaryEvent
@@ -50,7 +50,7 @@ pub data SecondaryEvent : Type 0 where
 
 -- the history that an event leads to; what it answers is left out
 abbrev pub secondary_after : SecondaryEvent → SecondaryHistory → SecondaryHistory
-secondary_after OpensToo h = (open_secondary h).1
+secondary_after (OpensToo unseen) h = (open_secondary unseen h).1
 secondary_after (Receives frame starved) h = (receive frame starved h).1
 secondary_after (Applies place) h = (peer place h).1
 secondary_after (FailsToApply place offsets) h = (peer_fault place offsets h).1

@@ -87,7 +87,7 @@ open_pair_tests h sync loss starved =
 abbrev pub open_pair : ℕ → ℕ → Bool → PairHistory → Reply × PairHistory
 open_pair sync loss starved h = elim (first_refusal (open_pair_tests h sync loss starved)) [
   | Some refusal ↦ (reply.Refused refusal, h)
-  | None ↦ let primary = open_primary sync loss starved h.primary in (primary.0, record { primary = primary.1; secondary = (open_secondary h.secondary).1 })
+  | None ↦ let primary = open_primary sync loss starved h.primary in (primary.0, record { primary = primary.1; secondary = (open_secondary 0 h.secondary).1 })
 ]
 
 -- A fault with more blocks kept than the write has is refused 1, after the other tests.

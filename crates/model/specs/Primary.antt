@@ -1,5 +1,5 @@
 -- The history of a primary, and what is read off it.
-use Rattle.std.specs.Prelude.{ℕ, ◌-◌, nat_lt, ◌==◌, Bool, true, false, ◌&&◌, ◌||◌, not, if◌then◌else◌, List, [], ◌∷◌, ◌++◌, length, take, map, filter, find, Option, Some, None, slice_get, Ok}
+use Rattle.std.specs.Prelude.{ℕ, zero, suc, unwrap_or, ◌-◌, nat_lt, ◌==◌, Bool, true, false, ◌&&◌, ◌||◌, not, if◌then◌else◌, List, [], ◌∷◌, ◌++◌, length, take, map, filter, find, Option, Some, None, option_map, slice_get, Ok}
 use Rattle.std.specs.List.{list_any}
 use Rattle.blocks.specs.declared.tuple.Tuple.{Tuple}
 use Rattle.blocks.specs.declared.settings.Settings.{Settings}
@@ -7,7 +7,7 @@ use Rattle.blocks.specs.declared.settings.Protocol.{Protocol}
 use Rattle.blocks.specs.declared.settings.Protocol.TheVariants as protocol
 use Rattle.model.specs.Contents.{BlockMap, Write, covers, Layer, overlay, extent_of}
 use Rattle.model.specs.Stream.{Item, WriteItem, ResyncItem, SyncUuidItem, UuidsItem, epoch_of, placed, below}
-use Rattle.model.specs.Frames.{Packet, RecvAckFrame, WriteAckFrame, RsWriteAckFrame, BarrierAckFrame, Acknowledged, Received, hello_of, frames_of, naming}
+use Rattle.model.specs.Frames.{Packet, RecvAckFrame, WriteAckFrame, RsWriteAckFrame, BarrierAckFrame, Acknowledged, Received, hello_of, frames_of, naming, counting}
 
 -- What the local disk did with a write: nothing yet, all of it, or it failed and these offsets reached the disk.
 pub data LocalOutcome : Type 0 where
@@ -91,7 +91,13 @@ last_of none (x ∷ xs) = last_of x xs
 abbrev pub outward : PrimaryHistory → Outward
 outward h = last_of (no_outward h.tuple) h.connections
 
--- the number of the last connection, from 0
+-- The end of a connection by its number, the first being 1: a closed one on which nothing happened, where this node never
+-- opened that connection.
+abbrev pub outward_at : PrimaryHistory → ℕ → Outward
+outward_at h zero = no_outward h.tuple
+outward_at h (suc k) = unwrap_or (slice_get h.connections k) (no_outward h.tuple)
+
+-- the index of the last connection, from 0
 abbrev pub last_index : {X : Type 0} → List X → ℕ
 last_index xs = length xs - 1
 
@@ -119,9 +125,9 @@ frames_due settings c = hello_of settings c.hello ++ frames_of c.stream
 abbrev pub items_sent : Outward → ℕ
 items_sent c = c.pushed - 3
 
--- The frames taken that count: a frame that was refused answers nothing.
+-- the frames taken that count
 abbrev pub accepted_frames : Outward → List Received
-accepted_frames c = if c.refused then take (length c.taken - 1) c.taken else c.taken
+accepted_frames c = counting c.refused c.taken
 
 -- Acknowledgements.
 
@@ -231,6 +237,10 @@ is_confirmed h accepted = elim accepted.home [
   | None ↦ false
   | Some home ↦ elim (slice_get h.connections home.0) [ None ↦ false | Some c ↦ barrier_acknowledged c (epoch_of c.stream home.1) ]
 ]
+
+-- The lowest write that the local disk has neither written nor failed.
+abbrev pub next_local : PrimaryHistory → Option ℕ
+next_local h = option_map (λ accepted. accepted.write.number) (find (λ accepted. is_waiting accepted.outcome) h.writes)
 
 -- Released: its local write is done or failed, and its epoch is acknowledged or it is without a connection.
 abbrev pub is_released : PrimaryHistory → Accepted → Bool

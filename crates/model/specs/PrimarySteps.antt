@@ -9,8 +9,8 @@ use Rattle.blocks.specs.declared.outcome.What.TheVariants as what
 use Rattle.blocks.specs.declared.outcome.Reply.{Reply}
 use Rattle.blocks.specs.declared.outcome.Reply.TheVariants as reply
 use Rattle.model.specs.Contents.{Write, covers, overlap, is_range, extent_of}
-use Rattle.model.specs.Stream.{Item, WriteItem, ResyncItem, BarrierItem, UuidsItem, is_write, last_epoch, epoch_size, items_of_epoch}
-use Rattle.model.specs.Frames.{command_of, naming}
+use Rattle.model.specs.Stream.{Item, WriteItem, ResyncItem, BarrierItem, UuidsItem, number_of, is_write, last_epoch, epoch_size, items_of_epoch, within}
+use Rattle.model.specs.Frames.{command_of}
 use Rattle.model.specs.Identifiers.{are_fresh, lost, sync_end}
 use Rattle.model.specs.Refusals.{Test, first_refusal}
 use Rattle.model.specs.Primary.{LocalOutcome, Waiting, OnDisk, Failed, Accepted, Linked, Alone, Completion, Outward, PrimaryHistory, outward, last_index, with_outward, stands, frames_due, was_resynced, is_answered, is_waiting, is_open, completes, unreleased, open_writes, local_map, active_extents, is_resync, resync_runs, under_way, marked_blocks, free_block}
@@ -40,7 +40,7 @@ with_completions h = record h { journal = h.journal ++ map (completion_of h) (ne
 -- a write that is completed or failed, or a resync item that is acknowledged
 abbrev pub is_settled : PrimaryHistory → Outward → ℕ × Item → Bool
 is_settled h c entry =
-    list_any (λ accepted. (is_write entry.1 && (naming entry.0 (WriteItem accepted.write)).number == (naming entry.0 entry.1).number) && not (is_open h accepted)) h.writes
+    list_any (λ accepted. (is_write entry.1 && (accepted.write.number == number_of entry.1)) && not (is_open h accepted)) h.writes
     || (is_resync entry.1 && was_resynced c entry.0 entry.1)
 
 -- The last epoch is over: one of its items is settled, or it has as many writes as may be.
@@ -171,11 +171,11 @@ local_done number h = tested h ((not (is_unfinished h number), UnknownJob) ∷ [
 abbrev pub accepted_at : PrimaryHistory → ℕ → Option Accepted
 accepted_at h number = find (λ accepted. accepted.write.number == number) h.writes
 
--- A fault: these offsets reached the disk, and the range is marked.
+-- A fault: these offsets of the write reached the disk, and the range is marked.
 abbrev pub faulted : ℕ → List ℕ → PrimaryHistory → PrimaryHistory
 faulted number offsets h = elim (accepted_at h number) [
   | None ↦ h
-  | Some accepted ↦ with_outcome number (Failed offsets) (record h { marks = marking accepted.write h.marks })
+  | Some accepted ↦ with_outcome number (Failed (within (length accepted.write.contents) offsets)) (record h { marks = marking accepted.write h.marks })
 ]
 
 -- the local disk fails a write, and leaves these of its offsets new
@@ -209,7 +209,7 @@ send room starved h = tested h (send_tests h room starved) (λ _. succeeding (se
 abbrev pub resync_tests : PrimaryHistory → Bool → List Test
 resync_tests h starved =
     let c = outward h in
-    (c.closed, NotConnected) ∷ (not (resync_runs c) || (nat_lt 0 (length (under_way c)) || (elim (resync_runs c) [ true ↦ is_none (free_block h) | false ↦ true ])), NothingToDo)
+    (c.closed, NotConnected) ∷ (not (resync_runs c) || (nat_lt 0 (length (under_way c)) || is_none (free_block h)), NothingToDo)
     ∷ (nat_le 4294967288 (length c.stream), StreamFull) ∷ (starved, NoMemory) ∷ []
 
 -- The lowest free marked block is read and appended in one step, with what the local disk has now.

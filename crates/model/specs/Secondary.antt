@@ -1,17 +1,18 @@
 -- The history of a secondary, what is read off it, and its local steps.
-use Rattle.std.specs.Prelude.{ℕ, ◌-◌, nat_le, ◌==◌, Bool, true, false, ◌&&◌, ◌||◌, not, if◌then◌else◌, List, [], ◌++◌, length, take, drop, filter, filter_map, Option, None, Ok, Err}
+use Rattle.std.specs.Prelude.{ℕ, nat_le, ◌==◌, Bool, true, false, ◌&&◌, ◌||◌, not, List, [], ◌++◌, length, drop, filter, find, filter_map, map, Option, None, option_map, unwrap_or, slice_get, suc, Ok, Err}
 use Rattle.std.specs.List.{list_any, list_all}
 use Rattle.blocks.specs.declared.tuple.Tuple.{Tuple}
 use Rattle.blocks.specs.declared.settings.Settings.{Settings}
 use Rattle.model.specs.Contents.{BlockMap, overlay}
-use Rattle.model.specs.Stream.{Item, has_blocks, epoch_of, placed, Part, is_whole, layers_of}
-use Rattle.model.specs.Frames.{Packet, Received, item_of, hello_of}
+use Rattle.model.specs.Stream.{Item, has_blocks, epoch_of, placed, barriers_in, below, Part, is_whole, layers_of}
+use Rattle.model.specs.Frames.{Packet, Received, item_of, hello_of, counting}
 use Rattle.model.specs.Primary.{last_of, change_last, in_resync}
 
--- One connection at the secondary's end: the disk and the tuple as they were when the end opened, the frames that were
+-- One connection at the secondary's end: its number, the disk and the tuple as they were when the end opened, the frames that were
 -- taken, whether the last of them was refused as a protocol error, the part of the stream that is applied, the places that
 -- failed or were dropped, the acknowledgements due, how many frames were pushed, and whether the end is closed.
 pub record Inward : Type 0 where
+  pub number : ℕ
   pub base : BlockMap
   pub hello : Tuple
   pub taken : List Received
@@ -22,7 +23,7 @@ pub record Inward : Type 0 where
   pub pushed : ℕ
   pub closed : Bool
 
--- The secondary's history. Connections stand oldest first.
+-- The secondary's history. Connections stand oldest first, and their numbers rise.
 pub record SecondaryHistory : Type 0 where
   pub settings : Settings
   pub opening_map : BlockMap
@@ -42,13 +43,18 @@ secondary_opening settings disk tuple = record {
   connections = [];
 }
 
--- a secondary that never opened stands as one whose connection is closed
+-- an end that was never open: a closed one on which nothing happened
 abbrev pub no_inward : SecondaryHistory → Inward
-no_inward h = record { base = h.opening_map; hello = h.tuple; taken = []; refused = false; applied = []; gone = []; due = []; pushed = 0; closed = true }
+no_inward h = record { number = 0; base = h.opening_map; hello = h.tuple; taken = []; refused = false; applied = []; gone = []; due = []; pushed = 0; closed = true }
 
 -- the last connection, or a closed one where there was none
 abbrev pub inward : SecondaryHistory → Inward
 inward h = last_of (no_inward h) h.connections
+
+-- The end of a connection by its number, the first being 1: a closed one on which nothing happened, where this node never
+-- opened that connection.
+abbrev pub inward_at : SecondaryHistory → ℕ → Inward
+inward_at h number = unwrap_or (find (λ c. c.number == number) h.connections) (no_inward h)
 
 -- changes the last connection
 abbrev pub with_inward : (Inward → Inward) → SecondaryHistory → SecondaryHistory
@@ -56,7 +62,7 @@ with_inward f h = record h { connections = change_last f h.connections }
 
 -- The stream's frames that were taken and not refused.
 abbrev pub accepted_of : Inward → List Received
-accepted_of c = drop 3 (if c.refused then take (length c.taken - 1) c.taken else c.taken)
+accepted_of c = drop 3 (counting c.refused c.taken)
 
 -- the item of a frame, if it is one
 abbrev pub received_item : Received → Option Item
@@ -74,6 +80,10 @@ is_pending c entry = (has_blocks entry.1 && not (is_whole c.applied entry.0 entr
 -- what was taken and is neither applied nor dropped, with its places
 abbrev pub pending : Inward → List (ℕ × Item)
 pending c = filter (is_pending c) (placed (items_taken c))
+
+-- the lowest pending place
+abbrev pub next_pending : SecondaryHistory → Option ℕ
+next_pending h = option_map (λ entry. entry.0) (slice_get (pending (inward h)) 0)
 
 -- Drained: nothing is pending.
 abbrev pub is_drained : SecondaryHistory → Bool
@@ -100,3 +110,20 @@ is_applied_to c epoch =
 -- whether the stream taken is in a resync
 abbrev pub is_in_resync : Inward → Bool
 is_in_resync c = in_resync (items_taken c)
+
+-- Usage: whether the secondary may be used as it is, and how far it is whole (this project's rule).
+
+-- An item is done: all of it was applied by one write of the disk that did not fail. An item that failed is not, even if all
+-- its blocks reached the disk.
+abbrev pub is_done : Inward → ℕ × Item → Bool
+is_done c entry = is_whole c.applied entry.0 entry.1 && not (list_any (λ place. place == entry.0) c.gone)
+
+-- every write and resync item up to the end of an epoch is done
+abbrev pub is_done_to : Inward → ℕ → Bool
+is_done_to c epoch =
+    let items = items_taken c in
+    list_all (λ entry. not (nat_le (epoch_of items entry.0) epoch && has_blocks entry.1) || is_done c entry) (placed items)
+
+-- The greatest epoch whose barrier was taken on the last connection, and up to whose end every item is done; 0 where none is.
+abbrev pub whole : SecondaryHistory → ℕ
+whole h = let c = inward h in last_of 0 (filter (is_done_to c) (map suc (below (barriers_in (items_taken c)))))

@@ -1,5 +1,5 @@
 -- The local steps of a secondary: for each event its tests in order, its effect, and the acknowledgements that follow.
-use Rattle.std.specs.Prelude.{ℕ, zero, suc, nat_lt, nat_le, ◌==◌, Bool, true, false, ◌&&◌, not, if◌then◌else◌, List, [], ◌∷◌, ◌++◌, length, map, filter, Option, Some, None, is_none, slice_get, Result, Ok, Err}
+use Rattle.std.specs.Prelude.{ℕ, zero, suc, ◌+◌, nat_lt, nat_le, ◌==◌, Bool, true, false, ◌&&◌, not, if◌then◌else◌, List, [], ◌∷◌, ◌++◌, length, map, filter, Option, Some, None, is_none, slice_get, Result, Ok, Err}
 use Rattle.std.specs.List.{list_any, list_all}
 use Rattle.blocks.specs.declared.tuple.Tuple.{Tuple}
 use Rattle.blocks.specs.declared.settings.Protocol.{Protocol}
@@ -12,7 +12,7 @@ use Rattle.blocks.specs.declared.outcome.Reply.{Reply}
 use Rattle.blocks.specs.declared.outcome.Reply.TheVariants as reply
 use Rattle.blocks.specs.declared.command.Command.TheVariants as command
 use Rattle.model.specs.Contents.{is_range}
-use Rattle.model.specs.Stream.{Item, WriteItem, ResyncItem, contents_of, epoch_of, last_epoch, epoch_size, items_of_epoch, items_meet, barriers_in, below}
+use Rattle.model.specs.Stream.{Item, WriteItem, ResyncItem, number_of, contents_of, epoch_of, last_epoch, epoch_size, items_of_epoch, items_meet, barriers_in, below, within}
 use Rattle.model.specs.Frames.{Packet, DataFrame, RsDataReplyFrame, BarrierFrame, ProtocolFrame, UuidsFrame, SizesFrame, SyncUuidFrame, RecvAckFrame, WriteAckFrame, RsWriteAckFrame, BarrierAckFrame, Received, command_of, naming}
 use Rattle.model.specs.Refusals.{Test, first_refusal, done_with}
 use Rattle.model.specs.Acknowledgements.{same_protocol}
@@ -52,14 +52,19 @@ tested_secondary h tests done = elim (first_refusal tests) [ Some refusal ↦ (r
 abbrev pub open_secondary_tests : SecondaryHistory → List Test
 open_secondary_tests h = (not ((inward h).closed && is_drained h), NotDrained) ∷ []
 
--- a new connection lies over what the disk holds now
-abbrev pub opened_secondary : SecondaryHistory → SecondaryHistory
-opened_secondary h =
-    record h { connections = h.connections ++ record { base = secondary_map h; hello = h.tuple; taken = []; refused = false; applied = []; gone = []; due = []; pushed = 0; closed = false } ∷ [] }
+-- The number of the next connection: one more than the last one's, and more where the primary opened others between that
+-- this node never saw.
+abbrev pub next_number : ℕ → SecondaryHistory → ℕ
+next_number unseen h = suc ((inward h).number + unseen)
 
--- the secondary opens its end
-abbrev pub open_secondary : SecondaryHistory → Reply × SecondaryHistory
-open_secondary h = tested_secondary h (open_secondary_tests h) (λ _. succeeding_secondary what.Nothing (opened_secondary h))
+-- a new connection lies over what the disk holds now
+abbrev pub opened_secondary : ℕ → SecondaryHistory → SecondaryHistory
+opened_secondary unseen h =
+    record h { connections = h.connections ++ record { number = next_number unseen h; base = secondary_map h; hello = h.tuple; taken = []; refused = false; applied = []; gone = []; due = []; pushed = 0; closed = false } ∷ [] }
+
+-- the secondary opens its end, and has not seen so many connections of the primary since its last one
+abbrev pub open_secondary : ℕ → SecondaryHistory → Reply × SecondaryHistory
+open_secondary unseen h = tested_secondary h (open_secondary_tests h) (λ _. succeeding_secondary what.Nothing (opened_secondary unseen h))
 
 -- Taking a frame.
 
@@ -76,14 +81,9 @@ checking_hello (suc zero) (SizesFrame blocks) h =
 checking_hello (suc (suc n)) (UuidsFrame peer) h = Ok (what.Frame command.Uuids None, h)
 checking_hello n packet h = Err BadCommand
 
--- the number of a write, and zero of anything else
-abbrev pub number_of_item : Item → ℕ
-number_of_item (WriteItem write) = write.number
-number_of_item _ = 0
-
 -- the number is above those of all writes that were taken on this connection
 abbrev pub is_above : ℕ → List Item → Bool
-is_above number items = list_all (λ item. nat_lt (number_of_item item) number) items
+is_above number items = list_all (λ item. nat_lt (number_of item) number) items
 
 -- no item of the last epoch shares a block with it
 abbrev pub is_apart : Item → List Item → Bool
@@ -121,9 +121,9 @@ checking_item (RsDataReplyFrame block contents at) place c h =
 checking_item (BarrierFrame number) place c h =
     checked_if (has_place place && (number == last_epoch (items_taken c))) (what.Frame command.Barrier (Some place)) h
 checking_item (SyncUuidFrame word) place c h =
-    checked_if ((place == 0) && nat_lt 0 word) (what.Frame command.SyncUuid (Some place)) (adopting (record h.tuple { current = word }) false h)
+    checked_if ((has_place place && (place == 0)) && nat_lt 0 word) (what.Frame command.SyncUuid (Some place)) (adopting (record h.tuple { current = word }) false h)
 checking_item (UuidsFrame tuple) place c h =
-    checked_if (is_in_resync c) (what.Frame command.Uuids (Some place)) (adopting tuple true h)
+    checked_if (has_place place && is_in_resync c) (what.Frame command.Uuids (Some place)) (adopting tuple true h)
 checking_item packet place c h = Err BadCommand
 
 -- a frame is judged as one of the hello, and then as an item
@@ -164,6 +164,10 @@ has_earlier c place = let items = items_taken c in list_any (λ entry. nat_lt (e
 abbrev pub peer_tests : SecondaryHistory → ℕ → List Test
 peer_tests h place = (not (is_pending_at (inward h) place), UnknownJob) ∷ (has_earlier (inward h) place, EpochOpen) ∷ []
 
+-- how many blocks the item at a place has
+abbrev pub blocks_at : List Item → ℕ → ℕ
+blocks_at items place = elim (slice_get items place) [ None ↦ 0 | Some item ↦ length (contents_of item) ]
+
 -- so many blocks of an item, as pairs of its place and their offsets
 abbrev pub offsets_at : ℕ → List ℕ → List (ℕ × ℕ)
 offsets_at place offsets = map (λ offset. (place, offset)) offsets
@@ -188,12 +192,13 @@ applying asked place c = elim (slice_get (items_taken c) place) [
 abbrev pub peer : ℕ → SecondaryHistory → Reply × SecondaryHistory
 peer place h = tested_secondary h (peer_tests h place) (λ _. succeeding_secondary what.Nothing (with_inward (applying h.settings.protocol place) h))
 
--- A fault of the disk: these offsets reached it, the end closes, and the pending items of later epochs are dropped.
+-- A fault of the disk: these offsets of the item reached it, the end closes, and the pending items of later epochs are
+-- dropped.
 abbrev pub failing : ℕ → List ℕ → Inward → Inward
 failing place offsets c =
     let items = items_taken c in
     record c {
-      applied = c.applied ++ offsets_at place offsets;
+      applied = c.applied ++ offsets_at place (within (blocks_at items place) offsets);
       gone = c.gone ++ place ∷ map (λ entry. entry.0) (filter (λ entry. nat_lt (epoch_of items place) (epoch_of items entry.0)) (pending c));
       closed = true;
     }

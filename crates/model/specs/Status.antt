@@ -1,10 +1,10 @@
 -- The two status lines of a pair, as functions of the history. The words are DRBD's.
-use Rattle.std.specs.Prelude.{ℕ, suc, ◌*◌, nat_lt, nat_le, Bool, ◌&&◌, ◌||◌, not, if◌then◌else◌, length, map, filter}
+use Rattle.std.specs.Prelude.{ℕ, suc, ◌*◌, nat_lt, nat_le, Bool, true, false, ◌&&◌, ◌||◌, not, if◌then◌else◌, length, map, filter}
 use Rattle.std.specs.List.{list_any}
 use Rattle.blocks.specs.declared.settings.Protocol.{Protocol}
 use Rattle.model.specs.Stream.{is_write, has_blocks, last_epoch, items_of_epoch, placed, below}
 use Rattle.model.specs.Primary.{PrimaryHistory, Outward, outward, stands, items_sent, is_answered_by, barrier_acknowledged, open_writes, resync_runs, marked_blocks}
-use Rattle.model.specs.Secondary.{SecondaryHistory, Inward, inward, pending}
+use Rattle.model.specs.Secondary.{SecondaryHistory, Inward, inward, pending, whole}
 
 -- writes of the standing connection that were sent and are not answered
 abbrev pub unanswered : PrimaryHistory → ℕ
@@ -83,11 +83,13 @@ primary_line h = record { words = primary_words (outward h); protocol = h.settin
 abbrev pub hello_is_done : Inward → Bool
 hello_is_done c = nat_le 3 (length c.taken) && nat_le 3 c.pushed
 
--- the secondary's line
+-- The secondary's line: whether it may be used as it is, and how far it is whole, stand at its end.
 pub record SecondaryLine : Type 0 where
   pub words : Words
   pub protocol : Protocol
   pub pending : ℕ
+  pub usable : Bool
+  pub whole : ℕ
 
 -- the secondary's words, by whether it is consistent and what its connection has come to
 abbrev pub secondary_words : Bool → Inward → Words
@@ -99,7 +101,7 @@ secondary_words consistent c =
 
 -- the secondary's status line
 abbrev pub secondary_line : SecondaryHistory → SecondaryLine
-secondary_line h = record { words = secondary_words h.consistent (inward h); protocol = h.settings.protocol; pending = length (pending (inward h)) }
+secondary_line h = record { words = secondary_words h.consistent (inward h); protocol = h.settings.protocol; pending = length (pending (inward h)); usable = h.consistent; whole = whole h }
 
 -- Lines of worked examples: a linked primary, a linked secondary, and a primary that stands alone.
 abbrev pub linked_primary : Protocol → ℕ → ℕ → ℕ → ℕ → PrimaryLine
@@ -112,12 +114,24 @@ linked_primary protocol pe ap ep oos = record {
   oos = oos;
 }
 
--- the line of a secondary that is connected and in sync
-abbrev pub linked_secondary : Protocol → ℕ → SecondaryLine
-linked_secondary protocol pending = record {
+-- the line of a secondary that is connected and in sync, and whole to this epoch
+abbrev pub linked_secondary : Protocol → ℕ → ℕ → SecondaryLine
+linked_secondary protocol pending whole = record {
   words = record { link = Connected; own_role = Secondary; other_role = Primary; own_disk = UpToDate; other_disk = UpToDate };
   protocol = protocol;
   pending = pending;
+  usable = true;
+  whole = whole;
+}
+
+-- the line of a secondary to which a resync runs, and that is whole to this epoch of it
+abbrev pub target_secondary : Protocol → ℕ → ℕ → SecondaryLine
+target_secondary protocol pending whole = record {
+  words = record { link = SyncTarget; own_role = Secondary; other_role = Primary; own_disk = Inconsistent; other_disk = UpToDate };
+  protocol = protocol;
+  pending = pending;
+  usable = false;
+  whole = whole;
 }
 
 -- the line of a primary without a connection

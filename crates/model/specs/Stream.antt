@@ -37,6 +37,14 @@ first_of (BarrierItem epoch) = 0
 first_of (SyncUuidItem word) = 0
 first_of (UuidsItem tuple) = 0
 
+-- the number of a write; the other items have none, and 0 stands for that
+abbrev pub number_of : Item → ℕ
+number_of (WriteItem write) = write.number
+number_of (ResyncItem block contents) = 0
+number_of (BarrierItem epoch) = 0
+number_of (SyncUuidItem word) = 0
+number_of (UuidsItem tuple) = 0
+
 -- the blocks that an item puts on a disk
 abbrev pub contents_of : Item → List (List ℕ)
 contents_of (WriteItem write) = write.contents
@@ -97,6 +105,10 @@ Part = List (ℕ × ℕ)
 -- the part has this offset of the item at this place
 abbrev pub is_in : Part → ℕ → ℕ → Bool
 is_in part place offset = list_any (λ pair. (pair.0 == place) && (pair.1 == offset)) part
+
+-- those of some offsets that an item of so many blocks has
+abbrev pub within : ℕ → List ℕ → List ℕ
+within count offsets = filter (λ offset. nat_lt offset count) offsets
 
 -- whether a part has all blocks of an item
 abbrev pub is_whole : Part → ℕ → Item → Bool

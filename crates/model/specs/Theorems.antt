@@ -1,19 +1,21 @@
 -- The theorems over the definitions, as statements for every list of events. Their proofs stand elsewhere.
-use Rattle.std.specs.Prelude.{ℕ, ◌≡◌, ◌≤◌, Bool, true, List}
+use Rattle.std.specs.Prelude.{ℕ, ◌≡◌, ◌≤◌, nat_lt, Bool, ◌&&◌, List, Some, slice_get, Ok}
 use Rattle.blocks.specs.declared.settings.Settings.{Settings}
 use Rattle.blocks.specs.declared.tuple.Tuple.{Tuple}
 use Rattle.blocks.specs.SettingsRange.{IsInRange}
 use Rattle.model.specs.Contents.{BlockMap, IsDisk}
-use Rattle.model.specs.Primary.{PrimaryHistory, primary_opening, outward}
-use Rattle.model.specs.Secondary.{SecondaryHistory, secondary_opening, inward, is_drained}
-use Rattle.model.specs.Pair.{Event, PairHistory, pair_opening, run}
+use Rattle.model.specs.Primary.{Completion, PrimaryHistory, primary_opening}
+use Rattle.model.specs.Secondary.{SecondaryHistory, secondary_opening}
+use Rattle.model.specs.Pair.{Event, PairHistory, run}
 use Rattle.model.specs.LocalRuns.{PrimaryEvent, primary_run, SecondaryEvent, secondary_run}
 use Rattle.model.specs.Headline.{IsJoined, IsGrounded, Headline, CoversDifferences, IsHonest}
-use Rattle.model.specs.WriteOrder.{KeepsWriteOrder, IsUnharmed, settlement}
+use Rattle.model.specs.Settlement.{Receipt, receipt_of, Settlement, settlement, settle}
+use Rattle.model.specs.WriteOrder.{KeepsWriteOrder, IsUnharmed}
 
--- What two nodes start from: their settings, both disks, both tuples, and the marks.
+-- What two nodes start from: the settings of each, both disks, both tuples, and the marks.
 pub record Opening : Type 0 where
   pub settings : Settings
+  pub peer_settings : Settings
   pub local : BlockMap
   pub peer : BlockMap
   pub own : Tuple
@@ -26,32 +28,42 @@ primary_at o = primary_opening o.settings o.local o.own o.marks
 
 -- the secondary at an opening
 abbrev pub secondary_at : Opening → SecondaryHistory
-secondary_at o = secondary_opening o.settings o.peer o.peer_tuple
+secondary_at o = secondary_opening o.peer_settings o.peer o.peer_tuple
 
 -- both of them
 abbrev pub pair_at : Opening → PairHistory
-pair_at o = pair_opening o.settings o.local o.peer o.own o.peer_tuple o.marks
+pair_at o = record { primary = primary_at o; secondary = secondary_at o }
 
 -- The premises of an opening.
+
+-- both nodes have the same settings, as those of a pair have
+abbrev pub SharesSettings : Opening → Type 0
+SharesSettings o = o.peer_settings ≡ o.settings
 
 -- none
 abbrev pub AnyOpening : Opening → Type 0
 AnyOpening o = Unit {0}
 
--- its settings are in their ranges
-abbrev pub HasRanges : Opening → Type 0
-HasRanges o = IsInRange o.settings
+-- the settings of both are in their ranges
+pub record HasRanges (o : Opening) : Type 0 where
+  pub here : IsInRange o.settings
+  pub there : IsInRange o.peer_settings
 
--- both disks have as many blocks as the settings say, and the identifiers are honest, beside the ranges
+-- the opening marks of the primary's device: past its end none counts
+abbrev pub marks_at : Opening → ℕ → Bool
+marks_at o block = nat_lt block o.settings.blocks && o.marks block
+
+-- both disks have as many blocks as their node's settings say, and the identifiers are honest, beside the ranges
 pub record IsSoundOpening (o : Opening) : Type 0 where
-  pub ranges : IsInRange o.settings
+  pub ranges : HasRanges o
   pub local : IsDisk o.settings.blocks o.local
-  pub peer : IsDisk o.settings.blocks o.peer
-  pub identifiers : IsHonest o.own o.peer_tuple o.marks o.local o.peer
+  pub peer : IsDisk o.peer_settings.blocks o.peer
+  pub identifiers : IsHonest o.own o.peer_tuple (marks_at o) o.local o.peer
 
 -- Every list of events leads the pair from such an opening to a history with this property, wherever memory is wanting.
 abbrev pub EveryRun : (Opening → Type 0) → (PrimaryHistory → SecondaryHistory → Type 0) → Type 0
-EveryRun IsSuch Holds = (o : Opening) (events : List (Event × Bool)) → IsSuch o → Holds (run events (pair_at o)).1.primary (run events (pair_at o)).1.secondary
+EveryRun IsSuch Holds =
+    (o : Opening) (events : List (Event × Bool)) → SharesSettings o → IsSuch o → Holds (run events (pair_at o)).1.primary (run events (pair_at o)).1.secondary
 
 -- Two nodes that ran by themselves from such an opening, for any frames, and whose frames are joined have this property. No
 -- order between the steps of the one and of the other is part of it.
@@ -80,19 +92,19 @@ JoinedRunsHaveTheHeadline = JoinedRuns IsSoundOpening Headline
 abbrev pub JoinedRunsCoverDifferences : Type 0
 JoinedRunsCoverDifferences = JoinedRuns IsSoundOpening CoversDifferences
 
--- Both ends are closed and the secondary is drained: as two nodes are when they are brought together.
-pub record IsAtRest (p : PrimaryHistory) (s : SecondaryHistory) : Type 0 where
-  pub primary : (outward p).closed ≡ true
-  pub secondary : (inward s).closed ≡ true
-  pub drained : is_drained s ≡ true
-
--- What a settlement says then: the headline, no more taken than sent, and in a grounded history no block on which the
--- disks differ and that is not marked.
-pub record Settles (p : PrimaryHistory) (s : SecondaryHistory) : Type 0 where
+-- What a settlement says of two joined nodes: the headline; no more taken than sent, and in a grounded history no block on
+-- which the disks differ and that is not marked; each confirmed receipt is that of an entry of the journal, and none is given
+-- twice; and the journal has each number once.
+pub record Settles (p : PrimaryHistory) (s : SecondaryHistory) (receipts : List Receipt) (numbers : Settlement) : Type 0 where
   pub headline : Headline p s
-  pub taken : (settlement p s).taken ≤ (settlement p s).sent
-  pub unmarked : IsGrounded p s → (settlement p s).unmarked ≡ 0
+  pub exact : numbers ≡ settlement p s receipts
+  pub taken : numbers.taken ≤ numbers.sent
+  pub unmarked : IsGrounded p s → numbers.unmarked ≡ 0
+  pub confirmed : (i : ℕ) (receipt : Receipt) → slice_get receipts i ≡ Some receipt → (n : ℕ) × (entry : Completion) × (slice_get p.journal n ≡ Some entry) × (receipt ≡ receipt_of entry)
+  pub once : (i j : ℕ) (receipt : Receipt) → slice_get receipts i ≡ Some receipt → slice_get receipts j ≡ Some receipt → i ≡ j
+  pub distinct : (m n : ℕ) (a b : Completion) → slice_get p.journal m ≡ Some a → slice_get p.journal n ≡ Some b → a.write.number ≡ b.write.number → m ≡ n
 
--- The joining lemma of two nodes at rest.
+-- The joining lemma of two nodes at rest: what a settlement that is not refused says.
 abbrev pub JoinedRunsSettle : Type 0
-JoinedRunsSettle = JoinedRuns IsSoundOpening (λ p s. IsAtRest p s → Settles p s)
+JoinedRunsSettle =
+    JoinedRuns IsSoundOpening (λ p s. (receipts : List Receipt) (faulty : Bool) (numbers : Settlement) → settle p s receipts faulty ≡ Ok numbers → Settles p s receipts numbers)

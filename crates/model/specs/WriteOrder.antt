@@ -1,12 +1,10 @@
--- The order of writes that a secondary keeps while it calls itself consistent, and the numbers of a settlement.
-use Rattle.std.specs.Prelude.{ℕ, ◌≡◌, ◌<◌, ◌==◌, Bool, true, false, not, ◌&&◌, length, take, map, filter, Some, slice_get}
+-- The order of writes that a secondary keeps while it calls itself consistent.
+use Rattle.std.specs.Prelude.{ℕ, suc, ◌≡◌, ◌<◌, ◌≤◌, ◌==◌, Bool, true, false, length, take, map, Some, slice_get}
 use Rattle.std.specs.List.{list_any}
 use Rattle.model.specs.Contents.{BlockMap, Layer, overlay}
-use Rattle.model.specs.Stream.{has_blocks, is_whole, placed, below}
-use Rattle.model.specs.Primary.{Accepted, PrimaryHistory, outward, items_sent, is_failed, is_sync_end, local_map}
-use Rattle.model.specs.Secondary.{Inward, SecondaryHistory, inward, items_taken, secondary_map}
-use Rattle.model.specs.Pair.{same_block}
-use Rattle.model.specs.Headline.{is_marked}
+use Rattle.model.specs.Stream.{epoch_of}
+use Rattle.model.specs.Primary.{Accepted, PrimaryHistory, outward_at, is_failed, is_sync_end}
+use Rattle.model.specs.Secondary.{SecondaryHistory, inward, items_taken, secondary_map, whole}
 
 -- A set of blocks of accepted writes: a write's number and an offset in it.
 abbrev pub Blocks : Type 0
@@ -34,32 +32,24 @@ has_adopted s = list_any (λ d. list_any is_sync_end (items_taken d)) s.connecti
 abbrev pub base_of : PrimaryHistory → SecondaryHistory → BlockMap
 base_of p s block = elim (has_adopted s) [ true ↦ p.opening_map block | false ↦ s.opening_map block ]
 
+-- The set has all blocks of each write of the secondary's last connection whose epoch it is whole to.
+abbrev pub HasWholeEpochs : PrimaryHistory → SecondaryHistory → Blocks → Type 0
+HasWholeEpochs p s set =
+    (n k place offset : ℕ) (accepted : Accepted) → slice_get p.writes n ≡ Some accepted → accepted.home ≡ Some (k, place) → suc k ≡ (inward s).number
+    → epoch_of (outward_at p (suc k)).stream place ≤ whole s → offset < length accepted.write.contents → set accepted.write.number offset ≡ true
+
+-- Such a set: it is ordered, the secondary's disk is that set of the accepted writes over the base, and it has the epochs that
+-- the secondary is whole to.
+pub record IsOnDisk (p : PrimaryHistory) (s : SecondaryHistory) (set : Blocks) : Type 0 where
+  pub ordered : IsOrdered p set
+  pub disk : (block : ℕ) → secondary_map s block ≡ overlay (base_of p s) (map (layer_of set) p.writes) block
+  pub epochs : HasWholeEpochs p s set
+
 -- Whenever it is consistent, the secondary's disk is an ordered set of the accepted writes over the base.
 abbrev pub KeepsWriteOrder : PrimaryHistory → SecondaryHistory → Type 0
-KeepsWriteOrder p s = s.consistent ≡ true → (set : Blocks) × IsOrdered p set × ((block : ℕ) → secondary_map s block ≡ overlay (base_of p s) (map (layer_of set) p.writes) block)
+KeepsWriteOrder p s = s.consistent ≡ true → (set : Blocks) × IsOnDisk p s set
 
 -- Its premises: no local write failed, and an opening with equal currents had nothing to resync.
 pub record IsUnharmed (p : PrimaryHistory) (s : SecondaryHistory) : Type 0 where
   pub local : list_any (λ accepted. is_failed accepted.outcome) p.writes ≡ false
   pub opening : p.opening_tuple.current ≡ s.opening_tuple.current → p.opening_tuple.bitmap ≡ 0
-
--- A settlement: how many items of the last connection's stream were sent, taken and applied, and on how many blocks that
--- are not marked the disks differ.
-pub record Settlement : Type 0 where
-  pub sent : ℕ
-  pub taken : ℕ
-  pub applied : ℕ
-  pub unmarked : ℕ
-
--- how many items with blocks are applied in full
-abbrev pub applied_items : Inward → ℕ
-applied_items d = length (filter (λ entry. has_blocks entry.1 && is_whole d.applied entry.0 entry.1) (placed (items_taken d)))
-
--- the numbers of a settlement, read off both histories
-abbrev pub settlement : PrimaryHistory → SecondaryHistory → Settlement
-settlement p s = record {
-  sent = items_sent (outward p);
-  taken = length (items_taken (inward s));
-  applied = applied_items (inward s);
-  unmarked = length (filter (λ block. not (same_block (local_map p block) (secondary_map s block)) && not (is_marked p block)) (below p.settings.blocks));
-}

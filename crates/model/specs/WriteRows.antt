@@ -26,7 +26,7 @@ pub record OneWrite : Type 0 where
   pub answers : replies one_write (connected standard) ≡ one_write_replies
   pub identifiers : tuples (after one_write (connected standard)) ≡ (words 1 0 0 0, words 1 0 0 0)
   pub primary : primary_line (after one_write (connected standard)).primary ≡ linked_primary protocol.C 0 0 1 0
-  pub secondary : secondary_line (after one_write (connected standard)).secondary ≡ linked_secondary protocol.C 0
+  pub secondary : secondary_line (after one_write (connected standard)).secondary ≡ linked_secondary protocol.C 0 0
 
 -- With one unreleased write at a time the next one has to wait for the barrier's acknowledgement.
 abbrev pub one_at_a_time : Settings

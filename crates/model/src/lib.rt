@@ -10,6 +10,7 @@ ghost use Rattle.model.specs.DecisionRows.{Decisions, RefusedHello};
 ghost use Rattle.model.specs.DiskRows.{Ranges, OneSlot, LocalFault, LateFault, PeerFault};
 ghost use Rattle.model.specs.ForeignRows.{ToSecondary, ToPrimary, AfterOneWrite};
 ghost use Rattle.model.specs.ResyncRows.{NothingMarked, EmptyPeer, OneBlock, WrittenAlone, Resynced, BrokenEnd, AmongWrites};
+ghost use Rattle.model.specs.UsageRows.{Usage, NeverOpened, Settlements};
 ghost use Rattle.model.specs.WriteRows.{OneWrite, TwoInTurn, Asynchronous, ReceivedAndLost, Overlapping, TwoEpochs, Full, AtTheStart};
 
 /// Writes over a standing connection, under each protocol.
@@ -62,4 +63,11 @@ pub fn foreign_frames()
     ensures to_secondary { ToSecondary }
     ensures to_primary { ToPrimary }
     ensures after_one_write { AfterOneWrite }
+{}
+
+/// What a secondary says of its use, a connection that it never opened, and settlements.
+pub fn usage()
+    ensures usage { Usage }
+    ensures never_opened { NeverOpened }
+    ensures settlements { Settlements }
 {}

@@ -1,4 +1,4 @@
--- The primary takes an acknowledgement: the secondary's queue is lent to it, and comes back with what it left.
+-- What lending the secondary's queue to the primary leaves of the link.
 use Rattle.std.proofs.Common.{ℕ, ◌≡◌, ◌-◌, ◌≤◌, ◌⊎◌, inl, inr, Bool, true, false, not, ◌&&◌, List, [], ◌∷◌, ◌++◌, length, Option, Some, None, Result, Ok, Err, refl, sym, ◌∙◌, ap, subst, arith, append_assoc}
 use Rattle.std.specs.Prelude.{IfOk, IfErr, IsSome, is_none}
 use Rattle.std.specs.Option.{option_map}
@@ -9,40 +9,25 @@ use Rattle.blocks.specs.declared.outcome.Reply.{Reply}
 use Rattle.blocks.specs.declared.outcome.Reply.TheVariants as reply
 use Rattle.blocks.specs.declared.refusal.Refusal.{Refusal}
 use Rattle.blocks.specs.declared.refusal.Refusal.TheVariants.{NoMemory, NotConnected, NothingThere}
-use Rattle.laws.specs.Statements.{EveryStepIsHonest}
 use Rattle.link.specs.Directions.{QueueState}
-use Rattle.model.specs.Acknowledgements as model
-use Rattle.model.specs.Pair.{AckInEvent, PairHistory, next_answer}
-use Rattle.model.specs.Primary.{Outward, PrimaryHistory, last_of, no_outward, outward}
-use Rattle.model.specs.Secondary.{answers_due, inward}
 use Rattle.primary.specs.Judged.{IsClosedBy, IsNothingThere, IsTakenIn}
 use Rattle.primary.specs.Primaries.{capacity_of, changed, is_connected, queued_of, room_of, sent_of, taken_of, waiting_of, with_queued}
 use Rattle.primary.specs.State.{ConnectionState, PrimaryState}
 use Rattle.primary.specs.Taking.{IsNext, TakesIfThere, TakesOne}
 use Rattle.secondary.specs.State.{SecondaryState}
-use Rattle.primary_steps.specs.Has.{HasConnection, HasPrimary}
-use Rattle.primary_steps.specs.Statements.{AckInIsItsStep, HelloIsShort, IsWaiting, IsWaitingIn, MayTake, WordsAreFresh, reply_of}
-use Rattle.secondary_steps.specs.Has.{HasSecondary}
-use Rattle.pair.specs.Histories.{HasPair, IsStep, Steps, is_starved}
 use Rattle.pair.specs.Linked.{AreEnds, Carries, IsLinked}
 use Rattle.pair.specs.State.{PairState}
-use Rattle.pair.specs.declared.event.Event.TheVariants.{AckIn}
-use Rattle.pair.proofs.Frames.{IsNextAs, RoundTrip, next-frame}
-use Rattle.pair.proofs.Lent.{IsSameButQueues, lent-primary, lent-secondary}
 use Rattle.pair.proofs.Links.{carries-same}
-use Rattle.pair.proofs.MayTake.{may-take}
-use Rattle.pair.proofs.Nexts.{with_nodes, has-next}
 use Rattle.pair.proofs.Receives.{capacity-is}
-use Rattle.pair.proofs.Starved.{refused-first}
 
 -- What taking leaves: nothing but the frames changes at the two ends.
-record Takes (old new : Option ConnectionState) : Type 0 where
-  sent : sent_of new ≡ sent_of old
-  waiting : waiting_of new ≡ waiting_of old
-  room : room_of new ≡ room_of old
-  capacity : capacity_of new ≡ capacity_of old
-  there : IsSome old → IsSome new
-  moved : (frames rest : List (List ℕ)) → queued_of old ≡ Some frames → queued_of new ≡ Some rest → (taken_of new ++ rest ≡ taken_of old ++ frames) × (length rest ≤ length frames)
+pub record Takes (old new : Option ConnectionState) : Type 0 where
+  pub sent : sent_of new ≡ sent_of old
+  pub waiting : waiting_of new ≡ waiting_of old
+  pub room : room_of new ≡ room_of old
+  pub capacity : capacity_of new ≡ capacity_of old
+  pub there : IsSome old → IsSome new
+  pub moved : (frames rest : List (List ℕ)) → queued_of old ≡ Some frames → queued_of new ≡ Some rest → (taken_of new ++ rest ≡ taken_of old ++ frames) × (length rest ≤ length frames)
 
 -- nothing was taken
 takes-none : (c : Option ConnectionState) → Takes c c
@@ -106,20 +91,10 @@ pub record LendsHere (p : PairState) (q r : QueueState) (lent back : SecondarySt
   pub left_too : ended ≡ record taken { connection = changed (with_queued [] None) taken.connection }
   pub laid_back : back ≡ record lent { waiting = Some r.frames; room = Some (r.capacity - length r.frames) }
 
--- a connection whose queue is laid
-queued-sent : (v : Option ConnectionState) (frames : List (List ℕ)) (capacity : Option ℕ) → sent_of (changed (with_queued frames capacity) v) ≡ sent_of v
-queued-sent None frames capacity = refl
-queued-sent (Some c) frames capacity = refl
-
--- and what it has taken
+-- what a connection whose queue is laid has taken
 queued-taken : (v : Option ConnectionState) (frames : List (List ℕ)) (capacity : Option ℕ) → taken_of (changed (with_queued frames capacity) v) ≡ taken_of v
 queued-taken None frames capacity = refl
 queued-taken (Some c) frames capacity = refl
-
--- laying a queue changes no history
-queued-same : (v : Option ConnectionState) (frames : List (List ℕ)) (capacity : Option ℕ) → IsSameButQueues v (changed (with_queued frames capacity) v)
-queued-same None frames capacity = tt
-queued-same (Some c) frames capacity = refl
 
 -- a connection is there or not
 not-none : (v : Option ConnectionState) → v ≡ None → IsSome v → ⊥
@@ -127,7 +102,7 @@ not-none None none some = cc
 not-none (Some c) none some = cc
 
 -- The link after that, of an open connection.
-link-answered : (p : PairState) (c : ConnectionState) (q r : QueueState) (lent back : SecondaryState) (laid taken ended : PrimaryState) → LendsHere p q r lent back laid taken ended → p.primary.connection ≡ Some c → Takes laid.connection taken.connection
+pub link-answered : (p : PairState) (c : ConnectionState) (q r : QueueState) (lent back : SecondaryState) (laid taken ended : PrimaryState) → LendsHere p q r lent back laid taken ended → p.primary.connection ≡ Some c → Takes laid.connection taken.connection
     → AreEnds p.settings.link c p.secondary → IsLinked p.settings.link ended.connection back
 link-answered p c q r lent back laid taken ended lends is takes linked = go taken.connection refl
   where
@@ -164,134 +139,9 @@ link-answered p c q r lent back laid taken ended lends is takes linked = go take
       opened = subst (λ (x : Option (List (List ℕ))). IsSome x) (sym (ap (λ (x : SecondaryState). x.queued) lends.laid_back ∙ ap (λ (x : SecondaryState). x.queued) lends.left)) linked.opened;
     })
 
--- What the queue holds next is the history's next answer.
-waiting-answer : RoundTrip → (p : PairState) (h : PairHistory) (c : ConnectionState) (q : QueueState) → HasPair p h → HasConnection (Some c) h.primary → (carries : Carries p.settings.link p.secondary.sent p.secondary.waiting p.secondary.room c.taken) → carries.frames ≡ q.frames
-    → IsWaitingIn (length c.taken) (Some q.frames) (next_answer h)
-waiting-answer law p h c q has there carries frames = go q.frames (subst (λ (l : List (List ℕ)). IsNextAs (length c.taken) l (next_answer h)) frames next)
-  where
-    last : outward h.primary ≡ there.0
-    last = ap (last_of (no_outward h.primary.tuple)) there.1
-
-    next : IsNextAs (length c.taken) carries.frames (next_answer h)
-    next = next-frame law p.secondary.sent c.taken carries.frames (inward h.secondary).pushed (length (outward h.primary).taken) (answers_due h.secondary.settings (inward h.secondary)) has.secondary.connection.sent.count has.secondary.connection.sent.each
-        carries.whole (there.2.taken.count ∙ sym (ap (λ (o : Outward). length o.taken) last))
-
-    go : (l : List (List ℕ)) → IsNextAs (length c.taken) l (next_answer h) → IsWaitingIn (length c.taken) (Some l) (next_answer h)
-    go [] next = next
-    go (first ∷ rest) next = next
-
--- an answer that is refused for no other reason is not that memory is wanting
-answer-fed : (answer : Reply) → ((e : Refusal) → answer ≡ reply.Refused e → (e ≡ NotConnected) ⊎ (e ≡ NothingThere)) → is_starved answer ≡ false
-answer-fed (reply.Ok done) fine = refl
-answer-fed (reply.Refused e) fine = elim (fine e refl) [ inl is ↦ ap (λ (x : Refusal). is_starved (reply.Refused x)) is | inr is ↦ ap (λ (x : Refusal). is_starved (reply.Refused x)) is ]
-answer-fed (reply.Closed count) fine = refl
-
--- The primary takes an acknowledgement.
-pub ack_in-steps : RoundTrip → EveryStepIsHonest → WordsAreFresh → HelloIsShort → AckInIsItsStep → (p : PairState) (q r : QueueState) (lent back : SecondaryState) (laid taken ended : PrimaryState) (result : Result Done Refusal) → LendsHere p q r lent back laid taken ended
-    → (is_connected laid.connection ≡ false → result ≡ Err NotConnected) → (is_connected laid.connection ≡ false → taken ≡ laid) → (is_connected laid.connection ≡ true → TakesIfThere laid result taken)
-    → (is_connected laid.connection ≡ true → IfOk result (λ done. IsTakenIn laid done taken)) → (is_connected laid.connection ≡ true → IfErr result (λ e. IsNothingThere laid e taken ⊎ IsClosedBy laid e taken))
-    → taken ≡ record laid { peer = taken.peer; log = taken.log; journal = taken.journal; connection = taken.connection } → Steps AckIn p (reply_of result) (with_nodes p ended back)
-ack_in-steps trip honest words short law p q r lent back laid taken ended result lends unconnected unchanged takes done refused others h has = go p.primary.connection refl has.primary.connection has.link
-  where
-    hp : PrimaryHistory
-    hp = h.primary
-
-    laid_has : HasPrimary laid h.primary
-    laid_has = lent-primary p.primary laid h.primary (subst (λ (x : PrimaryState). x ≡ record p.primary { connection = x.connection }) (sym lends.here) refl)
-        (subst (IsSameButQueues p.primary.connection) (sym (ap (λ (x : PrimaryState). x.connection) lends.here)) (queued-same p.primary.connection q.frames (Some q.capacity))) has.primary
-
-    back_is : back ≡ record p.secondary { waiting = Some r.frames; room = Some (r.capacity - length r.frames) }
-    back_is = lends.laid_back ∙ ap (λ (x : SecondaryState). record x { waiting = Some r.frames; room = Some (r.capacity - length r.frames) }) lends.left
-
-    back_has : HasSecondary back h.secondary
-    back_has = lent-secondary p.secondary back h.secondary (subst (λ (x : SecondaryState). x ≡ record p.secondary { waiting = x.waiting; room = x.room; queued = x.queued; capacity = x.capacity }) (sym back_is) refl) has.secondary
-
-    go : (v : Option ConnectionState) → p.primary.connection ≡ v → HasConnection v h.primary → IsLinked p.settings.link v p.secondary → IsStep AckIn (reply_of result) (with_nodes p ended back) h
-    go None is there linked = let given : Some q.frames ≡ None = lends.given ∙ linked.nothing in absurd (cc)
-    go (Some c) is there linked = record {
-      same = stepped.0 ∙ ap (λ (b : Bool). (model.ack_in (next_answer h) b h.primary).0) (sym fed);
-      history = has-next p h ended back AckInEvent (is_starved (reply_of result)) has
-          (subst (λ (b : Bool). HasPrimary ended (model.ack_in (next_answer h) b h.primary).1) (sym fed) ended_has) back_has
-          (record {
-            settings = ap (λ (x : PrimaryState). x.settings) lends.left_too ∙ (ap (λ (x : PrimaryState). x.settings) others ∙ ap (λ (x : PrimaryState). x.settings) lends.here);
-            settings_there = ap (λ (x : SecondaryState). x.settings) back_is;
-            tuple = ap (λ (x : PrimaryState). x.tuple) lends.left_too ∙ (ap (λ (x : PrimaryState). x.tuple) others ∙ ap (λ (x : PrimaryState). x.tuple) lends.here);
-            tuple_there = ap (λ (x : SecondaryState). x.tuple) back_is;
-            faults = ap (λ (x : PrimaryState). x.faults) lends.left_too ∙ (ap (λ (x : PrimaryState). x.faults) others ∙ (ap (λ (x : PrimaryState). x.faults) lends.here ∙ has.disks.local));
-            faults_there = ap (λ (x : SecondaryState). x.faults) back_is ∙ has.disks.peer;
-            size = ap (λ (x : SecondaryState). length x.disk) back_is;
-            link = link-answered p c q r lent back laid taken ended lends is (ack-takes laid taken result (takes connected)) linked;
-          });
-    }
-      where
-        frames : linked.back.frames ≡ q.frames
-        frames = let same : Some q.frames ≡ Some linked.back.frames = lends.given ∙ linked.back.here in cc
-
-        laid_is : laid.connection ≡ Some (with_queued q.frames (Some q.capacity) c)
-        laid_is = ap (λ (x : PrimaryState). x.connection) lends.here ∙ ap (changed (with_queued q.frames (Some q.capacity))) is
-
-        connected : is_connected laid.connection ≡ true
-        connected = ap is_connected laid_is ∙ there.2.is_open
-
-        may : MayTake h.primary (next_answer h)
-        may = may-take honest words short p h c has is
-
-        stepped : (reply_of result ≡ (model.ack_in (next_answer h) false h.primary).0) × HasPrimary taken (model.ack_in (next_answer h) false h.primary).1
-        stepped = law laid taken h.primary (next_answer h) result laid_has (subst (λ (v : Option ConnectionState). IsWaiting v (next_answer h)) (sym laid_is) (waiting-answer trip p h c q has there linked.back frames)) may unconnected unchanged done refused
-
-        fed : is_starved (reply_of result) ≡ false
-        fed = answer-fed (reply_of result) (λ e said. may.honest e (sym stepped.0 ∙ said))
-
-        ended_has : HasPrimary ended (model.ack_in (next_answer h) false h.primary).1
-        ended_has = lent-primary taken ended (model.ack_in (next_answer h) false h.primary).1 (subst (λ (x : PrimaryState). x ≡ record taken { connection = x.connection }) (sym lends.left_too) refl)
-            (subst (IsSameButQueues taken.connection) (sym (ap (λ (x : PrimaryState). x.connection) lends.left_too)) (queued-same taken.connection [] None)) stepped.1
-
--- Without a connection there is nothing to take from: the primary's end is closed.
-pub ack_in-unlinked : (p : PairState) (lent : SecondaryState) (taken : PrimaryState) (result : Result Done Refusal) → p.secondary.waiting ≡ None → lent ≡ record p.secondary { waiting = None; room = option_map (λ _. 0) p.secondary.room }
-    → (is_connected p.primary.connection ≡ false → result ≡ Err NotConnected) → (is_connected p.primary.connection ≡ false → taken ≡ p.primary) → Steps AckIn p (reply_of result) (with_nodes p taken lent)
-ack_in-unlinked p lent taken result none left unconnected unchanged h has = go p.primary.connection refl has.primary.connection has.link
-  where
-    go : (v : Option ConnectionState) → p.primary.connection ≡ v → HasConnection v h.primary → IsLinked p.settings.link v p.secondary → IsStep AckIn (reply_of result) (with_nodes p taken lent) h
-    go (Some c) is there linked = let held : Some linked.back.frames ≡ None = sym linked.back.here ∙ none in absurd (cc)
-    go None is there linked = record {
-      same = ap reply_of answer ∙ sym (ap (λ (x : Reply × PrimaryHistory). x.0) (steps b));
-      history = has-next p h taken lent AckInEvent b has (subst (HasPrimary taken) (sym (ap (λ (x : Reply × PrimaryHistory). x.1) (steps b))) (subst (λ (x : PrimaryState). HasPrimary x h.primary) (sym untaken) has.primary))
-          (lent-secondary p.secondary lent h.secondary (subst (λ (x : SecondaryState). x ≡ record p.secondary { waiting = x.waiting; room = x.room; queued = x.queued; capacity = x.capacity }) (sym left) refl) has.secondary)
-          (record {
-            settings = ap (λ (x : PrimaryState). x.settings) untaken;
-            settings_there = ap (λ (x : SecondaryState). x.settings) left;
-            tuple = ap (λ (x : PrimaryState). x.tuple) untaken;
-            tuple_there = ap (λ (x : SecondaryState). x.tuple) left;
-            faults = ap (λ (x : PrimaryState). x.faults) untaken ∙ has.disks.local;
-            faults_there = ap (λ (x : SecondaryState). x.faults) left ∙ has.disks.peer;
-            size = ap (λ (x : SecondaryState). length x.disk) left;
-            link = subst (λ (v : Option ConnectionState). IsLinked p.settings.link v lent) (sym (ap (λ (x : PrimaryState). x.connection) untaken ∙ is))
-                (record { closed = ap (λ (x : SecondaryState). x.is_open) left ∙ linked.closed; nothing = ap (λ (x : SecondaryState). x.waiting) left });
-          });
-    }
-      where
-        b : Bool
-        b = is_starved (reply_of result)
-
-        unopened : is_connected p.primary.connection ≡ false
-        unopened = ap is_connected is
-
-        answer : result ≡ Err NotConnected
-        answer = unconnected unopened
-
-        untaken : taken ≡ p.primary
-        untaken = unchanged unopened
-
-        closed : (outward h.primary).closed ≡ true
-        closed = ap (λ (cs : List Outward). (last_of (no_outward h.primary.tuple) cs).closed) there
-
-        steps : (b : Bool) → model.ack_in (next_answer h) b h.primary ≡ (reply.Refused NotConnected, h.primary)
-        steps b = refused-first (outward h.primary).closed NotConnected ((not (outward h.primary).begun && b, NoMemory) ∷ (is_none (next_answer h), NothingThere) ∷ []) h.primary
-            (elim (next_answer h) as (λ _. Reply × PrimaryHistory) [ None ↦ (reply.Refused NothingThere, h.primary) | Some frame ↦ model.take_frame frame h.primary ]) closed
-
 -- the queue that is given was taken from as the primary has taken
-pub given-taken : (p : PairState) (h : PairHistory) (q : QueueState) → HasPair p h → Some q.frames ≡ p.secondary.waiting → p.secondary.sent ≡ q.taken ++ q.frames → (q.taken ≡ taken_of p.primary.connection) × IsSome p.primary.connection
-given-taken p h q has given whole = go p.primary.connection has.link
+pub given-taken : (p : PairState) (q : QueueState) → IsLinked p.settings.link p.primary.connection p.secondary → Some q.frames ≡ p.secondary.waiting → p.secondary.sent ≡ q.taken ++ q.frames → (q.taken ≡ taken_of p.primary.connection) × IsSome p.primary.connection
+given-taken p q linked given whole = go p.primary.connection linked
   where
     go : (v : Option ConnectionState) → IsLinked p.settings.link v p.secondary → (q.taken ≡ taken_of v) × IsSome v
     go None linked = let none : Some q.frames ≡ None = given ∙ linked.nothing in absurd (cc)
@@ -306,19 +156,19 @@ laid-queue None frames capacity some = absurd (cc)
 laid-queue (Some c) frames capacity some = (refl, refl)
 
 -- what taking leaves of an end that may be closed
-end-takes : (laid taken : PrimaryState) (result : Result Done Refusal) → (is_connected laid.connection ≡ false → taken ≡ laid) → (is_connected laid.connection ≡ true → TakesIfThere laid result taken) → Takes laid.connection taken.connection
+pub end-takes : (laid taken : PrimaryState) (result : Result Done Refusal) → (is_connected laid.connection ≡ false → taken ≡ laid) → (is_connected laid.connection ≡ true → TakesIfThere laid result taken) → Takes laid.connection taken.connection
 end-takes laid taken result unchanged takes = elim (cases_Bool (is_connected laid.connection)) [
   | inl connected ↦ ack-takes laid taken result (takes connected)
   | inr closed ↦ subst (λ (x : PrimaryState). Takes laid.connection x.connection) (sym (unchanged closed)) (takes-none laid.connection)
 ]
 
 -- What comes back is what was sent and not taken, and the queue is not lost.
-pub given-back : (p : PairState) (h : PairHistory) (q : QueueState) (laid taken : PrimaryState) (result : Result Done Refusal) → HasPair p h → Some q.frames ≡ p.secondary.waiting → p.secondary.sent ≡ q.taken ++ q.frames
+pub given-back : (p : PairState) (q : QueueState) (laid taken : PrimaryState) (result : Result Done Refusal) → IsLinked p.settings.link p.primary.connection p.secondary → Some q.frames ≡ p.secondary.waiting → p.secondary.sent ≡ q.taken ++ q.frames
     → laid ≡ record p.primary { connection = changed (with_queued q.frames (Some q.capacity)) p.primary.connection } → (is_connected laid.connection ≡ false → taken ≡ laid) → (is_connected laid.connection ≡ true → TakesIfThere laid result taken)
     → (capacity_of taken.connection ≡ Some q.capacity) × ((r : QueueState) → queued_of taken.connection ≡ Some r.frames → r.taken ≡ taken_of taken.connection → p.secondary.sent ≡ r.taken ++ r.frames)
-given-back p h q laid taken result has given whole here unchanged takes =
+given-back p q laid taken result linked given whole here unchanged takes =
     let all : Takes laid.connection taken.connection = end-takes laid taken result unchanged takes in
-    let before = given-taken p h q has given whole in
+    let before = given-taken p q linked given whole in
     let there : laid.connection ≡ changed (with_queued q.frames (Some q.capacity)) p.primary.connection = ap (λ (x : PrimaryState). x.connection) here in
     let lies = laid-queue p.primary.connection q.frames q.capacity before.1 in (
       all.capacity ∙ (ap capacity_of there ∙ lies.1),
@@ -326,3 +176,22 @@ given-back p h q laid taken result has given whole here unchanged takes =
           let moved = all.moved q.frames r.frames (ap queued_of there ∙ lies.0) rest in
           whole ∙ (ap (λ (l : List (List ℕ)). l ++ q.frames) (before.0 ∙ (sym (queued-taken p.primary.connection q.frames (Some q.capacity)) ∙ sym (ap taken_of there))) ∙ (sym moved.0 ∙ ap (λ (l : List (List ℕ)). l ++ r.frames) (sym taken_too))),
     )
+
+-- The link after a take that was lent the queue.
+pub link-lent : (p : PairState) (q r : QueueState) (lent back : SecondaryState) (laid taken ended : PrimaryState) → LendsHere p q r lent back laid taken ended → Takes laid.connection taken.connection
+    → IsLinked p.settings.link p.primary.connection p.secondary → IsLinked p.settings.link ended.connection back
+link-lent p q r lent back laid taken ended lends takes linked = go p.primary.connection refl linked
+  where
+    go : (v : Option ConnectionState) → p.primary.connection ≡ v → IsLinked p.settings.link v p.secondary → IsLinked p.settings.link ended.connection back
+    go None is linked = let given : Some q.frames ≡ None = lends.given ∙ linked.nothing in absurd (cc)
+    go (Some c) is linked = link-answered p c q r lent back laid taken ended lends is takes linked
+
+-- Without a queue nothing is taken, and nothing changes.
+pub ack_in-unlinked : (p : PairState) (lent : SecondaryState) (taken : PrimaryState) → p.secondary.waiting ≡ None → lent ≡ record p.secondary { waiting = None; room = option_map (λ _. 0) p.secondary.room }
+    → (is_connected p.primary.connection ≡ false → taken ≡ p.primary) → IsLinked p.settings.link p.primary.connection p.secondary → IsLinked p.settings.link taken.connection lent
+ack_in-unlinked p lent taken none left unchanged linked = go p.primary.connection refl linked
+  where
+    go : (v : Option ConnectionState) → p.primary.connection ≡ v → IsLinked p.settings.link v p.secondary → IsLinked p.settings.link taken.connection lent
+    go (Some c) is linked = let held : Some linked.back.frames ≡ None = sym linked.back.here ∙ none in absurd (cc)
+    go None is linked = subst (λ (v : Option ConnectionState). IsLinked p.settings.link v lent) (sym (ap (λ (x : PrimaryState). x.connection) (unchanged (ap is_connected is)) ∙ is))
+        (record { closed = ap (λ (x : SecondaryState). x.is_open) left ∙ linked.closed; nothing = ap (λ (x : SecondaryState). x.waiting) left })

@@ -9,9 +9,9 @@ use lib.Dec.{eqb}
 use Rattle.blocks.specs.declared.refusal.Refusal.{Refusal}
 use Rattle.blocks.specs.declared.refusal.Refusal.TheVariants.{BadRange, ReadFault}
 
--- a read of a disk that has not failed gives what the block holds, or there is no such block
+-- a read of a disk that never fails gives what the block holds, or there is no such block
 pub reading : (disk : List (List ℕ)) (block before after : ℕ) (result : Result (Unit {0}) Refusal) (buffer : List ℕ) → OnOk result (slice_get disk block ≡ Some buffer)
-    → (IsErrOf result BadRange → length disk ≤ block) → IfErr result (λ e. (e ≡ BadRange) ⊎ (e ≡ ReadFault)) → (IsErrOf result ReadFault → before < after) → after ≡ before
+    → (IsErrOf result BadRange → length disk ≤ block) → IfErr result (λ e. (e ≡ BadRange) ⊎ (e ≡ ReadFault)) → (IsErrOf result ReadFault → before < after) → after ≡ 0
     → slice_get disk block ≡ (if is_ok result then Some buffer else None)
 reading disk block before after (Ok done) buffer read past refused counted same = read
 reading disk block before after (Err e) buffer read past refused counted same = elim refused [
@@ -60,7 +60,7 @@ one-read one two a b false false answer first second missing is = (λ yes_so sam
 
 -- the same, where the refusal is told by what was asked
 pub reading-by : (disk : List (List ℕ)) (block before after : ℕ) (result : Result (Unit {0}) Refusal) (buffer : List ℕ) → OnOk result (slice_get disk block ≡ Some buffer)
-    → IfErr result (λ e. e ≡ (if nat_le (length disk) block then BadRange else ReadFault)) → (IsErrOf result ReadFault → before < after) → after ≡ before
+    → IfErr result (λ e. e ≡ (if nat_le (length disk) block then BadRange else ReadFault)) → (IsErrOf result ReadFault → before < after) → after ≡ 0
     → slice_get disk block ≡ (if is_ok result then Some buffer else None)
 reading-by disk block before after (Ok done) buffer read refused counted same = read
 reading-by disk block before after (Err e) buffer read refused counted same = go (nat_le (length disk) block) refl refused

@@ -1,5 +1,4 @@
 pub mod Disks
-pub mod Histories
 pub mod Linked
 pub mod Openings
 pub mod State

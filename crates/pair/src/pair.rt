@@ -1,18 +1,12 @@
 //! The two nodes and their link.
-ghost use Rattle.std.specs.Prelude.{◌≡◌, ◌≢◌, ◌↔◌, replicate, IfOk, IfErr, IsErrOf, ◌⊎◌};
-ghost use Rattle.model.specs.Pair as model;
-ghost use Rattle.model.specs.Pair.{PairHistory};
-ghost use Rattle.model.specs.Theorems.{pair_at};
-ghost use Rattle.pair.specs.Histories.{HasPair, fresh_opening};
+ghost use Rattle.std.specs.Prelude.{◌≡◌, ◌≢◌, ◌↔◌, false, replicate, IfOk, IfErr, IsErrOf, ◌⊎◌};
 ghost use Rattle.pair.specs.Openings.{first_generation};
 ghost use Rattle.blocks.specs.declared.refusal.Refusal.TheVariants.{BadSetting, NoMemory};
 
 use blocks::{MemStore, Refusal, Settings, Tuple};
 use link::{PlainIn, PlainOut};
 use primary::Primary;
-use primary_steps::primary_steps;
 use secondary::Secondary;
-use secondary_steps::secondary_steps;
 use std::alloc::Global;
 use std::marker::Model;
 
@@ -31,14 +25,12 @@ impl Model for Pair {
 
     ghost Value = { PairState };
 
-    ghost use Rattle.model.specs.Pair.{PairHistory};
-    ghost use Rattle.pair.specs.Histories.{HasPair};
+    ghost use Rattle.pair.specs.Linked.{IsLinked};
 
     ghost view = { λ p. record { settings = p.settings; primary = p.primary; secondary = p.secondary } };
 
-    // Some history is had.
-    ghost invariant = { λ p. (h : PairHistory)
-        × HasPair (record { settings = p.settings; primary = p.primary; secondary = p.secondary }) h };
+    // What each end sent, the other took, but for what waits in the link.
+    ghost invariant = { λ p. IsLinked p.settings.link p.primary.connection p.secondary };
 }
 
 impl Pair {
@@ -53,12 +45,9 @@ impl Pair {
         ensures identifiers { IfOk result (λ p. (p.primary.tuple ≡ first_generation) × (p.secondary.tuple ≡ first_generation)) }
         ensures local { IfOk result (λ p. p.primary.disk ≡ replicate settings.blocks (replicate 4096 0)) }
         ensures peer { IfOk result (λ p. p.secondary.disk ≡ replicate settings.blocks (replicate 4096 0)) }
-        ensures history { IfOk result (λ p. HasPair p (pair_at (fresh_opening settings))) }
+        ensures marks { IfOk result (λ p. p.primary.marks ≡ replicate settings.blocks false) }
         ensures refused { IfErr result (λ e. (e ≡ BadSetting) ⊎ (e ≡ NoMemory)) }
     {
-        // theorems for the proof: a new node has its opening's history
-        primary_steps();
-        secondary_steps();
         if settings != Settings::ONE_WRITE {
             return Err(Refusal::BadSetting);
         }
@@ -89,7 +78,6 @@ impl Pair {
     /// The identifiers of the two disks, the primary's first.
     pub fn tuples(&self) -> (Tuple, Tuple)
         ensures both { result ≡ (self.now.primary.tuple, self.now.secondary.tuple) }
-        ensures of_history { (h : PairHistory) → HasPair self.now h → result ≡ model.tuples h }
     {
         (self.primary.tuple(), self.secondary.tuple())
     }

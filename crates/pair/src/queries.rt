@@ -2,10 +2,7 @@
 ghost use Rattle.std.specs.Prelude.{◌≡◌, ◌≢◌, ◌≤◌, ◌↔◌, length, slice_get, Some, IsTrue, OnOk, IsErr, IfErr};
 ghost use Rattle.blocks.specs.declared.block.TheConstants.{BLOCK_BYTES};
 ghost use Rattle.blocks.specs.declared.refusal.Refusal.TheVariants.{BadRange};
-ghost use Rattle.model.specs.Pair as model;
-ghost use Rattle.model.specs.Pair.{PairHistory};
-ghost use Rattle.pair.specs.Disks.{disk_of, map_of};
-ghost use Rattle.pair.specs.Histories.{HasPair};
+ghost use Rattle.pair.specs.Disks.{disk_of};
 
 use crate::{Pair, Side};
 use blocks::{BLOCK_BYTES, Block, Refusal};
@@ -16,8 +13,6 @@ impl Pair {
     pub fn read(&mut self, side: Side, block: Block, buffer: &mut [u8]) -> Result<(), Refusal>
         requires { length buffer.old ≡ BLOCK_BYTES }
         ensures read { OnOk result (slice_get (disk_of side self.old) block.0 ≡ Some buffer.new) }
-        // That is what the node's disk holds in whichever history the pair has.
-        ensures of_history { (h : PairHistory) → HasPair self.old h → OnOk result (map_of side h block.0 ≡ Some buffer.new) }
         ensures past_the_end { IsErr result ↔ (length (disk_of side self.old) ≤ block.0) }
         ensures refused { IfErr result (λ e. e ≡ BadRange) }
         ensures same { self.new ≡ self.old }
@@ -33,7 +28,6 @@ impl Pair {
     pub fn differs(&mut self, block: Block) -> bool
         ensures differs { IsTrue result
             ↔ (slice_get self.old.primary.disk block.0 ≢ slice_get self.old.secondary.disk block.0) }
-        ensures of_history { (h : PairHistory) → HasPair self.old h → result ≡ model.differs h block.0 }
         ensures same { self.new ≡ self.old }
     {
         let mut local = [0u8; BLOCK_BYTES];

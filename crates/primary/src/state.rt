@@ -176,6 +176,7 @@ impl<O: FrameOut, I: FrameIn, S: Store> Primary<O, I, S> {
         ensures read { OnOk result (slice_get self.old.disk block.0 ≡ Some buffer.new) }
         ensures same { OnOk result (self.new ≡ self.old) }
         ensures past_the_end { IsErrOf result Refusal.BadRange ↔ (length self.old.disk ≤ block.0) }
+        ensures past { length self.old.disk ≤ block.0 → self.new ≡ self.old }
         ensures refused { IfErr result (λ e. (e ≡ BadRange) ⊎ (e ≡ ReadFault)) }
         ensures unchanged { self.new ≡ record self.old { faults = self.new.faults } }
         ensures counted { IsErrOf result Refusal.ReadFault → self.old.faults < self.new.faults }

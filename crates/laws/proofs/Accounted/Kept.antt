@@ -7,7 +7,7 @@ use Rattle.std.proofs.lemmas.List.Folds.{list_any-append}
 use Rattle.blocks.specs.declared.settings.Settings.{Settings}
 use Rattle.blocks.specs.declared.tuple.Tuple.{Tuple}
 use Rattle.model.specs.Contents.{BlockMap, Write, covers}
-use Rattle.model.specs.Stream.{Item, WriteItem, ResyncItem, BarrierItem, SyncUuidItem, UuidsItem, last_epoch, below}
+use Rattle.model.specs.Stream.{Item, WriteItem, ResyncItem, BarrierItem, SyncUuidItem, UuidsItem, last_epoch, below, within}
 use Rattle.model.specs.Frames.{Received, RecvAckFrame, WriteAckFrame, RsWriteAckFrame, BarrierAckFrame, Acknowledged, naming}
 use Rattle.model.specs.Identifiers.{sync_end}
 use Rattle.model.specs.Marks.{marking, clearing}
@@ -137,10 +137,10 @@ account-writes h number waits accounted =
 account-faults : (h : PrimaryHistory) (number : ℕ) (offsets : List ℕ) → is_unfinished h number ≡ true → IsAccounted h → IsAccounted (faulted number offsets h)
 account-faults h number offsets waits accounted = go (accepted_at h number) (known-kept.faults h number offsets waits accounted.known)
   where
-    go : (v : Option Accepted) → IsKnown (elim v as (λ _. PrimaryHistory) [ None ↦ h | Some accepted ↦ with_outcome number (Failed offsets) (record h { marks = marking accepted.write h.marks }) ])
-        → IsAccounted (elim v as (λ _. PrimaryHistory) [ None ↦ h | Some accepted ↦ with_outcome number (Failed offsets) (record h { marks = marking accepted.write h.marks }) ])
+    go : (v : Option Accepted) → IsKnown (elim v as (λ _. PrimaryHistory) [ None ↦ h | Some accepted ↦ with_outcome number (Failed (within (length accepted.write.contents) offsets)) (record h { marks = marking accepted.write h.marks }) ])
+        → IsAccounted (elim v as (λ _. PrimaryHistory) [ None ↦ h | Some accepted ↦ with_outcome number (Failed (within (length accepted.write.contents) offsets)) (record h { marks = marking accepted.write h.marks }) ])
     go None known = accounted
-    go (Some failed) known = accounted-still h (with_outcome number (Failed offsets) (record h { marks = marking failed.write h.marks })) accounted known refl (keeps-outcome number (Failed offsets) h.writes refl) refl refl refl (λ none. refl)
+    go (Some failed) known = accounted-still h (with_outcome number (Failed (within (length failed.write.contents) offsets)) (record h { marks = marking failed.write h.marks })) accounted known refl (keeps-outcome number (Failed (within (length failed.write.contents) offsets)) h.writes refl) refl refl refl (λ none. refl)
         (λ block unmarked. (or_parts (h.marks block) (covers failed.write block) unmarked).0)
 
 account-change : (h later : PrimaryHistory) (f : Outward → Outward) → IsAccounted h → IsKnown later → later.connections ≡ change_last f h.connections → KeepsEnd (outward h) (f (outward h))
@@ -229,8 +229,8 @@ accounted-kept = record {
   writes = account-writes;
   faults = account-faults;
   sends = λ h standing due a. account-change h (with_outward pushing h) pushing a (known-kept.sends h standing due a.known) refl (keeps-pushed (outward h)) refl refl refl refl refl refl refl refl;
-  greets = λ h frame standing new a. account-frame h frame standing (known-kept.greets h frame standing new a.known) a;
-  begins = λ h peer decided standing new is a. account-begins h peer decided standing new is a (known-kept.begins h peer decided standing new is a.known);
+  greets = λ h frame standing new met a. account-frame h frame standing (known-kept.greets h frame standing new met a.known) a;
+  begins = λ h peer decided standing new late is a. account-begins h peer decided standing new is a (known-kept.begins h peer decided standing new late is a.known);
   receives = λ h ack standing begun may a. account-frame h (Ok (RecvAckFrame ack)) standing (known-kept.receives h ack standing begun may a.known) a;
   applies = λ h ack standing begun may a. account-frame h (Ok (WriteAckFrame ack)) standing (known-kept.applies h ack standing begun may a.known) a;
   clears = account-clears;

@@ -4,7 +4,7 @@ use Rattle.std.proofs.Common.{ℕ, zero, suc, ◌≡◌, ◌+◌, ◌-◌, ◌<�
 use Rattle.std.proofs.lemmas.Option.{slice_get_within}
 use Rattle.model.specs.Contents.{BlockMap}
 use Rattle.model.specs.Stream.{Item}
-use Rattle.model.specs.Primary.{PrimaryHistory, last_of, local_map}
+use Rattle.model.specs.Primary.{PrimaryHistory, last_of, local_map, Outward}
 use Rattle.model.specs.Secondary.{Inward, SecondaryHistory, no_inward, items_taken, map_of, secondary_map}
 use Rattle.model.specs.Pair.{same_block}
 use Rattle.model.specs.LocalRuns.{PrimaryEvent, primary_run, SecondaryEvent, secondary_run}
@@ -15,9 +15,11 @@ use Rattle.laws.proofs.Lists.Last.{last-at}
 use Rattle.laws.proofs.Secondary.Runs.{holds_earlier_epochs}
 use Rattle.laws.proofs.Secondary.Applied.{map-keeps, map-settles}
 use Rattle.laws.proofs.Joining.Openings.{HasOpening, HasOpeningToo, kept-opening-primary, kept-opening-secondary}
-use Rattle.laws.proofs.Joining.OpeningDisks.{primary-end, secondary-end, openings-agree}
+use Rattle.laws.proofs.Joining.OpeningDisks.{openings-agree}
+use Rattle.laws.proofs.Joining.Ends.{AreEnds, primary-end, secondary-end, item-taken}
+use Rattle.laws.proofs.Secondary.Numbers.{NumbersRise, numbers-rise}
 use Rattle.laws.proofs.Blocks.SameBlocks.{equal-same}
-use Rattle.laws.proofs.Joining.SureApplied.{sure-is-applied, taken-begins}
+use Rattle.laws.proofs.Joining.SureApplied.{sure-is-applied, sure-taken, taken-begins}
 use Rattle.laws.proofs.Lists.Elements.{get-there}
 use Rattle.laws.proofs.Lists.Beginnings.{get-beginning}
 
@@ -73,22 +75,31 @@ joined-agrees o here there sound joined grounded block from =
     let p : PrimaryHistory = primary_run here (primary_at o) in
     let s : SecondaryHistory = secondary_run there (secondary_at o) in
     let epochs : HoldsEarlierEpochs s = holds_earlier_epochs o there in
+    let rise : NumbersRise s.connections = numbers-rise there (secondary_at o) refl in
+    let opened : (j : ℕ) (e : Inward) → slice_get s.connections j ≡ Some e → (n : ℕ) (i : Item) → slice_get (items_taken e) n ≡ Some i → (k : ℕ) × (c : Outward) × AreEnds p s k j c e = λ j e at n i taken.
+    let frame = item-taken e n i taken in
+    primary-end p s rise joined j frame.0 e frame.1 at frame.2 in
     let v : Option (List ℕ) = local_map p block in
     equal-same v (secondary_map s block) (sym (elim from [
       | inl item ↦
-          let end = secondary-end p s joined item.connection item.end item.at in
-          let applied = sure-is-applied o here there joined item.connection item.place item.end end.0 item.item end.1 item.there item.sure in
-          let holds : map_of end.0 block ≡ v = map-settles end.0 block v item.place item.item applied.0 item.touched applied.1 item.content (λ n i less at touched.
-          item.later item.connection n item.end i item.at (get-beginning (items_taken end.0) item.end.stream n i (taken-begins o here there joined item.connection item.end end.0 end.1) at) touched (inr (refl, less))) in
-          reaches-disk s epochs block v item.connection end.0 end.1.inward holds (λ j e less at n i taken touched.
-          let other = primary-end p s joined j e at in
-          item.later j n other.0 i other.1.outward (get-beginning (items_taken e) other.0.stream n i (taken-begins o here there joined j other.0 e other.1) taken) touched (inl less))
+          let frame = sure-taken item.end item.place item.item item.sure in
+          let end = secondary-end p s joined item.connection frame.0 item.end frame.1 item.at frame.2 in
+          let d : Inward = end.1 in
+          let applied = sure-is-applied o here there joined item.connection end.0 item.place item.end d item.item end.2 item.there item.sure in
+          let holds : map_of d block ≡ v = map-settles d block v item.place item.item applied.0 item.touched applied.1 item.content (λ n i less at touched.
+          item.later item.connection n item.end i item.at (get-beginning (items_taken d) item.end.stream n i (taken-begins p s rise joined item.connection end.0 item.end d end.2) at) touched (inr (refl, less))) in
+          reaches-disk s epochs block v end.0 d end.2.inward holds (λ j e less at n i taken touched.
+          let other = opened j e at n i taken in
+          let low = rise.rise end.0 j d e less end.2.inward at in
+          let one = other.2.number in
+          let two = end.2.number in
+          item.later other.0 n other.1 i other.2.outward (get-beginning (items_taken e) other.1.stream n i (taken-begins p s rise joined other.0 j other.1 e other.2) taken) touched (inl (omega arith)))
       | inr opening ↦
           let mine : HasOpening o p = kept-opening-primary o here in
           let theirs : HasOpeningToo o s = kept-opening-secondary o there in
           let was : s.opening_map block ≡ v =
           ap (λ (m : BlockMap). m block) theirs.disk ∙ (sym (openings-agree o here there sound joined grounded block opening) ∙ (ap (λ (m : BlockMap). m block) (sym mine.disk) ∙ opening.content)) in
           from-opening s epochs block v was (λ j e at n i taken touched.
-          let other = primary-end p s joined j e at in
-          opening.items j n other.0 i other.1.outward (get-beginning (items_taken e) other.0.stream n i (taken-begins o here there joined j other.0 e other.1) taken) touched)
+          let other = opened j e at n i taken in
+          opening.items other.0 n other.1 i other.2.outward (get-beginning (items_taken e) other.1.stream n i (taken-begins p s rise joined other.0 j other.1 e other.2) taken) touched)
     ]))

@@ -3,7 +3,7 @@ use Rattle.std.proofs.Common.{ℕ, ◌≡◌, Bool, true, false, List, ◌∷◌
 use Rattle.blocks.specs.declared.tuple.Tuple.{Tuple}
 use Rattle.blocks.specs.declared.outcome.Decision.{Decision}
 use Rattle.blocks.specs.declared.outcome.Decision.TheVariants.{NoSync, BitmapSync, FullSync}
-use Rattle.model.specs.Stream.{WriteItem}
+use Rattle.model.specs.Stream.{WriteItem, within}
 use Rattle.model.specs.Frames.{UuidsFrame}
 use Rattle.model.specs.Primary.{Waiting, Failed, Accepted, PrimaryHistory, outward, last_index, with_outward, stands}
 use Rattle.model.specs.Marks.{marking}
@@ -40,7 +40,7 @@ kept-submits o h first contents a = go (stands (outward h))
 kept-faults : (o : Opening) (h : PrimaryHistory) (number : ℕ) (offsets : List ℕ) → HasOpening o h → HasOpening o (faulted number offsets h)
 kept-faults o h number offsets a = go (accepted_at h number)
   where
-    go : (v : Option Accepted) → HasOpening o (elim v as (λ _. PrimaryHistory) [ None ↦ h | Some accepted ↦ with_outcome number (Failed offsets) (record h { marks = marking accepted.write h.marks }) ])
+    go : (v : Option Accepted) → HasOpening o (elim v as (λ _. PrimaryHistory) [ None ↦ h | Some accepted ↦ with_outcome number (Failed (within (length accepted.write.contents) offsets)) (record h { marks = marking accepted.write h.marks }) ])
     go None = a
     go (Some accepted) = kept o h _ refl refl refl refl a
 
@@ -61,8 +61,8 @@ opening-kept o = record {
   writes = λ h number waiting a. kept o h _ refl refl refl refl a;
   faults = λ h number offsets waiting a. kept-faults o h number offsets a;
   sends = λ h standing due a. kept o h _ refl refl refl refl a;
-  greets = λ h frame standing new a. kept o h _ refl refl refl refl a;
-  begins = λ h peer decided standing new is a. kept-begins o h peer decided a;
+  greets = λ h frame standing new met a. kept o h _ refl refl refl refl a;
+  begins = λ h peer decided standing new late is a. kept-begins o h peer decided a;
   receives = λ h ack standing begun may a. kept o h _ refl refl refl refl a;
   applies = λ h ack standing begun may a. kept o h _ refl refl refl refl a;
   clears = λ h ack standing begun may a. kept o h _ refl refl refl refl a;
@@ -79,7 +79,7 @@ kept-opening-primary o here = keeps-run (HasOpening o) (HasOpening o) (opening-k
 
 -- A secondary's history that began at this opening.
 pub record HasOpeningToo (o : Opening) (h : SecondaryHistory) : Type 0 where
-  pub settings : h.settings ≡ o.settings
+  pub settings : h.settings ≡ o.peer_settings
   pub disk : h.opening_map ≡ o.peer
   pub tuple : h.opening_tuple ≡ o.peer_tuple
 
@@ -90,7 +90,7 @@ kept-too o h later settings disk tuple a = record { settings = settings ∙ a.se
 kept-after : (o : Opening) (event : SecondaryEvent) (h : SecondaryHistory) → HasOpeningToo o h → HasOpeningToo o (secondary_after event h)
 kept-after o event h a = after-event (HasOpeningToo o) h event (record {
   same = a;
-  opens = λ was. kept-too o h _ refl refl refl a;
+  opens = λ unseen was. kept-too o h _ refl refl refl a;
   takes = λ frame standing. record {
     accepts = kept-too o h _ refl refl refl a;
     receipts = λ write at is late. kept-too o h _ refl refl refl a;

@@ -9,14 +9,14 @@ use Rattle.blocks.specs.declared.settings.Protocol.TheVariants as protocol
 use Rattle.model.specs.Contents.{Write}
 use Rattle.model.specs.Stream.{Item, WriteItem, IsBeginning, is_whole}
 use Rattle.model.specs.Frames.{Packet, DataFrame, RsDataReplyFrame, BarrierFrame, ProtocolFrame, UuidsFrame, SizesFrame, SyncUuidFrame, RecvAckFrame, WriteAckFrame, RsWriteAckFrame, BarrierAckFrame, Acknowledged, Received, naming}
-use Rattle.model.specs.Primary.{Accepted, Outward, PrimaryHistory, items_sent, accepted_frames, same_naming, is_recv_ack, is_write_ack, is_answered_by}
-use Rattle.model.specs.Secondary.{Inward, SecondaryHistory, items_taken, answers_due}
+use Rattle.model.specs.Primary.{Accepted, Outward, PrimaryHistory, items_sent, accepted_frames, same_naming, is_recv_ack, is_write_ack, is_answered_by, outward_at}
+use Rattle.model.specs.Secondary.{Inward, SecondaryHistory, items_taken, answers_due, inward_at}
 use Rattle.model.specs.LocalRuns.{primary_run, secondary_run}
 use Rattle.model.specs.Headline.{Promise}
 use Rattle.model.specs.Theorems.{primary_at, secondary_at}
 use Rattle.laws.specs.Statements.{JoinedRunsKeepPromises, PrimaryWritesOnce}
 use Rattle.laws.proofs.Lists.Beginnings.{begins-take, begins-self, begins-trans, get-beginning}
-use Rattle.laws.proofs.Secondary.TrueAnswers.{IsTruthful, all-run}
+use Rattle.laws.proofs.Secondary.TrueAnswers.{IsTruthful, all-run, truthful-none}
 use Rattle.laws.proofs.Primary.Moves.{keeps-run}
 use Rattle.laws.proofs.Primary.Homes.{HasHomes, IsLinked}
 use Rattle.laws.proofs.Primary.HomesMoves.{homes-kept, homes-opening}
@@ -24,6 +24,7 @@ use Rattle.laws.proofs.Lists.Elements.{same-at}
 use Rattle.laws.proofs.Lists.Picks.{pick-any}
 use Rattle.laws.proofs.Joining.Taking.{takes_a_beginning, read}
 use Rattle.laws.proofs.Lists.Each.{Each, each-get}
+use Rattle.laws.proofs.Joining.Ends.{outward-there, each-at}
 
 -- the acknowledgement in a frame that passes
 recv-ack : (of : Acknowledged) (frame : Received) → is_recv_ack of frame ≡ true → (ack : Acknowledged) × (frame ≡ Ok (RecvAckFrame ack)) × (same_naming of ack ≡ true)
@@ -121,7 +122,7 @@ keeps_promises o here there any joined =
     let homes : HasHomes p = keeps-run HasHomes HasHomes homes-kept here (primary_at o) (homes-opening o.settings o.local o.own o.marks) in
     let truthful : Each IsTruthful s.connections = all-run there (secondary_at o) tt in
     record {
-      promised = λ n k place entry c d at linked home ends.
+      promised = λ n k place entry at linked home.
           let l : IsLinked p.settings.protocol p.connections entry = homes.journal n entry at linked in
           let one : ℕ × ℕ = (l.connection, l.place) in
           let two : ℕ × ℕ = (k, place) in
@@ -129,11 +130,12 @@ keeps_promises o here there any joined =
           let same : one ≡ two = cc in
           let kk : l.connection ≡ k = ap (λ (x : ℕ × ℕ). x.0) same in
           let pp : l.place ≡ place = ap (λ (x : ℕ × ℕ). x.1) same in
-          let end : l.end ≡ c = same-at p.connections k l.end c (subst (λ n. slice_get p.connections n ≡ Some l.end) kk l.there) ends.outward in
-          let item : slice_get c.stream place ≡ Some (WriteItem entry.write) = subst (λ (x : Outward). slice_get x.stream place ≡ Some (WriteItem entry.write)) end (subst (λ n. slice_get l.end.stream n ≡ Some (WriteItem entry.write)) pp l.item) in
-          let answered : is_answered_by p.settings.protocol c place (WriteItem entry.write) ≡ true =
+          let end : l.end ≡ outward_at p (suc k) = sym (outward-there p k l.end (subst (λ n. slice_get p.connections n ≡ Some l.end) kk l.there)) in
+          let item : slice_get (outward_at p (suc k)).stream place ≡ Some (WriteItem entry.write) = subst (λ (x : Outward). slice_get x.stream place ≡ Some (WriteItem entry.write)) end (subst (λ n. slice_get l.end.stream n ≡ Some (WriteItem entry.write)) pp l.item) in
+          let answered : is_answered_by p.settings.protocol (outward_at p (suc k)) place (WriteItem entry.write) ≡ true =
           subst (λ (x : Outward). is_answered_by p.settings.protocol x place (WriteItem entry.write) ≡ true) end (subst (λ n. is_answered_by p.settings.protocol l.end n (WriteItem entry.write) ≡ true) pp l.answered) in
-          promise-of p.settings.protocol s.settings c d entry.write place (each-get IsTruthful s.connections k d truthful ends.inward) (joined.back k c d ends) (takes_a_beginning p s joined k c d ends) item answered;
+          promise-of p.settings.protocol s.settings (outward_at p (suc k)) (inward_at s (suc k)) entry.write place (each-at IsTruthful s (λ j d at. each-get IsTruthful s.connections j d truthful at) (truthful-none s) (suc k))
+          (joined.back (suc k)) (takes_a_beginning p s joined (suc k)) item answered;
       home = λ n entry at linked. let l : IsLinked p.settings.protocol p.connections entry = homes.journal n entry at linked in (l.connection, l.place, l.end, l.home, l.there, l.item);
     }
 

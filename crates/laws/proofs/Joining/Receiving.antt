@@ -9,11 +9,11 @@ use Rattle.blocks.specs.declared.outcome.What.{What}
 use Rattle.blocks.specs.declared.settings.Settings.{Settings}
 use Rattle.blocks.specs.declared.tuple.Tuple.{Tuple}
 use Rattle.model.specs.Contents.{Write, is_range}
-use Rattle.model.specs.Stream.{Item, WriteItem, ResyncItem, BarrierItem, SyncUuidItem, UuidsItem, epoch_of, last_epoch, placed_from, placed, items_of_epoch, items_meet, IsLawful}
+use Rattle.model.specs.Stream.{Item, WriteItem, ResyncItem, BarrierItem, SyncUuidItem, UuidsItem, epoch_of, last_epoch, placed_from, placed, items_of_epoch, items_meet, IsLawful, number_of}
 use Rattle.model.specs.Frames.{Packet, ProtocolFrame, SizesFrame, UuidsFrame, frame_of, frames_of, hello_of}
 use Rattle.model.specs.Primary.{Outward, frames_due}
 use Rattle.model.specs.Secondary.{Inward, SecondaryHistory, items_taken}
-use Rattle.model.specs.SecondarySteps.{Checked, checking_hello, checking_item, checking, number_of_item, is_above, is_apart, has_place}
+use Rattle.model.specs.SecondarySteps.{Checked, checking_hello, checking_item, checking, is_above, is_apart, has_place}
 use Rattle.laws.specs.Statements.{is_protocol_error}
 use Rattle.laws.proofs.Lists.Fronts.{get-front, all-get}
 use Rattle.laws.proofs.Lists.Picks.{pick-any, pick-filtered}
@@ -83,9 +83,9 @@ apart-front max_epoch stream m item lawful at = not_from_false _ (false_from_ne_
 
 -- a write of a lawful stream has a number above those before it
 above-front : (max_epoch : ℕ) (stream : List Item) (m : ℕ) (write : Write) → IsLawful max_epoch stream → 0 < write.number → slice_get stream m ≡ Some (WriteItem write) → is_above write.number (take m stream) ≡ true
-above-front max_epoch stream m write lawful first at = all-get (λ item. nat_lt (number_of_item item) write.number) (take m stream) (λ k x there. below k x (get-front m stream k x there))
+above-front max_epoch stream m write lawful first at = all-get (λ item. nat_lt (number_of item) write.number) (take m stream) (λ k x there. below k x (get-front m stream k x there))
   where
-    below : (k : ℕ) (x : Item) → (k < m) × (slice_get stream k ≡ Some x) → nat_lt (number_of_item x) write.number ≡ true
+    below : (k : ℕ) (x : Item) → (k < m) × (slice_get stream k ≡ Some x) → nat_lt (number_of x) write.number ≡ true
     below k (WriteItem a) there = lt-ltb a.number write.number (lawful.rising k m a write there.0 there.1 at)
     below k (ResyncItem block contents) there = lt-ltb 0 write.number first
     below k (BarrierItem epoch) there = lt-ltb 0 write.number first
@@ -117,8 +117,8 @@ item-fine settings c d m item h e same items at = go item at (subst (λ (l : Lis
         (and_from _ _ (subst (λ (l : List Item). is_above write.number l ≡ true) (sym items) (above-front settings.max_epoch c.stream m write e.lawful (e.numbered m write there) there)) (apart (WriteItem write) there)))
     go (ResyncItem block contents) there may = fine-if _ _ _ _ (and_from _ _ (and_from _ _ (and_from _ _ next placed_well) (subst (λ (s : Settings). is_range s block 1 ≡ true) (sym same) may.0)) (and_from _ _ may.1 (apart (ResyncItem block contents) there)))
     go (BarrierItem epoch) there may = fine-if _ _ _ _ (and_from _ _ placed_well (eq-eqb epoch (last_epoch (items_taken d)) (e.lawful.barriers m epoch there ∙ ap last_epoch (sym items))))
-    go (SyncUuidItem word) there may = fine-if _ _ _ _ (and_from _ _ (eq-eqb (length (items_taken d)) 0 (ap length may.0)) (lt-ltb 0 word may.1))
-    go (UuidsItem tuple) there may = fine-if _ _ _ _ may
+    go (SyncUuidItem word) there may = fine-if _ _ _ _ (and_from _ _ (and_from _ _ placed_well (eq-eqb (length (items_taken d)) 0 (ap length may.0))) (lt-ltb 0 word may.1))
+    go (UuidsItem tuple) there may = fine-if _ _ _ _ (and_from _ _ placed_well may)
 
 -- Each frame that the primary pushed is accepted when its turn comes.
 pub receiving-fine : (settings : Settings) (c : Outward) (d : Inward) (packet : Packet) (h : SecondaryHistory) → AreHonestEnds settings c d → d.closed ≡ false → h.settings ≡ settings

@@ -1,24 +1,28 @@
 -- What the peer has surely applied, as a primary reads it off the frames that it took, the secondary has taken and applied.
-use Rattle.std.proofs.Common.{ℕ, ◌≡◌, ◌≤◌, inl, inr, true, List, length, map, take, ◌++◌, Some, slice_get, Ok, Err, refl, sym, ◌∙◌, ap, subst, arith}
+use Rattle.std.proofs.Common.{ℕ, ◌≡◌, ◌≤◌, inl, inr, true, List, length, map, take, ◌++◌, Some, slice_get, Ok, Err, refl, sym, ◌∙◌, ap, subst, arith, Bool, false, ◌-◌}
 use Rattle.std.proofs.lemmas.Bool.{cases_Bool, both_ways, eqb-true, lt-ltb, cases_lt}
 use Rattle.blocks.specs.declared.settings.Settings.{Settings}
 use Rattle.model.specs.Contents.{Write}
 use Rattle.model.specs.Stream.{Item, WriteItem, ResyncItem, BarrierItem, SyncUuidItem, UuidsItem, Part, IsBeginning, is_whole, has_blocks, contents_of, epoch_of}
-use Rattle.model.specs.Frames.{DataFrame, RsDataReplyFrame, BarrierFrame, ProtocolFrame, UuidsFrame, SizesFrame, SyncUuidFrame, RecvAckFrame, WriteAckFrame, RsWriteAckFrame, BarrierAckFrame, Acknowledged, Received, naming}
-use Rattle.model.specs.Primary.{Outward, items_sent, accepted_frames, same_naming, is_rs_write_ack, is_barrier_ack}
-use Rattle.model.specs.Secondary.{Inward, items_taken, answers_due}
+use Rattle.model.specs.Frames.{DataFrame, RsDataReplyFrame, BarrierFrame, ProtocolFrame, UuidsFrame, SizesFrame, SyncUuidFrame, RecvAckFrame, WriteAckFrame, RsWriteAckFrame, BarrierAckFrame, Acknowledged, Received, naming, counting}
+use Rattle.model.specs.Primary.{Outward, items_sent, accepted_frames, same_naming, is_rs_write_ack, is_barrier_ack, PrimaryHistory}
+use Rattle.model.specs.Secondary.{Inward, items_taken, answers_due, SecondaryHistory}
 use Rattle.model.specs.LocalRuns.{PrimaryEvent, primary_run, SecondaryEvent, secondary_run}
-use Rattle.model.specs.Headline.{AreEnds, IsJoined}
+use Rattle.model.specs.Headline.{IsJoined}
 use Rattle.model.specs.Theorems.{Opening, primary_at, secondary_at}
 use Rattle.laws.specs.Reflections.{is_sure}
-use Rattle.laws.proofs.Lists.Beginnings.{begins-take, begins-trans, get-beginning}
+use Rattle.laws.proofs.Lists.Beginnings.{begins-take, begins-trans, get-beginning, begins-self}
 use Rattle.laws.proofs.Streams.Parts.{whole-from}
 use Rattle.laws.proofs.Streams.Places.{epoch-grows, epoch-behind, get-grows}
 use Rattle.laws.proofs.Joining.Promises.{same-place, was-due}
 use Rattle.laws.proofs.Secondary.TrueBarriers.{barrier_is_applied, resynced_is_applied}
 use Rattle.laws.proofs.Lists.Elements.{same-at}
 use Rattle.laws.proofs.Lists.Picks.{pick-any}
-use Rattle.laws.proofs.Joining.Taking.{takes_a_beginning, read}
+use Rattle.laws.proofs.Joining.Taking.{items-begin, read}
+use Rattle.laws.proofs.Joining.Ends.{AreEnds, joined-out, joined-back}
+use Rattle.laws.proofs.Secondary.Numbers.{NumbersRise, numbers-rise}
+use Rattle.std.specs.List.{list_any}
+use Rattle.std.specs.Prelude.{if◌then◌else◌}
 
 -- the acknowledgement of a barrier in a frame that passes
 barrier-ack : (epoch : ℕ) (frame : Received) → is_barrier_ack epoch frame ≡ true → (number : ℕ) × (size : ℕ) × (frame ≡ Ok (BarrierAckFrame number size)) × (number ≡ epoch)
@@ -58,10 +62,9 @@ whole-blocks part place item whole = elim (cases_Bool (has_blocks item)) [
 ]
 
 -- What the secondary took on a connection begins the primary's stream.
-pub taken-begins : (o : Opening) (here : List PrimaryEvent) (there : List SecondaryEvent) → IsJoined (primary_run here (primary_at o)) (secondary_run there (secondary_at o)) → (k : ℕ) (c : Outward) (d : Inward)
-    → AreEnds (primary_run here (primary_at o)) (secondary_run there (secondary_at o)) k c d → IsBeginning (items_taken d) c.stream
-taken-begins o here there joined k c d ends =
-    begins-trans (items_taken d) (take (items_sent c) c.stream) c.stream (takes_a_beginning (primary_run here (primary_at o)) (secondary_run there (secondary_at o)) joined k c d ends) (begins-take (items_sent c) c.stream)
+pub taken-begins : (p : PrimaryHistory) (s : SecondaryHistory) → NumbersRise s.connections → IsJoined p s → (k j : ℕ) (c : Outward) (d : Inward) → AreEnds p s k j c d → IsBeginning (items_taken d) c.stream
+taken-begins p s rise joined k j c d ends =
+    begins-trans (items_taken d) (take (items_sent c) c.stream) c.stream (items-begin p c d (joined-out p s rise joined k j c d ends)) (begins-take (items_sent c) c.stream)
 
 sure-write : (o : Opening) (there : List SecondaryEvent) (settings : Settings) (k place : ℕ) (c : Outward) (d : Inward) (write : Write) → slice_get (secondary_run there (secondary_at o)).connections k ≡ Some d
     → IsBeginning c.taken (map read (take d.pushed (answers_due settings d))) → IsBeginning (items_taken d) c.stream
@@ -70,7 +73,7 @@ sure-write o there settings k place c d write inward joined begins at sure =
     let found = pick-any (is_barrier_ack (epoch_of c.stream place)) (accepted_frames c) sure in
     let ack = barrier-ack (epoch_of c.stream place) found.1 found.3 in
     let due = was-due settings c d found.0 (BarrierAckFrame ack.0 ack.1) refl joined (found.2 ∙ ap (λ (f : Received). Some f) ack.2) in
-    let applied = barrier_is_applied o.settings o.peer o.peer_tuple there k due.0 d ack.0 ack.1 inward due.1 in
+    let applied = barrier_is_applied o.peer_settings o.peer o.peer_tuple there k due.0 d ack.0 ack.1 inward due.1 in
     let number : ack.0 ≡ epoch_of c.stream place = ack.3 in
     let stream : items_taken d ++ begins.0 ≡ c.stream = begins.1 in
     let epochs : epoch_of (items_taken d ++ begins.0) place ≡ epoch_of c.stream place = ap (λ (l : List Item). epoch_of l place) stream in
@@ -92,7 +95,7 @@ sure-resync o there settings k place c d block contents inward joined begins at 
     let found = pick-any (is_rs_write_ack (naming place item)) (accepted_frames c) sure in
     let ack = resync-ack (naming place item) found.1 found.3 in
     let due = was-due settings c d found.0 (RsWriteAckFrame ack.0) refl joined (found.2 ∙ ap (λ (f : Received). Some f) ack.1) in
-    let applied = resynced_is_applied o.settings o.peer o.peer_tuple there k due.0 d ack.0 inward due.1 in
+    let applied = resynced_is_applied o.peer_settings o.peer o.peer_tuple there k due.0 d ack.0 inward due.1 in
     let same : place ≡ ack.0.place = same-place (naming place item) ack.0 ack.2 in
     let taken : slice_get (items_taken d) place ≡ Some applied.0 = subst (λ n. slice_get (items_taken d) n ≡ Some applied.0) (sym same) applied.1 in
     let is : applied.0 ≡ item = same-at c.stream place applied.0 item (get-beginning (items_taken d) c.stream place applied.0 begins taken) at in (
@@ -102,12 +105,39 @@ sure-resync o there settings k place c d block contents inward joined begins at 
 
 -- What is surely on the peer's disk, as the primary reads it, was taken at its place, and all of it is applied.
 pub sure-is-applied : (o : Opening) (here : List PrimaryEvent) (there : List SecondaryEvent) → IsJoined (primary_run here (primary_at o)) (secondary_run there (secondary_at o))
-    → (k place : ℕ) (c : Outward) (d : Inward) (item : Item) → AreEnds (primary_run here (primary_at o)) (secondary_run there (secondary_at o)) k c d → slice_get c.stream place ≡ Some item → is_sure c place item ≡ true
+    → (k j place : ℕ) (c : Outward) (d : Inward) (item : Item) → AreEnds (primary_run here (primary_at o)) (secondary_run there (secondary_at o)) k j c d → slice_get c.stream place ≡ Some item → is_sure c place item ≡ true
     → (slice_get (items_taken d) place ≡ Some item) × (is_whole d.applied place item ≡ true)
-sure-is-applied o here there joined k place c d (WriteItem write) ends at sure =
-    sure-write o there (secondary_run there (secondary_at o)).settings k place c d write ends.inward (joined.back k c d ends) (taken-begins o here there joined k c d ends) at sure
-sure-is-applied o here there joined k place c d (ResyncItem block contents) ends at sure =
-    sure-resync o there (secondary_run there (secondary_at o)).settings k place c d block contents ends.inward (joined.back k c d ends) (taken-begins o here there joined k c d ends) at sure
-sure-is-applied o here there joined k place c d (BarrierItem epoch) ends at sure = absurd (cc)
-sure-is-applied o here there joined k place c d (SyncUuidItem word) ends at sure = absurd (cc)
-sure-is-applied o here there joined k place c d (UuidsItem tuple) ends at sure = absurd (cc)
+sure-is-applied o here there joined k j place c d item ends at sure = go item at sure
+  where
+    p : PrimaryHistory
+    p = primary_run here (primary_at o)
+
+    s : SecondaryHistory
+    s = secondary_run there (secondary_at o)
+
+    rise : NumbersRise s.connections
+    rise = numbers-rise there (secondary_at o) refl
+
+    go : (item : Item) → slice_get c.stream place ≡ Some item → is_sure c place item ≡ true → (slice_get (items_taken d) place ≡ Some item) × (is_whole d.applied place item ≡ true)
+    go (WriteItem write) at sure = sure-write o there s.settings j place c d write ends.inward (joined-back p s rise joined k j c d ends) (taken-begins p s rise joined k j c d ends) at sure
+    go (ResyncItem block contents) at sure = sure-resync o there s.settings j place c d block contents ends.inward (joined-back p s rise joined k j c d ends) (taken-begins p s rise joined k j c d ends) at sure
+    go (BarrierItem epoch) at sure = absurd (cc)
+    go (SyncUuidItem word) at sure = absurd (cc)
+    go (UuidsItem tuple) at sure = absurd (cc)
+
+-- What is sure on a connection was taken there, so the secondary opened it.
+pub sure-taken : (c : Outward) (place : ℕ) (item : Item) → is_sure c place item ≡ true → (n : ℕ) × (frame : Received) × (slice_get c.taken n ≡ Some frame)
+sure-taken c place item sure = go item sure
+  where
+    front : IsBeginning (accepted_frames c) c.taken
+    front = elim c.refused as (λ b. IsBeginning (counting b c.taken) c.taken) [ true ↦ begins-take (length c.taken - 1) c.taken | false ↦ begins-self c.taken ]
+
+    one : (test : Received → Bool) → list_any test (accepted_frames c) ≡ true → (n : ℕ) × (frame : Received) × (slice_get c.taken n ≡ Some frame)
+    one test some = let found = pick-any test (accepted_frames c) some in (found.0, found.1, get-beginning (accepted_frames c) c.taken found.0 found.1 front found.2)
+
+    go : (item : Item) → is_sure c place item ≡ true → (n : ℕ) × (frame : Received) × (slice_get c.taken n ≡ Some frame)
+    go (WriteItem write) sure = one (is_barrier_ack (epoch_of c.stream place)) sure
+    go (ResyncItem block contents) sure = one (is_rs_write_ack (naming place (ResyncItem block contents))) sure
+    go (BarrierItem epoch) sure = absurd (cc)
+    go (SyncUuidItem word) sure = absurd (cc)
+    go (UuidsItem tuple) sure = absurd (cc)

@@ -5,9 +5,10 @@ use Rattle.std.specs.Prelude.{filter_map, if◌then◌else◌}
 use Rattle.std.specs.List.{cons_option}
 use Rattle.model.specs.Stream.{Item, WriteItem, ResyncItem, BarrierItem, SyncUuidItem, UuidsItem, IsBeginning}
 use Rattle.model.specs.Frames.{Packet, Received, frame_of, frames_from, frames_of}
-use Rattle.model.specs.Primary.{frames_due}
-use Rattle.model.specs.Secondary.{Inward, items_taken, received_item, accepted_of}
+use Rattle.model.specs.Primary.{frames_due, Outward, PrimaryHistory, outward_at, items_sent}
+use Rattle.model.specs.Secondary.{Inward, items_taken, received_item, accepted_of, inward_at}
 use Rattle.laws.specs.Statements.{JoinedTakesABeginning}
+use Rattle.model.specs.Headline.{pushed_by}
 
 -- the items that the frames of a stream bring are the stream's
 items_of_frame : (place : ℕ) (item : Item) → received_item (Ok (frame_of place item)) ≡ Some item
@@ -42,12 +43,15 @@ accepted_begins d = begins-drop 3 _ d.taken (elim d.refused as (λ b. IsBeginnin
   | false ↦ begins-self d.taken
 ])
 
--- what the secondary took on each connection begins what the primary sent on it
-pub takes_a_beginning : JoinedTakesABeginning
-takes_a_beginning p s joined k c d ends =
+-- what the secondary took begins what the primary sent, where the frames that it took begin those pushed
+pub items-begin : (p : PrimaryHistory) (c : Outward) (d : Inward) → IsBeginning d.taken (pushed_by p c) → IsBeginning (items_taken d) (take (items_sent c) c.stream)
+items-begin p c d pushed =
     let due : List Packet = frames_due p.settings c in
-    let pushed = joined.out k c d ends in
     let taken : IsBeginning (drop 3 d.taken) (drop 3 (map read (take c.pushed due))) = begins-drop 3 d.taken (map read (take c.pushed due)) pushed in
     let all = begins-trans (accepted_of d) (drop 3 d.taken) (drop 3 (map read (take c.pushed due))) (accepted_begins d) taken in
     let items = begins-filter_map received_item (accepted_of d) (drop 3 (map read (take c.pushed due))) all in
     subst (λ (l : List Item). IsBeginning (items_taken d) l) (ap (filter_map received_item) (behind_hello c.pushed _ _ _ (frames_of c.stream)) ∙ items_of_frames (c.pushed - 3) 0 c.stream) items
+
+-- what the secondary took on each connection begins what the primary sent on it
+pub takes_a_beginning : JoinedTakesABeginning
+takes_a_beginning p s joined number = items-begin p (outward_at p number) (inward_at s number) (joined.out number)

@@ -17,9 +17,9 @@ use Rattle.model.specs.Acknowledgements.{Taken, taking, take_frame, ack_in}
 use Rattle.model.specs.Secondary.{SecondaryHistory, Inward, no_inward, inward, with_inward, items_taken, pending, answers_due}
 use Rattle.model.specs.SecondarySteps.{succeeding_secondary, Checked, checking, take_item, receive, peer_tests, peer, peer_fault, applying, failing, answering_with, ack_out_tests, ack_out, open_secondary, close_secondary}
 use Rattle.model.specs.LocalRuns.{PrimaryEvent, primary_run, SecondaryEvent, secondary_run}
-use Rattle.model.specs.Headline.{IsJoined, AreEnds}
+use Rattle.model.specs.Headline.{IsJoined}
 use Rattle.model.specs.Pair.{Event, OpenEvent, SubmitEvent, LocalEvent, LocalFaultEvent, SendEvent, ReceiveEvent, PeerEvent, PeerFaultEvent, AckOutEvent, AckInEvent, ResyncEvent, ResyncFaultEvent, ClosePrimaryEvent, CloseSecondaryEvent, PairHistory, pushed_frames, pushed_answers, next_frame, next_answer, has_room, answers_have_room, open_pair_tests, open_pair, keeps_too_many, local_fault_kept, peer_fault_kept, step, run}
-use Rattle.model.specs.Theorems.{Opening, primary_at, secondary_at, pair_at, HasRanges}
+use Rattle.model.specs.Theorems.{Opening, primary_at, secondary_at, pair_at, HasRanges, SharesSettings}
 use Rattle.laws.specs.Statements.{is_protocol_error, EveryStepIsHonest}
 use Rattle.laws.proofs.Lists.Each.{each-get}
 use Rattle.laws.proofs.Lists.Last.{last-at}
@@ -30,40 +30,46 @@ use Rattle.laws.proofs.Primary.LawfulMoves.{primary-between, primary_lawful}
 use Rattle.laws.proofs.Primary.Sendable.{IsFitEnd, primary_fit}
 use Rattle.laws.proofs.Secondary.Moves.{framed, refused_end}
 use Rattle.laws.proofs.Secondary.Orderly.{IsOrderly}
-use Rattle.laws.proofs.Secondary.OrderlyRuns.{secondary_orderly}
+use Rattle.laws.proofs.Secondary.OrderlyRuns.{secondary_orderly, HasOrderlyEnds}
 use Rattle.laws.proofs.Joining.Openings.{kept-opening-primary, kept-opening-secondary}
-use Rattle.laws.proofs.Joining.Taking.{read, takes_a_beginning}
+use Rattle.laws.proofs.Joining.Taking.{read, takes_a_beginning, items-begin}
 use Rattle.laws.proofs.Joining.HonestEnds.{AreHonestEnds}
 use Rattle.laws.proofs.Joining.Receiving.{IsFine, receiving-fine}
 use Rattle.laws.proofs.Joining.Acknowledging.{IsFineToo, acknowledging-fine}
 use Rattle.laws.proofs.Pair.Runs.{pair_runs_are_joined}
+use Rattle.laws.proofs.Joining.Ends.{AreEnds, joined-out, joined-back}
+use Rattle.laws.proofs.Secondary.Numbers.{AreCounted, numbers-rise}
 
 -- Two nodes whose ends of each connection are honest ones of a link.
 record AreHonest (settings : Settings) (p : PrimaryHistory) (s : SecondaryHistory) : Type 0 where
   pub here : p.settings ≡ settings
   pub there : s.settings ≡ settings
   pub same : length p.connections ≡ length s.connections
-  pub ends : (k : ℕ) (c : Outward) (d : Inward) → AreEnds p s k c d → AreHonestEnds settings c d
-  pub begins : (k : ℕ) (c : Outward) (d : Inward) → AreEnds p s k c d → IsBeginning (items_taken d) (take (items_sent c) c.stream)
+  pub counted : AreCounted s.connections
+  pub ends : (k : ℕ) (c : Outward) (d : Inward) → AreEnds p s k k c d → AreHonestEnds settings c d
+  pub begins : (k : ℕ) (c : Outward) (d : Inward) → AreEnds p s k k c d → IsBeginning (items_taken d) (take (items_sent c) c.stream)
 
 -- two nodes that ran by themselves and whose frames are joined are so
-honest-joined : (o : Opening) (events : List PrimaryEvent) (others : List SecondaryEvent) → HasRanges o → IsJoined (primary_run events (primary_at o)) (secondary_run others (secondary_at o))
+honest-joined : (o : Opening) (events : List PrimaryEvent) (others : List SecondaryEvent) → SharesSettings o → HasRanges o → IsJoined (primary_run events (primary_at o)) (secondary_run others (secondary_at o))
+    → length (primary_run events (primary_at o)).connections ≡ length (secondary_run others (secondary_at o)).connections → AreCounted (secondary_run others (secondary_at o)).connections
     → AreHonest o.settings (primary_run events (primary_at o)) (secondary_run others (secondary_at o))
-honest-joined o events others ranges joined =
+honest-joined o events others shares ranges joined same counted =
     let p : PrimaryHistory = primary_run events (primary_at o) in
     let s : SecondaryHistory = secondary_run others (secondary_at o) in
-    let homes : HasHomes p = (primary-between o.settings o.local o.own o.marks events ranges).0 in
-    let fit = primary_fit o.settings o.local o.own o.marks events ranges.max_epoch.0 in
-    let orderly = secondary_orderly o.settings o.peer o.peer_tuple others in
+    let homes : HasHomes p = (primary-between o.settings o.local o.own o.marks events ranges.here).0 in
+    let fit = primary_fit o.settings o.local o.own o.marks events ranges.here.max_epoch.0 in
+    let orderly = subst (λ (x : Settings). HasOrderlyEnds x.protocol s) shares (secondary_orderly o.peer_settings o.peer o.peer_tuple others) in
+    let rise = numbers-rise others (secondary_at o) refl in
     let here : p.settings ≡ o.settings = (kept-opening-primary o events).settings in
-    let there : s.settings ≡ o.settings = (kept-opening-secondary o others).settings in
+    let there : s.settings ≡ o.settings = (kept-opening-secondary o others).settings ∙ shares in
     record {
       here = here;
       there = there;
-      same = joined.connections;
-      begins = takes_a_beginning p s joined;
+      same = same;
+      counted = counted;
+      begins = λ k c d ends. items-begin p c d (joined-out p s rise joined k k c d ends);
       ends = λ k c d ends. record {
-        lawful = primary_lawful o.settings o.local o.own o.marks events ranges k c ends.outward;
+        lawful = primary_lawful o.settings o.local o.own o.marks events ranges.here k c ends.outward;
         fit = each-get (IsFitEnd o.settings) p.connections k c fit.ends ends.outward;
         orderly = each-get (IsOrderly o.settings.protocol) s.connections k d orderly.ends ends.inward;
         numbered = λ place write at.
@@ -72,21 +78,25 @@ honest-joined o events others ranges joined =
             let same : home.1.write.number ≡ write.number = ap (λ w. w.number) home.3 in
             omega arith;
         refused = homes.refused k c ends.outward;
-        out = subst (λ (x : Settings). IsBeginning d.taken (map read (take c.pushed (frames_due x c)))) here (joined.out k c d ends);
-        back = subst (λ (x : Settings). IsBeginning c.taken (map read (take d.pushed (answers_due x d)))) there (joined.back k c d ends);
+        out = subst (λ (x : Settings). IsBeginning d.taken (map read (take c.pushed (frames_due x c)))) here (joined-out p s rise joined k k c d ends);
+        back = subst (λ (x : Settings). IsBeginning c.taken (map read (take d.pushed (answers_due x d)))) there (joined-back p s rise joined k k c d ends);
       };
     }
 
 -- so are the two nodes of a pair after every run
-honest-run : (o : Opening) (events : List (Event × Bool)) → HasRanges o → AreHonest o.settings (run events (pair_at o)).1.primary (run events (pair_at o)).1.secondary
-honest-run o events ranges =
-    let runs = pair_runs_are_joined o.settings o.local o.peer o.own o.peer_tuple o.marks events in
+honest-run : (o : Opening) (events : List (Event × Bool)) → SharesSettings o → HasRanges o → AreHonest o.settings (run events (pair_at o)).1.primary (run events (pair_at o)).1.secondary
+honest-run o events shares ranges =
+    let runs = pair_runs_are_joined o events in
+    let here : PrimaryHistory = primary_run runs.0 (primary_at o) in
+    let there : SecondaryHistory = secondary_run runs.1 (secondary_at o) in
     let both = subst (λ p. IsJoined p (run events (pair_at o)).1.secondary) runs.2 runs.4 in
-    let ends = subst (λ s. IsJoined (primary_run runs.0 (primary_at o)) s) runs.3 both in
-    subst (λ p. AreHonest o.settings p (run events (pair_at o)).1.secondary) (sym runs.2) (subst (λ s. AreHonest o.settings (primary_run runs.0 (primary_at o)) s) (sym runs.3) (honest-joined o runs.0 runs.1 ranges ends))
+    let ends = subst (λ s. IsJoined here s) runs.3 both in
+    let same : length here.connections ≡ length there.connections = ap (λ (p : PrimaryHistory). length p.connections) (sym runs.2) ∙ (runs.5 ∙ ap (λ (s : SecondaryHistory). length s.connections) runs.3) in
+    let counted = subst (λ (s : SecondaryHistory). AreCounted s.connections) runs.3 runs.6 in
+    subst (λ p. AreHonest o.settings p (run events (pair_at o)).1.secondary) (sym runs.2) (subst (λ s. AreHonest o.settings here s) (sym runs.3) (honest-joined o runs.0 runs.1 shares ranges ends same counted))
 
 -- the last ends, where one of them is open
-last-ends : (settings : Settings) (p : PrimaryHistory) (s : SecondaryHistory) → AreHonest settings p s → ((outward p).closed ≡ false) ⊎ ((inward s).closed ≡ false) → AreEnds p s (length p.connections - 1) (outward p) (inward s)
+last-ends : (settings : Settings) (p : PrimaryHistory) (s : SecondaryHistory) → AreHonest settings p s → ((outward p).closed ≡ false) ⊎ ((inward s).closed ≡ false) → AreEnds p s (length p.connections - 1) (length p.connections - 1) (outward p) (inward s)
 last-ends settings p s a standing = go (last-at (no_outward p.tuple) p.connections) (last-at (no_inward s) s.connections)
   where
     none-here : p.connections ≡ [] → (outward p).closed ≡ true
@@ -102,10 +112,12 @@ last-ends settings p s a standing = go (last-at (no_outward p.tuple) p.connectio
     neither : p.connections ≡ [] → s.connections ≡ [] → ⊥
     neither here there = elim standing [ inl still ↦ both_ways (outward p).closed still (none-here here) | inr still ↦ both_ways (inward s).closed still (none-there there) ]
 
-    go : (p.connections ≡ []) ⊎ (slice_get p.connections (length p.connections - 1) ≡ Some (outward p)) → (s.connections ≡ []) ⊎ (slice_get s.connections (length s.connections - 1) ≡ Some (inward s)) → AreEnds p s (length p.connections - 1) (outward p) (inward s)
+    go : (p.connections ≡ []) ⊎ (slice_get p.connections (length p.connections - 1) ≡ Some (outward p)) → (s.connections ≡ []) ⊎ (slice_get s.connections (length s.connections - 1) ≡ Some (inward s)) → AreEnds p s (length p.connections - 1) (length p.connections - 1) (outward p) (inward s)
     go (inl none) other = absurd (neither none (no-length s.connections (sym a.same ∙ ap length none)))
     go (inr here) (inl none) = absurd (neither (no-length p.connections (a.same ∙ ap length none)) none)
-    go (inr here) (inr there) = record { outward = here; inward = subst (λ n. slice_get s.connections (n - 1) ≡ Some (inward s)) (sym a.same) there }
+    go (inr here) (inr there) =
+        let last : slice_get s.connections (length p.connections - 1) ≡ Some (inward s) = subst (λ n. slice_get s.connections (n - 1) ≡ Some (inward s)) (sym a.same) there in
+        record { outward = here; inward = last; number = a.counted (length p.connections - 1) (inward s) last }
 
 -- Replies.
 
@@ -258,7 +270,7 @@ honest-close-too h = by-tests (((inward h).closed, NotConnected) ∷ []) h (λ _
 -- Steps of the pair.
 
 honest-open : (sync loss : ℕ) (starved : Bool) (h : PairHistory) → IsHonestReply (open_pair sync loss starved h).0
-honest-open sync loss starved h = by-tests (open_pair_tests h sync loss starved) h (λ _. let primary = open_primary sync loss starved h.primary in (primary.0, record { primary = primary.1; secondary = (open_secondary h.secondary).1 }))
+honest-open sync loss starved h = by-tests (open_pair_tests h sync loss starved) h (λ _. let primary = open_primary sync loss starved h.primary in (primary.0, record { primary = primary.1; secondary = (open_secondary 0 h.secondary).1 }))
     (refl, (refl, (refl, (refl, (refl, tt))))) (λ none. by-tests (open_tests h.primary sync loss starved) h.primary (λ _. succeeding what.Nothing (opened h.primary sync loss)) (refl, (refl, (refl, (refl, tt)))) (λ free. tt))
 
 honest-step : (settings : Settings) (event : Event) (starved : Bool) (h : PairHistory) → AreHonest settings h.primary h.secondary → IsHonestReply (step event starved h).0
@@ -279,4 +291,4 @@ honest-step settings CloseSecondaryEvent starved h a = honest-close-too h.second
 
 -- No step of the pair is refused as a protocol error.
 pub every_step_is_honest : EveryStepIsHonest
-every_step_is_honest o events event starved refusal ranges is = subst IsHonestReply is (honest-step o.settings event starved (run events (pair_at o)).1 (honest-run o events ranges))
+every_step_is_honest o events event starved refusal shares ranges is = subst IsHonestReply is (honest-step o.settings event starved (run events (pair_at o)).1 (honest-run o events shares ranges))

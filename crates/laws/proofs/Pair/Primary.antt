@@ -13,7 +13,7 @@ use Rattle.blocks.specs.declared.outcome.Reply.{Reply}
 use Rattle.blocks.specs.declared.outcome.Reply.TheVariants as reply
 use Rattle.blocks.specs.declared.settings.Settings.{Settings}
 use Rattle.blocks.specs.declared.tuple.Tuple.{Tuple}
-use Rattle.model.specs.Stream.{Item, WriteItem, ResyncItem, SyncUuidItem, IsBeginning}
+use Rattle.model.specs.Stream.{Item, WriteItem, ResyncItem, SyncUuidItem, IsBeginning, within}
 use Rattle.model.specs.Frames.{Packet, ProtocolFrame, UuidsFrame, SizesFrame, RecvAckFrame, WriteAckFrame, RsWriteAckFrame, BarrierAckFrame, Received}
 use Rattle.model.specs.Identifiers.{decision, stands_in}
 use Rattle.model.specs.Marks.{marking, clearing}
@@ -157,7 +157,7 @@ module _ (here there : Settings) (ends : List Inward) (none : Inward) where
   ends-fault number offsets h e = tested-keeps (HasEnds here there ends) h ((not (is_unfinished h number), UnknownJob) ∷ []) (λ _. succeeding what.Nothing (faulted number offsets h)) e (λ passed.
       ends-following (faulted number offsets h) (go (accepted_at h number)))
     where
-      go : (v : Option Accepted) → HasEnds here there ends (elim v as (λ _. PrimaryHistory) [ None ↦ h | Some accepted ↦ with_outcome number (Failed offsets) (record h { marks = marking accepted.write h.marks }) ])
+      go : (v : Option Accepted) → HasEnds here there ends (elim v as (λ _. PrimaryHistory) [ None ↦ h | Some accepted ↦ with_outcome number (Failed (within (length accepted.write.contents) offsets)) (record h { marks = marking accepted.write h.marks }) ])
       go None = e
       go (Some accepted) = record { settings = e.settings; pairs = e.pairs }
 

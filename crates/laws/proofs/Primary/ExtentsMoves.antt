@@ -8,7 +8,7 @@ use Rattle.blocks.specs.declared.tuple.Tuple.{Tuple}
 use Rattle.blocks.specs.declared.outcome.Decision.{Decision}
 use Rattle.blocks.specs.declared.outcome.Decision.TheVariants.{NoSync, BitmapSync, FullSync}
 use Rattle.model.specs.Contents.{BlockMap, Write, extent_of}
-use Rattle.model.specs.Stream.{Item, WriteItem, ResyncItem, BarrierItem, SyncUuidItem, UuidsItem, IsBeginning, epoch_of, last_epoch}
+use Rattle.model.specs.Stream.{Item, WriteItem, ResyncItem, BarrierItem, SyncUuidItem, UuidsItem, IsBeginning, epoch_of, last_epoch, within}
 use Rattle.model.specs.Frames.{UuidsFrame, Received}
 use Rattle.model.specs.Identifiers.{sync_end}
 use Rattle.model.specs.Marks.{marking}
@@ -213,9 +213,9 @@ few-outcome settings h later number outcome finished same connections writes hom
 few-faults : (settings : Settings) (h : PrimaryHistory) (number : ℕ) (offsets : List ℕ) → HasHomes h → HasFewExtents settings h → HasFewExtents settings (faulted number offsets h)
 few-faults settings h number offsets homes few = go (accepted_at h number)
   where
-    go : (v : Option Accepted) → HasFewExtents settings (elim v as (λ _. PrimaryHistory) [ None ↦ h | Some accepted ↦ with_outcome number (Failed offsets) (record h { marks = marking accepted.write h.marks }) ])
+    go : (v : Option Accepted) → HasFewExtents settings (elim v as (λ _. PrimaryHistory) [ None ↦ h | Some accepted ↦ with_outcome number (Failed (within (length accepted.write.contents) offsets)) (record h { marks = marking accepted.write h.marks }) ])
     go None = few
-    go (Some accepted) = few-outcome settings h _ number (Failed offsets) refl refl refl refl homes few
+    go (Some accepted) = few-outcome settings h _ number (Failed (within (length accepted.write.contents) offsets)) refl refl refl refl homes few
 
 -- a stream that begins was empty
 few-begins : (settings : Settings) (h : PrimaryHistory) (peer : Tuple) (decided : Decision) → (outward h).closed ≡ false → (outward h).begun ≡ false → HasHomes h → HasFewExtents settings h
@@ -251,8 +251,8 @@ few-kept settings = record {
   faults = λ h number offsets waiting p. (homes-kept.faults h number offsets waiting p.0, few-faults settings h number offsets p.0 p.1);
   sends =
       λ h standing due p. (homes-kept.sends h standing due p.0, few-change settings h _ pushing refl refl refl (λ k at. keeps-growing (outward h) (pushing (outward h)) refl (begins-self (outward h).stream) (begins-self (accepted_frames (outward h)))) p.0 p.1);
-  greets = λ h frame standing new p. (homes-kept.greets h frame standing new p.0, few-taking settings h _ frame standing refl refl refl p.0 p.1);
-  begins = λ h peer decided standing new is p. (homes-kept.begins h peer decided standing new is p.0, few-begins settings h peer decided standing new p.0 p.1);
+  greets = λ h frame standing new met p. (homes-kept.greets h frame standing new met p.0, few-taking settings h _ frame standing refl refl refl p.0 p.1);
+  begins = λ h peer decided standing new late is p. (homes-kept.begins h peer decided standing new late is p.0, few-begins settings h peer decided standing new p.0 p.1);
   receives = λ h ack standing begun may p. (homes-kept.receives h ack standing begun may p.0, few-taking settings h _ _ standing refl refl refl p.0 p.1);
   applies = λ h ack standing begun may p. (homes-kept.applies h ack standing begun may p.0, few-taking settings h _ _ standing refl refl refl p.0 p.1);
   clears = λ h ack standing begun may p. (homes-kept.clears h ack standing begun may p.0, few-taking settings h _ _ standing refl refl refl p.0 p.1);

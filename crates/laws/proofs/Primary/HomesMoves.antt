@@ -8,7 +8,7 @@ use Rattle.blocks.specs.declared.tuple.Tuple.{Tuple}
 use Rattle.blocks.specs.declared.outcome.Decision.{Decision}
 use Rattle.blocks.specs.declared.outcome.Decision.TheVariants.{NoSync, BitmapSync, FullSync}
 use Rattle.model.specs.Contents.{BlockMap, Write}
-use Rattle.model.specs.Stream.{Item, WriteItem, SyncUuidItem, IsBeginning}
+use Rattle.model.specs.Stream.{Item, WriteItem, SyncUuidItem, IsBeginning, within}
 use Rattle.model.specs.Frames.{Received, UuidsFrame, RsWriteAckFrame}
 use Rattle.model.specs.Marks.{marking, clearing}
 use Rattle.model.specs.Primary.{LocalOutcome, Waiting, OnDisk, Failed, Accepted, Outward, PrimaryHistory, primary_opening, no_outward, outward, change_last, last_index, with_outward, stands, in_resync, accepted_frames}
@@ -48,9 +48,9 @@ homes-writes h number homes = homes-outcome h (with_outcome number OnDisk h) num
 homes-faults : (h : PrimaryHistory) (number : ℕ) (offsets : List ℕ) → HasHomes h → HasHomes (faulted number offsets h)
 homes-faults h number offsets homes = go (accepted_at h number)
   where
-    go : (v : Option Accepted) → HasHomes (elim v as (λ _. PrimaryHistory) [ None ↦ h | Some accepted ↦ with_outcome number (Failed offsets) (record h { marks = marking accepted.write h.marks }) ])
+    go : (v : Option Accepted) → HasHomes (elim v as (λ _. PrimaryHistory) [ None ↦ h | Some accepted ↦ with_outcome number (Failed (within (length accepted.write.contents) offsets)) (record h { marks = marking accepted.write h.marks }) ])
     go None = homes
-    go (Some accepted) = homes-outcome h (with_outcome number (Failed offsets) (record h { marks = marking accepted.write h.marks })) number (Failed offsets) homes refl refl refl refl
+    go (Some accepted) = homes-outcome h (with_outcome number (Failed (within (length accepted.write.contents) offsets)) (record h { marks = marking accepted.write h.marks })) number (Failed (within (length accepted.write.contents) offsets)) homes refl refl refl refl
 
 -- the last connection changes, and nothing else that matters here
 homes-with : (h later : PrimaryHistory) (f : Outward → Outward) → HasHomes h → later.settings ≡ h.settings → later.connections ≡ change_last f h.connections → later.writes ≡ h.writes → later.journal ≡ h.journal
@@ -214,8 +214,8 @@ homes-kept = record {
   writes = λ h number waiting homes. homes-writes h number homes;
   faults = λ h number offsets waiting homes. homes-faults h number offsets homes;
   sends = λ h standing due homes. homes-with h (with_outward pushing h) pushing homes refl refl refl refl (keeps-pushing h homes);
-  greets = λ h frame standing new homes. homes-with h (with_outward (with_frame frame) h) (with_frame frame) homes refl refl refl refl (keeps-taking h frame homes standing);
-  begins = λ h peer decided standing new is homes. homes-begins h peer decided standing new homes;
+  greets = λ h frame standing new met homes. homes-with h (with_outward (with_frame frame) h) (with_frame frame) homes refl refl refl refl (keeps-taking h frame homes standing);
+  begins = λ h peer decided standing new late is homes. homes-begins h peer decided standing new homes;
   receives = λ h ack standing begun may homes. homes-with h _ (with_frame _) homes refl refl refl refl (keeps-taking h _ homes standing);
   applies = λ h ack standing begun may homes. homes-with h _ (with_frame _) homes refl refl refl refl (keeps-taking h _ homes standing);
   clears =
@@ -228,6 +228,7 @@ homes-kept = record {
   closes = λ h standing homes. homes-with h (closing h) (λ c. record c { closed = true }) homes refl refl refl refl (keeps-closing h homes);
   receipts = λ h number homes. record { numbered = homes.numbered; housed = homes.housed; homed = homes.homed; empty = homes.empty; refused = homes.refused; journal = homes.journal };
 }
+
 
 -- a primary opens with no writes, and no connections
 pub homes-opening : (settings : Settings) (disk : BlockMap) (tuple : Tuple) (marks : ℕ → Bool) → HasHomes (primary_opening settings disk tuple marks)

@@ -4,7 +4,7 @@ use Rattle.std.proofs.lemmas.Bool.{cases_lt}
 use Rattle.std.proofs.lemmas.Option.{slice_get_within}
 use Rattle.blocks.specs.declared.outcome.Decision.{Decision}
 use Rattle.blocks.specs.declared.outcome.Decision.TheVariants.{NoSync, BitmapSync, FullSync}
-use Rattle.model.specs.Stream.{WriteItem}
+use Rattle.model.specs.Stream.{WriteItem, within}
 use Rattle.model.specs.Marks.{marking}
 use Rattle.model.specs.Primary.{Waiting, Failed, Accepted, Outward, PrimaryHistory, no_outward, outward, last_index, change_last, stands}
 use Rattle.model.specs.PrimarySteps.{appending, submission, submitted, opened, with_outcome, faulted, accepted_at}
@@ -60,7 +60,7 @@ submits h first contents all = go (stands (outward h))
 faults : (h : PrimaryHistory) (number : ℕ) (offsets : List ℕ) → IsLastOpen h → IsLastOpen (faulted number offsets h)
 faults h number offsets all = go (accepted_at h number)
   where
-    go : (v : Option Accepted) → IsLastOpen (elim v as (λ _. PrimaryHistory) [ None ↦ h | Some accepted ↦ with_outcome number (Failed offsets) (record h { marks = marking accepted.write h.marks }) ])
+    go : (v : Option Accepted) → IsLastOpen (elim v as (λ _. PrimaryHistory) [ None ↦ h | Some accepted ↦ with_outcome number (Failed (within (length accepted.write.contents) offsets)) (record h { marks = marking accepted.write h.marks }) ])
     go None = all
     go (Some accepted) = all
 
@@ -78,8 +78,8 @@ last-open-kept = record {
   writes = λ h number waits all. all;
   faults = λ h number offsets waits all. faults h number offsets all;
   sends = λ h standing due all. changes h.connections _ all;
-  greets = λ h frame standing new all. changes h.connections _ all;
-  begins = λ h peer decided standing new is all. begins _ decided (changes h.connections _ all);
+  greets = λ h frame standing new met all. changes h.connections _ all;
+  begins = λ h peer decided standing new late is all. begins _ decided (changes h.connections _ all);
   receives = λ h ack standing begun may all. changes h.connections _ all;
   applies = λ h ack standing begun may all. changes h.connections _ all;
   clears = λ h ack standing begun may all. changes h.connections _ all;

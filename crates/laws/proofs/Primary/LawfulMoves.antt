@@ -10,7 +10,7 @@ use Rattle.blocks.specs.declared.outcome.Decision.{Decision}
 use Rattle.blocks.specs.declared.outcome.Decision.TheVariants.{NoSync, BitmapSync, FullSync}
 use Rattle.blocks.specs.SettingsRange.{IsInRange}
 use Rattle.model.specs.Contents.{BlockMap}
-use Rattle.model.specs.Stream.{Item, WriteItem, ResyncItem, BarrierItem, SyncUuidItem, UuidsItem, is_write, last_epoch, items_of_epoch, epoch_size, IsLawful}
+use Rattle.model.specs.Stream.{Item, WriteItem, ResyncItem, BarrierItem, SyncUuidItem, UuidsItem, is_write, last_epoch, items_of_epoch, epoch_size, IsLawful, within}
 use Rattle.model.specs.Frames.{UuidsFrame}
 use Rattle.model.specs.Identifiers.{sync_end}
 use Rattle.model.specs.Marks.{marking}
@@ -182,7 +182,7 @@ lawful-resyncs settings h block standing alone free homes between =
 lawful-faults : (settings : Settings) (h : PrimaryHistory) (number : ℕ) (offsets : List ℕ) → HasLawfulStreams settings h → HasLawfulStreams settings (faulted number offsets h)
 lawful-faults settings h number offsets streams = go (accepted_at h number)
   where
-    go : (v : Option Accepted) → HasLawfulStreams settings (elim v as (λ _. PrimaryHistory) [ None ↦ h | Some accepted ↦ with_outcome number (Failed offsets) (record h { marks = marking accepted.write h.marks }) ])
+    go : (v : Option Accepted) → HasLawfulStreams settings (elim v as (λ _. PrimaryHistory) [ None ↦ h | Some accepted ↦ with_outcome number (Failed (within (length accepted.write.contents) offsets)) (record h { marks = marking accepted.write h.marks }) ])
     go None = streams
     go (Some accepted) = lawful-same settings h _ refl refl streams
 
@@ -238,8 +238,8 @@ lawful-kept settings bound = record {
   writes = λ h number waiting p. (homes-kept.writes h number waiting p.0, lawful-same settings h _ refl refl p.1.streams);
   faults = λ h number offsets waiting p. (homes-kept.faults h number offsets waiting p.0, lawful-faults settings h number offsets p.1.streams);
   sends = λ h standing due p. (homes-kept.sends h standing due p.0, lawful-change settings h _ pushing refl refl (λ k at lawful. lawful) p.1.streams);
-  greets = λ h frame standing new p. (homes-kept.greets h frame standing new p.0, lawful-change settings h _ (with_frame frame) refl refl (λ k at lawful. lawful) p.1.streams);
-  begins = λ h peer decided standing new is p. (homes-kept.begins h peer decided standing new is p.0, lawful-begins settings h peer decided p.1.streams);
+  greets = λ h frame standing new met p. (homes-kept.greets h frame standing new met p.0, lawful-change settings h _ (with_frame frame) refl refl (λ k at lawful. lawful) p.1.streams);
+  begins = λ h peer decided standing new late is p. (homes-kept.begins h peer decided standing new late is p.0, lawful-begins settings h peer decided p.1.streams);
   receives = λ h ack standing begun may p. (homes-kept.receives h ack standing begun may p.0, lawful-change settings h _ (with_frame _) refl refl (λ k at lawful. lawful) p.1.streams);
   applies = λ h ack standing begun may p. (homes-kept.applies h ack standing begun may p.0, lawful-change settings h _ (with_frame _) refl refl (λ k at lawful. lawful) p.1.streams);
   clears = λ h ack standing begun may p. (homes-kept.clears h ack standing begun may p.0, lawful-change settings h _ (with_frame _) refl refl (λ k at lawful. lawful) p.1.streams);

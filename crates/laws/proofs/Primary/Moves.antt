@@ -1,7 +1,7 @@
 -- A primary's steps, taken apart: what has to be shown of a property so that every step keeps it.
-use Rattle.std.proofs.Common.{ℕ, zero, suc, ◌≡◌, ◌<◌, Bool, true, false, cond, not, ◌&&◌, ◌||◌, List, [], ◌∷◌, ◌++◌, length, Option, Some, None, is_none, Result, Ok, Err, refl, sym, subst, ◌==◌, nat_lt, nat_le}
+use Rattle.std.proofs.Common.{ℕ, zero, suc, ◌≡◌, ◌<◌, ◌⊎◌, inl, inr, Bool, true, false, cond, not, ◌&&◌, ◌||◌, List, [], ◌∷◌, ◌++◌, length, Option, Some, None, is_none, Result, Ok, Err, refl, sym, subst, ◌==◌, nat_lt, nat_le, ap, arith}
 use Rattle.std.specs.Prelude.{find, is_some, unwrap_or}
-use Rattle.std.proofs.lemmas.Bool.{not-true, not-false, or_parts, and_parts, leb-false}
+use Rattle.std.proofs.lemmas.Bool.{not-true, not-false, or_parts, and_parts, leb-false, eqb-true}
 use Rattle.blocks.specs.declared.refusal.Refusal.{Refusal}
 use Rattle.blocks.specs.declared.refusal.Refusal.TheVariants.{BadRange, Conflict, LogFull, ActivityFull, JournalFull, StreamFull, NoMemory, LocalFault, NothingToDo, LinkFull, NotConnected, NothingThere, ReadFault, UnknownJob, BadBarrierAck, UnknownAck, UsedIdentifier, OtherProtocol, OtherSize, NotDrained}
 use Rattle.blocks.specs.declared.outcome.Decision.{Decision}
@@ -23,6 +23,7 @@ use Rattle.model.specs.PrimarySteps.{Followed, with_completions, epoch_is_over, 
 use Rattle.model.specs.Acknowledgements.{same_protocol, Taken, begun_with, meeting, taking_hello, names_sent, was_named, is_protocol, is_in_turn, taking_ack, taking, take_frame, ack_in}
 use Rattle.model.specs.LocalRuns.{PrimaryEvent, Opens, Submits, WritesLocally, FailsLocally, Sends, Takes, Resyncs, FailsResync, Closes, Receipts, primary_after, primary_run}
 use Rattle.laws.proofs.Lists.Tests.{test-passed}
+use Rattle.blocks.specs.declared.settings.Protocol.{Protocol}
 
 -- a frame is taken
 abbrev pub with_frame : Received → Outward → Outward
@@ -47,6 +48,12 @@ pub record MayAcknowledge (h : PrimaryHistory) (kind : Item → Bool) (before : 
   pub names : names_sent kind ack (outward h) ≡ true
   pub first : was_named before ack (outward h) ≡ false
 
+-- A frame of the hello that is accepted: the peer's protocol first, and then its size.
+abbrev pub IsGreeting : PrimaryHistory → Received → Type 0
+IsGreeting h frame =
+    ((length (outward h).taken ≡ 0) × ((asked : Protocol) × (frame ≡ Ok (ProtocolFrame asked)) × (same_protocol asked h.settings.protocol ≡ true)))
+    ⊎ ((length (outward h).taken ≡ 1) × (frame ≡ Ok (SizesFrame h.settings.blocks)))
+
 -- `P` holds between steps, and `Q` after a step's effect, before what follows from it. A property is kept by every step if
 -- each effect leads from `P` to `Q`, and what follows leads back.
 pub record IsKeptByMoves (P Q : PrimaryHistory → Type 0) : Type 0 where
@@ -57,8 +64,8 @@ pub record IsKeptByMoves (P Q : PrimaryHistory → Type 0) : Type 0 where
   pub faults : (h : PrimaryHistory) (number : ℕ) (offsets : List ℕ) → is_unfinished h number ≡ true → P h → Q (faulted number offsets h)
   pub sends : (h : PrimaryHistory) → (outward h).closed ≡ false → (outward h).pushed < length (frames_due h.settings (outward h)) → P h → Q (with_outward pushing h)
   -- the frames that are accepted, each on the history with the frame taken
-  pub greets : (h : PrimaryHistory) (frame : Received) → (outward h).closed ≡ false → (outward h).begun ≡ false → P h → Q (with_outward (with_frame frame) h)
-  pub begins : (h : PrimaryHistory) (peer : Tuple) (decided : Decision) → (outward h).closed ≡ false → (outward h).begun ≡ false → decision h.tuple peer ≡ Ok decided → P h
+  pub greets : (h : PrimaryHistory) (frame : Received) → (outward h).closed ≡ false → (outward h).begun ≡ false → IsGreeting h frame → P h → Q (with_outward (with_frame frame) h)
+  pub begins : (h : PrimaryHistory) (peer : Tuple) (decided : Decision) → (outward h).closed ≡ false → (outward h).begun ≡ false → 1 < length (outward h).taken → decision h.tuple peer ≡ Ok decided → P h
       → Q (begun_with decided (record (with_outward (with_frame (Ok (UuidsFrame peer))) h) { peer = Some peer }))
   pub receives : (h : PrimaryHistory) (ack : Acknowledged) → (outward h).closed ≡ false → (outward h).begun ≡ true → MayAcknowledge h is_write was_received ack → P h
       → Q (with_outward (with_frame (Ok (RecvAckFrame ack))) h)
@@ -174,7 +181,7 @@ module _ (P Q : PrimaryHistory → Type 0) (K : IsKeptByMoves P Q) where
   ]) p (λ none.
       let c : Outward = outward h in
       let rest : List Test = (nat_le 4294967288 (length c.stream), StreamFull) ∷ (starved, NoMemory) ∷ [] in
-      let idle : Bool = elim (resync_runs c) as (λ _. Bool) [ true ↦ is_none (free_block h) | false ↦ true ] in
+      let idle : Bool = is_none (free_block h) in
       let busy : Bool = not (resync_runs c) || (nat_lt 0 (length (under_way c)) || idle) in
       let one = test-passed c.closed NotConnected ((busy, NothingToDo) ∷ rest) none in
       let two = test-passed busy NothingToDo rest one.1 in
@@ -192,9 +199,9 @@ module _ (P Q : PrimaryHistory → Type 0) (K : IsKeptByMoves P Q) where
   keeps-resync-fault : (starved : Bool) (h : PrimaryHistory) → P h → P (resync_fault starved h).1
   keeps-resync-fault starved h p = tested-keeps P h (resync_tests h starved) (λ _. (reply.Refused ReadFault, h)) p (λ none. p)
 
-  keeps-meeting : (h : PrimaryHistory) → (outward h).closed ≡ false → (outward h).begun ≡ false → P h → (peer : Tuple)
+  keeps-meeting : (h : PrimaryHistory) → (outward h).closed ≡ false → (outward h).begun ≡ false → 1 < length (outward h).taken → P h → (peer : Tuple)
       → Fine Q (with_outward (with_frame (Ok (UuidsFrame peer))) h) (meeting peer (with_outward (with_frame (Ok (UuidsFrame peer))) h))
-  keeps-meeting h standing new p peer = go (stands_in (outward taken).sync peer || stands_in (outward taken).loss peer) (decision h.tuple peer) refl
+  keeps-meeting h standing new late p peer = go (stands_in (outward taken).sync peer || stands_in (outward taken).loss peer) (decision h.tuple peer) refl
     where
       taken : PrimaryHistory
       taken = with_outward (with_frame (Ok (UuidsFrame peer))) h
@@ -208,45 +215,45 @@ module _ (P Q : PrimaryHistory → Type 0) (K : IsKeptByMoves P Q) where
       ])
       go true v is = (Some peer, refl)
       go false (Err refusal) is = (Some peer, refl)
-      go false (Ok decided) is = K.begins h peer decided standing new is p
+      go false (Ok decided) is = K.begins h peer decided standing new late is p
 
-  keeps-hello : (h : PrimaryHistory) → (outward h).closed ≡ false → (outward h).begun ≡ false → P h → (n : ℕ) (packet : Packet)
+  keeps-hello : (h : PrimaryHistory) → (outward h).closed ≡ false → (outward h).begun ≡ false → P h → (n : ℕ) (packet : Packet) → length (outward h).taken ≡ n
       → Fine Q (with_outward (with_frame (Ok packet)) h) (taking_hello n packet (with_outward (with_frame (Ok packet)) h))
-  keeps-hello h standing new p zero (DataFrame write at) = (h.peer, refl)
-  keeps-hello h standing new p zero (RsDataReplyFrame block contents at) = (h.peer, refl)
-  keeps-hello h standing new p zero (BarrierFrame number) = (h.peer, refl)
-  keeps-hello h standing new p zero (ProtocolFrame asked) =
-      fine-if Q (with_outward (with_frame (Ok (ProtocolFrame asked))) h) (with_outward (with_frame (Ok (ProtocolFrame asked))) h) (same_protocol asked h.settings.protocol) (what.Frame command.Protocol None) OtherProtocol (λ _. K.greets h (Ok (ProtocolFrame asked)) standing new p)
-  keeps-hello h standing new p zero (UuidsFrame tuple) = (h.peer, refl)
-  keeps-hello h standing new p zero (SizesFrame blocks) = (h.peer, refl)
-  keeps-hello h standing new p zero (SyncUuidFrame word) = (h.peer, refl)
-  keeps-hello h standing new p zero (RecvAckFrame ack) = (h.peer, refl)
-  keeps-hello h standing new p zero (WriteAckFrame ack) = (h.peer, refl)
-  keeps-hello h standing new p zero (RsWriteAckFrame ack) = (h.peer, refl)
-  keeps-hello h standing new p zero (BarrierAckFrame number size) = (h.peer, refl)
-  keeps-hello h standing new p (suc zero) (DataFrame write at) = (h.peer, refl)
-  keeps-hello h standing new p (suc zero) (RsDataReplyFrame block contents at) = (h.peer, refl)
-  keeps-hello h standing new p (suc zero) (BarrierFrame number) = (h.peer, refl)
-  keeps-hello h standing new p (suc zero) (ProtocolFrame asked) = (h.peer, refl)
-  keeps-hello h standing new p (suc zero) (UuidsFrame tuple) = (h.peer, refl)
-  keeps-hello h standing new p (suc zero) (SizesFrame blocks) =
-      fine-if Q (with_outward (with_frame (Ok (SizesFrame blocks))) h) (with_outward (with_frame (Ok (SizesFrame blocks))) h) (blocks == h.settings.blocks) (what.Frame command.Sizes None) OtherSize (λ _. K.greets h (Ok (SizesFrame blocks)) standing new p)
-  keeps-hello h standing new p (suc zero) (SyncUuidFrame word) = (h.peer, refl)
-  keeps-hello h standing new p (suc zero) (RecvAckFrame ack) = (h.peer, refl)
-  keeps-hello h standing new p (suc zero) (WriteAckFrame ack) = (h.peer, refl)
-  keeps-hello h standing new p (suc zero) (RsWriteAckFrame ack) = (h.peer, refl)
-  keeps-hello h standing new p (suc zero) (BarrierAckFrame number size) = (h.peer, refl)
-  keeps-hello h standing new p (suc (suc n)) (DataFrame write at) = (h.peer, refl)
-  keeps-hello h standing new p (suc (suc n)) (RsDataReplyFrame block contents at) = (h.peer, refl)
-  keeps-hello h standing new p (suc (suc n)) (BarrierFrame number) = (h.peer, refl)
-  keeps-hello h standing new p (suc (suc n)) (ProtocolFrame asked) = (h.peer, refl)
-  keeps-hello h standing new p (suc (suc n)) (UuidsFrame tuple) = keeps-meeting h standing new p tuple
-  keeps-hello h standing new p (suc (suc n)) (SizesFrame blocks) = (h.peer, refl)
-  keeps-hello h standing new p (suc (suc n)) (SyncUuidFrame word) = (h.peer, refl)
-  keeps-hello h standing new p (suc (suc n)) (RecvAckFrame ack) = (h.peer, refl)
-  keeps-hello h standing new p (suc (suc n)) (WriteAckFrame ack) = (h.peer, refl)
-  keeps-hello h standing new p (suc (suc n)) (RsWriteAckFrame ack) = (h.peer, refl)
-  keeps-hello h standing new p (suc (suc n)) (BarrierAckFrame number size) = (h.peer, refl)
+  keeps-hello h standing new p zero (DataFrame write at) is = (h.peer, refl)
+  keeps-hello h standing new p zero (RsDataReplyFrame block contents at) is = (h.peer, refl)
+  keeps-hello h standing new p zero (BarrierFrame number) is = (h.peer, refl)
+  keeps-hello h standing new p zero (ProtocolFrame asked) is =
+      fine-if Q (with_outward (with_frame (Ok (ProtocolFrame asked))) h) (with_outward (with_frame (Ok (ProtocolFrame asked))) h) (same_protocol asked h.settings.protocol) (what.Frame command.Protocol None) OtherProtocol (λ same. K.greets h (Ok (ProtocolFrame asked)) standing new (inl (is, (asked, refl, same))) p)
+  keeps-hello h standing new p zero (UuidsFrame tuple) is = (h.peer, refl)
+  keeps-hello h standing new p zero (SizesFrame blocks) is = (h.peer, refl)
+  keeps-hello h standing new p zero (SyncUuidFrame word) is = (h.peer, refl)
+  keeps-hello h standing new p zero (RecvAckFrame ack) is = (h.peer, refl)
+  keeps-hello h standing new p zero (WriteAckFrame ack) is = (h.peer, refl)
+  keeps-hello h standing new p zero (RsWriteAckFrame ack) is = (h.peer, refl)
+  keeps-hello h standing new p zero (BarrierAckFrame number size) is = (h.peer, refl)
+  keeps-hello h standing new p (suc zero) (DataFrame write at) is = (h.peer, refl)
+  keeps-hello h standing new p (suc zero) (RsDataReplyFrame block contents at) is = (h.peer, refl)
+  keeps-hello h standing new p (suc zero) (BarrierFrame number) is = (h.peer, refl)
+  keeps-hello h standing new p (suc zero) (ProtocolFrame asked) is = (h.peer, refl)
+  keeps-hello h standing new p (suc zero) (UuidsFrame tuple) is = (h.peer, refl)
+  keeps-hello h standing new p (suc zero) (SizesFrame blocks) is =
+      fine-if Q (with_outward (with_frame (Ok (SizesFrame blocks))) h) (with_outward (with_frame (Ok (SizesFrame blocks))) h) (blocks == h.settings.blocks) (what.Frame command.Sizes None) OtherSize (λ same. K.greets h (Ok (SizesFrame blocks)) standing new (inr (is, ap (λ (b : ℕ). Ok (SizesFrame b)) (eqb-true blocks h.settings.blocks same))) p)
+  keeps-hello h standing new p (suc zero) (SyncUuidFrame word) is = (h.peer, refl)
+  keeps-hello h standing new p (suc zero) (RecvAckFrame ack) is = (h.peer, refl)
+  keeps-hello h standing new p (suc zero) (WriteAckFrame ack) is = (h.peer, refl)
+  keeps-hello h standing new p (suc zero) (RsWriteAckFrame ack) is = (h.peer, refl)
+  keeps-hello h standing new p (suc zero) (BarrierAckFrame number size) is = (h.peer, refl)
+  keeps-hello h standing new p (suc (suc n)) (DataFrame write at) is = (h.peer, refl)
+  keeps-hello h standing new p (suc (suc n)) (RsDataReplyFrame block contents at) is = (h.peer, refl)
+  keeps-hello h standing new p (suc (suc n)) (BarrierFrame number) is = (h.peer, refl)
+  keeps-hello h standing new p (suc (suc n)) (ProtocolFrame asked) is = (h.peer, refl)
+  keeps-hello h standing new p (suc (suc n)) (UuidsFrame tuple) is = keeps-meeting h standing new (omega arith) p tuple
+  keeps-hello h standing new p (suc (suc n)) (SizesFrame blocks) is = (h.peer, refl)
+  keeps-hello h standing new p (suc (suc n)) (SyncUuidFrame word) is = (h.peer, refl)
+  keeps-hello h standing new p (suc (suc n)) (RecvAckFrame ack) is = (h.peer, refl)
+  keeps-hello h standing new p (suc (suc n)) (WriteAckFrame ack) is = (h.peer, refl)
+  keeps-hello h standing new p (suc (suc n)) (RsWriteAckFrame ack) is = (h.peer, refl)
+  keeps-hello h standing new p (suc (suc n)) (BarrierAckFrame number size) is = (h.peer, refl)
 
   keeps-ack : (h : PrimaryHistory) → (outward h).closed ≡ false → (outward h).begun ≡ true → P h → (packet : Packet)
       → Fine Q (with_outward (with_frame (Ok packet)) h) (taking_ack packet h (with_outward (with_frame (Ok packet)) h))
@@ -287,7 +294,7 @@ module _ (P Q : PrimaryHistory → Type 0) (K : IsKeptByMoves P Q) where
         | false ↦ taking_hello (length (outward h).taken) packet (with_outward (with_frame (Ok packet)) h)
       ])
       go true is = keeps-ack h standing is p packet
-      go false is = keeps-hello h standing is p (length (outward h).taken) packet
+      go false is = keeps-hello h standing is p (length (outward h).taken) packet refl
 
   keeps-frame : (h : PrimaryHistory) → (outward h).closed ≡ false → P h → (frame : Received) → P (take_frame frame h).1
   keeps-frame h standing p frame = go (taking frame h (with_outward (with_frame frame) h)) (keeps-taking h standing p frame)

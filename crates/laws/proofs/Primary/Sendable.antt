@@ -14,7 +14,7 @@ use Rattle.blocks.specs.declared.outcome.Reply.TheVariants as reply
 use Rattle.blocks.specs.declared.settings.Settings.{Settings}
 use Rattle.blocks.specs.declared.tuple.Tuple.{Tuple}
 use Rattle.model.specs.Contents.{BlockMap, is_range, extent_of}
-use Rattle.model.specs.Stream.{Item, WriteItem, ResyncItem, SyncUuidItem, below}
+use Rattle.model.specs.Stream.{Item, WriteItem, ResyncItem, SyncUuidItem, below, within}
 use Rattle.model.specs.Frames.{Packet, ProtocolFrame, UuidsFrame, SizesFrame, RecvAckFrame, WriteAckFrame, RsWriteAckFrame, BarrierAckFrame, Received}
 use Rattle.model.specs.Identifiers.{are_fresh, decision, stands_in, sync_end}
 use Rattle.model.specs.Marks.{marking}
@@ -133,7 +133,7 @@ module _ (settings : Settings) (bound : 0 < settings.max_epoch) where
   fit-fault number offsets h a = tested-keeps (HasFitEnds settings) h ((not (is_unfinished h number), UnknownJob) ∷ []) (λ _. succeeding what.Nothing (faulted number offsets h)) a (λ none.
       fit-following (faulted number offsets h) (go (accepted_at h number)))
     where
-      go : (v : Option Accepted) → HasFitEnds settings (elim v as (λ _. PrimaryHistory) [ None ↦ h | Some accepted ↦ with_outcome number (Failed offsets) (record h { marks = marking accepted.write h.marks }) ])
+      go : (v : Option Accepted) → HasFitEnds settings (elim v as (λ _. PrimaryHistory) [ None ↦ h | Some accepted ↦ with_outcome number (Failed (within (length accepted.write.contents) offsets)) (record h { marks = marking accepted.write h.marks }) ])
       go None = a
       go (Some accepted) = fit-same h _ refl refl a
 
@@ -170,7 +170,7 @@ module _ (settings : Settings) (bound : 0 < settings.max_epoch) where
       let t4 : List Test = (starved, NoMemory) ∷ [] in
       let full : Bool = nat_le 4294967288 (length c.stream) in
       let t3 : List Test = (full, StreamFull) ∷ t4 in
-      let idle : Bool = elim (resync_runs c) as (λ _. Bool) [ true ↦ is_none (free_block h) | false ↦ true ] in
+      let idle : Bool = is_none (free_block h) in
       let busy : Bool = not (resync_runs c) || (nat_lt 0 (length (under_way c)) || idle) in
       let one = test-passed c.closed NotConnected ((busy, NothingToDo) ∷ t3) none in
       let two = test-passed busy NothingToDo t3 one.1 in
@@ -278,7 +278,7 @@ module _ (settings : Settings) (bound : 0 < settings.max_epoch) where
   fit-ack h (RecvAckFrame ack) old a = fit-if _ _ _ _ _ (fit-takes h (Ok (RecvAckFrame ack)) old a)
   fit-ack h (WriteAckFrame ack) old a = fit-if _ _ _ _ _ (fit-takes h (Ok (WriteAckFrame ack)) old a)
   fit-ack h (RsWriteAckFrame ack) old a = fit-if _ _ _ _ _ (fit-same (with_outward (with_frame (Ok (RsWriteAckFrame ack))) h) _ refl refl (fit-takes h (Ok (RsWriteAckFrame ack)) old a))
-  fit-ack h (BarrierAckFrame number size) old a = fit-if _ _ _ _ _ (fit-takes h (Ok (BarrierAckFrame number size)) old a)
+  fit-ack h (BarrierAckFrame number size) old a = fit-if _ _ _ _ _ (fit-same (with_outward (with_frame (Ok (BarrierAckFrame number size))) h) _ refl refl (fit-takes h (Ok (BarrierAckFrame number size)) old a))
   fit-ack h packet old a = (refl, refl)
 
   fit-taking : (h : PrimaryHistory) (frame : Received) → (outward h).closed ≡ false → HasFitEnds settings h → FitTaken (with_outward (with_frame frame) h) (taking frame h (with_outward (with_frame frame) h))

@@ -4,7 +4,7 @@ use Rattle.std.proofs.lemmas.Bool.{both_ways, not-true, and_parts}
 use Rattle.blocks.specs.declared.tuple.Tuple.{Tuple}
 use Rattle.blocks.specs.declared.outcome.Decision.{Decision}
 use Rattle.blocks.specs.declared.outcome.Decision.TheVariants.{NoSync, BitmapSync, FullSync}
-use Rattle.model.specs.Stream.{WriteItem, SyncUuidItem}
+use Rattle.model.specs.Stream.{WriteItem, SyncUuidItem, within}
 use Rattle.model.specs.Frames.{UuidsFrame}
 use Rattle.model.specs.Primary.{Waiting, Failed, Accepted, Outward, PrimaryHistory, no_outward, outward, change_last, last_index, with_outward, stands, resync_runs, in_resync, marked_blocks, under_way}
 use Rattle.model.specs.Marks.{marking}
@@ -54,7 +54,7 @@ stays-submits p h first contents stays = go (stands (outward h)) refl
 stays-faults : (p h : PrimaryHistory) (number : ℕ) (offsets : List ℕ) → StaysClosed p h → StaysClosed p (faulted number offsets h)
 stays-faults p h number offsets stays = go (accepted_at h number)
   where
-    go : (v : Option Accepted) → StaysClosed p (elim v as (λ _. PrimaryHistory) [ None ↦ h | Some accepted ↦ with_outcome number (Failed offsets) (record h { marks = marking accepted.write h.marks }) ])
+    go : (v : Option Accepted) → StaysClosed p (elim v as (λ _. PrimaryHistory) [ None ↦ h | Some accepted ↦ with_outcome number (Failed (within (length accepted.write.contents) offsets)) (record h { marks = marking accepted.write h.marks }) ])
     go None = stays
     go (Some accepted) = stays-same p h _ refl stays
 
@@ -83,8 +83,8 @@ stays-kept p = record {
   writes = λ h number waiting stays. stays-same p h _ refl stays;
   faults = λ h number offsets waiting stays. stays-faults p h number offsets stays;
   sends = λ h standing due stays. stays-change p h _ pushing refl standing stays;
-  greets = λ h frame standing new stays. stays-change p h _ (with_frame frame) refl standing stays;
-  begins = λ h peer decided standing new is stays. stays-begins p h peer decided standing stays;
+  greets = λ h frame standing new met stays. stays-change p h _ (with_frame frame) refl standing stays;
+  begins = λ h peer decided standing new late is stays. stays-begins p h peer decided standing stays;
   receives = λ h ack standing begun may stays. stays-change p h _ (with_frame _) refl standing stays;
   applies = λ h ack standing begun may stays. stays-change p h _ (with_frame _) refl standing stays;
   clears = λ h ack standing begun may stays. stays-change p h _ (with_frame _) refl standing stays;

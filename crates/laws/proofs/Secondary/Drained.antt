@@ -6,7 +6,7 @@ use Rattle.blocks.specs.declared.refusal.Refusal.TheVariants.{NotDrained}
 use Rattle.blocks.specs.declared.outcome.What.TheVariants as what
 use Rattle.model.specs.Primary.{change_last}
 use Rattle.model.specs.Secondary.{Inward, SecondaryHistory, no_inward, inward, secondary_map, pending, is_drained}
-use Rattle.model.specs.SecondarySteps.{answering, applying, failing, open_secondary_tests, opened_secondary, open_secondary, succeeding_secondary}
+use Rattle.model.specs.SecondarySteps.{answering, applying, failing, open_secondary_tests, opened_secondary, open_secondary, succeeding_secondary, next_number}
 use Rattle.model.specs.LocalRuns.{SecondaryEvent, OpensToo, Receives, Applies, FailsToApply, Acknowledges, ClosesToo, secondary_after, secondary_run}
 use Rattle.model.specs.Theorems.{secondary_at}
 use Rattle.laws.specs.Statements.{SecondaryDrainsFirst}
@@ -31,9 +31,9 @@ changes (x ∷ ds) f all k d at less =
     elim (get-change-back f x (x ∷ ds) k d at) [ inl same ↦ all k d same (omega arith) | inr changed ↦ absurd (let end = changed.2 in omega arith) ]
 
 -- a new connection comes where nothing is pending on the last one
-opens : (h : SecondaryHistory) → is_drained h ≡ true → IsDrainedBefore h → IsDrainedBefore (opened_secondary h)
-opens h drained all k d at less =
-    let new : Inward = record { base = secondary_map h; hello = h.tuple; taken = []; refused = false; applied = []; gone = []; due = []; pushed = 0; closed = false } in
+opens : (unseen : ℕ) (h : SecondaryHistory) → is_drained h ≡ true → IsDrainedBefore h → IsDrainedBefore (opened_secondary unseen h)
+opens unseen h drained all k d at less =
+    let new : Inward = record { number = next_number unseen h; base = secondary_map h; hello = h.tuple; taken = []; refused = false; applied = []; gone = []; due = []; pushed = 0; closed = false } in
     let size : length (h.connections ++ new ∷ []) ≡ length h.connections + 1 = length-append h.connections (new ∷ []) in
     elim (get-more h.connections new k d at) [
       | inr added ↦ absurd (let here = added.0 in omega arith)
@@ -52,14 +52,14 @@ opens h drained all k d at less =
           ]
     ]
 
-drained-open : (h : SecondaryHistory) → IsDrainedBefore h → IsDrainedBefore (open_secondary h).1
-drained-open h all = tested-keeps IsDrainedBefore h (open_secondary_tests h) (λ _. succeeding_secondary what.Nothing (opened_secondary h)) all (λ passed.
+drained-open : (unseen : ℕ) (h : SecondaryHistory) → IsDrainedBefore h → IsDrainedBefore (open_secondary unseen h).1
+drained-open unseen h all = tested-keeps IsDrainedBefore h (open_secondary_tests h) (λ _. succeeding_secondary what.Nothing (opened_secondary unseen h)) all (λ passed.
     let one = test-passed (not ((inward h).closed && is_drained h)) NotDrained [] passed in
     let free = and_parts (inward h).closed (is_drained h) (not-false ((inward h).closed && is_drained h) one.0) in
-    changes (opened_secondary h).connections answering (opens h free.1 all))
+    changes (opened_secondary unseen h).connections answering (opens unseen h free.1 all))
 
 drained-after : (event : SecondaryEvent) (h : SecondaryHistory) → IsDrainedBefore h → IsDrainedBefore (secondary_after event h)
-drained-after OpensToo h all = drained-open h all
+drained-after (OpensToo unseen) h all = drained-open unseen h all
 drained-after (Receives frame starved) h all = after-receive IsDrainedBefore h frame starved all (λ taken is standing. record {
   accepts = changes _ answering (changes h.connections (framed taken) all);
   receipts = λ write at frame_is late. changes _ answering (changes _ _ (changes h.connections (framed taken) all));

@@ -1,19 +1,21 @@
 -- A secondary's connection as it has to be, over all that happens to it: sound, and closed once a frame of it was refused.
-use Rattle.std.proofs.Common.{ℕ, ◌≡◌, ◌-◌, inl, inr, true, false, List, [], ◌∷◌, ◌++◌, length, take, drop, map, Option, Some, None, slice_get, refl, sym, ◌∙◌, ap, arith}
+use Rattle.std.proofs.Common.{ℕ, ◌≡◌, ◌-◌, inl, inr, true, false, List, [], ◌∷◌, ◌++◌, length, take, drop, map, Option, Some, None, slice_get, refl, sym, ◌∙◌, ap, arith, subst, ◌<◌, nat_lt}
 use Rattle.std.specs.Prelude.{filter_map, if◌then◌else◌}
-use Rattle.std.proofs.lemmas.Bool.{cases_Bool, both_ways}
+use Rattle.std.proofs.lemmas.Bool.{cases_Bool, both_ways, ltb-true}
 use Rattle.std.proofs.lemmas.List.{length-append}
 use Rattle.std.proofs.lemmas.List.Elements.{filter_map-append}
 use Rattle.std.proofs.Math.Seq.{take-append_seam}
 use Rattle.blocks.specs.declared.settings.Protocol.{Protocol}
 use Rattle.blocks.specs.declared.tuple.Tuple.{Tuple}
 use Rattle.model.specs.Contents.{BlockMap}
-use Rattle.model.specs.Stream.{Item, below, contents_of}
+use Rattle.model.specs.Stream.{Item, below, contents_of, within}
 use Rattle.model.specs.Frames.{Packet, Received}
 use Rattle.model.specs.Secondary.{Inward, items_taken, accepted_of, received_item}
-use Rattle.model.specs.SecondarySteps.{answering, barrier_answer, barriers_to_answer, is_pending_at, has_earlier, offsets_at, applied_answer, applying, failing}
-use Rattle.laws.proofs.Secondary.Sound.{IsSound, starting, sound-taking, sound-same, sound-applying, dropped}
+use Rattle.model.specs.SecondarySteps.{answering, barrier_answer, barriers_to_answer, is_pending_at, has_earlier, offsets_at, applied_answer, applying, failing, blocks_at}
+use Rattle.laws.proofs.Secondary.Sound.{IsSound, starting, sound-taking, sound-same, sound-applying, dropped, Started}
 use Rattle.laws.proofs.Lists.Beginnings.{begins-drop}
+use Rattle.laws.proofs.Lists.Elements.{same-at}
+use Rattle.laws.proofs.Lists.Picks.{pick-below, pick-filtered}
 
 -- A connection as it has to be: sound, and closed once a frame of it was refused.
 pub record IsGood (d : Inward) : Type 0 where
@@ -37,14 +39,15 @@ base-answering d block =
     elim d.closed as (λ b. (elim b as (λ _. Inward) [ true ↦ d | false ↦ record d { due = d.due ++ map (barrier_answer d) (barriers_to_answer d) } ]).base block ≡ d.base block) [ true ↦ refl | false ↦ refl ]
 
 -- a new connection is good
-pub good-new : (disk : BlockMap) (hello : Tuple) → IsGood (record { base = disk; hello = hello; taken = []; refused = false; applied = []; gone = []; due = []; pushed = 0; closed = false })
-good-new disk hello = record {
+pub good-new : (number : ℕ) (disk : BlockMap) (hello : Tuple) → IsGood (record { number = number; base = disk; hello = hello; taken = []; refused = false; applied = []; gone = []; due = []; pushed = 0; closed = false })
+good-new number disk hello = record {
   sound = record {
     epoch = 0;
     upto = omega arith;
     before = λ place offset item at early less. absurd (cc);
     after = λ place offset h. absurd (cc);
     within = λ place offset h. absurd (cc);
+    named = λ place offset h. absurd (cc);
     stopped = inl refl;
   };
   refused = λ h. absurd (cc);
@@ -101,21 +104,34 @@ base-applying asked place d block = go (slice_get (items_taken d) place)
 
 -- a pending item is applied whose epoch has its turn
 pub good-applying : (asked : Protocol) (place : ℕ) (d : Inward) → is_pending_at d place ≡ true → has_earlier d place ≡ false → IsGood d → IsGood (applying asked place d)
-good-applying asked place d waiting none good = go (slice_get (items_taken d) place)
+good-applying asked place d waiting none good = go (slice_get (items_taken d) place) refl
   where
-    go : (v : Option Item) → IsGood (elim v as (λ _. Inward) [
+    start : Started d place good.sound
+    start = starting d place good.sound waiting none
+
+    go : (v : Option Item) → slice_get (items_taken d) place ≡ v → IsGood (elim v as (λ _. Inward) [
       | None ↦ d
       | Some item ↦ record d { applied = d.applied ++ offsets_at place (below (length (contents_of item))); due = elim d.closed [ true ↦ d.due | false ↦ d.due ++ applied_answer asked place item ] }
     ])
-    go None = good
-    go (Some item) = record {
-      sound = sound-applying d _ place (below (length (contents_of item))) good.sound (starting d place good.sound waiting none) refl refl (inl (refl, refl));
+    go None is = good
+    go (Some item) is = record {
+      sound = sound-applying d _ place (below (length (contents_of item))) good.sound start
+          (λ n offset at. subst (λ (i : Item). offset < length (contents_of i)) (same-at (items_taken d) place item start.item is start.there) (pick-below (length (contents_of item)) n offset at)) refl refl (inl (refl, refl));
       refused = good.refused;
     }
 
 -- the disk fails at such an item, and the end closes
 pub good-failing : (place : ℕ) (offsets : List ℕ) (d : Inward) → is_pending_at d place ≡ true → has_earlier d place ≡ false → IsGood d → IsGood (failing place offsets d)
 good-failing place offsets d waiting none good = record {
-  sound = sound-applying d (failing place offsets d) place offsets good.sound (starting d place good.sound waiting none) refl refl (inr (refl, dropped d place offsets));
+  sound = sound-applying d (failing place offsets d) place (within (blocks_at (items_taken d) place) offsets) good.sound start few refl refl (inr (refl, dropped d place offsets));
   refused = λ h. refl;
 }
+  where
+    start : Started d place good.sound
+    start = starting d place good.sound waiting none
+
+    few : (n offset : ℕ) → slice_get (within (blocks_at (items_taken d) place) offsets) n ≡ Some offset → offset < length (contents_of start.item)
+    few n offset at =
+        let small : nat_lt offset (blocks_at (items_taken d) place) ≡ true = (pick-filtered (λ (o : ℕ). nat_lt o (blocks_at (items_taken d) place)) offsets n offset at).2 in
+        let size : blocks_at (items_taken d) place ≡ length (contents_of start.item) = ap (λ (v : Option Item). elim v as (λ _. ℕ) [ None ↦ 0 | Some item ↦ length (contents_of item) ]) start.there in
+        subst (λ (m : ℕ). offset < m) size (ltb-true offset (blocks_at (items_taken d) place) small)

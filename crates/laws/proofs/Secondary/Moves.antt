@@ -123,8 +123,8 @@ after-receive R h frame starved same takes = tested-keeps R h (((inward h).close
     go (Some taken) is standing = after-take R h taken (takes taken is standing)
 
 -- After an opening.
-pub after-open : (R : SecondaryHistory → Type 0) (h : SecondaryHistory) → R h → ((inward h).closed ≡ true → R (with_inward answering (opened_secondary h))) → R (open_secondary h).1
-after-open R h same opens = tested-keeps R h (open_secondary_tests h) (λ _. succeeding_secondary what.Nothing (opened_secondary h)) same (λ passed.
+pub after-open : (R : SecondaryHistory → Type 0) (unseen : ℕ) (h : SecondaryHistory) → R h → ((inward h).closed ≡ true → R (with_inward answering (opened_secondary unseen h))) → R (open_secondary unseen h).1
+after-open R unseen h same opens = tested-keeps R h (open_secondary_tests h) (λ _. succeeding_secondary what.Nothing (opened_secondary unseen h)) same (λ passed.
     let one = test-passed (not ((inward h).closed && is_drained h)) NotDrained [] passed in
     opens (and_parts (inward h).closed (is_drained h) (not-false ((inward h).closed && is_drained h) one.0)).0)
 
@@ -162,7 +162,7 @@ after-close R h same closes = tested-keeps R h (((inward h).closed, NotConnected
 -- What has to hold of each effect, and where nothing was done, so that `R` holds after every event.
 pub record After (R : SecondaryHistory → Type 0) (h : SecondaryHistory) : Type 0 where
   pub same : R h
-  pub opens : (inward h).closed ≡ true → R (with_inward answering (opened_secondary h))
+  pub opens : (unseen : ℕ) → (inward h).closed ≡ true → R (with_inward answering (opened_secondary unseen h))
   pub takes : (frame : Received) → (inward h).closed ≡ false → AfterFrame R h frame
   pub applies : (place : ℕ) → is_pending_at (inward h) place ≡ true → has_earlier (inward h) place ≡ false → R (with_inward answering (with_inward (applying h.settings.protocol place) h))
   pub fails : (place : ℕ) (offsets : List ℕ) → is_pending_at (inward h) place ≡ true → has_earlier (inward h) place ≡ false → R (with_inward (failing place offsets) h)
@@ -171,7 +171,7 @@ pub record After (R : SecondaryHistory → Type 0) (h : SecondaryHistory) : Type
 
 -- It then does.
 pub after-event : (R : SecondaryHistory → Type 0) (h : SecondaryHistory) (event : SecondaryEvent) → After R h → R (secondary_after event h)
-after-event R h OpensToo a = after-open R h a.same a.opens
+after-event R h (OpensToo unseen) a = after-open R unseen h a.same (a.opens unseen)
 after-event R h (Receives frame starved) a = after-receive R h frame starved a.same (λ taken is standing. a.takes taken standing)
 after-event R h (Applies place) a = after-peer R h place a.same (a.applies place)
 after-event R h (FailsToApply place offsets) a = after-fault R h place offsets a.same (a.fails place offsets)

@@ -10,11 +10,11 @@ use Rattle.blocks.specs.declared.settings.Protocol.{Protocol}
 use Rattle.blocks.specs.declared.settings.Protocol.TheVariants as protocol
 use Rattle.blocks.specs.declared.tuple.Tuple.{Tuple}
 use Rattle.model.specs.Contents.{BlockMap, Write}
-use Rattle.model.specs.Stream.{Item, WriteItem, Part, is_whole, has_blocks}
+use Rattle.model.specs.Stream.{Item, WriteItem, Part, is_whole, has_blocks, within}
 use Rattle.model.specs.Frames.{Packet, RecvAckFrame, WriteAckFrame, RsWriteAckFrame, Acknowledged, Received, naming}
 use Rattle.model.specs.Primary.{same_naming, is_recv_ack, is_write_ack, is_rs_write_ack}
 use Rattle.model.specs.Secondary.{Inward, items_taken}
-use Rattle.model.specs.SecondarySteps.{answering, barrier_answer, barriers_to_answer, is_pending_at, has_earlier, offsets_at, failing}
+use Rattle.model.specs.SecondarySteps.{answering, barrier_answer, barriers_to_answer, is_pending_at, has_earlier, offsets_at, failing, blocks_at}
 use Rattle.laws.proofs.Lists.Elements.{get-split}
 use Rattle.laws.proofs.Lists.Picks.{pick-image}
 use Rattle.laws.proofs.Secondary.Moves.{framed, refused_end, pushed_one, closed_end}
@@ -90,9 +90,9 @@ orderly-same asked d e part o good taken applied due rest = record {
 -- Changes of a connection.
 
 -- a new connection owes nothing
-pub orderly-new : (asked : Protocol) (disk : BlockMap) (hello : Tuple) → IsOrderly asked (record { base = disk; hello = hello; taken = []; refused = false; applied = []; gone = []; due = []; pushed = 0; closed = false })
-orderly-new asked disk hello = record {
-  good = good-new disk hello;
+pub orderly-new : (asked : Protocol) (number : ℕ) (disk : BlockMap) (hello : Tuple) → IsOrderly asked (record { number = number; base = disk; hello = hello; taken = []; refused = false; applied = []; gone = []; due = []; pushed = 0; closed = false })
+orderly-new asked number disk hello = record {
+  good = good-new number disk hello;
   fits = λ n packet at. absurd (cc);
   received = λ standing asks place write at. absurd (cc);
   applied = λ standing place item at blocks whole. absurd (cc);
@@ -128,7 +128,7 @@ orderly-closing asked d o =
 
 -- an item fails, and the end closes
 pub orderly-failing : (asked : Protocol) (place : ℕ) (offsets : List ℕ) (d : Inward) → is_pending_at d place ≡ true → has_earlier d place ≡ false → IsOrderly asked d → IsOrderly asked (failing place offsets d)
-orderly-failing asked place offsets d waiting none o = orderly-same asked d (failing place offsets d) (offsets_at place offsets) o (good-failing place offsets d waiting none o.good) refl refl refl (inl refl)
+orderly-failing asked place offsets d waiting none o = orderly-same asked d (failing place offsets d) (offsets_at place (within (blocks_at (items_taken d) place) offsets)) o (good-failing place offsets d waiting none o.good) refl refl refl (inl refl)
 
 -- the end is open, so nothing was refused
 pub plain : (d : Inward) → IsGood d → d.closed ≡ false → d.refused ≡ false

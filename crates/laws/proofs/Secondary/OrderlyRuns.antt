@@ -127,7 +127,7 @@ module _ (asked : Protocol) where
   -- Every event keeps it, and so does every run.
 
   orderly-after : (event : SecondaryEvent) (h : SecondaryHistory) → HasOrderlyEnds asked h → HasOrderlyEnds asked (secondary_after event h)
-  orderly-after OpensToo h a = after-open (HasOrderlyEnds asked) h a (λ was. then-answering (opened_secondary h) (record { protocol = a.protocol; ends = each-append (IsOrderly asked) h.connections _ a.ends (orderly-new asked _ _) }))
+  orderly-after (OpensToo unseen) h a = after-open (HasOrderlyEnds asked) unseen h a (λ was. then-answering (opened_secondary unseen h) (record { protocol = a.protocol; ends = each-append (IsOrderly asked) h.connections _ a.ends (orderly-new asked _ _ _) }))
   orderly-after (Receives frame starved) h a = orderly-receive frame starved h a
   orderly-after (Applies place) h a = after-peer (HasOrderlyEnds asked) h place a (λ waiting first. then-answering _ (orderly-change h (with_inward (applying h.settings.protocol place) h) (applying h.settings.protocol place) refl refl
       (subst (λ (p : Protocol). IsOrderly asked (inward h) → IsOrderly asked (applying p place (inward h))) (sym a.protocol) (orderly-applying asked place (inward h) waiting first)) a))

@@ -56,9 +56,9 @@ kept-succeeding done h kept = kept-change answering h kept base-answering (good-
 
 -- Open.
 
-kept-open : (h : SecondaryHistory) → IsKept h → IsKept (open_secondary h).1
-kept-open h kept = tested-keeps IsKept h (open_secondary_tests h) (λ _. succeeding_secondary what.Nothing (opened_secondary h)) kept (λ passed. kept-succeeding what.Nothing (opened_secondary h) (record {
-  good = each-append IsGood h.connections _ kept.good (good-new (secondary_map h) h.tuple);
+kept-open : (unseen : ℕ) (h : SecondaryHistory) → IsKept h → IsKept (open_secondary unseen h).1
+kept-open unseen h kept = tested-keeps IsKept h (open_secondary_tests h) (λ _. succeeding_secondary what.Nothing (opened_secondary unseen h)) kept (λ passed. kept-succeeding what.Nothing (opened_secondary unseen h) (record {
+  good = each-append IsGood h.connections _ kept.good (good-new _ (secondary_map h) h.tuple);
   chained = chained-append h.opening_map h.connections _ kept.chained (λ block. last-disk (no_inward h) h.connections block);
 }))
 
@@ -198,7 +198,7 @@ kept-close h kept = tested-keeps IsKept h (((inward h).closed, NotConnected) ∷
 
 -- every step keeps it
 pub kept-after : (event : SecondaryEvent) (h : SecondaryHistory) → IsKept h → IsKept (secondary_after event h)
-kept-after OpensToo h kept = kept-open h kept
+kept-after (OpensToo unseen) h kept = kept-open unseen h kept
 kept-after (Receives frame starved) h kept = kept-receive frame starved h kept
 kept-after (Applies place) h kept = kept-peer place h kept
 kept-after (FailsToApply place offsets) h kept = kept-fault place offsets h kept
@@ -218,12 +218,12 @@ kept-opening settings disk tuple = record { good = tt; chained = tt }
 pub holds_earlier_epochs : SecondaryHoldsEarlierEpochs
 holds_earlier_epochs o events =
     let h : SecondaryHistory = secondary_run events (secondary_at o) in
-    let kept = kept-run events (secondary_at o) (kept-opening o.settings o.peer o.peer_tuple) in
+    let kept = kept-run events (secondary_at o) (kept-opening o.peer_settings o.peer o.peer_tuple) in
     record {
       closed_at = λ k d at.
           let sound = (each-get IsGood h.connections k d kept.good at).sound in
           (sound.epoch, record { before = sound.before; after = sound.after });
-      taken = λ k place offset d at inside. (each-get IsGood h.connections k d kept.good at).sound.within place offset inside;
+      taken = λ k place offset d at inside. (each-get IsGood h.connections k d kept.good at).sound.named place offset inside;
       goes_on = λ k block d e at next. chained-next h.opening_map h.connections k d e kept.chained at next block;
       begins = λ block d at. chained-first h.opening_map h.connections d kept.chained at block;
     }

@@ -5,13 +5,14 @@ use Rattle.std.proofs.lemmas.Bool.{or_parts, or_cases, and_parts, and_from, and_
 use Rattle.std.proofs.lemmas.List.Folds.{list_any-append}
 use Rattle.std.proofs.lemmas.List.{take-append-drop, length-append}
 use Rattle.std.proofs.lemmas.Option.{slice_get_within}
-use Rattle.model.specs.Stream.{Item, Part, is_in, is_whole, contents_of, has_blocks, epoch_of, last_epoch, barriers_in}
+use Rattle.model.specs.Stream.{Item, Part, is_in, is_whole, contents_of, has_blocks, epoch_of, last_epoch, barriers_in, within}
 use Rattle.model.specs.Secondary.{Inward, items_taken, is_pending, pending}
-use Rattle.model.specs.SecondarySteps.{offsets_at, is_pending_at, has_earlier, failing}
+use Rattle.model.specs.SecondarySteps.{offsets_at, is_pending_at, has_earlier, failing, blocks_at}
 use Rattle.laws.proofs.Streams.Places.{none-at, some-at, listed-at, At, get-grows, epoch-grows, epoch-behind, last-grows, barriers-append}
-use Rattle.laws.proofs.Streams.Parts.{in-append, in-grows, in-offsets, whole-has, whole-from, whole-grows}
+use Rattle.laws.proofs.Streams.Parts.{in-append, in-grows, in-offsets, whole-has, whole-from, whole-grows, in-offsets-listed}
+use Rattle.laws.proofs.Lists.Elements.{get-left}
 
--- The part applied is closed at `epoch` and lies in what was taken; once an item failed or was dropped the end is closed,
+-- The part applied is closed at `epoch` and names blocks of what was taken; once an item failed or was dropped the end is closed,
 -- and nothing of a later epoch is pending.
 pub record IsSound (d : Inward) : Type 0 where
   pub epoch : ℕ
@@ -19,6 +20,7 @@ pub record IsSound (d : Inward) : Type 0 where
   pub before : (place offset : ℕ) (item : Item) → slice_get (items_taken d) place ≡ Some item → epoch_of (items_taken d) place < epoch → offset < length (contents_of item) → is_in d.applied place offset ≡ true
   pub after : (place offset : ℕ) → is_in d.applied place offset ≡ true → epoch_of (items_taken d) place ≤ epoch
   pub within : (place offset : ℕ) → is_in d.applied place offset ≡ true → place < length (items_taken d)
+  pub named : (place offset : ℕ) → is_in d.applied place offset ≡ true → (item : Item) × (slice_get (items_taken d) place ≡ Some item) × (offset < length (contents_of item))
   pub stopped : (d.gone ≡ []) ⊎ ((d.closed ≡ true) × ((place : ℕ) (item : Item) → slice_get (items_taken d) place ≡ Some item → is_pending d (place, item) ≡ true → epoch_of (items_taken d) place ≤ epoch))
 
 -- It depends on what was taken, applied and given up, and on whether the end is closed. Taking more keeps it while the
@@ -49,6 +51,9 @@ sound-taking d e more s standing items applied gone =
       within = λ place offset h.
           let inside = s.within place offset (rw (← applied) h) in
           rw (items, length-append old more) (omega arith);
+      named = λ place offset h.
+          let was = s.named place offset (rw (← applied) h) in
+          (was.0, rw items (get-left old more place was.0 was.1), was.2);
       stopped = inl (gone ∙ stays);
     }
 
@@ -60,6 +65,7 @@ sound-same d e s items applied gone closed = record {
   before = λ place offset item at early less. rw applied (s.before place offset item (rw (← items) at) (rw (← items) early) less);
   after = λ place offset h. rw items (s.after place offset (rw (← applied) h));
   within = λ place offset h. rw items (s.within place offset (rw (← applied) h));
+  named = λ place offset h. let was = s.named place offset (rw (← applied) h) in (was.0, rw items was.1, was.2);
   stopped = elim s.stopped [
     | inl none ↦ inl (gone ∙ none)
     | inr shut ↦ inr (
@@ -157,10 +163,11 @@ pending-before d e more place item applied gone waits =
     (and_from (has_blocks item) (not (is_whole d.applied place item)) parts.0 (not_from_false (is_whole d.applied place item) unfinished)) (not_from_false (list_any (λ (p : ℕ). p == place) d.gone) there)
 
 -- Applying some blocks of an item that may be started keeps the part closed, at that item's epoch.
-pub sound-applying : (d e : Inward) (place : ℕ) (offsets : List ℕ) (s : IsSound d) → Started d place s → items_taken e ≡ items_taken d → e.applied ≡ d.applied ++ offsets_at place offsets
+pub sound-applying : (d e : Inward) (place : ℕ) (offsets : List ℕ) (s : IsSound d) → (start : Started d place s) → ((n offset : ℕ) → slice_get offsets n ≡ Some offset → offset < length (contents_of start.item))
+    → items_taken e ≡ items_taken d → e.applied ≡ d.applied ++ offsets_at place offsets
     → ((e.gone ≡ d.gone) × (e.closed ≡ d.closed)) ⊎ ((e.closed ≡ true) × ((other : ℕ) (item : Item) → slice_get (items_taken d) other ≡ Some item → is_pending e (other, item) ≡ true → epoch_of (items_taken d) other ≤ epoch_of (items_taken d) place))
     → IsSound e
-sound-applying d e place offsets s start items applied rest =
+sound-applying d e place offsets s start few items applied rest =
     let old : List Item = items_taken d in
     let here : ℕ = epoch_of old place in
     let is_new : (other offset : ℕ) → is_in e.applied other offset ≡ true → (is_in d.applied other offset ≡ true) ⊎ (place ≡ other) =
@@ -181,6 +188,12 @@ sound-applying d e place offsets s start items applied rest =
       within = λ other offset h. rw items (elim (is_new other offset h) [
         | inl before ↦ s.within other offset before
         | inr same ↦ let inside = start.inside in omega arith
+      ]);
+      named = λ other offset h. rw items (elim (or_cases (is_in d.applied other offset) (is_in (offsets_at place offsets) other offset) (sym (in-append d.applied (offsets_at place offsets) other offset) ∙ rw (← applied) h)) [
+        | inl before ↦ s.named other offset before
+        | inr added ↦
+            let listed = in-offsets-listed place offsets other offset added in
+            (start.item, subst (λ n. slice_get old n ≡ Some start.item) (in-offsets place offsets other offset added) start.there, few listed.0 offset listed.1)
       ]);
       stopped = elim rest [
         | inl kept ↦ elim s.stopped [
@@ -218,7 +231,7 @@ dropped d place offsets other item at waits =
     let kept = or_parts (list_any (λ (p : ℕ). p == other) d.gone) (list_any (λ (p : ℕ). p == other) (place ∷ places)) (sym (list_any-append (λ (p : ℕ). p == other) d.gone (place ∷ places)) ∙ parts.2) in
     let unlisted = (or_parts (place == other) (list_any (λ (p : ℕ). p == other) places) kept.1).1 in
     let unfinished : is_whole d.applied other item ≡ false = elim (cases_Bool (is_whole d.applied other item)) [
-      | inl whole ↦ absurd (both_ways (is_whole (d.applied ++ offsets_at place offsets) other item) parts.1 (whole-grows d.applied (offsets_at place offsets) other item whole))
+      | inl whole ↦ absurd (both_ways (is_whole (d.applied ++ offsets_at place (within (blocks_at items place) offsets)) other item) parts.1 (whole-grows d.applied (offsets_at place (within (blocks_at items place) offsets)) other item whole))
       | inr part ↦ part
     ] in
     let waited : is_pending d (other, item) ≡ true = and_from (has_blocks item && not (is_whole d.applied other item)) (not (list_any (λ (p : ℕ). p == other) d.gone))

@@ -12,30 +12,30 @@ use Rattle.laws.proofs.Lists.Last.{get-change, change-twice}
 use Rattle.laws.proofs.Secondary.Moves.{framed, receipting, refused_end, pushed_one, closed_end, after-event}
 use Rattle.laws.proofs.Lists.Elements.{get-left}
 
--- a closed connection that stayed as it was
-abbrev pub IsSameClosed : Inward → Inward → Type 0
-IsSameClosed c d = (d.taken ≡ c.taken) × (d.pushed ≡ c.pushed) × (d.due ≡ c.due) × (d.closed ≡ true)
-
 -- where nothing happened
 stays-self : (s : SecondaryHistory) → StaysClosedToo s s
-stays-self s = record { same = λ k c at closed. (c, at, refl, refl, refl, closed) }
+stays-self s = record { same = λ k c at closed. (c, at, refl) }
 
 stays-trans : (s t u : SecondaryHistory) → StaysClosedToo s t → StaysClosedToo t u → StaysClosedToo s u
 stays-trans s t u first second = record {
   same = λ k c at closed.
       let d = first.same k c at closed in
-      let e = second.same k d.0 d.1 d.5 in
-      (e.0, e.1, e.2 ∙ d.2, e.3 ∙ d.3, e.4 ∙ d.4, e.5);
+      let e = second.same k d.0 d.1 (ap (λ (x : Inward). x.closed) d.2 ∙ closed) in
+      (e.0, e.1, e.2 ∙ ap (λ (x : Inward). record x { applied = e.0.applied; gone = e.0.gone }) d.2);
 }
+
+-- a closed connection that stayed as it was, but for what is applied and dropped
+abbrev pub IsSameClosed : Inward → Inward → Type 0
+IsSameClosed c d = d ≡ record c { applied = d.applied; gone = d.gone }
 
 -- a change of the last connection that leaves it if it is closed
 stays-change : (s later : SecondaryHistory) (f : Inward → Inward) → later.connections ≡ (with_inward f s).connections → ((inward s).closed ≡ true → IsSameClosed (inward s) (f (inward s))) → StaysClosedToo s later
 stays-change s later f connections keeps = record {
   same = λ k c at closed. rw connections (elim (get-change f (no_inward s) s.connections k c at) [
-    | inl same ↦ (c, same, refl, refl, refl, closed)
+    | inl same ↦ (c, same, refl)
     | inr changed ↦
         let last : IsSameClosed c (f c) = subst (λ (x : Inward). x.closed ≡ true → IsSameClosed x (f x)) (sym changed.1) keeps closed in
-        (f c, changed.0, last.0, last.1, last.2, last.3)
+        (f c, changed.0, last)
   ]);
 }
 
@@ -43,7 +43,7 @@ same-answering : (d : Inward) → d.closed ≡ true → IsSameClosed d (answerin
 same-answering d closed = go d.closed refl
   where
     go : (b : Bool) → d.closed ≡ b → IsSameClosed d (elim b as (λ _. Inward) [ true ↦ d | false ↦ record d { due = d.due ++ map (barrier_answer d) (barriers_to_answer d) } ])
-    go true is = (refl, refl, refl, closed)
+    go true is = refl
     go false is = absurd (both_ways d.closed is closed)
 
 same-applying : (asked : Protocol) (place : ℕ) (d : Inward) → d.closed ≡ true → IsSameClosed d (applying asked place d)
@@ -53,8 +53,12 @@ same-applying asked place d closed = go (slice_get (items_taken d) place)
       | None ↦ d
       | Some item ↦ record d { applied = d.applied ++ offsets_at place (below (length (contents_of item))); due = elim d.closed [ true ↦ d.due | false ↦ d.due ++ applied_answer asked place item ] }
     ])
-    go None = (refl, refl, refl, closed)
-    go (Some item) = (refl, refl, ap (λ b. elim b as (λ _. List Packet) [ true ↦ d.due | false ↦ d.due ++ applied_answer asked place item ]) closed, closed)
+    go None = refl
+    go (Some item) = ap (λ b. record d { applied = d.applied ++ offsets_at place (below (length (contents_of item))); due = elim b as (λ _. List Packet) [ true ↦ d.due | false ↦ d.due ++ applied_answer asked place item ] }) closed
+
+-- a failed item closes an end that is closed already
+same-failing : (place : ℕ) (offsets : List ℕ) (d : Inward) → d.closed ≡ true → IsSameClosed d (failing place offsets d)
+same-failing place offsets d closed = ap (λ b. record d { applied = (failing place offsets d).applied; gone = (failing place offsets d).gone; closed = b }) (sym closed)
 
 -- the answers that follow
 stays-answering : (s t : SecondaryHistory) → StaysClosedToo s t → StaysClosedToo s (with_inward answering t)
@@ -68,7 +72,7 @@ stays-open s later f connections standing = stays-change s later f connections (
 stays-after : (event : SecondaryEvent) (s : SecondaryHistory) → StaysClosedToo s (secondary_after event s)
 stays-after event s = after-event (StaysClosedToo s) s event (record {
   same = stays-self s;
-  opens = λ was. stays-answering s (opened_secondary s) (record { same = λ k c at closed. (c, get-left s.connections _ k c at, refl, refl, refl, closed) });
+  opens = λ unseen was. stays-answering s (opened_secondary unseen s) (record { same = λ k c at closed. (c, get-left s.connections _ k c at, refl) });
   takes = λ frame standing. record {
     accepts = stays-answering s _ (stays-open s (with_inward (framed frame) s) (framed frame) refl standing);
     receipts = λ write at is late. stays-answering s _ (stays-open s (with_inward (receipting (length (items_taken (inward s))) write) (with_inward (framed frame) s)) (λ c. receipting (length (items_taken (inward s))) write (framed frame c))
@@ -77,13 +81,13 @@ stays-after event s = after-event (StaysClosedToo s) s event (record {
     refuses = stays-open s (with_inward refused_end (with_inward (framed frame) s)) (λ c. refused_end (framed frame c)) (change-twice (framed frame) refused_end s.connections) standing;
   };
   applies = λ place waiting none. stays-answering s _ (stays-change s (with_inward (applying s.settings.protocol place) s) (applying s.settings.protocol place) refl (same-applying s.settings.protocol place (inward s)));
-  fails = λ place offsets waiting none. stays-change s (with_inward (failing place offsets) s) (failing place offsets) refl (λ closed. (refl, refl, refl, refl));
+  fails = λ place offsets waiting none. stays-change s (with_inward (failing place offsets) s) (failing place offsets) refl (same-failing place offsets (inward s));
   pushes = λ standing due. stays-open s (with_inward pushed_one s) pushed_one refl standing;
   closes = λ standing. stays-open s (with_inward closed_end s) closed_end refl standing;
 })
 
--- Whatever frames a secondary takes and however its disk fails: what a closed end took, what was due there and what it
--- pushed stay so, and it stays closed.
+-- Whatever frames a secondary takes and however its disk fails: a closed end stays as it is, but for what is still applied and
+-- dropped there.
 pub secondary_stays_closed : (events : List SecondaryEvent) (s : SecondaryHistory) → StaysClosedToo s (secondary_run events s)
 secondary_stays_closed [] s = stays-self s
 secondary_stays_closed (event ∷ events) s = stays-trans s (secondary_after event s) (secondary_run events (secondary_after event s)) (stays-after event s) (secondary_stays_closed events (secondary_after event s))

@@ -15,22 +15,23 @@ use Rattle.blocks.specs.declared.settings.Protocol.{Protocol}
 use Rattle.blocks.specs.declared.settings.Protocol.TheVariants as protocol
 use Rattle.blocks.specs.declared.tuple.Tuple.{Tuple}
 use Rattle.model.specs.Contents.{BlockMap, Write}
-use Rattle.model.specs.Stream.{Item, WriteItem, ResyncItem, BarrierItem, SyncUuidItem, UuidsItem, Part, is_in, is_whole, below, contents_of}
+use Rattle.model.specs.Stream.{Item, WriteItem, ResyncItem, BarrierItem, SyncUuidItem, UuidsItem, Part, is_in, is_whole, below, contents_of, within}
 use Rattle.model.specs.Frames.{Packet, DataFrame, RsDataReplyFrame, BarrierFrame, ProtocolFrame, UuidsFrame, SizesFrame, SyncUuidFrame, RecvAckFrame, WriteAckFrame, RsWriteAckFrame, BarrierAckFrame, Acknowledged, Received, naming}
 use Rattle.model.specs.Primary.{change_last}
 use Rattle.model.specs.Refusals.{Test, done_with}
 use Rattle.model.specs.Secondary.{Inward, SecondaryHistory, no_inward, inward, with_inward, items_taken, accepted_of, received_item, pending, secondary_map}
-use Rattle.model.specs.SecondarySteps.{answering, barrier_answer, barriers_to_answer, succeeding_secondary, open_secondary_tests, opened_secondary, open_secondary, Checked, checking_hello, checking_item, checking, adopting, receiving, take_item, receive, peer_tests, is_pending_at, has_earlier, offsets_at, applied_answer, applying, peer, failing, peer_fault, ack_out_tests, answering_with, ack_out, close_secondary}
+use Rattle.model.specs.SecondarySteps.{answering, barrier_answer, barriers_to_answer, succeeding_secondary, open_secondary_tests, opened_secondary, open_secondary, Checked, checking_hello, checking_item, checking, adopting, receiving, take_item, receive, peer_tests, is_pending_at, has_earlier, offsets_at, applied_answer, applying, peer, failing, peer_fault, ack_out_tests, answering_with, ack_out, close_secondary, blocks_at}
 use Rattle.model.specs.Acknowledgements.{same_protocol}
 use Rattle.model.specs.LocalRuns.{SecondaryEvent, OpensToo, Receives, Applies, FailsToApply, Acknowledges, ClosesToo, secondary_after, secondary_run}
 use Rattle.laws.proofs.Lists.Last.{change-twice}
 use Rattle.laws.proofs.Streams.Parts.{in-append, whole-grows, whole-from}
 use Rattle.laws.proofs.Secondary.Runs.{tested-keeps}
 use Rattle.laws.proofs.Secondary.Sound.{starting, sound-same, sound-applying}
-use Rattle.laws.proofs.Lists.Elements.{get-left, get-end, get-split}
+use Rattle.laws.proofs.Lists.Elements.{get-left, get-end, get-split, same-at}
 use Rattle.laws.proofs.Lists.Each.{Each, each-append, each-change}
 use Rattle.laws.proofs.Lists.Tests.{test-passed}
 use Rattle.laws.proofs.Secondary.Good.{IsGood, good-new, taking-more, good-taking, items-refusing, good-refusing, good-failing}
+use Rattle.laws.proofs.Lists.Picks.{pick-below}
 
 -- the item that an acknowledgement names was taken
 pub record NamesTaken (d : Inward) (ack : Acknowledged) : Type 0 where
@@ -114,12 +115,19 @@ all-change f h all keeps = each-change IsTruthful f (no_inward h) h.connections 
 all-succeeding : (done : What) (h : SecondaryHistory) → AreTruthful h → AreTruthful (succeeding_secondary done h).1
 all-succeeding done h all = all-change answering h all (truthful-answering (inward h))
 
-truthful-new : (disk : BlockMap) (hello : Tuple) → IsTruthful (record { base = disk; hello = hello; taken = []; refused = false; applied = []; gone = []; due = []; pushed = 0; closed = false })
-truthful-new disk hello = record { good = good-new disk hello; answers = λ n packet at. absurd (cc) }
+truthful-new : (number : ℕ) (disk : BlockMap) (hello : Tuple) → IsTruthful (record { number = number; base = disk; hello = hello; taken = []; refused = false; applied = []; gone = []; due = []; pushed = 0; closed = false })
+truthful-new number disk hello = record { good = good-new number disk hello; answers = λ n packet at. absurd (cc) }
 
-all-open : (h : SecondaryHistory) → AreTruthful h → AreTruthful (open_secondary h).1
-all-open h all = tested-keeps AreTruthful h (open_secondary_tests h) (λ _. succeeding_secondary what.Nothing (opened_secondary h)) all (λ passed.
-    all-succeeding what.Nothing (opened_secondary h) (each-append IsTruthful h.connections _ all (truthful-new (secondary_map h) h.tuple)))
+-- an end that was never open owes nothing
+pub truthful-none : (h : SecondaryHistory) → IsTruthful (no_inward h)
+truthful-none h = record {
+  good = record { sound = sound-same (record (no_inward h) { closed = false }) (no_inward h) (good-new 0 h.opening_map h.tuple).sound refl refl refl (λ c. refl); refused = λ r. refl };
+  answers = λ n packet at. absurd (cc);
+}
+
+all-open : (unseen : ℕ) (h : SecondaryHistory) → AreTruthful h → AreTruthful (open_secondary unseen h).1
+all-open unseen h all = tested-keeps AreTruthful h (open_secondary_tests h) (λ _. succeeding_secondary what.Nothing (opened_secondary unseen h)) all (λ passed.
+    all-succeeding what.Nothing (opened_secondary unseen h) (each-append IsTruthful h.connections _ all (truthful-new _ (secondary_map h) h.tuple)))
 
 -- Taking a frame.
 
@@ -329,7 +337,8 @@ truthful-applying asked place d waiting none t = go (slice_get (items_taken d) p
 
         good : IsGood (record d { applied = d.applied ++ offsets_at place (below (length (contents_of item))) })
         good = record {
-          sound = sound-applying d _ place (below (length (contents_of item))) t.good.sound (starting d place t.good.sound waiting none) refl refl (inl (refl, refl));
+          sound = sound-applying d _ place (below (length (contents_of item))) t.good.sound (starting d place t.good.sound waiting none)
+              (λ n offset at. subst (λ (i : Item). offset < length (contents_of i)) (same-at (items_taken d) place item (starting d place t.good.sound waiting none).item is (starting d place t.good.sound waiting none).there) (pick-below (length (contents_of item)) n offset at)) refl refl (inl (refl, refl));
           refused = t.good.refused;
         }
 
@@ -360,7 +369,7 @@ all-fault place offsets h all = tested-keeps AreTruthful h (peer_tests h place) 
     let two = test-passed (has_earlier (inward h) place) EpochOpen [] one.1 in
     all-change (failing place offsets) h all (λ t. record {
       good = good-failing place offsets (inward h) (not-false (is_pending_at (inward h) place) one.0) two.0 t.good;
-      answers = λ n packet at. answer-grows (inward h) (failing place offsets (inward h)) [] (offsets_at place offsets) (same-items (items_taken (inward h))) refl packet (t.answers n packet at);
+      answers = λ n packet at. answer-grows (inward h) (failing place offsets (inward h)) [] (offsets_at place (within (blocks_at (items_taken (inward h)) place) offsets)) (same-items (items_taken (inward h))) refl packet (t.answers n packet at);
     }))
 
 all-push : (room starved : Bool) (h : SecondaryHistory) → AreTruthful h → AreTruthful (ack_out room starved h).1
@@ -372,7 +381,7 @@ all-close h all = tested-keeps AreTruthful h (((inward h).closed, NotConnected) 
     all-change (λ c. record c { closed = true }) h all (λ t. truthful-same (inward h) _ t (record { sound = sound-same (inward h) _ t.good.sound refl refl refl (λ c. refl); refused = λ r. refl }) refl refl refl))
 
 pub all-after : (event : SecondaryEvent) (h : SecondaryHistory) → Each IsTruthful h.connections → Each IsTruthful (secondary_after event h).connections
-all-after OpensToo h all = all-open h all
+all-after (OpensToo unseen) h all = all-open unseen h all
 all-after (Receives frame starved) h all = all-receive frame starved h all
 all-after (Applies place) h all = all-peer place h all
 all-after (FailsToApply place offsets) h all = all-fault place offsets h all

@@ -8,10 +8,10 @@ use Rattle.blocks.specs.declared.settings.Protocol.{Protocol}
 use Rattle.blocks.specs.declared.settings.Protocol.TheVariants as protocol
 use Rattle.blocks.specs.declared.tuple.Tuple.{Tuple}
 use Rattle.model.specs.Contents.{BlockMap, Write}
-use Rattle.model.specs.Stream.{Item, WriteItem, ResyncItem, BarrierItem, SyncUuidItem, UuidsItem, Part, is_in, is_whole, has_blocks, below, contents_of, barriers_in, epoch_of, placed_from}
+use Rattle.model.specs.Stream.{Item, WriteItem, ResyncItem, BarrierItem, SyncUuidItem, UuidsItem, Part, is_in, is_whole, has_blocks, below, contents_of, barriers_in, epoch_of, placed_from, within}
 use Rattle.model.specs.Frames.{Packet, UuidsFrame, RecvAckFrame, WriteAckFrame, RsWriteAckFrame, BarrierAckFrame, Acknowledged, Received, naming}
 use Rattle.model.specs.Secondary.{Inward, SecondaryHistory, secondary_opening, no_inward, inward, with_inward, items_taken, is_applied_to}
-use Rattle.model.specs.SecondarySteps.{answering, is_barrier_answer, barrier_answer, barriers_to_answer, opened_secondary, offsets_at, applied_answer, applying, failing, adopting}
+use Rattle.model.specs.SecondarySteps.{answering, is_barrier_answer, barrier_answer, barriers_to_answer, opened_secondary, offsets_at, applied_answer, applying, failing, adopting, blocks_at}
 use Rattle.model.specs.LocalRuns.{SecondaryEvent, secondary_after, secondary_run}
 use Rattle.laws.proofs.Lists.Last.{change-twice}
 use Rattle.laws.proofs.Streams.Parts.{in-append, whole-grows, whole-from}
@@ -191,13 +191,13 @@ true-applying asked place d t = go (slice_get (items_taken d) place) refl
 
 true-failing : (place : ℕ) (offsets : List ℕ) (d : Inward) → HasTrueAnswers d → HasTrueAnswers (failing place offsets d)
 true-failing place offsets d t =
-    true-change d (failing place offsets d) [] (offsets_at place offsets) [] t (sym (append-nil (items_taken d))) refl (sym (append-nil d.due)) (λ r. refl) (none-more (failing place offsets d))
+    true-change d (failing place offsets d) [] (offsets_at place (within (blocks_at (items_taken d) place) offsets)) [] t (sym (append-nil (items_taken d))) refl (sym (append-nil d.due)) (λ r. refl) (none-more (failing place offsets d))
 
 true-same : (d e : Inward) → HasTrueAnswers d → items_taken e ≡ items_taken d → e.applied ≡ d.applied → e.due ≡ d.due → (e.refused ≡ true → e.closed ≡ true) → HasTrueAnswers e
 true-same d e t items applied due refused = true-change d e [] [] [] t (items ∙ sym (append-nil (items_taken d))) (applied ∙ sym (append-nil d.applied)) (due ∙ sym (append-nil d.due)) refused (none-more e)
 
-true-new : (disk : BlockMap) (hello : Tuple) → HasTrueAnswers (record { base = disk; hello = hello; taken = []; refused = false; applied = []; gone = []; due = []; pushed = 0; closed = false })
-true-new disk hello = record { refused = λ r. absurd (cc); answers = λ n packet at. absurd (cc) }
+true-new : (number : ℕ) (disk : BlockMap) (hello : Tuple) → HasTrueAnswers (record { number = number; base = disk; hello = hello; taken = []; refused = false; applied = []; gone = []; due = []; pushed = 0; closed = false })
+true-new number disk hello = record { refused = λ r. absurd (cc); answers = λ n packet at. absurd (cc) }
 
 -- All connections, over every list of events.
 
@@ -214,7 +214,7 @@ then-answering h all = true-with answering h all (true-answering (inward h))
 true-after : (event : SecondaryEvent) (h : SecondaryHistory) → AllTrue h → AllTrue (secondary_after event h)
 true-after event h all = after-event AllTrue h event (record {
   same = all;
-  opens = λ was. then-answering (opened_secondary h) (each-append HasTrueAnswers h.connections _ all (true-new _ _));
+  opens = λ unseen was. then-answering (opened_secondary unseen h) (each-append HasTrueAnswers h.connections _ all (true-new _ _ _));
   takes = λ frame standing.
       let taken : AllTrue (with_inward (framed frame) h) = true-with (framed frame) h all (true-taking frame (inward h) standing) in
       record {

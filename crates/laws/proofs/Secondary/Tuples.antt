@@ -14,7 +14,7 @@ use Rattle.model.specs.Stream.{Item, below, contents_of}
 use Rattle.model.specs.Frames.{Received}
 use Rattle.model.specs.Primary.{last_of, change_last}
 use Rattle.model.specs.Secondary.{Inward, SecondaryHistory, secondary_opening, no_inward, inward, with_inward, accepted_of, received_item, items_taken, secondary_map}
-use Rattle.model.specs.SecondarySteps.{answering, barrier_answer, barriers_to_answer, opened_secondary, offsets_at, applied_answer, applying, failing, adopting}
+use Rattle.model.specs.SecondarySteps.{answering, barrier_answer, barriers_to_answer, opened_secondary, offsets_at, applied_answer, applying, failing, adopting, next_number}
 use Rattle.model.specs.LocalRuns.{SecondaryEvent, secondary_after, secondary_run}
 use Rattle.laws.proofs.Lists.Last.{get-change, get-change-back, change-twice, last-at, get-last-changed}
 use Rattle.laws.proofs.Secondary.Moves.{framed, receipting, refused_end, pushed_one, closed_end, after-event}
@@ -118,9 +118,9 @@ plain tuple h t standing = elim (cases_Bool (inward h).refused) [
 then-answering : (tuple : Tuple) (h : SecondaryHistory) → KeepsTuple tuple h → KeepsTuple tuple (with_inward answering h)
 then-answering tuple h t = tuples-with tuple h (with_inward answering h) answering t refl refl (front-answering (inward h))
 
-tuples-open : (tuple : Tuple) (h : SecondaryHistory) → KeepsTuple tuple h → KeepsTuple tuple (opened_secondary h)
-tuples-open tuple h t =
-    let new : Inward = record { base = secondary_map h; hello = h.tuple; taken = []; refused = false; applied = []; gone = []; due = []; pushed = 0; closed = false } in
+tuples-open : (tuple : Tuple) (unseen : ℕ) (h : SecondaryHistory) → KeepsTuple tuple h → KeepsTuple tuple (opened_secondary unseen h)
+tuples-open tuple unseen h t =
+    let new : Inward = record { number = next_number unseen h; base = secondary_map h; hello = h.tuple; taken = []; refused = false; applied = []; gone = []; due = []; pushed = 0; closed = false } in
     record {
       quiet = λ quiet. t.quiet (λ j e at. quiet j e (get-left h.connections (new ∷ []) j e at));
       hello = λ k d at quiet. elim (get-more h.connections new k d at) [
@@ -145,7 +145,7 @@ tuples-adopting tuple h frame item adopted consistent is late standing t =
 tuples-after : (tuple : Tuple) (event : SecondaryEvent) (h : SecondaryHistory) → KeepsTuple tuple h → KeepsTuple tuple (secondary_after event h)
 tuples-after tuple event h t = after-event (KeepsTuple tuple) h event (record {
   same = t;
-  opens = λ was. then-answering tuple (opened_secondary h) (tuples-open tuple h t);
+  opens = λ unseen was. then-answering tuple (opened_secondary unseen h) (tuples-open tuple unseen h t);
   takes = λ frame standing.
       let accepted = plain tuple h t standing in
       let taken : KeepsTuple tuple (with_inward (framed frame) h) = tuples-with tuple h (with_inward (framed frame) h) (framed frame) t refl refl (front-taking frame (inward h) accepted) in

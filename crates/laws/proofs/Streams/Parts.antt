@@ -1,5 +1,5 @@
 -- Parts of a stream as they grow.
-use Rattle.std.proofs.Common.{ℕ, zero, suc, ◌≡◌, ◌<◌, inl, inr, Bool, true, ◌&&◌, ◌||◌, List, [], ◌∷◌, ◌++◌, length, refl, ◌∙◌, arith, ◌==◌, sym}
+use Rattle.std.proofs.Common.{ℕ, zero, suc, Some, slice_get, ap, ◌≡◌, ◌<◌, inl, inr, Bool, true, ◌&&◌, ◌||◌, List, [], ◌∷◌, ◌++◌, length, refl, ◌∙◌, arith, ◌==◌, sym}
 use Rattle.std.specs.List.{list_all}
 use Rattle.std.proofs.lemmas.Bool.{or_cases, or_left, and_parts, and_from, eqb-true, eq-eqb, cases_Bool, both_ways}
 use Rattle.std.proofs.lemmas.List.Folds.{list_any-append, list_all-append}
@@ -21,6 +21,15 @@ in-offsets place (x ∷ offsets) other offset h =
     elim (or_cases ((place == other) && (x == offset)) (is_in (offsets_at place offsets) other offset) h) [
       | inl here ↦ eqb-true place other (and_parts (place == other) (x == offset) here).0
       | inr later ↦ in-offsets place offsets other offset later
+    ]
+
+-- and are among those offsets
+pub in-offsets-listed : (place : ℕ) (offsets : List ℕ) (other offset : ℕ) → is_in (offsets_at place offsets) other offset ≡ true → (n : ℕ) × (slice_get offsets n ≡ Some offset)
+in-offsets-listed place [] other offset h = absurd (cc)
+in-offsets-listed place (x ∷ offsets) other offset h =
+    elim (or_cases ((place == other) && (x == offset)) (is_in (offsets_at place offsets) other offset) h) [
+      | inl here ↦ let same : x ≡ offset = eqb-true x offset (and_parts (place == other) (x == offset) here).1 in (0, ap (λ (n : ℕ). Some n) same)
+      | inr later ↦ let rest = in-offsets-listed place offsets other offset later in (suc rest.0, rest.1)
     ]
 
 -- an item that was whole stays so

@@ -14,6 +14,7 @@ use Rattle.laws.proofs.Tracked.{IsUnderWay, IsTracked}
 use Rattle.laws.proofs.Lists.Picks.{pick-any, pick-found, pick-image}
 use Rattle.laws.proofs.Blocks.Overlays.{overlay-agrees, under-outside, under-alike}
 use Rattle.laws.proofs.Tracked.Quiet.{same-number}
+use Rattle.model.specs.Stream.{within}
 
 -- A write that waits is not on the disk.
 pub waiting-not-done : (outcome : LocalOutcome) → is_waiting outcome ≡ true → is_on_disk outcome ≡ true → ⊥
@@ -121,17 +122,17 @@ pub tracked-faults : (h : PrimaryHistory) (number : ℕ) (offsets : List ℕ) �
 tracked-faults h number offsets unfinished t = go (accepted_at h number) refl
   where
     go : (v : Option Accepted) → accepted_at h number ≡ v
-        → HasHomes (elim v as (λ _. PrimaryHistory) [ None ↦ h | Some accepted ↦ with_outcome number (Failed offsets) (record h { marks = marking accepted.write h.marks }) ])
-        → IsTracked (elim v as (λ _. PrimaryHistory) [ None ↦ h | Some accepted ↦ with_outcome number (Failed offsets) (record h { marks = marking accepted.write h.marks }) ])
+        → HasHomes (elim v as (λ _. PrimaryHistory) [ None ↦ h | Some accepted ↦ with_outcome number (Failed (within (length accepted.write.contents) offsets)) (record h { marks = marking accepted.write h.marks }) ])
+        → IsTracked (elim v as (λ _. PrimaryHistory) [ None ↦ h | Some accepted ↦ with_outcome number (Failed (within (length accepted.write.contents) offsets)) (record h { marks = marking accepted.write h.marks }) ])
     go None none homes = t
     go (Some accepted) some homes =
         let found = pick-found (λ (a : Accepted). a.write.number == number) h.writes accepted some in
         let is : accepted.write.number ≡ number = eqb-true accepted.write.number number found.2 in
-        let same : (block : ℕ) → covers accepted.write block ≡ false → overlay h.opening_map (map settling_layer (map (set_outcome number (Failed offsets)) h.writes)) block ≡ settling_map h block =
-        λ block outside. settling-outcome h number (Failed offsets) block (λ i a at number_is v.
+        let same : (block : ℕ) → covers accepted.write block ≡ false → overlay h.opening_map (map settling_layer (map (set_outcome number (Failed (within (length accepted.write.contents) offsets))) h.writes)) block ≡ settling_map h block =
+        λ block outside. settling-outcome h number (Failed (within (length accepted.write.contents) offsets)) block (λ i a at number_is v.
         let one : accepted ≡ a = same-number h found.0 i accepted a t.homes found.1 at (is ∙ sym number_is) in
         let off : covers a.write block ≡ false = subst (λ (x : Accepted). covers x.write block ≡ false) one outside in
-        under-outside (settling_layer (record a { outcome = Failed offsets })) block v off ∙ sym (under-outside (settling_layer a) block v off)) in
-        tracked-outcome h number (Failed offsets) (marking accepted.write h.marks) unfinished t homes
+        under-outside (settling_layer (record a { outcome = Failed (within (length accepted.write.contents) offsets) })) block v off ∙ sym (under-outside (settling_layer a) block v off)) in
+        tracked-outcome h number (Failed (within (length accepted.write.contents) offsets)) (marking accepted.write h.marks) unfinished t homes
         (λ place block contents way. same block (t.free place block contents found.0 accepted way found.1 (waiting-open h found.0 accepted t found.1 (unfinished-waits h number found.0 accepted t.homes unfinished found.1 is))))
         (λ block unmarked. let parts = or_parts (h.marks block) (covers accepted.write block) unmarked in (parts.0, same block parts.1))

@@ -4,7 +4,6 @@ use Rattle.std.specs.Prelude.{is_ok, if◌then◌else◌}
 use Rattle.primary.specs.State.{PrimaryState}
 use Rattle.secondary.specs.State.{SecondaryState}
 use Rattle.pair.specs.State.{PairState}
-use Rattle.pair.proofs.Asked.{differs-is}
 use Rattle.pair.proofs.Readings.{reading, reading-by, both-read, one-read}
 use Rattle.pair.proofs.pair.Pair.differs.Goals as goal
 use Rattle.pair.proofs.pair.Pair.differs.Goals.{then-read_local+then-read_peer, else-read_local, else-read_local-via-then-read_local+else-read_peer, else-read_local-via-else-read_local}
@@ -15,13 +14,12 @@ returns-clause-differs c =
     let here : PairState = c.args.self.now in
     let ours : c.self.inside.primary ≡ here.primary = ap (λ (s : PairState). s.primary) c.self.view_is in
     let theirs : c.self.inside.secondary ≡ here.secondary = ap (λ (s : PairState). s.secondary) c.self.view_is in
-    let has = c.self.invariant.1 in
     let one : slice_get c.self.inside.primary.disk b ≡ (if is_ok c.read_block.result then Some c.read_block.new.buffer else None) =
     reading c.self.inside.primary.disk b c.self.inside.primary.faults c.read_block.new.self.faults c.read_block.result c.read_block.new.buffer
-    c.read_block.ensures.read c.read_block.ensures.past_the_end.0 c.read_block.ensures.refused c.read_block.ensures.counted (c.read_block.ensures.counted_by_disk.1 ∙ sym has.disks.local) in
+    c.read_block.ensures.read c.read_block.ensures.past_the_end.0 c.read_block.ensures.refused c.read_block.ensures.counted c.read_block.ensures.counted_by_disk.1 in
     let two : slice_get c.self.inside.secondary.disk b ≡ (if is_ok c.read_block-2.result then Some c.read_block-2.new.buffer else None) =
     reading-by c.self.inside.secondary.disk b c.self.inside.secondary.faults c.read_block-2.new.self.faults c.read_block-2.result c.read_block-2.new.buffer
-    c.read_block-2.ensures.read c.read_block-2.ensures.refused c.read_block-2.ensures.counted (c.read_block-2.ensures.counted_by_disk.1 ∙ sym has.disks.peer) in
+    c.read_block-2.ensures.read c.read_block-2.ensures.refused c.read_block-2.ensures.counted c.read_block-2.ensures.counted_by_disk.1 in
     let first : slice_get here.primary.disk b ≡ (if c.is_ok-read_local.result then Some c.read_block.new.buffer else None) =
     ap (λ (s : PrimaryState). slice_get s.disk b) (sym ours) ∙ (one ∙ ap (λ x. if x then Some c.read_block.new.buffer else None) (sym c.is_ok-read_local.ensures.value)) in
     let second : slice_get here.secondary.disk b ≡ (if c.is_ok-read_peer.result then Some c.read_block-2.new.buffer else None) =
@@ -38,6 +36,3 @@ returns-clause-differs c =
           ])
           w.result-is
     ]
-
-pub returns-clause-of_history : goal.returns-clause-of_history
-returns-clause-of_history c = λ h has. let told = returns-clause-differs c in differs-is c.args.self.now h c.args.block.0 c.if-read_local.result has told.0 told.1

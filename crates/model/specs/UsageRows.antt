@@ -1,0 +1,82 @@
+-- Worked examples of what a secondary says of its use, of connections that it never opened, and of settlements.
+use Rattle.std.specs.Prelude.{ℕ, ◌≡◌, Bool, true, false, List, [], ◌∷◌, ◌++◌, take, Some, Ok, Err}
+use Rattle.blocks.specs.declared.settings.Settings.{Settings}
+use Rattle.blocks.specs.declared.settings.Protocol.TheVariants as protocol
+use Rattle.blocks.specs.declared.refusal.Refusal.TheVariants.{StrangeReceipt, NotDrained, ReadFault}
+use Rattle.blocks.specs.SettingsRange.{standard}
+use Rattle.model.specs.Contents.{filled}
+use Rattle.model.specs.Primary.{Linked, Alone, PrimaryHistory, primary_opening, no_outward, outward_at}
+use Rattle.model.specs.Secondary.{SecondaryHistory, secondary_opening, inward, inward_at}
+use Rattle.model.specs.LocalRuns.{Opens, Closes, primary_run, OpensToo, ClosesToo, secondary_run}
+use Rattle.model.specs.Pair.{Event, LocalEvent, SendEvent, ReceiveEvent, PeerEvent, PeerFaultEvent, AckOutEvent, AckInEvent, ClosePrimaryEvent, CloseSecondaryEvent, PairHistory}
+use Rattle.model.specs.Settlement.{Receipt, settle}
+use Rattle.model.specs.Status.{secondary_line, linked_secondary, target_secondary}
+use Rattle.model.specs.Rows.{words, connected, after, fill}
+use Rattle.model.specs.WriteRows.{one_write, two_epochs}
+use Rattle.model.specs.ResyncRows.{two_marked, first_copied, second_copied}
+
+-- what the secondary of a pair says of itself
+abbrev pub resync_target : List Event → PairHistory
+resync_target events = after events two_marked
+
+-- How far a secondary is whole, and when it may be used: from the taking of SYNC_UUID to that of the closing UUIDS it may not.
+pub record Usage : Type 0 where
+  pub waiting : secondary_line (after (take 16 two_epochs) (connected standard)).secondary ≡ linked_secondary protocol.C 2 0
+  pub two_epochs : secondary_line (after two_epochs (connected standard)).secondary ≡ linked_secondary protocol.C 0 1
+  pub started : secondary_line (resync_target (SendEvent ∷ ReceiveEvent ∷ [])).secondary ≡ target_secondary protocol.C 0 0
+  pub nearly : secondary_line (resync_target (first_copied ++ second_copied ++ SendEvent ∷ SendEvent ∷ ReceiveEvent ∷ [])).secondary ≡ target_secondary protocol.C 0 2
+  pub ended : secondary_line (resync_target (first_copied ++ second_copied ++ SendEvent ∷ SendEvent ∷ ReceiveEvent ∷ ReceiveEvent ∷ [])).secondary ≡ linked_secondary protocol.C 0 2
+
+-- A connection that the primary opened and the secondary never saw: its number is passed over, and nothing happened there.
+abbrev pub alone_twice : PrimaryHistory
+alone_twice = primary_run (Opens 5 7 false ∷ Closes ∷ Opens 9 11 false ∷ Closes ∷ []) (primary_opening standard (filled 8 (0 ∷ [])) (words 1 0 0 0) (λ block. false))
+
+-- the secondary opened the first and the third
+abbrev pub passed_one_over : SecondaryHistory
+passed_one_over = secondary_run (OpensToo 0 ∷ ClosesToo ∷ OpensToo 1 ∷ []) (secondary_opening standard (filled 8 (0 ∷ [])) (words 1 0 0 0))
+
+-- what a look-up by number says then
+pub record NeverOpened : Type 0 where
+  pub number : (inward passed_one_over).number ≡ 3
+  pub stands : (inward_at passed_one_over 3).closed ≡ false
+  pub first : (inward_at passed_one_over 1).number ≡ 1
+  pub unseen : (inward_at passed_one_over 2).closed ≡ true
+  pub untaken : (inward_at passed_one_over 2).taken ≡ []
+  pub there : (outward_at alone_twice 2).sync ≡ 9
+  pub beyond : outward_at alone_twice 3 ≡ no_outward (words 1 0 0 0)
+
+-- A write that the peer's disk fails after all of its blocks, with both ends closed then.
+abbrev pub failed_item : PairHistory
+failed_item = after (fill 2 1 170 ∷ LocalEvent 1 ∷ SendEvent ∷ ReceiveEvent ∷ PeerFaultEvent 0 1 ∷ ClosePrimaryEvent ∷ []) (connected standard)
+
+-- its receipt
+abbrev pub alone_receipt : Receipt
+alone_receipt = record { number = 1; first = 2; count = 1; kind = Alone; home = Some (1, 0) }
+
+-- One write that went through, both ends closed.
+abbrev pub one_through : PairHistory
+one_through = after (one_write ++ SendEvent ∷ ReceiveEvent ∷ AckOutEvent ∷ AckInEvent ∷ ClosePrimaryEvent ∷ CloseSecondaryEvent ∷ []) (connected standard)
+
+-- its receipt
+abbrev pub linked_receipt : Receipt
+linked_receipt = record { number = 1; first = 2; count = 1; kind = Linked; home = Some (1, 0) }
+
+-- nodes of two sizes that never met
+abbrev pub sized_primary : ℕ → (ℕ → Bool) → PrimaryHistory
+sized_primary blocks marks = primary_opening (record standard { blocks = blocks }) (filled blocks (0 ∷ [])) (words 1 0 0 0) marks
+
+-- the other of them
+abbrev pub sized_secondary : ℕ → SecondaryHistory
+sized_secondary blocks = secondary_opening (record standard { blocks = blocks }) (filled blocks (0 ∷ [])) (words 2 0 0 0)
+
+-- Settlements: of a write that went through, of an item that failed though all its blocks reached the disk, with a receipt that
+-- is given twice or is another's, with a write that the local disk has not done, and of disks of two sizes.
+pub record Settlements : Type 0 where
+  pub through : settle one_through.primary one_through.secondary (linked_receipt ∷ []) false ≡ Ok (record { sent = 2; taken = 2; applied = 1; confirmed = 1; unmarked = 0 })
+  pub failed : settle failed_item.primary failed_item.secondary (alone_receipt ∷ []) false ≡ Ok (record { sent = 1; taken = 1; applied = 0; confirmed = 1; unmarked = 0 })
+  pub twice : settle one_through.primary one_through.secondary (linked_receipt ∷ linked_receipt ∷ []) false ≡ Err StrangeReceipt
+  pub strange : settle one_through.primary one_through.secondary (alone_receipt ∷ []) false ≡ Err StrangeReceipt
+  pub faulty : settle one_through.primary one_through.secondary [] true ≡ Err ReadFault
+  pub unfinished : settle (after (fill 2 1 170 ∷ ClosePrimaryEvent ∷ CloseSecondaryEvent ∷ []) (connected standard)).primary (sized_secondary 8) [] false ≡ Err NotDrained
+  pub larger : settle (sized_primary 8 (λ block. false)) (sized_secondary 4) [] false ≡ Ok (record { sent = 0; taken = 0; applied = 0; confirmed = 0; unmarked = 4 })
+  pub smaller : settle (sized_primary 4 (λ block. true)) (sized_secondary 8) [] false ≡ Ok (record { sent = 0; taken = 0; applied = 0; confirmed = 0; unmarked = 4 })

@@ -1,2 +1,0 @@
-pub mod Has
-pub mod Statements
