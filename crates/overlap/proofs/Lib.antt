@@ -1,0 +1,4 @@
+pub mod Lists
+pub mod Among
+pub mod Lowest
+pub mod Tied
