@@ -1,9 +1,12 @@
-//! Generation identifiers: which words are new.
+//! Generation identifiers: which words are new, how a node's tuple is turned, and what a primary does with
+//! a peer after comparing the two tuples.
 #![tactic(auto)]
 
-#[cfg(test)]
-mod tests;
+mod decision;
+mod turn;
 mod words;
 
 pub use blocks::Tuple;
+pub use decision::decide;
+pub use turn::Generations;
 pub use words::fresh;

@@ -1,6 +1,7 @@
 //! Whether a word may begin a generation.
 ghost use Rattle.std.specs.Prelude.{◌≡◌, ◌↔◌, IsTrue, IsOk, IfErr};
-ghost use Rattle.generations.specs.Known.{IsFresh, Stands};
+ghost use Rattle.generations.specs.Known.{IsFresh};
+ghost use Rattle.blocks.specs.Identifiers.{is_fresh, stands_in};
 ghost use Rattle.blocks.specs.declared.refusal.Refusal.TheVariants.{UsedIdentifier};
 
 use blocks::{Refusal, Tuple};
@@ -9,6 +10,7 @@ use blocks::{Refusal, Tuple};
 /// are known (this project's rule). Else `UsedIdentifier` (33). It takes no memory.
 pub fn fresh(word: u64, known: &[Tuple]) -> Result<(), Refusal>
     ensures accepted { IsOk result ↔ IsFresh word known.now }
+    ensures fresh { IsOk result ↔ IsTrue (is_fresh word known.now) }
     ensures refused { IfErr result (λ e. e ≡ UsedIdentifier) }
 {
     if word == 0 || known.iter().any(|tuple| stands_in(word, tuple)) {
@@ -18,8 +20,8 @@ pub fn fresh(word: u64, known: &[Tuple]) -> Result<(), Refusal>
 }
 
 /// Whether the word is one of the tuple's four.
-fn stands_in(word: u64, tuple: &Tuple) -> bool
-    ensures { IsTrue result ↔ Stands word tuple.now }
+pub(crate) fn stands_in(word: u64, tuple: &Tuple) -> bool
+    ensures { result ≡ stands_in word tuple.now }
 {
     word == tuple.current
         || word == tuple.bitmap
