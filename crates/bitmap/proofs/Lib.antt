@@ -1,0 +1,4 @@
+pub mod Below
+pub mod Lists
+pub mod Bits
+pub mod Counted
