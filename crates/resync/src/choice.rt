@@ -1,0 +1,31 @@
+//! Which block is copied next.
+ghost use Rattle.std.specs.Prelude.{◌≡◌, option_map};
+ghost use Rattle.resync.specs.Next.{next_block};
+
+use bitmap::Bitmap;
+use blocks::{Block, Range};
+use overlap::Held;
+
+/// The lowest marked block of which nobody holds anything, if there is one: the block that a resync
+/// copies next (this project's rule). It takes no memory. It makes a step for each marked block before
+/// that one.
+pub fn next(marks: &Bitmap, held: &Held) -> Option<Block>
+    ensures { option_map (λ b. b.0) result ≡ next_block marks.now held.now }
+{
+    let blocks = marks.len();
+    let mut from = 0;
+    while from < blocks {
+        let block = marks.first_from(Block(from))?;
+        if held
+            .conflict(Range {
+                first: block,
+                count: 1,
+            })
+            .is_none()
+        {
+            return Some(block);
+        }
+        from = block.0 + 1;
+    }
+    None
+}
