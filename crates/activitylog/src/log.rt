@@ -1,0 +1,125 @@
+//! The active extents, by their last use.
+ghost use Rattle.std.specs.Prelude.{◌≡◌, ◌+◌, ◌<◌, ◌≤◌, ◌^◌, ◌⊎◌, ◌↔◌, [], false, length, Err, IfOk, IfErr, OnOk, OnErr};
+ghost use Rattle.activitylog.specs.Activity.{begun, can_begin, ended, writes_of};
+ghost use Rattle.activitylog.specs.Entries.{active_of, oldest_idle};
+ghost use Rattle.blocks.specs.declared.refusal.Refusal.TheVariants.{ActivityFull, NoMemory};
+
+use blocks::{Extent, Refusal};
+use lru::LruCache;
+use std::alloc::Global;
+use std::marker::Model;
+use std::num::NonZeroUsize;
+
+/// The activity log (DRBD User's Guide, "The activity log"): at most so many extents are active, each with
+/// the number of its unreleased writes. Where all slots are taken, the extent that was least recently begun
+/// and has no unreleased write makes room (DRBD's `lru_cache`).
+///
+/// `end` takes constant time, and so does `begin`, but where an extent has to make room: then, and in
+/// `can_begin`, it may go over all active extents, of which there are at most 1024.
+#[derive(Drop)]
+pub struct ActivityLog {
+    slots: usize,
+    // The unreleased writes of each active extent. It has room for one more than there are slots: a new
+    // extent comes in before another goes, so that nothing changes where there is no memory.
+    active: LruCache<u64, u32>,
+}
+
+impl Model for ActivityLog {
+    ghost use Rattle.std.specs.Prelude.{◌≡◌, ◌+◌, ◌<◌, ◌≤◌, length};
+    ghost use Rattle.activitylog.specs.Activity.{ActivityState};
+
+    ghost Value = { ActivityState };
+
+    ghost use Rattle.activitylog.specs.Entries.{active_of};
+
+    ghost view = { λ a. record { slots = a.slots; active = active_of a.active.entries } };
+
+    ghost invariant = { λ a. (a.slots < 2000) × (a.active.cap ≡ a.slots + 1) × (length a.active.entries ≤ a.slots) };
+}
+
+impl ActivityLog {
+    /// A log of 1 to 1024 slots, with nothing active.
+    ///
+    /// `NoMemory` (7) comes where there is no memory.
+    pub fn new(alloc: Global, slots: u32) -> Result<ActivityLog, Refusal>
+        requires some { 0 < slots }
+        requires few { slots ≤ 1024 }
+        ensures fresh { IfOk result (λ log. log ≡ record { slots = slots; active = [] }) }
+        ensures refused { IfErr result (λ e. e ≡ NoMemory) }
+    {
+        let slots = slots as usize;
+        let room = NonZeroUsize::MIN.saturating_add(slots);
+        let active = LruCache::new(alloc, room)?;
+        Ok(ActivityLog { slots, active })
+    }
+
+    /// Whether a write may begin in the extent: it is active, or a slot is free, or some active extent has
+    /// no unreleased write.
+    pub fn can_begin(&self, extent: Extent) -> bool
+        ensures { result ≡ can_begin extent.0 self.now }
+    {
+        self.active.contains(&extent.0)
+            || self.active.len() < self.slots
+            || oldest_idle(&self.active).is_some()
+    }
+
+    /// A write begins in the extent, which is active from now on until the write is released, and the last
+    /// to make room for another.
+    ///
+    /// `ActivityFull` (4) comes where the extent is not active, no slot is free, and every active extent has
+    /// an unreleased write; else `NoMemory` (7), where there is no memory. Then nothing changes.
+    pub fn begin(&mut self, extent: Extent) -> Result<(), Refusal>
+        requires { writes_of extent.0 self.old.active + 1 < 2 ^ 32 }
+        ensures begun { OnOk result (self.new ≡ begun extent.0 self.old) }
+        ensures unchanged { OnErr result (self.new ≡ self.old) }
+        ensures full { (result ≡ Err ActivityFull) ↔ (can_begin extent.0 self.old ≡ false) }
+        ensures refused { IfErr result (λ e. (e ≡ ActivityFull) ⊎ (e ≡ NoMemory)) }
+    {
+        let was = self.active.peek(&extent.0).copied();
+        if let Some(writes) = was {
+            self.active.put(extent.0, writes + 1)?;
+            return Ok(());
+        }
+        if self.active.len() < self.slots {
+            self.active.put(extent.0, 1)?;
+            return Ok(());
+        }
+        let Some(idle) = oldest_idle(&self.active) else {
+            return Err(Refusal::ActivityFull);
+        };
+        self.active.put(extent.0, 1)?;
+        self.active.pop(&idle);
+        Ok(())
+    }
+
+    /// A write of the extent is released. It takes no memory.
+    pub fn end(&mut self, extent: Extent)
+        requires { 0 < writes_of extent.0 self.old.active }
+        ensures { self.new ≡ ended extent.0 self.old }
+    {
+        if let Some(writes) = self.active.peek_mut(&extent.0) {
+            *writes -= 1;
+        }
+    }
+
+    /// How many extents are active: no more than there are slots.
+    pub fn active(&self) -> usize
+        ensures count { result ≡ length self.now.active }
+        ensures few { result ≤ self.now.slots }
+    {
+        self.active.len()
+    }
+}
+
+/// The extent that was least recently begun and has no unreleased write, if there is one.
+fn oldest_idle(active: &LruCache<u64, u32>) -> Option<u64>
+    ensures { result ≡ oldest_idle (active_of active.now.entries) }
+{
+    let mut idle = None;
+    for (extent, writes) in active.iter() {
+        if *writes == 0 {
+            idle = Some(*extent);
+        }
+    }
+    idle
+}
