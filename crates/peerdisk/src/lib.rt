@@ -1,0 +1,6 @@
+//! What a secondary has taken and not applied yet.
+#![tactic(auto)]
+
+mod disk;
+
+pub use disk::PeerDisk;
