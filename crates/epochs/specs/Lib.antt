@@ -1,0 +1,3 @@
+pub mod Epochs
+pub mod Fields
+pub mod Streams

@@ -1,0 +1,159 @@
+//! Which place an item of a stream has, and when an epoch ends.
+ghost use Rattle.std.specs.Prelude.{◌≡◌, ◌+◌, ◌<◌, ◌≤◌, IfOk, IfErr, OnErr};
+ghost use Rattle.epochs.specs.Epochs.{acknowledging, completing, empty, placed, uncounted};
+ghost use Rattle.blocks.specs.declared.refusal.Refusal.TheVariants.{NoMemory};
+
+use blocks::Refusal;
+use std::alloc::Global;
+use std::collections::VecDeque;
+use std::marker::Model;
+
+/// The places and epochs of one connection's stream (DRBD's write epochs; when one ends is this project's
+/// rule). An epoch has up to `max_epoch` writes; a barrier ends it and stands in the stream itself. Each
+/// call takes constant time, and the memory is four bytes for each epoch that is not acknowledged.
+#[derive(Drop)]
+pub struct Epochs {
+    max_epoch: u32,
+    places: u32,
+    ended: u32,
+    sizes: VecDeque<u32>,
+    size: u32,
+    first: u64,
+    resync: bool,
+}
+
+impl Model for Epochs {
+    ghost use Rattle.epochs.specs.Epochs.{EpochsState};
+
+    ghost Value = { EpochsState };
+
+    ghost use Rattle.epochs.specs.Fields.{state_of, IsKept};
+
+    ghost view = { state_of };
+
+    ghost invariant = { IsKept };
+}
+
+impl Epochs {
+    /// An empty stream, whose epochs have up to `max_epoch` writes, 1 to 20,000.
+    pub fn new(alloc: Global, max_epoch: u32) -> Epochs
+        requires some { 0 < max_epoch }
+        requires few { max_epoch ≤ 20000 }
+        ensures { result ≡ empty max_epoch }
+    {
+        Epochs {
+            max_epoch,
+            places: 0,
+            ended: 0,
+            sizes: VecDeque::new(alloc),
+            size: 0,
+            first: 0,
+            resync: false,
+        }
+    }
+
+    /// The stream is empty again. It takes no memory.
+    pub fn restart(&mut self)
+        ensures { self.new ≡ empty self.old.max_epoch }
+    {
+        self.places = 0;
+        self.ended = 0;
+        self.sizes.clear();
+        self.size = 0;
+        self.first = 0;
+        self.resync = false;
+    }
+
+    /// Puts an item into the stream: the write with this number, or for 0 a resync item. Answers its
+    /// place, and the number of the barrier that follows it where the epoch has all its writes now.
+    ///
+    /// `NoMemory` (7) where there is no room for the epoch's size; the call makes that room, so no later
+    /// one takes memory.
+    pub fn place(&mut self, number: u64) -> Result<(u32, Option<u32>), Refusal>
+        requires room { self.old.places < 4294967290 }
+        // The numbers of writes rise.
+        requires rising { 0 < number → 0 < self.old.size → self.old.first + self.old.size ≤ number }
+        ensures placed { IfOk result (λ answer. (answer.0, (answer.1, self.new)) ≡ placed number self.old) }
+        ensures refused { IfErr result (λ e. e ≡ NoMemory) }
+        ensures unchanged { OnErr result (self.new ≡ self.old) }
+    {
+        self.sizes.reserve(1)?;
+        let place = self.places;
+        self.places += 1;
+        if number == 0 {
+            self.resync = true;
+            return Ok((place, None));
+        }
+        if self.size == 0 {
+            self.first = number;
+        }
+        self.size += 1;
+        if self.size < self.max_epoch {
+            return Ok((place, None));
+        }
+        self.sizes.push_back_reserved(self.size);
+        self.size = 0;
+        self.resync = false;
+        self.places += 1;
+        self.ended += 1;
+        Ok((place, Some(self.ended)))
+    }
+
+    /// Puts a SYNC_UUID or UUIDS item into the stream, which no epoch counts. Answers its place. It takes
+    /// no memory.
+    pub fn uuids(&mut self) -> u32
+        requires { self.old.places < 4294967290 }
+        ensures { (result, self.new) ≡ uncounted self.old }
+    {
+        self.places += 1;
+        self.places - 1
+    }
+
+    /// The write with this number, or for 0 a resync item, is completed. Where it is in the last epoch,
+    /// that ends: answers its barrier's number. It takes no memory.
+    pub fn completed(&mut self, number: u64) -> Option<u32>
+        ensures { (result, self.new) ≡ completing number self.old }
+    {
+        let is_last = if number == 0 {
+            self.resync
+        } else {
+            self.size > 0 && self.first <= number
+        };
+        if !is_last {
+            return None;
+        }
+        self.sizes.push_back_reserved(self.size);
+        self.size = 0;
+        self.resync = false;
+        self.places += 1;
+        self.ended += 1;
+        Some(self.ended)
+    }
+
+    /// The peer acknowledged a barrier. `BadBarrierAck` (24) unless the number is that of the oldest
+    /// barrier that is not acknowledged, and the size is its epoch's. It takes no memory.
+    pub fn acknowledge(&mut self, number: u32, size: u32) -> Result<(), Refusal>
+        ensures { (result, self.new) ≡ acknowledging number size self.old }
+    {
+        let awaited = u64::from(number) + self.sizes.len() as u64 == u64::from(self.ended) + 1;
+        if !awaited || self.sizes.front() != Some(&size) {
+            return Err(Refusal::BadBarrierAck);
+        }
+        self.sizes.pop_front();
+        Ok(())
+    }
+
+    /// The number of the last epoch, from 1.
+    pub fn last(&self) -> u32
+        ensures { result ≡ self.now.ended + 1 }
+    {
+        self.ended + 1
+    }
+
+    /// How many items the stream has.
+    pub fn places(&self) -> u32
+        ensures { result ≡ self.now.places }
+    {
+        self.places
+    }
+}
