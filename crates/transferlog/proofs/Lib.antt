@@ -1,0 +1,5 @@
+pub mod Numbers
+pub mod InSlots
+pub mod Kept
+pub mod Moves
+pub mod Turned

@@ -1,0 +1,111 @@
+use Rattle.std.proofs.Common.{◌≡◌, ◌++◌, List, [], Bool, None, Some, true, false, refl, sym, ◌∙◌, ap, not}
+use Rattle.transferlog.specs.Ring.{changed}
+use Rattle.transferlog.specs.Fields.{log_of}
+use Rattle.transferlog.proofs.InSlots.{number-changed}
+use Rattle.transferlog.proofs.Kept.{log_changed, changed_is, bounded_ended}
+use Rattle.transferlog.proofs.Turned.{released_is, writes_are, completed_is, closes_is, no_release, after_release}
+use Rattle.transferlog.specs.Log.{ended_by}
+use Rattle.transferlog.proofs.log.TransferLog.change.Goals as goal
+
+-- what is added to a list that was cleared
+onto_empty : {X : Type 0} (new cleared added : List X) → new ≡ cleared ++ added → cleared ≡ [] → new ≡ added
+onto_empty new cleared added is empty = is ∙ ap (λ front. front ++ added) empty
+
+is_not : (b : Bool) → not b ≡ true → b ≡ false
+is_not true is = cc
+is_not false is = refl
+
+is_so : (b : Bool) → not b ≡ false → b ≡ true
+is_so true is = refl
+is_so false is = cc
+
+pub invariant_of-self : goal.invariant_of-self
+invariant_of-self c =
+    let l = c.self.inside in
+    let s = log_of l in
+    let n = c.args.number in
+    let f = changed c.args.change in
+    let inv = c.self.invariant in
+    let none = sym c.in_err-turn.was ∙ c.change.ensures.turn in
+    let writes = writes_are s n f None (number-changed c.args.change) c.change.ensures.rises inv.kept (no_release s n f (number-changed c.args.change) none) in
+    log_changed l _ n c.args.change inv (ap (λ r. r.next) c.change.ensures.next) refl refl refl refl (ap (λ r. r.writes) c.change.ensures.next ∙ writes)
+    c.clear.ensures.capacity c.clear-2.ensures.capacity (record { confirmed_writes = inv.confirmed; begun = inv.begun })
+
+pub returns-in_err-turn : goal.returns-in_err-turn
+returns-in_err-turn c =
+    let l = c.self.inside in
+    let s = log_of l in
+    let n = c.args.number in
+    let f = changed c.args.change in
+    let inv = c.self.invariant in
+    let none = sym c.in_err-turn.was ∙ c.change.ensures.turn in
+    let keeps = number-changed c.args.change in
+    let gone = no_release s n f keeps none in
+    let closed = closes_is s n f None c.change.ensures.rises none in
+    rw (← c.self.view_is) (rw c.from_residual.ensures (changed_is s n f _ _ _ (None, l.epochs)
+    (ap (λ r. r.writes) c.change.ensures.next ∙ writes_are s n f None keeps c.change.ensures.rises inv.kept gone)
+    (c.clear.ensures.items ∙ released_is s n f None keeps c.change.ensures.rises inv.kept gone)
+    (c.clear-2.ensures.items ∙ completed_is s n f None c.change.ensures.rises none)
+    (ap (λ (b : Bool). ended_by b n l.epochs) closed)))
+
+pub invariant_of-self-then-not-turn : goal.invariant_of-self-then-not-turn
+invariant_of-self-then-not-turn c =
+    let l = c.self.inside in
+    let s = log_of l in
+    let n = c.args.number in
+    let f = changed c.args.change in
+    let inv = c.self.invariant in
+    let ring = after_release s n f c.change.new.self c.release.new.self c.release.result (number-changed c.args.change) c.change.ensures.rises inv.kept
+    (ap (λ r. r.writes) c.change.ensures.next) c.release.ensures.release (ap (λ r. r.writes) c.release.ensures.next) in
+    log_changed l _ n c.args.change inv (ap (λ r. r.next) c.release.ensures.next ∙ ap (λ r. r.next) c.change.ensures.next) refl refl refl refl ring.0
+    (c.note-2.ensures.capacity ∙ c.clear.ensures.capacity) (c.note.ensures.capacity ∙ c.clear-2.ensures.capacity) (record { confirmed_writes = inv.confirmed; begun = inv.begun })
+
+pub returns-then-not-turn : goal.returns-then-not-turn
+returns-then-not-turn c =
+    let l = c.self.inside in
+    let s = log_of l in
+    let n = c.args.number in
+    let f = changed c.args.change in
+    let inv = c.self.invariant in
+    let ring = after_release s n f c.change.new.self c.release.new.self c.release.result (number-changed c.args.change) c.change.ensures.rises inv.kept
+    (ap (λ r. r.writes) c.change.ensures.next) c.release.ensures.release (ap (λ r. r.writes) c.release.ensures.next) in
+    let turned = sym c.in_ok-turn.was ∙ c.change.ensures.turn in
+    let closed = closes_is s n f (Some c.in_ok-turn.turn) c.change.ensures.rises turned in
+    let open_still : c.in_ok-turn.turn.closes ≡ false = is_not c.in_ok-turn.turn.closes c.if-not-turn.true in
+    rw (← c.self.view_is) (changed_is s n f _ _ _ (None, l.epochs)
+    ring.0
+    (onto_empty _ _ _ c.note-2.ensures.items c.clear.ensures.items ∙ ring.1)
+    (onto_empty _ _ _ c.note.ensures.items c.clear-2.ensures.items ∙ completed_is s n f (Some c.in_ok-turn.turn) c.change.ensures.rises turned)
+    (ap (λ (b : Bool). ended_by b n l.epochs) (sym open_still ∙ closed)))
+
+pub invariant_of-self-2 : goal.invariant_of-self-2
+invariant_of-self-2 c =
+    let l = c.self.inside in
+    let s = log_of l in
+    let n = c.args.number in
+    let f = changed c.args.change in
+    let inv = c.self.invariant in
+    let ring = after_release s n f c.change.new.self c.release.new.self c.release.result (number-changed c.args.change) c.change.ensures.rises inv.kept
+    (ap (λ r. r.writes) c.change.ensures.next) c.release.ensures.release (ap (λ r. r.writes) c.release.ensures.next) in
+    let bounded = bounded_ended true n l.confirmed l.accepted l.epochs (record { confirmed_writes = inv.confirmed; begun = inv.begun }) in
+    log_changed l _ n c.args.change inv (ap (λ r. r.next) c.release.ensures.next ∙ ap (λ r. r.next) c.change.ensures.next) refl refl refl refl ring.0
+    (c.note-2.ensures.capacity ∙ c.clear.ensures.capacity) (c.note.ensures.capacity ∙ c.clear-2.ensures.capacity)
+    (rw (ap (λ p. p.1) c.completed.ensures) bounded)
+
+pub returns : goal.returns
+returns c =
+    let l = c.self.inside in
+    let s = log_of l in
+    let n = c.args.number in
+    let f = changed c.args.change in
+    let inv = c.self.invariant in
+    let ring = after_release s n f c.change.new.self c.release.new.self c.release.result (number-changed c.args.change) c.change.ensures.rises inv.kept
+    (ap (λ r. r.writes) c.change.ensures.next) c.release.ensures.release (ap (λ r. r.writes) c.release.ensures.next) in
+    let turned = sym c.in_ok-turn.was ∙ c.change.ensures.turn in
+    let closed = closes_is s n f (Some c.in_ok-turn.turn) c.change.ensures.rises turned in
+    let closes : c.in_ok-turn.turn.closes ≡ true = is_so c.in_ok-turn.turn.closes c.if-not-turn.false in
+    rw (← c.self.view_is) (changed_is s n f _ _ _ (c.completed.result, c.completed.new.self)
+    ring.0
+    (onto_empty _ _ _ c.note-2.ensures.items c.clear.ensures.items ∙ ring.1)
+    (onto_empty _ _ _ c.note.ensures.items c.clear-2.ensures.items ∙ completed_is s n f (Some c.in_ok-turn.turn) c.change.ensures.rises turned)
+    (c.completed.ensures ∙ ap (λ (b : Bool). ended_by b n l.epochs) (sym closes ∙ closed)))

@@ -1,0 +1,48 @@
+-- What the fields of a transfer log stand for, and what is kept about them.
+use Rattle.std.specs.Prelude.{ℕ, ◌≡◌, ◌+◌, ◌<◌, ◌≤◌, false, List, [], ◌∷◌, length, sum, vec_capacity, None}
+use Rattle.transferlog.specs.Writes.{LogWrite, is_released}
+use Rattle.transferlog.specs.Log.{LogState}
+use Rattle.transferlog.specs.declared.log.TransferLog.TheInside.{Inside}
+
+-- the fields as plain values
+abbrev pub log_of : Inside → LogState
+log_of l = record {
+  protocol = l.protocol;
+  backlog = l.backlog;
+  accepted = l.accepted;
+  connection = l.connection;
+  confirmed = l.confirmed;
+  latest = l.latest.items;
+  writes = l.ring.writes;
+  epochs = l.epochs;
+  released = l.released.items;
+  completed = l.completed.items;
+}
+
+-- each of these writes is as the first argument says
+abbrev pub Each : (LogWrite → Type 0) → List LogWrite → Type 0
+Each P [] = Unit {0}
+Each P (w ∷ ws) = P w × Each P ws
+
+-- the write is not released
+abbrev pub IsKept : ℕ → LogWrite → Type 0
+IsKept confirmed w = is_released confirmed w ≡ false
+
+-- the write has no connection
+abbrev pub IsAlone : LogWrite → Type 0
+IsAlone w = w.linked ≡ false
+
+-- No write is released, none has a connection where no stream stands, there are no more than may be, and what a call reports
+-- has room; the epochs' writes were accepted after
+-- those confirmed.
+pub record IsLog (l : Inside) : Type 0 where
+  pub next : l.ring.next ≡ l.accepted + 1
+  pub few_accepted : l.accepted ≤ 1048576
+  pub kept : Each (IsKept l.confirmed) l.ring.writes
+  pub alone : l.connection ≡ None → Each IsAlone l.ring.writes
+  pub few : length l.ring.writes ≤ l.backlog
+  pub some : 0 < l.backlog
+  pub room_for_released : l.backlog ≤ vec_capacity l.released
+  pub room_for_completed : l.backlog ≤ vec_capacity l.completed
+  pub confirmed : l.confirmed + (sum l.epochs.sizes + l.epochs.size) ≤ l.accepted
+  pub begun : 0 < l.epochs.size → l.epochs.first + l.epochs.size ≤ l.accepted + 1

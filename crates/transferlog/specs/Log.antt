@@ -1,0 +1,94 @@
+-- The transfer log in plain values, and how each call changes it. The rules are this project's, after the DRBD User's Guide,
+-- "Replication modes", and DRBD's transfer log.
+use Rattle.std.specs.Prelude.{ℕ, Bool, true, false, ◌&&◌, not, if◌then◌else◌, List, [], map, filter, replicate, Option, Some, None}
+use Rattle.std.specs.List.{list_any}
+use Rattle.blocks.specs.declared.settings.Protocol.{Protocol}
+use Rattle.blocks.specs.declared.settings.Protocol.TheVariants as protocol
+use Rattle.epochs.specs.Epochs.{EpochsState, empty, completing}
+use Rattle.transferlog.specs.Writes.{LogWrite, is_open, is_completed, is_released, completed_of, released_of, sending, storing, failing}
+use Rattle.transferlog.specs.Ring.{on}
+use Rattle.transferlog.specs.declared.report.Completed.{Completed}
+use Rattle.transferlog.specs.declared.report.Released.{Released}
+
+-- The protocol and the most unreleased writes; how many writes were accepted, which is the last number; the connection whose
+-- stream stands; the number up to which every write with a connection has its epoch's acknowledgement; of each block of the
+-- device, the number of the last accepted write that has it, or 0; the unreleased writes by rising number; the epochs of the
+-- stream; and what the last call released and completed, by rising number.
+pub record LogState : Type 0 where
+  pub protocol : Protocol
+  pub backlog : ℕ
+  pub accepted : ℕ
+  pub connection : Option ℕ
+  pub confirmed : ℕ
+  pub latest : List ℕ
+  pub writes : List LogWrite
+  pub epochs : EpochsState
+  pub released : List Released
+  pub completed : List Completed
+
+-- a log with no write, of a device of so many blocks
+abbrev pub empty_log : Protocol → ℕ → ℕ → ℕ → LogState
+empty_log protocol blocks max_epoch backlog = record {
+  protocol = protocol;
+  backlog = backlog;
+  accepted = 0;
+  connection = None;
+  confirmed = 0;
+  latest = replicate blocks 0;
+  writes = [];
+  epochs = empty max_epoch;
+  released = [];
+  completed = [];
+}
+
+-- a stream begins: no item is in it, and no write has that connection yet
+abbrev pub connecting : ℕ → LogState → LogState
+connecting connection s = record s { connection = Some connection; confirmed = s.accepted; epochs = empty s.epochs.max_epoch; released = []; completed = [] }
+
+-- Something happens to each write, and all with a connection and a number up to this one have their acknowledgement: those that
+-- were open and are completed now, those that are released now, and those that are left.
+abbrev pub moved : (LogWrite → LogWrite) → ℕ → LogState → LogState
+moved f confirmed s = record {
+  protocol = s.protocol;
+  backlog = s.backlog;
+  accepted = s.accepted;
+  connection = s.connection;
+  confirmed = confirmed;
+  latest = s.latest;
+  writes = filter (λ w. not (is_released confirmed w)) (map f s.writes);
+  epochs = s.epochs;
+  released = map released_of (filter (is_released confirmed) (map f s.writes));
+  completed = map completed_of (filter is_completed (map f (filter is_open s.writes)));
+}
+
+-- whether a write that was open is no more, as something happens to each
+abbrev pub closes_any : (LogWrite → LogWrite) → LogState → Bool
+closes_any f s = list_any (λ w. is_open w && not (is_open (f w))) s.writes
+
+-- what the stream's epochs become where a write is completed or failed: the barrier that is appended, and what is left
+abbrev pub ended_by : Bool → ℕ → EpochsState → Option ℕ × EpochsState
+ended_by closed number e = if closed then completing number e else (None, e)
+
+-- Something happens to one write: the barrier that is appended, where that ends the last epoch, and the log after it.
+abbrev pub changing : ℕ → (LogWrite → LogWrite) → LogState → Option ℕ × LogState
+changing number f s =
+    let ended = ended_by (closes_any (on number f) s) number s.epochs in
+    (ended.0, record (moved (on number f) s.confirmed s) { epochs = ended.1 })
+
+-- whether a write is answered by standing in the link's queue
+abbrev pub answers_sent : Protocol → Bool
+answers_sent protocol.A = true
+answers_sent protocol.B = false
+answers_sent protocol.C = false
+
+-- a write's frame stands in the link's queue
+abbrev pub sent : ℕ → LogState → Option ℕ × LogState
+sent number s = changing number (sending (answers_sent s.protocol)) s
+
+-- a write is on the local disk
+abbrev pub local_done : ℕ → LogState → Option ℕ × LogState
+local_done number s = changing number storing s
+
+-- the local disk failed a write
+abbrev pub local_failed : ℕ → LogState → Option ℕ × LogState
+local_failed number s = changing number failing s

@@ -1,0 +1,44 @@
+-- A row of writes by rising number, and what happens to one of them.
+use Rattle.std.specs.Prelude.{ℕ, suc, ◌≤◌, ◌==◌, Bool, not, if◌then◌else◌, List, [], ◌∷◌, filter, find, map, Option}
+use Rattle.transferlog.specs.Writes.{LogWrite, sending, answering, storing, failing, unlinking}
+use Rattle.transferlog.specs.declared.write.Change.{Change}
+use Rattle.transferlog.specs.declared.write.Change.TheVariants as change
+
+-- the writes, the number that the next one has, and for how many more there is room
+pub record RingState : Type 0 where
+  pub writes : List LogWrite
+  pub next : ℕ
+  pub spare : ℕ
+
+-- whether the write has this number
+abbrev pub has_number : ℕ → LogWrite → Bool
+has_number number w = w.number == number
+
+-- the write with this number
+abbrev pub write_at : ℕ → List LogWrite → Option LogWrite
+write_at number writes = find (has_number number) writes
+
+-- what happens to the write with this number, and to no other
+abbrev pub on : ℕ → (LogWrite → LogWrite) → LogWrite → LogWrite
+on number f w = if has_number number w then f w else w
+
+-- the writes with a change to one of them
+abbrev pub with_change : ℕ → (LogWrite → LogWrite) → List LogWrite → List LogWrite
+with_change number f writes = map (on number f) writes
+
+-- the writes without one of them
+abbrev pub without : ℕ → List LogWrite → List LogWrite
+without number writes = filter (λ w. not (has_number number w)) writes
+
+-- what a change makes of a write
+abbrev pub changed : Change → LogWrite → LogWrite
+changed (change.Sent answers) = sending answers
+changed change.Answered = answering
+changed change.OnDisk = storing
+changed change.Failed = failing
+changed change.Unlinked = unlinking
+
+-- the numbers rise from this one on
+abbrev pub Rises : ℕ → List LogWrite → Type 0
+Rises low [] = Unit {0}
+Rises low (w ∷ ws) = (low ≤ w.number) × Rises (suc w.number) ws

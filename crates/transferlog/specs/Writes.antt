@@ -1,0 +1,88 @@
+-- An unreleased write: what is known of it, when it is completed, and when it is released.
+use Rattle.std.specs.Prelude.{ℕ, nat_le, Bool, true, false, ◌&&◌, ◌||◌, not, if◌then◌else◌, List, Option, Some, None}
+use Rattle.transferlog.specs.declared.local.Local.{Local}
+use Rattle.transferlog.specs.declared.report.Completed.{Completed}
+use Rattle.transferlog.specs.declared.report.Released.{Released}
+use Rattle.transferlog.specs.declared.report.Turn.{Turn}
+use Rattle.transferlog.specs.declared.local.Local.TheVariants.{Waiting, OnDisk, Failed}
+
+-- An accepted write: its number, its blocks and their contents; its home, which is the connection and the place in its stream,
+-- where it has one; whether its connection stands; whether it was sent, and answered as the protocol asks; and what the local
+-- disk did with it.
+pub record LogWrite : Type 0 where
+  pub number : ℕ
+  pub first : ℕ
+  pub count : ℕ
+  pub contents : List ℕ
+  pub home : Option (ℕ × ℕ)
+  pub linked : Bool
+  pub sent : Bool
+  pub answered : Bool
+  pub local : Local
+
+-- the local disk has all of it
+abbrev pub is_on_disk : Local → Bool
+is_on_disk Waiting = false
+is_on_disk OnDisk = true
+is_on_disk Failed = false
+
+-- the local disk failed it
+abbrev pub has_failed : Local → Bool
+has_failed Waiting = false
+has_failed OnDisk = false
+has_failed Failed = true
+
+-- the local disk is done with it
+abbrev pub is_settled : LogWrite → Bool
+is_settled w = is_on_disk w.local || has_failed w.local
+
+-- completed: on the local disk, and answered or without a connection
+abbrev pub is_completed : LogWrite → Bool
+is_completed w = is_on_disk w.local && (w.answered || not w.linked)
+
+-- open: neither completed nor failed
+abbrev pub is_open : LogWrite → Bool
+is_open w = not (is_completed w) && not (has_failed w.local)
+
+-- released, where every write with a connection and a number up to this one has its epoch's acknowledgement
+abbrev pub is_released : ℕ → LogWrite → Bool
+is_released confirmed w = is_settled w && (not w.linked || nat_le w.number confirmed)
+
+-- the write was sent, and is answered by that where the protocol asks no more
+abbrev pub sending : Bool → LogWrite → LogWrite
+sending answers w = record w { sent = true; answered = w.answered || answers }
+
+-- the write was answered
+abbrev pub answering : LogWrite → LogWrite
+answering w = record w { answered = true }
+
+-- the write is on the local disk
+abbrev pub storing : LogWrite → LogWrite
+storing w = record w { local = OnDisk }
+
+-- the local disk failed the write
+abbrev pub failing : LogWrite → LogWrite
+failing w = record w { local = Failed }
+
+-- the write's connection is gone
+abbrev pub unlinking : LogWrite → LogWrite
+unlinking w = record w { linked = false }
+
+-- what a write's completion says
+abbrev pub completed_of : LogWrite → Completed
+completed_of w = record { number = w.number; first = w.first; count = w.count; linked = w.answered; home = w.home }
+
+-- what a write's release says: a write with a connection that is on both disks clears marks
+abbrev pub released_of : LogWrite → Released
+released_of w = record { number = w.number; first = w.first; count = w.count; clears = w.linked && is_on_disk w.local }
+
+-- what a change does to a write: whether it was open and is no more, and whether it was open and is completed now
+abbrev pub turn_of : (LogWrite → LogWrite) → LogWrite → Turn
+turn_of f w = record {
+  closes = is_open w && not (is_open (f w));
+  completion = if is_open w && is_completed (f w) then Some (completed_of (f w)) else None;
+}
+
+-- the release of a write, if it is released
+abbrev pub release_of : ℕ → LogWrite → Option Released
+release_of confirmed w = if is_released confirmed w then Some (released_of w) else None

@@ -1,0 +1,39 @@
+//! What a call of the log reports.
+
+/// A write was completed.
+#[derive(Clone, Copy, Debug, PartialEq, Eq)]
+pub struct Completed {
+    /// Its number.
+    pub number: u64,
+    /// Its first block.
+    pub first: u64,
+    /// How many blocks it has.
+    pub count: u64,
+    /// Whether the peer has answered it, as the protocol asks; else it was completed without the peer.
+    pub linked: bool,
+    /// The connection and the place in its stream, if it has one.
+    pub home: Option<(u32, u32)>,
+}
+
+/// A write was released: it has left the log.
+#[derive(Clone, Copy, Debug, PartialEq, Eq)]
+pub struct Released {
+    /// Its number.
+    pub number: u64,
+    /// Its first block.
+    pub first: u64,
+    /// How many blocks it has.
+    pub count: u64,
+    /// Whether both disks have it, so that its blocks' marks may go. A failed write and one without a
+    /// connection clear nothing.
+    pub clears: bool,
+}
+
+/// What a change did to a write.
+#[derive(Clone, Copy)]
+pub(crate) struct Turn {
+    /// It was open, and is no more.
+    pub(crate) closes: bool,
+    /// It is completed by that.
+    pub(crate) completion: Option<Completed>,
+}

@@ -1,0 +1,147 @@
+//! The row of the unreleased writes.
+ghost use Rattle.std.specs.Prelude.{◌≡◌, ◌+◌, ◌^◌, ◌<◌, [], ◌∷◌, ◌++◌, length, OnOk, is_some, if◌then◌else◌};
+ghost use Rattle.std.specs.Option.{option_copied, option_map, option_and_then};
+ghost use Rattle.transferlog.specs.Writes.{release_of, turn_of};
+ghost use Rattle.transferlog.specs.Ring.{Rises, changed, with_change, without, write_at};
+
+use crate::report::{Released, Turn};
+use crate::write::{Change, Write};
+use std::alloc::{AllocError, Global};
+use std::collections::VecDeque;
+use std::marker::Model;
+
+/// Writes by rising number. Numbers are consecutive, so a write is found by subtraction; a write that is
+/// gone leaves a hole until all before it are gone too. Each call takes constant time, but for a removal,
+/// which takes constant time for each number that was accepted.
+#[derive(Drop)]
+pub(crate) struct Ring {
+    first: u64,
+    slots: VecDeque<Option<Write>>,
+    count: u32,
+}
+
+impl Model for Ring {
+    ghost use Rattle.transferlog.specs.Ring.{RingState};
+
+    ghost Value = { RingState };
+
+    ghost use Rattle.transferlog.specs.Slots.{ring_of, IsRing};
+
+    ghost view = { ring_of };
+
+    ghost invariant = { IsRing };
+}
+
+impl Ring {
+    /// No write; the first has number 1.
+    pub(crate) fn new(alloc: Global) -> Ring
+        ensures writes { result.writes ≡ [] }
+        ensures next { result.next ≡ 1 }
+    {
+        Ring {
+            first: 1,
+            slots: VecDeque::new(alloc),
+            count: 0,
+        }
+    }
+
+    /// How many writes there are.
+    pub(crate) fn len(&self) -> u32
+        ensures { result ≡ length self.now.writes }
+    {
+        self.count
+    }
+
+    /// Makes room for a write.
+    pub(crate) fn reserve(&mut self) -> Result<(), AllocError>
+        ensures same { self.new ≡ record self.old { spare = self.new.spare } }
+        ensures room { OnOk result (0 < self.new.spare) }
+    {
+        self.slots.reserve(1)
+    }
+
+    /// Adds a write. It takes no memory.
+    pub(crate) fn push(&mut self, write: Write)
+        requires room { 0 < self.old.spare }
+        requires next { write.number ≡ self.old.next }
+        requires small { self.old.next < 2 ^ 32 }
+        ensures { self.new ≡ record { writes = self.old.writes ++ write ∷ []; next = self.old.next + 1; spare = self.new.spare } }
+    {
+        self.slots.push_back_reserved(Some(write));
+        self.count += 1;
+    }
+
+    /// The write with this number.
+    pub(crate) fn get(&self, number: u64) -> Option<&Write>
+        ensures { option_copied result ≡ write_at number self.now.writes }
+    {
+        if number < self.first {
+            return None;
+        }
+        let index = (number - self.first) as usize;
+        if index >= self.slots.len() {
+            return None;
+        }
+        self.slots[index].as_ref()
+    }
+
+    /// The change happens to the write with this number, if there is one. Answers what it did to it.
+    pub(crate) fn change(&mut self, number: u64, change: Change) -> Option<Turn>
+        ensures next { self.new ≡ record self.old { writes = with_change number (changed change) self.old.writes } }
+        ensures turn { result ≡ option_map (turn_of (changed change)) (write_at number self.old.writes) }
+        ensures rises { Rises 0 self.old.writes }
+    {
+        if number < self.first {
+            return None;
+        }
+        let index = (number - self.first) as usize;
+        if index >= self.slots.len() {
+            return None;
+        }
+        let Some(write) = &mut self.slots[index] else {
+            return None;
+        };
+        Some(write.apply(change))
+    }
+
+    /// Takes out the write with this number, if it is released where all up to `confirmed` have the
+    /// acknowledgement of their epoch, and the holes before the first write that is left. It takes no memory.
+    pub(crate) fn release(&mut self, number: u64, confirmed: u64) -> Option<Released>
+        ensures release { result ≡ option_and_then (release_of confirmed) (write_at number self.old.writes) }
+        ensures next { self.new ≡ record {
+          writes = if is_some result then without number self.old.writes else self.old.writes;
+          next = self.old.next;
+          spare = self.new.spare;
+        } }
+    {
+        let release = self.get(number)?.release(confirmed)?;
+        self.remove(number);
+        Some(release)
+    }
+
+    fn remove(&mut self, number: u64)
+        ensures { self.new ≡ record { writes = without number self.old.writes; next = self.old.next; spare = self.new.spare } }
+    {
+        if number < self.first {
+            return;
+        }
+        let index = (number - self.first) as usize;
+        if index >= self.slots.len() {
+            return;
+        }
+        let Some(_) = self.slots[index].take() else {
+            return;
+        };
+        self.count -= 1;
+        self.drop_holes();
+    }
+
+    fn drop_holes(&mut self)
+        ensures { self.new ≡ record self.old { spare = self.new.spare } }
+    {
+        while let Some(None) = self.slots.front() {
+            self.slots.pop_front();
+            self.first += 1;
+        }
+    }
+}

@@ -1,0 +1,171 @@
+//! A write in the transfer log.
+ghost use Rattle.std.specs.Prelude.{◌≡◌, is_some, false};
+ghost use Rattle.transferlog.specs.Writes.{completed_of, is_completed, is_open, is_released, is_settled, release_of, turn_of};
+ghost use Rattle.transferlog.specs.Ring.{changed};
+
+use crate::local::Local;
+use crate::report::{Completed, Released, Turn};
+use blocks::Range;
+use bytes::Bytes;
+use std::marker::Model;
+
+/// An accepted write that is not released.
+#[derive(Drop)]
+pub struct Write {
+    number: u64,
+    range: Range,
+    contents: Bytes,
+    home: Option<(u32, u32)>,
+    linked: bool,
+    sent: bool,
+    answered: bool,
+    local: Local,
+}
+
+impl Model for Write {
+    ghost use Rattle.transferlog.specs.Writes.{LogWrite};
+
+    ghost Value = { LogWrite };
+
+    ghost view = { λ w. record {
+      number = w.number;
+      first = w.range.first.0;
+      count = w.range.count;
+      contents = w.contents;
+      home = w.home;
+      linked = w.linked;
+      sent = w.sent;
+      answered = w.answered;
+      local = w.local;
+    } };
+}
+
+/// What may happen to a write.
+#[derive(Clone, Copy)]
+pub(crate) enum Change {
+    /// Its frame stands in the link's queue; whether that is the answer.
+    Sent(bool),
+    /// The peer answered as the protocol asks.
+    Answered,
+    /// The local disk has it.
+    OnDisk,
+    /// The local disk failed it.
+    Failed,
+    /// Its connection is gone.
+    Unlinked,
+}
+
+impl Write {
+    /// A write that the local disk has to do, at its home in a stream, or without one.
+    pub(crate) fn new(number: u64, range: Range, contents: Bytes, home: Option<(u32, u32)>) -> Write
+        ensures { result ≡ record {
+          number = number;
+          first = range.first.0;
+          count = range.count;
+          contents = contents;
+          home = home;
+          linked = is_some home;
+          sent = false;
+          answered = false;
+          local = Local.Waiting;
+        } }
+    {
+        Write {
+            number,
+            range,
+            contents,
+            home,
+            linked: home.is_some(),
+            sent: false,
+            answered: false,
+            local: Local::Waiting,
+        }
+    }
+
+    /// The change happens to the write. Answers what that did to it.
+    pub(crate) fn apply(&mut self, change: Change) -> Turn
+        ensures next { self.new ≡ changed change self.old }
+        ensures turn { result ≡ turn_of (changed change) self.old }
+    {
+        let was_open = self.is_open();
+        self.set(change);
+        Turn {
+            closes: was_open && !self.is_open(),
+            completion: if was_open && self.is_completed() {
+                Some(self.completion())
+            } else {
+                None
+            },
+        }
+    }
+
+    fn set(&mut self, change: Change)
+        ensures { self.new ≡ changed change self.old }
+    {
+        match change {
+            Change::Sent(answers) => {
+                self.sent = true;
+                self.answered = self.answered || answers;
+            }
+            Change::Answered => self.answered = true,
+            Change::OnDisk => self.local = Local::OnDisk,
+            Change::Failed => self.local = Local::Failed,
+            Change::Unlinked => self.linked = false,
+        }
+    }
+
+    fn completion(&self) -> Completed
+        ensures { result ≡ completed_of self.now }
+    {
+        Completed {
+            number: self.number,
+            first: self.range.first.0,
+            count: self.range.count,
+            linked: self.answered,
+            home: self.home,
+        }
+    }
+
+    /// Its release, if it is released where all up to `confirmed` have the acknowledgement of their epoch.
+    pub(crate) fn release(&self, confirmed: u64) -> Option<Released>
+        ensures { result ≡ release_of confirmed self.now }
+    {
+        if !self.is_released(confirmed) {
+            return None;
+        }
+        Some(Released {
+            number: self.number,
+            first: self.range.first.0,
+            count: self.range.count,
+            clears: self.linked && self.local == Local::OnDisk,
+        })
+    }
+
+    /// Whether the local disk is done with it.
+    pub(crate) fn is_settled(&self) -> bool
+        ensures { result ≡ is_settled self.now }
+    {
+        self.local != Local::Waiting
+    }
+
+    /// Whether it is completed.
+    pub(crate) fn is_completed(&self) -> bool
+        ensures { result ≡ is_completed self.now }
+    {
+        self.local == Local::OnDisk && (self.answered || !self.linked)
+    }
+
+    /// Whether it is neither completed nor failed.
+    pub(crate) fn is_open(&self) -> bool
+        ensures { result ≡ is_open self.now }
+    {
+        !self.is_completed() && self.local != Local::Failed
+    }
+
+    /// Whether it is released, where all up to `confirmed` have the acknowledgement of their epoch.
+    pub(crate) fn is_released(&self, confirmed: u64) -> bool
+        ensures { result ≡ is_released confirmed self.now }
+    {
+        self.is_settled() && (!self.linked || self.number <= confirmed)
+    }
+}
