@@ -5,9 +5,11 @@ use Rattle.std.proofs.lemmas.Grind.{common_steps}
 use Rattle.epochs.specs.Epochs.{EpochsState, is_in_last, ended_if}
 use Rattle.transferlog.specs.Writes.{LogWrite, is_released}
 use Rattle.transferlog.specs.Ring.{on, with_change, changed}
-use Rattle.transferlog.specs.Log.{LogState, moved, changing, ended_by, closes_any}
+use Rattle.transferlog.specs.Log.{LogState, moved, changing, ended_by, closes_any, home_in, with_latest, accepted_write, accepting}
 use Rattle.transferlog.specs.Fields.{IsAlone, IsLog}
 use Rattle.transferlog.specs.declared.log.TransferLog.TheInside.{Inside}
+use Rattle.std.specs.Option.{option_map}
+use Rattle.transferlog.specs.declared.report.Accepted.{Accepted}
 use Rattle.transferlog.specs.declared.report.Completed.{Completed}
 use Rattle.transferlog.specs.declared.report.Released.{Released}
 use Rattle.transferlog.specs.declared.write.Change.{Change}
@@ -64,3 +66,15 @@ pub changed_is : (s : LogState) (number : ℕ) (f : LogWrite → LogWrite) (writ
     → ended ≡ ended_by (closes_any (on number f) s) number s.epochs
     → let result : Option ℕ × LogState = (ended.0, record s { writes = writes; released = released; completed = completed; epochs = ended.1 }) in result ≡ changing number f s
 changed_is s number f writes released completed ended w r c e = rw (w, r, c, e) refl
+
+-- the log after a write was accepted, by its parts
+pub accepted_is : (s : LogState) (first count : ℕ) (contents : List ℕ) (home : Option (ℕ × ℕ)) (barrier place : Option ℕ) (e : EpochsState) (latest : List ℕ) (writes : List LogWrite)
+    (released : List Released) (completed : List Completed)
+    → (let answer : Option (ℕ × ℕ) × (Option ℕ × EpochsState) = (home, (barrier, e)) in answer ≡ home_in s.connection (s.accepted + 1) s.epochs)
+    → place ≡ option_map (λ h. h.1) home → latest ≡ with_latest (s.accepted + 1) first count s.latest
+    → writes ≡ s.writes ++ accepted_write first count contents home s ∷ [] → released ≡ [] → completed ≡ []
+    → (let result : Accepted × LogState = (record { number = s.accepted + 1; place = place; barrier = barrier },
+        record s { accepted = s.accepted + 1; latest = latest; writes = writes; epochs = e; released = released; completed = completed }) in
+      result ≡ accepting first count contents s)
+accepted_is s first count contents home barrier place e latest writes released completed is p l w r c =
+    rw (p, l, w, r, c) (rw (ap (λ a. a.0) is, ap (λ a. a.1.0) is, ap (λ a. a.1.1) is) refl)

@@ -1,12 +1,15 @@
 -- The transfer log in plain values, and how each call changes it. The rules are this project's, after the DRBD User's Guide,
 -- "Replication modes", and DRBD's transfer log.
-use Rattle.std.specs.Prelude.{ℕ, Bool, true, false, ◌&&◌, not, if◌then◌else◌, List, [], map, filter, replicate, Option, Some, None}
+use Rattle.std.specs.Prelude.{ℕ, suc, ◌+◌, ◌-◌, nat_lt, nat_le, ◌==◌, Bool, true, false, ◌&&◌, ◌||◌, not, if◌then◌else◌, List, [], ◌∷◌, ◌++◌, length, take, drop, map, filter, find, replicate, Option, Some, None, is_some, is_none, Result, Ok, Err}
 use Rattle.std.specs.List.{list_any}
+use Rattle.transferlog.specs.declared.local.Local.TheVariants.{Waiting}
+use Rattle.std.specs.Option.{option_map}
 use Rattle.blocks.specs.declared.settings.Protocol.{Protocol}
 use Rattle.blocks.specs.declared.settings.Protocol.TheVariants as protocol
-use Rattle.epochs.specs.Epochs.{EpochsState, empty, completing}
+use Rattle.epochs.specs.Epochs.{EpochsState, empty, completing, placed}
 use Rattle.transferlog.specs.Writes.{LogWrite, is_open, is_completed, is_released, completed_of, released_of, sending, storing, failing}
 use Rattle.transferlog.specs.Ring.{on}
+use Rattle.transferlog.specs.declared.report.Accepted.{Accepted}
 use Rattle.transferlog.specs.declared.report.Completed.{Completed}
 use Rattle.transferlog.specs.declared.report.Released.{Released}
 
@@ -92,3 +95,47 @@ local_done number s = changing number storing s
 -- the local disk failed a write
 abbrev pub local_failed : ℕ → LogState → Option ℕ × LogState
 local_failed number s = changing number failing s
+
+-- A write is accepted where a stream stands or not.
+
+-- the blocks of a range with the number of the write that has them last
+abbrev pub with_latest : ℕ → ℕ → ℕ → List ℕ → List ℕ
+with_latest number first count latest = take first latest ++ replicate count number ++ drop (first + count) latest
+
+-- the write that is accepted next, at its home, or without one
+abbrev pub accepted_write : ℕ → ℕ → List ℕ → Option (ℕ × ℕ) → LogState → LogWrite
+accepted_write first count contents home s = record {
+  number = s.accepted + 1;
+  first = first;
+  count = count;
+  contents = contents;
+  home = home;
+  linked = is_some home;
+  sent = false;
+  answered = false;
+  local = Waiting;
+}
+
+-- a write is accepted: what is left
+abbrev pub with_write : LogWrite → EpochsState → LogState → LogState
+with_write w e s = record s {
+  accepted = w.number;
+  latest = with_latest w.number w.first w.count s.latest;
+  writes = s.writes ++ w ∷ [];
+  epochs = e;
+  released = [];
+  completed = [];
+}
+
+-- The home of the next write: where a stream stands, it is the next place there. Its home, the barrier that follows it, and the
+-- epochs then.
+abbrev pub home_in : Option ℕ → ℕ → EpochsState → Option (ℕ × ℕ) × (Option ℕ × EpochsState)
+home_in None number e = (None, (None, e))
+home_in (Some connection) number e = let answer = placed number e in (Some (connection, answer.0), answer.1)
+
+-- A write is accepted: its number, place and barrier, and what is left.
+abbrev pub accepting : ℕ → ℕ → List ℕ → LogState → Accepted × LogState
+accepting first count contents s =
+    let home = home_in s.connection (s.accepted + 1) s.epochs in
+    (record { number = s.accepted + 1; place = option_map (λ h. h.1) home.0; barrier = home.1.0 },
+    with_write (accepted_write first count contents home.0 s) home.1.1 s)

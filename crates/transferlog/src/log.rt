@@ -1,15 +1,16 @@
 //! The transfer log of a primary.
-ghost use Rattle.std.specs.Prelude.{◌≡◌, ◌<◌, ◌≤◌, ◌++◌, length, vec_len, vec_capacity, IfOk, IfErr, IsSomeAnd, None, true, false};
-ghost use Rattle.std.specs.Option.{option_copied, option_to_list};
-ghost use Rattle.transferlog.specs.Log.{answers_sent, changing, connecting, empty_log, local_done, local_failed, sent};
+ghost use Rattle.std.specs.Prelude.{◌≡◌, ◌+◌, ◌<◌, ◌≤◌, ◌++◌, ◌⊎◌, ◌↔◌, length, take, drop, replicate, OnErr, IsErrOf, vec_len, vec_capacity, IfOk, IfErr, IsSomeAnd, None, true, false};
+ghost use Rattle.std.specs.Option.{option_copied, option_map, option_to_list};
+ghost use Rattle.transferlog.specs.Log.{accepting, answers_sent, changing, connecting, empty_log, home_in, local_done, local_failed, sent};
 ghost use Rattle.transferlog.specs.Ring.{changed, write_at};
 ghost use Rattle.transferlog.specs.declared.local.Local.TheVariants.{Waiting};
-ghost use Rattle.blocks.specs.declared.refusal.Refusal.TheVariants.{NoMemory};
+ghost use Rattle.blocks.specs.declared.refusal.Refusal.TheVariants.{LogFull, NoMemory};
 
-use crate::report::{Completed, Released};
+use crate::report::{Accepted, Completed, Released};
 use crate::ring::Ring;
 use crate::write::{Change, Write};
-use blocks::{Protocol, Refusal};
+use blocks::{Protocol, Range, Refusal};
+use bytes::Bytes;
 use epochs::Epochs;
 use std::alloc::Global;
 use std::marker::Model;
@@ -81,6 +82,37 @@ impl TransferLog {
         self.connection = Some(connection);
         self.confirmed = self.accepted;
         self.epochs.restart();
+    }
+
+    /// Accepts a write. Where a stream stands, it takes the next place there.
+    ///
+    /// `LogFull` (3) where `backlog` writes are unreleased; `NoMemory` (7) where there is no room for the
+    /// write or for its epoch.
+    pub fn accept(&mut self, range: Range, contents: Bytes) -> Result<Accepted, Refusal>
+        requires inside { range.first.0 + range.count ≤ length self.old.latest }
+        requires few { self.old.accepted < 1048576 }
+        requires places { self.old.epochs.places < 4294967290 }
+        ensures accepted { IfOk result (λ accepted. (accepted, self.new) ≡ accepting range.first.0 range.count contents self.old) }
+        ensures full { IsErrOf result LogFull ↔ (self.old.backlog ≤ length self.old.writes) }
+        ensures refused { IfErr result (λ e. (e ≡ LogFull) ⊎ (e ≡ NoMemory)) }
+        ensures unchanged { OnErr result (self.new ≡ self.old) }
+    {
+        if self.ring.len() >= self.backlog {
+            return Err(Refusal::LogFull);
+        }
+        self.ring.reserve()?;
+        let number = self.accepted + 1;
+        let (home, barrier) = home_in(self.connection, number, &mut self.epochs)?;
+        self.released.clear();
+        self.completed.clear();
+        self.accepted = number;
+        put(&mut self.latest, range.first.0 as usize, range.count as usize, number as u32);
+        self.ring.push(Write::new(number, range, contents, home));
+        Ok(Accepted {
+            number,
+            place: place_in(home),
+            barrier,
+        })
     }
 
     /// The write's frame stands in the link's queue. Under protocol A it is answered by that. Answers the
@@ -165,6 +197,29 @@ impl TransferLog {
     }
 }
 
+// The home of the next write, and the barrier that follows it.
+fn home_in(connection: Option<u32>, number: u64, epochs: &mut Epochs) -> Result<(Option<(u32, u32)>, Option<u32>), Refusal>
+    requires room { epochs.old.places < 4294967290 }
+    requires rising { 0 < epochs.old.size → epochs.old.first + epochs.old.size ≤ number }
+    ensures home { IfOk result (λ home. (home.0, (home.1, epochs.new)) ≡ home_in connection number epochs.old) }
+    ensures refused { IfErr result (λ e. e ≡ NoMemory) }
+    ensures unchanged { OnErr result (epochs.new ≡ epochs.old) }
+{
+    let Some(connection) = connection else {
+        return Ok((None, None));
+    };
+    let (place, barrier) = epochs.place(number)?;
+    Ok((Some((connection, place)), barrier))
+}
+
+// The place of a home.
+fn place_in(home: Option<(u32, u32)>) -> Option<u32>
+    ensures { result ≡ option_map (λ h. h.1) home }
+{
+    let (_, place) = home?;
+    Some(place)
+}
+
 // Whether a write is answered by standing in the link's queue.
 fn answers_sent(protocol: Protocol) -> bool
     ensures { result ≡ answers_sent protocol }
@@ -184,4 +239,12 @@ fn note<T>(list: &mut Vec<T>, entry: Option<T>)
     if let Some(entry) = entry {
         list.push_reserved(entry);
     }
+}
+
+// Writes the number over so many others, from `at` on.
+fn put(numbers: &mut [u32], at: usize, count: usize, number: u32)
+    requires { at + count ≤ length numbers.old }
+    ensures { numbers.new ≡ take at numbers.old ++ replicate count number ++ drop (at + count) numbers.old }
+{
+    numbers[at..at + count].fill(number);
 }

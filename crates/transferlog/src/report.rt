@@ -1,5 +1,16 @@
 //! What a call of the log reports.
 
+/// A write was accepted.
+#[derive(Clone, Copy, Debug, PartialEq, Eq)]
+pub struct Accepted {
+    /// Its number.
+    pub number: u64,
+    /// Its place in the connection's stream, if a stream stands.
+    pub place: Option<u32>,
+    /// The number of the barrier that follows it, where the epoch has all its writes now.
+    pub barrier: Option<u32>,
+}
+
 /// A write was completed.
 #[derive(Clone, Copy, Debug, PartialEq, Eq)]
 pub struct Completed {
