@@ -6,11 +6,16 @@ use Rattle.transferlog.specs.declared.local.Local.TheVariants.{Waiting}
 use Rattle.std.specs.Option.{option_map}
 use Rattle.blocks.specs.declared.settings.Protocol.{Protocol}
 use Rattle.blocks.specs.declared.settings.Protocol.TheVariants as protocol
-use Rattle.epochs.specs.Epochs.{EpochsState, empty, completing, placed}
-use Rattle.transferlog.specs.Writes.{LogWrite, is_open, is_completed, is_released, completed_of, released_of, sending, storing, failing}
-use Rattle.transferlog.specs.Ring.{on}
+use Rattle.epochs.specs.Epochs.{EpochsState, empty, completing, placed, uncounted}
+use Rattle.transferlog.specs.Writes.{LogWrite, is_open, is_completed, is_released, completed_of, released_of, awaits, sending, answering, storing, failing, unlinking}
+use Rattle.transferlog.specs.Ring.{on, write_at}
 use Rattle.transferlog.specs.declared.report.Accepted.{Accepted}
+use Rattle.blocks.specs.declared.refusal.Refusal.{Refusal}
+use Rattle.blocks.specs.declared.refusal.Refusal.TheVariants.{BadBarrierAck, UnknownAck}
+use Rattle.transferlog.specs.declared.report.Answer.{Answer}
+use Rattle.transferlog.specs.declared.report.Answer.TheVariants.{Received, Written}
 use Rattle.transferlog.specs.declared.report.Completed.{Completed}
+use Rattle.transferlog.specs.declared.report.Named.{Named}
 use Rattle.transferlog.specs.declared.report.Released.{Released}
 
 -- The protocol and the most unreleased writes; how many writes were accepted, which is the last number; the connection whose
@@ -139,3 +144,42 @@ accepting first count contents s =
     let home = home_in s.connection (s.accepted + 1) s.epochs in
     (record { number = s.accepted + 1; place = option_map (λ h. h.1) home.0; barrier = home.1.0 },
     with_write (accepted_write first count contents home.0 s) home.1.1 s)
+
+-- The stream's other items.
+
+-- nothing was released or completed
+abbrev pub quiet : EpochsState → LogState → LogState
+quiet e s = record s { epochs = e; released = []; completed = [] }
+
+-- a resync item takes the next place
+abbrev pub resync_placed : LogState → ℕ × LogState
+resync_placed s = let answer = placed 0 s.epochs in (answer.0, quiet answer.1.1 s)
+
+-- a resync item is acknowledged: the barrier that is appended, and what is left
+abbrev pub resync_acked : LogState → Option ℕ × LogState
+resync_acked s = let ended = completing 0 s.epochs in (ended.0, quiet ended.1 s)
+
+-- an item that no epoch counts takes the next place
+abbrev pub uuids_placed : LogState → ℕ × LogState
+uuids_placed s = let answer = uncounted s.epochs in (answer.0, quiet answer.1 s)
+
+-- The peer's answers.
+
+-- whether the protocol asks for this kind of answer
+abbrev pub is_asked : Protocol → Answer → Bool
+is_asked protocol.A kind = false
+is_asked protocol.B Received = true
+is_asked protocol.B Written = false
+is_asked protocol.C Received = false
+is_asked protocol.C Written = true
+
+-- whether the write with the number that an answer names is one that awaits this answer
+abbrev pub awaits_in : Option LogWrite → Named → Bool
+awaits_in None of = false
+awaits_in (Some w) of = awaits of w
+
+-- The peer answers a write: the barrier that is appended, and what is left. An answer that is not awaited is refused.
+abbrev pub acked : Answer → Named → LogState → Result (Option ℕ) Refusal × LogState
+acked kind of s =
+    let answer = changing of.number answering s in
+    if is_asked s.protocol kind && awaits_in (write_at of.number s.writes) of then (Ok answer.0, answer.1) else (Err UnknownAck, s)

@@ -1,7 +1,8 @@
 -- An unreleased write: what is known of it, when it is completed, and when it is released.
-use Rattle.std.specs.Prelude.{ℕ, nat_le, Bool, true, false, ◌&&◌, ◌||◌, not, if◌then◌else◌, List, Option, Some, None}
+use Rattle.std.specs.Prelude.{ℕ, nat_le, ◌==◌, Bool, true, false, ◌&&◌, ◌||◌, not, if◌then◌else◌, List, Option, Some, None}
 use Rattle.transferlog.specs.declared.local.Local.{Local}
 use Rattle.transferlog.specs.declared.report.Completed.{Completed}
+use Rattle.transferlog.specs.declared.report.Named.{Named}
 use Rattle.transferlog.specs.declared.report.Released.{Released}
 use Rattle.transferlog.specs.declared.report.Turn.{Turn}
 use Rattle.transferlog.specs.declared.local.Local.TheVariants.{Waiting, OnDisk, Failed}
@@ -86,3 +87,13 @@ turn_of f w = record {
 -- the release of a write, if it is released
 abbrev pub release_of : ℕ → LogWrite → Option Released
 release_of confirmed w = if is_released confirmed w then Some (released_of w) else None
+
+-- whether a home is at this place
+abbrev pub is_at : ℕ → Option (ℕ × ℕ) → Bool
+is_at place None = false
+is_at place (Some home) = home.1 == place
+
+-- whether a write is the one that an answer names: its place, first block and count are those, and it was sent on the connection
+-- that stands and is not answered
+abbrev pub awaits : Named → LogWrite → Bool
+awaits of w = (is_at of.place w.home && ((w.first == of.first) && (w.count == of.count))) && (w.linked && (w.sent && not w.answered))

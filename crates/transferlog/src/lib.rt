@@ -9,5 +9,5 @@ mod write;
 
 pub use local::Local;
 pub use log::TransferLog;
-pub use report::{Accepted, Completed, Released};
+pub use report::{Accepted, Answer, Completed, Named, Released};
 pub use write::Write;

@@ -1,12 +1,12 @@
 //! The transfer log of a primary.
 ghost use Rattle.std.specs.Prelude.{◌≡◌, ◌+◌, ◌<◌, ◌≤◌, ◌++◌, ◌⊎◌, ◌↔◌, length, take, drop, replicate, OnErr, IsErrOf, vec_len, vec_capacity, IfOk, IfErr, IsSomeAnd, None, true, false};
 ghost use Rattle.std.specs.Option.{option_copied, option_map, option_to_list};
-ghost use Rattle.transferlog.specs.Log.{accepting, answers_sent, changing, connecting, empty_log, home_in, local_done, local_failed, sent};
+ghost use Rattle.transferlog.specs.Log.{accepting, acked, answers_sent, changing, connecting, empty_log, home_in, is_asked, local_done, local_failed, resync_acked, resync_placed, sent, uuids_placed};
 ghost use Rattle.transferlog.specs.Ring.{changed, write_at};
 ghost use Rattle.transferlog.specs.declared.local.Local.TheVariants.{Waiting};
 ghost use Rattle.blocks.specs.declared.refusal.Refusal.TheVariants.{LogFull, NoMemory};
 
-use crate::report::{Accepted, Completed, Released};
+use crate::report::{Accepted, Answer, Completed, Named, Released};
 use crate::ring::Ring;
 use crate::write::{Change, Write};
 use blocks::{Protocol, Range, Refusal};
@@ -161,6 +161,58 @@ impl TransferLog {
         self.epochs.completed(number)
     }
 
+    /// Puts a resync item into the stream. Answers its place. `NoMemory` (7) where there is no room for its
+    /// epoch.
+    pub fn place_resync(&mut self) -> Result<u32, Refusal>
+        requires { self.old.epochs.places < 4294967290 }
+        ensures placed { IfOk result (λ place. (place, self.new) ≡ resync_placed self.old) }
+        ensures refused { IfErr result (λ e. e ≡ NoMemory) }
+        ensures unchanged { OnErr result (self.new ≡ self.old) }
+    {
+        let (place, _) = self.epochs.place(0)?;
+        self.released.clear();
+        self.completed.clear();
+        Ok(place)
+    }
+
+    /// The peer has applied the resync item under way. Answers the barrier that is appended, where it is in
+    /// the last epoch. It takes no memory.
+    pub fn resync_acked(&mut self) -> Option<u32>
+        ensures { (result, self.new) ≡ resync_acked self.old }
+    {
+        self.released.clear();
+        self.completed.clear();
+        self.epochs.completed(0)
+    }
+
+    /// Puts a SYNC_UUID or UUIDS item into the stream. Answers its place. It takes no memory.
+    pub fn uuids(&mut self) -> u32
+        requires { self.old.epochs.places < 4294967290 }
+        ensures { (result, self.new) ≡ uuids_placed self.old }
+    {
+        self.released.clear();
+        self.completed.clear();
+        self.epochs.uuids()
+    }
+
+    /// The peer answers a write. Answers the barrier that is appended, where that completes the write and it
+    /// is in the last epoch.
+    ///
+    /// `UnknownAck` (25) unless the protocol asks for this kind, and the write was sent on the connection
+    /// that stands, is not answered, and has exactly this number, place, first block and count. It takes no
+    /// memory.
+    pub fn acked(&mut self, kind: Answer, of: Named) -> Result<Option<u32>, Refusal>
+        ensures { (result, self.new) ≡ acked kind of self.old }
+    {
+        let Some(write) = self.ring.get(of.number) else {
+            return Err(Refusal::UnknownAck);
+        };
+        if !is_asked(self.protocol, kind) || !write.awaits(of) {
+            return Err(Refusal::UnknownAck);
+        }
+        Ok(self.change(of.number, Change::Answered))
+    }
+
     /// What the last call released, by rising number.
     pub fn released(&self) -> &[Released]
         ensures { result.now ≡ self.now.released }
@@ -218,6 +270,16 @@ fn place_in(home: Option<(u32, u32)>) -> Option<u32>
 {
     let (_, place) = home?;
     Some(place)
+}
+
+// Whether the protocol asks for this kind of answer.
+fn is_asked(protocol: Protocol, kind: Answer) -> bool
+    ensures { result ≡ is_asked protocol kind }
+{
+    match (protocol, kind) {
+        (Protocol::B, Answer::Received) | (Protocol::C, Answer::Written) => true,
+        _ => false,
+    }
 }
 
 // Whether a write is answered by standing in the link's queue.

@@ -40,6 +40,28 @@ pub struct Released {
     pub clears: bool,
 }
 
+/// What the peer says of a write.
+#[derive(Clone, Copy, Debug, PartialEq, Eq)]
+pub enum Answer {
+    /// It has received it (RECV_ACK).
+    Received,
+    /// Its disk has it (WRITE_ACK).
+    Written,
+}
+
+/// The write that an answer names.
+#[derive(Clone, Copy, Debug, PartialEq, Eq)]
+pub struct Named {
+    /// Its number.
+    pub number: u64,
+    /// Its place in the connection's stream.
+    pub place: u32,
+    /// Its first block.
+    pub first: u64,
+    /// How many blocks it has.
+    pub count: u64,
+}
+
 /// What a change did to a write.
 #[derive(Clone, Copy)]
 pub(crate) struct Turn {

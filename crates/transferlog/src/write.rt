@@ -1,10 +1,10 @@
 //! A write in the transfer log.
 ghost use Rattle.std.specs.Prelude.{◌≡◌, is_some, false};
-ghost use Rattle.transferlog.specs.Writes.{completed_of, is_completed, is_open, is_released, is_settled, release_of, turn_of};
+ghost use Rattle.transferlog.specs.Writes.{awaits, completed_of, is_at, is_completed, is_open, is_released, is_settled, release_of, turn_of};
 ghost use Rattle.transferlog.specs.Ring.{changed};
 
 use crate::local::Local;
-use crate::report::{Completed, Released, Turn};
+use crate::report::{Completed, Named, Released, Turn};
 use blocks::Range;
 use bytes::Bytes;
 use std::marker::Model;
@@ -139,6 +139,24 @@ impl Write {
             count: self.range.count,
             clears: self.linked && self.local == Local::OnDisk,
         })
+    }
+
+    /// Whether it awaits this answer.
+    pub(crate) fn awaits(&self, of: Named) -> bool
+        ensures { result ≡ awaits of self.now }
+    {
+        self.is_at(of.place)
+            && (self.range.first.0 == of.first && self.range.count == of.count)
+            && (self.linked && self.sent && !self.answered)
+    }
+
+    fn is_at(&self, place: u32) -> bool
+        ensures { result ≡ is_at place self.now.home }
+    {
+        match self.home {
+            Some((_, here)) => here == place,
+            None => false,
+        }
     }
 
     /// Whether the local disk is done with it.
