@@ -1,6 +1,6 @@
 //! Which place an item of a stream has, and when an epoch ends.
 ghost use Rattle.std.specs.Prelude.{◌≡◌, ◌+◌, ◌<◌, ◌≤◌, IfOk, IfErr, OnErr};
-ghost use Rattle.epochs.specs.Epochs.{acknowledging, completing, empty, placed, uncounted};
+ghost use Rattle.epochs.specs.Epochs.{acknowledging, completing, empty, is_awaited, placed, uncounted};
 ghost use Rattle.blocks.specs.declared.refusal.Refusal.TheVariants.{NoMemory};
 
 use blocks::Refusal;
@@ -130,13 +130,21 @@ impl Epochs {
         Some(self.ended)
     }
 
+    /// Whether the number is that of the oldest barrier that is not acknowledged, and the size is its
+    /// epoch's.
+    pub fn is_awaited(&self, number: u32, size: u32) -> bool
+        ensures { result ≡ is_awaited number size self.now }
+    {
+        let oldest = u64::from(number) + self.sizes.len() as u64 == u64::from(self.ended) + 1;
+        oldest && self.sizes.front() == Some(&size)
+    }
+
     /// The peer acknowledged a barrier. `BadBarrierAck` (24) unless the number is that of the oldest
     /// barrier that is not acknowledged, and the size is its epoch's. It takes no memory.
     pub fn acknowledge(&mut self, number: u32, size: u32) -> Result<(), Refusal>
         ensures { (result, self.new) ≡ acknowledging number size self.old }
     {
-        let awaited = u64::from(number) + self.sizes.len() as u64 == u64::from(self.ended) + 1;
-        if !awaited || self.sizes.front() != Some(&size) {
+        if !self.is_awaited(number, size) {
             return Err(Refusal::BadBarrierAck);
         }
         self.sizes.pop_front();

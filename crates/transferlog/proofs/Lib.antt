@@ -2,4 +2,5 @@ pub mod Numbers
 pub mod InSlots
 pub mod Kept
 pub mod Moves
+pub mod Sweep
 pub mod Turned

@@ -6,7 +6,8 @@ use Rattle.std.specs.List.{list_any}
 use Rattle.std.proofs.lemmas.Bool.Decides.{nat_tests}
 use Rattle.transferlog.specs.Writes.{LogWrite, is_open, is_completed, is_released, completed_of, released_of, turn_of, release_of}
 use Rattle.transferlog.specs.Ring.{has_number, write_at, on, with_change, without, Rises}
-use Rattle.transferlog.specs.Fields.{Each, IsKept}
+use Rattle.transferlog.specs.Ring.{Each}
+use Rattle.transferlog.specs.Fields.{IsKept}
 use Rattle.transferlog.specs.declared.report.Completed.{Completed}
 use Rattle.transferlog.specs.declared.report.Turn.{Turn}
 use Rattle.transferlog.proofs.Numbers.{NoneHas, without-none, higher_number}
@@ -69,7 +70,7 @@ all_left : (n confirmed : ℕ) (ws : List LogWrite) → NoneHas n ws → Each (K
 all_left n confirmed [] none kept = refl
 all_left n confirmed (w ∷ ws) none kept = rw (kept.0 none.0) (ap (λ more. w ∷ more) (all_left n confirmed ws none.1 kept.1))
 
-one_released : (b : Bool) (w : LogWrite) → map released_of (if b then w ∷ [] else []) ≡ option_to_list (if b then Some (released_of w) else None)
+pub one_released : (b : Bool) (w : LogWrite) → map released_of (if b then w ∷ [] else []) ≡ option_to_list (if b then Some (released_of w) else None)
 one_released true w = refl
 one_released false w = refl
 
@@ -88,7 +89,7 @@ released_one n confirmed low [] rises kept = refl
 released_one n confirmed low (w ∷ ws) rises kept =
     released_by (has_number n w) n confirmed low w ws refl rises kept (released_one n confirmed (suc w.number) ws rises.1 kept.1)
 
-one_left : (b : Bool) (w : LogWrite) (ws : List LogWrite) → (if not b then w ∷ ws else ws) ≡ (if is_some (if b then Some (released_of w) else None) then ws else w ∷ ws)
+pub one_left : (b : Bool) (w : LogWrite) (ws : List LogWrite) → (if not b then w ∷ ws else ws) ≡ (if is_some (if b then Some (released_of w) else None) then ws else w ∷ ws)
 one_left true w ws = refl
 one_left false w ws = refl
 

@@ -5,7 +5,8 @@ use Rattle.std.specs.Option.{option_map, option_and_then, option_to_list}
 use Rattle.transferlog.specs.Writes.{LogWrite, turn_of, release_of}
 use Rattle.transferlog.specs.Ring.{RingState, on, write_at, with_change, without, Rises}
 use Rattle.transferlog.specs.Log.{LogState, moved, closes_any}
-use Rattle.transferlog.specs.Fields.{Each, IsKept}
+use Rattle.transferlog.specs.Ring.{Each}
+use Rattle.transferlog.specs.Fields.{IsKept}
 use Rattle.transferlog.specs.declared.report.Released.{Released}
 use Rattle.transferlog.specs.declared.report.Turn.{Turn}
 use Rattle.transferlog.proofs.Moves.{KeepsNumber, kept_but, rises_changed, write_at-changed, released_one, left_one, completion_in, closes_in, completed_one, closes_one}

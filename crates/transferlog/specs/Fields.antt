@@ -1,6 +1,7 @@
 -- What the fields of a transfer log stand for, and what is kept about them.
 use Rattle.std.specs.Prelude.{ℕ, ◌≡◌, ◌+◌, ◌<◌, ◌≤◌, false, List, [], ◌∷◌, length, sum, vec_capacity, None}
 use Rattle.transferlog.specs.Writes.{LogWrite, is_released}
+use Rattle.transferlog.specs.Ring.{Each}
 use Rattle.transferlog.specs.Log.{LogState}
 use Rattle.transferlog.specs.declared.log.TransferLog.TheInside.{Inside}
 
@@ -18,11 +19,6 @@ log_of l = record {
   released = l.released.items;
   completed = l.completed.items;
 }
-
--- each of these writes is as the first argument says
-abbrev pub Each : (LogWrite → Type 0) → List LogWrite → Type 0
-Each P [] = Unit {0}
-Each P (w ∷ ws) = P w × Each P ws
 
 -- the write is not released
 abbrev pub IsKept : ℕ → LogWrite → Type 0

@@ -1,12 +1,12 @@
 -- The transfer log in plain values, and how each call changes it. The rules are this project's, after the DRBD User's Guide,
 -- "Replication modes", and DRBD's transfer log.
-use Rattle.std.specs.Prelude.{ℕ, suc, ◌+◌, ◌-◌, nat_lt, nat_le, ◌==◌, Bool, true, false, ◌&&◌, ◌||◌, not, if◌then◌else◌, List, [], ◌∷◌, ◌++◌, length, take, drop, map, filter, find, replicate, Option, Some, None, is_some, is_none, Result, Ok, Err}
+use Rattle.std.specs.Prelude.{nat_lt, nat_le, ℕ, suc, ◌+◌, ◌-◌, nat_lt, nat_le, ◌==◌, Bool, true, false, ◌&&◌, ◌||◌, not, if◌then◌else◌, List, [], ◌∷◌, ◌++◌, length, take, drop, map, filter, find, replicate, Option, Some, None, is_some, is_none, Result, Ok, Err}
 use Rattle.std.specs.List.{list_any}
 use Rattle.transferlog.specs.declared.local.Local.TheVariants.{Waiting}
 use Rattle.std.specs.Option.{option_map}
 use Rattle.blocks.specs.declared.settings.Protocol.{Protocol}
 use Rattle.blocks.specs.declared.settings.Protocol.TheVariants as protocol
-use Rattle.epochs.specs.Epochs.{EpochsState, empty, completing, placed, uncounted}
+use Rattle.epochs.specs.Epochs.{EpochsState, empty, completing, placed, uncounted, is_awaited, acknowledging}
 use Rattle.transferlog.specs.Writes.{LogWrite, is_open, is_completed, is_released, completed_of, released_of, awaits, sending, answering, storing, failing, unlinking}
 use Rattle.transferlog.specs.Ring.{on, write_at}
 use Rattle.transferlog.specs.declared.report.Accepted.{Accepted}
@@ -183,3 +183,34 @@ abbrev pub acked : Answer → Named → LogState → Result (Option ℕ) Refusal
 acked kind of s =
     let answer = changing of.number answering s in
     if is_asked s.protocol kind && awaits_in (write_at of.number s.writes) of then (Ok answer.0, answer.1) else (Err UnknownAck, s)
+
+-- The peer acknowledges an epoch.
+
+-- whether a write of the epoch that is acknowledged next, of this size, is not answered
+abbrev pub lacks_answer : ℕ → LogState → Bool
+lacks_answer size s = list_any (λ w. (nat_lt s.confirmed w.number && nat_le w.number (s.confirmed + size)) && not w.answered) s.writes
+
+-- whether the protocol asks for answers at all
+abbrev pub asks_answers : Protocol → Bool
+asks_answers protocol.A = false
+asks_answers protocol.B = true
+asks_answers protocol.C = true
+
+-- whether a barrier may be acknowledged: it is the oldest, with its epoch's size, and every write of the epoch has its answer
+abbrev pub may_confirm : ℕ → ℕ → LogState → Bool
+may_confirm number size s = is_awaited number size s.epochs && not (asks_answers s.protocol && lacks_answer size s)
+
+-- what is left where an epoch of this size is acknowledged
+abbrev pub confirming : ℕ → ℕ → LogState → LogState
+confirming number size s = record (moved (λ w. w) (s.confirmed + size) s) { epochs = (acknowledging number size s.epochs).1 }
+
+-- A barrier is acknowledged by its number and the size of its epoch.
+abbrev pub barrier_acked : ℕ → ℕ → LogState → Result (Unit {0}) Refusal × LogState
+barrier_acked number size s =
+    if may_confirm number size s then (Ok tt, confirming number size s) else (Err BadBarrierAck, s)
+
+-- The connection is closed.
+
+-- no stream stands any more, and no write has a connection
+abbrev pub draining : LogState → LogState
+draining s = record (moved unlinking s.confirmed s) { connection = None; epochs = empty s.epochs.max_epoch }

@@ -1,6 +1,6 @@
 -- A row of writes by rising number, and what happens to one of them.
-use Rattle.std.specs.Prelude.{ℕ, suc, ◌≤◌, ◌==◌, Bool, not, if◌then◌else◌, List, [], ◌∷◌, filter, find, map, Option}
-use Rattle.transferlog.specs.Writes.{LogWrite, sending, answering, storing, failing, unlinking}
+use Rattle.std.specs.Prelude.{ℕ, ◌≡◌, ◌<◌, true, suc, ◌≤◌, ◌==◌, Bool, not, if◌then◌else◌, List, [], ◌∷◌, filter, find, map, Option}
+use Rattle.transferlog.specs.Writes.{LogWrite, is_released, sending, answering, storing, failing, unlinking}
 use Rattle.transferlog.specs.declared.write.Change.{Change}
 use Rattle.transferlog.specs.declared.write.Change.TheVariants as change
 
@@ -42,3 +42,16 @@ changed change.Unlinked = unlinking
 abbrev pub Rises : ℕ → List LogWrite → Type 0
 Rises low [] = Unit {0}
 Rises low (w ∷ ws) = (low ≤ w.number) × Rises (suc w.number) ws
+
+-- each of these writes is as the first argument says
+abbrev pub Each : (LogWrite → Type 0) → List LogWrite → Type 0
+Each P [] = Unit {0}
+Each P (w ∷ ws) = P w × Each P ws
+
+-- what is released, where all up to the first number are confirmed, has at least the second number
+abbrev pub ReleasedFrom : ℕ → ℕ → LogWrite → Type 0
+ReleasedFrom confirmed number w = is_released confirmed w ≡ true → number ≤ w.number
+
+-- what is released, where all up to the first number are confirmed, has a number below the second
+abbrev pub ReleasedBelow : ℕ → ℕ → LogWrite → Type 0
+ReleasedBelow confirmed number w = is_released confirmed w ≡ true → w.number < number

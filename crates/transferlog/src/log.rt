@@ -6,7 +6,7 @@ ghost use Rattle.transferlog.specs.Ring.{changed, write_at};
 ghost use Rattle.transferlog.specs.declared.local.Local.TheVariants.{Waiting};
 ghost use Rattle.blocks.specs.declared.refusal.Refusal.TheVariants.{LogFull, NoMemory};
 
-use crate::report::{Accepted, Answer, Completed, Named, Released};
+use crate::report::{Accepted, Answer, Completed, Named, Released, note};
 use crate::ring::Ring;
 use crate::write::{Change, Write};
 use blocks::{Protocol, Range, Refusal};
@@ -289,17 +289,6 @@ fn answers_sent(protocol: Protocol) -> bool
     match protocol {
         Protocol::A => true,
         Protocol::B | Protocol::C => false,
-    }
-}
-
-// Adds an entry, if there is one, to a list that has room for it.
-fn note<T>(list: &mut Vec<T>, entry: Option<T>)
-    requires { vec_len list.old < vec_capacity list.old }
-    ensures items { list.new.items ≡ list.old.items ++ option_to_list entry }
-    ensures capacity { vec_capacity list.new ≡ vec_capacity list.old }
-{
-    if let Some(entry) = entry {
-        list.push_reserved(entry);
     }
 }
 

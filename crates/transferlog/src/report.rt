@@ -1,4 +1,6 @@
 //! What a call of the log reports.
+ghost use Rattle.std.specs.Prelude.{◌≡◌, ◌<◌, ◌++◌, vec_len, vec_capacity, IsSome};
+ghost use Rattle.std.specs.Option.{option_to_list};
 
 /// A write was accepted.
 #[derive(Clone, Copy, Debug, PartialEq, Eq)]
@@ -69,4 +71,15 @@ pub(crate) struct Turn {
     pub(crate) closes: bool,
     /// It is completed by that.
     pub(crate) completion: Option<Completed>,
+}
+
+/// Adds an entry, if there is one, to a list that has room for it.
+pub(crate) fn note<T>(list: &mut Vec<T>, entry: Option<T>)
+    requires { IsSome entry → vec_len list.old < vec_capacity list.old }
+    ensures items { list.new.items ≡ list.old.items ++ option_to_list entry }
+    ensures capacity { vec_capacity list.new ≡ vec_capacity list.old }
+{
+    if let Some(entry) = entry {
+        list.push_reserved(entry);
+    }
 }

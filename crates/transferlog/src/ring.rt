@@ -1,10 +1,10 @@
 //! The row of the unreleased writes.
-ghost use Rattle.std.specs.Prelude.{◌≡◌, ◌+◌, ◌^◌, ◌<◌, [], ◌∷◌, ◌++◌, length, OnOk, is_some, if◌then◌else◌};
+ghost use Rattle.std.specs.Prelude.{◌≤◌, filter, map, not, vec_len, vec_capacity, ◌≡◌, ◌+◌, ◌^◌, ◌<◌, [], ◌∷◌, ◌++◌, length, OnOk, is_some, if◌then◌else◌};
 ghost use Rattle.std.specs.Option.{option_copied, option_map, option_and_then};
-ghost use Rattle.transferlog.specs.Writes.{release_of, turn_of};
-ghost use Rattle.transferlog.specs.Ring.{Rises, changed, with_change, without, write_at};
+ghost use Rattle.transferlog.specs.Writes.{is_released, release_of, released_of, turn_of};
+ghost use Rattle.transferlog.specs.Ring.{Each, ReleasedBelow, ReleasedFrom, Rises, changed, with_change, without, write_at};
 
-use crate::report::{Released, Turn};
+use crate::report::{Released, Turn, note};
 use crate::write::{Change, Write};
 use std::alloc::{AllocError, Global};
 use std::collections::VecDeque;
@@ -117,6 +117,24 @@ impl Ring {
         let release = self.get(number)?.release(confirmed)?;
         self.remove(number);
         Some(release)
+    }
+
+    /// Takes out each write from one number up to another that is released where all up to `confirmed` have
+    /// the acknowledgement of their epoch, and notes it in a list that has room. It takes no memory.
+    pub(crate) fn release_all(&mut self, from: u64, to: u64, confirmed: u64, released: &mut Vec<Released>)
+        requires rises { Rises 0 self.old.writes }
+        requires low { Each (ReleasedFrom confirmed from) self.old.writes }
+        requires high { Each (ReleasedBelow confirmed to) self.old.writes }
+        requires order { from ≤ to }
+        requires room { vec_len released.old + length self.old.writes ≤ vec_capacity released.old }
+        ensures released { released.new.items ≡ released.old.items ++ map released_of (filter (is_released confirmed) self.old.writes) }
+        ensures capacity { vec_capacity released.new ≡ vec_capacity released.old }
+        ensures writes { self.new.writes ≡ filter (λ w. not (is_released confirmed w)) self.old.writes }
+        ensures next { self.new.next ≡ self.old.next }
+    {
+        for number in from..to {
+            note(released, self.release(number, confirmed));
+        }
     }
 
     fn remove(&mut self, number: u64)
