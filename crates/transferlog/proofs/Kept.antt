@@ -1,20 +1,23 @@
--- What is kept about a log where something happened to one write.
-use Rattle.std.proofs.Common.{◌≡◌, ℕ, ◌+◌, ◌<◌, ◌≤◌, Bool, true, false, List, [], ◌∷◌, ◌++◌, length, refl, sym, ◌∙◌, ap, arith, Option, not}
-use Rattle.std.specs.Prelude.{filter, sum, vec_capacity}
-use Rattle.std.proofs.lemmas.Grind.{common_steps}
-use Rattle.epochs.specs.Epochs.{EpochsState, is_in_last, ended_if}
-use Rattle.transferlog.specs.Writes.{LogWrite, is_released}
-use Rattle.transferlog.specs.Ring.{on, with_change, changed}
-use Rattle.transferlog.specs.Log.{LogState, moved, changing, ended_by, closes_any, home_in, with_latest, accepted_write, accepting}
-use Rattle.transferlog.specs.Fields.{IsAlone, IsLog}
-use Rattle.transferlog.specs.declared.log.TransferLog.TheInside.{Inside}
+-- What is kept about a log where something happened to one write, or an epoch was acknowledged.
+use Rattle.std.proofs.Common.{◌≡◌, ℕ, zero, suc, ◌+◌, ◌<◌, ◌≤◌, ◌==◌, nat_le, Bool, true, false, ◌&&◌, ◌||◌, List, [], ◌∷◌, ◌++◌, length, drop, refl, sym, ◌∙◌, ap, arith, Option, Some, None, not}
+use Rattle.std.specs.Prelude.{filter, map, sum, vec_capacity, Result, Ok}
+use Rattle.blocks.specs.declared.refusal.Refusal.{Refusal}
 use Rattle.std.specs.Option.{option_map}
+use Rattle.std.proofs.lemmas.Bool.Decides.{nat_tests}
+use Rattle.std.proofs.lemmas.Grind.{common_steps}
+use Rattle.epochs.specs.Epochs.{EpochsState, is_in_last, ended_if, completing, is_awaited, begins_with, acknowledging}
+use Rattle.transferlog.specs.Writes.{LogWrite, is_released, is_settled}
+use Rattle.transferlog.specs.Ring.{Each, ReleasedFrom, ReleasedBelow, on, with_change, changed}
+use Rattle.transferlog.specs.Log.{LogState, moved, changing, ended_by, closes_any, home_in, with_latest, accepted_write, accepting, confirming, may_confirm, lacks_answer, asks_answers}
+use Rattle.transferlog.specs.Fields.{IsKept, IsAlone, IsLog}
+use Rattle.transferlog.specs.declared.log.TransferLog.TheInside.{Inside}
 use Rattle.transferlog.specs.declared.report.Accepted.{Accepted}
 use Rattle.transferlog.specs.declared.report.Completed.{Completed}
 use Rattle.transferlog.specs.declared.report.Released.{Released}
 use Rattle.transferlog.specs.declared.write.Change.{Change}
 use Rattle.transferlog.specs.declared.write.Change.TheVariants as change
 use Rattle.transferlog.proofs.Moves.{left_kept, each_filter, each_changed, few_left}
+use Rattle.transferlog.proofs.Sweep.{few_filtered}
 
 sum-push : (ns : List ℕ) (n : ℕ) → sum (ns ++ n ∷ []) ≡ sum ns + n
 sum-push ns n = grind (arith, common_steps)
@@ -78,3 +81,74 @@ pub accepted_is : (s : LogState) (first count : ℕ) (contents : List ℕ) (home
       result ≡ accepting first count contents s)
 accepted_is s first count contents home barrier place e latest writes released completed is p l w r c =
     rw (p, l, w, r, c) (rw (ap (λ a. a.0) is, ap (λ a. a.1.0) is, ap (λ a. a.1.1) is) refl)
+
+-- what is released newly, where one more epoch is confirmed
+newly : (settled linked old new : Bool) → (settled && (not linked || old)) ≡ false → (settled && (not linked || new)) ≡ true → (old ≡ false) × (new ≡ true)
+newly false linked old new kept released = cc
+newly true false old new kept released = cc
+newly true true old new kept released = (kept, released)
+
+number_above : (n c : ℕ) → nat_le n c ≡ false → c < n
+number_above n c is = grind (arith, nat_tests)
+
+number_within : (n c : ℕ) → nat_le n c ≡ true → n ≤ c
+number_within n c is = grind (arith, nat_tests)
+
+pub newly_from : (c k : ℕ) (ws : List LogWrite) → Each (IsKept c) ws → Each (ReleasedFrom k (c + 1)) ws
+newly_from c k [] each = tt
+newly_from c k (w ∷ ws) each =
+    (λ released. let e = newly (is_settled w) w.linked (nat_le w.number c) (nat_le w.number k) each.0 released in omega (arith, number_above w.number c e.0),
+    newly_from c k ws each.1)
+
+pub newly_below : (c k : ℕ) (ws : List LogWrite) → Each (IsKept c) ws → Each (ReleasedBelow k (k + 1)) ws
+newly_below c k [] each = tt
+newly_below c k (w ∷ ws) each =
+    (λ released. let e = newly (is_settled w) w.linked (nat_le w.number c) (nat_le w.number k) each.0 released in omega (arith, number_within w.number k e.1),
+    newly_below c k ws each.1)
+
+sum-first : (size : ℕ) (sizes : List ℕ) → begins_with size sizes ≡ true → sum sizes ≡ size + sum (drop 1 sizes)
+sum-first size [] begins = cc
+sum-first size (oldest ∷ sizes) begins = let same : size ≡ oldest = grind (arith, nat_tests) in grind (arith, common_steps)
+
+and_left : (a b : Bool) → (a && b) ≡ true → a ≡ true
+and_left true b is = refl
+and_left false b is = cc
+
+and_right : (a b : Bool) → (a && b) ≡ true → b ≡ true
+and_right true b is = is
+and_right false b is = cc
+
+-- the epochs' writes were accepted after those confirmed, where one more epoch is
+pub bounded_confirmed : (number size confirmed accepted : ℕ) (e : EpochsState) → is_awaited number size e ≡ true → IsBounded confirmed accepted e → IsBounded (confirmed + size) accepted (acknowledging number size e).1
+bounded_confirmed number size confirmed accepted e awaited bounded =
+    let first = sum-first size e.sizes (and_right (number + length e.sizes == e.ended + 1) (begins_with size e.sizes) awaited) in
+    rw awaited (record { confirmed_writes = omega (arith, first, bounded.confirmed_writes); begun = bounded.begun })
+
+pub awaited_of : (number size : ℕ) (s : LogState) → may_confirm number size s ≡ true → is_awaited number size s.epochs ≡ true
+awaited_of number size s may = and_left (is_awaited number size s.epochs) (not (asks_answers s.protocol && lacks_answer size s)) may
+
+pub log_confirmed : (l m : Inside) (confirmed : ℕ) → IsLog l → m.ring.next ≡ l.ring.next → m.accepted ≡ l.accepted → m.connection ≡ l.connection → m.confirmed ≡ confirmed → m.backlog ≡ l.backlog
+    → m.ring.writes ≡ filter (λ w. not (is_released confirmed w)) l.ring.writes
+    → vec_capacity m.released ≡ vec_capacity l.released → vec_capacity m.completed ≡ vec_capacity l.completed
+    → IsBounded confirmed l.accepted m.epochs → IsLog m
+log_confirmed l m confirmed log next accepted connection confirmed_is backlog writes released completed bounded =
+    let few : length m.ring.writes ≤ length l.ring.writes = rw writes (few_filtered (λ w. not (is_released confirmed w)) l.ring.writes) in
+    record {
+      next = next ∙ (log.next ∙ ap (λ n. n + 1) (sym accepted));
+      few_accepted = rw accepted log.few_accepted;
+      kept = rw (confirmed_is, writes) (left_kept confirmed l.ring.writes);
+      alone = λ none. rw writes (each_filter IsAlone (λ w. not (is_released confirmed w)) l.ring.writes (log.alone (sym connection ∙ none)));
+      few = omega (arith, few, log.few, backlog);
+      some = rw backlog log.some;
+      room_for_released = omega (arith, log.room_for_released, backlog, released);
+      room_for_completed = omega (arith, log.room_for_completed, backlog, completed);
+      confirmed = rw (confirmed_is, accepted) bounded.confirmed_writes;
+      begun = rw accepted bounded.begun;
+    }
+
+-- the log after an epoch was acknowledged, by its parts
+pub confirmed_is : (number size : ℕ) (s : LogState) (confirmed : ℕ) (writes : List LogWrite) (e : EpochsState) (released : List Released) (completed : List Completed)
+    → confirmed ≡ s.confirmed + size → writes ≡ (confirming number size s).writes → e ≡ (confirming number size s).epochs → released ≡ (confirming number size s).released → completed ≡ []
+    → (let result : Result (Unit {0}) Refusal × LogState = (Ok tt, record s { confirmed = confirmed; writes = writes; epochs = e; released = released; completed = completed }) in
+      result ≡ (Ok tt, confirming number size s))
+confirmed_is number size s confirmed writes e released completed c w ep r d = rw (c, w, ep, r, d) refl

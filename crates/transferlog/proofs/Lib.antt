@@ -1,4 +1,5 @@
 pub mod Numbers
+pub mod Answered
 pub mod InSlots
 pub mod Kept
 pub mod Moves

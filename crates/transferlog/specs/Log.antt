@@ -1,6 +1,6 @@
 -- The transfer log in plain values, and how each call changes it. The rules are this project's, after the DRBD User's Guide,
 -- "Replication modes", and DRBD's transfer log.
-use Rattle.std.specs.Prelude.{nat_lt, nat_le, ℕ, suc, ◌+◌, ◌-◌, nat_lt, nat_le, ◌==◌, Bool, true, false, ◌&&◌, ◌||◌, not, if◌then◌else◌, List, [], ◌∷◌, ◌++◌, length, take, drop, map, filter, find, replicate, Option, Some, None, is_some, is_none, Result, Ok, Err}
+use Rattle.std.specs.Prelude.{ℕ, suc, ◌+◌, ◌-◌, nat_lt, nat_le, ◌==◌, Bool, true, false, ◌&&◌, ◌||◌, not, if◌then◌else◌, List, [], ◌∷◌, ◌++◌, length, take, drop, map, filter, find, replicate, Option, Some, None, is_some, is_none, Result, Ok, Err}
 use Rattle.std.specs.List.{list_any}
 use Rattle.transferlog.specs.declared.local.Local.TheVariants.{Waiting}
 use Rattle.std.specs.Option.{option_map}
@@ -10,6 +10,7 @@ use Rattle.epochs.specs.Epochs.{EpochsState, empty, completing, placed, uncounte
 use Rattle.transferlog.specs.Writes.{LogWrite, is_open, is_completed, is_released, completed_of, released_of, awaits, sending, answering, storing, failing, unlinking}
 use Rattle.transferlog.specs.Ring.{on, write_at}
 use Rattle.transferlog.specs.declared.report.Accepted.{Accepted}
+use Rattle.blocks.specs.Ranges.{is_between}
 use Rattle.blocks.specs.declared.refusal.Refusal.{Refusal}
 use Rattle.blocks.specs.declared.refusal.Refusal.TheVariants.{BadBarrierAck, UnknownAck}
 use Rattle.transferlog.specs.declared.report.Answer.{Answer}
@@ -188,7 +189,7 @@ acked kind of s =
 
 -- whether a write of the epoch that is acknowledged next, of this size, is not answered
 abbrev pub lacks_answer : ℕ → LogState → Bool
-lacks_answer size s = list_any (λ w. (nat_lt s.confirmed w.number && nat_le w.number (s.confirmed + size)) && not w.answered) s.writes
+lacks_answer size s = list_any (λ w. is_between (s.confirmed + 1) size w.number && not w.answered) s.writes
 
 -- whether the protocol asks for answers at all
 abbrev pub asks_answers : Protocol → Bool
@@ -200,9 +201,15 @@ asks_answers protocol.C = true
 abbrev pub may_confirm : ℕ → ℕ → LogState → Bool
 may_confirm number size s = is_awaited number size s.epochs && not (asks_answers s.protocol && lacks_answer size s)
 
--- what is left where an epoch of this size is acknowledged
+-- what is left where an epoch of this size is acknowledged: what is settled of it is released, and nothing is completed
 abbrev pub confirming : ℕ → ℕ → LogState → LogState
-confirming number size s = record (moved (λ w. w) (s.confirmed + size) s) { epochs = (acknowledging number size s.epochs).1 }
+confirming number size s = record s {
+  confirmed = s.confirmed + size;
+  writes = filter (λ w. not (is_released (s.confirmed + size) w)) s.writes;
+  epochs = (acknowledging number size s.epochs).1;
+  released = map released_of (filter (is_released (s.confirmed + size)) s.writes);
+  completed = [];
+}
 
 -- A barrier is acknowledged by its number and the size of its epoch.
 abbrev pub barrier_acked : ℕ → ℕ → LogState → Result (Unit {0}) Refusal × LogState
@@ -214,3 +221,7 @@ barrier_acked number size s =
 -- no stream stands any more, and no write has a connection
 abbrev pub draining : LogState → LogState
 draining s = record (moved unlinking s.confirmed s) { connection = None; epochs = empty s.epochs.max_epoch }
+
+-- The connection is closed: how many writes that completed, and what is left.
+abbrev pub drained : LogState → ℕ × LogState
+drained s = (length (draining s).completed, draining s)

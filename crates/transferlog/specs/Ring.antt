@@ -1,5 +1,5 @@
 -- A row of writes by rising number, and what happens to one of them.
-use Rattle.std.specs.Prelude.{ℕ, ◌≡◌, ◌<◌, true, suc, ◌≤◌, ◌==◌, Bool, not, if◌then◌else◌, List, [], ◌∷◌, filter, find, map, Option}
+use Rattle.std.specs.Prelude.{ℕ, ◌≡◌, ◌<◌, true, suc, ◌≤◌, ◌==◌, Bool, not, if◌then◌else◌, List, [], ◌∷◌, filter, find, map, Option, Some, None, false}
 use Rattle.transferlog.specs.Writes.{LogWrite, is_released, sending, answering, storing, failing, unlinking}
 use Rattle.transferlog.specs.declared.write.Change.{Change}
 use Rattle.transferlog.specs.declared.write.Change.TheVariants as change
@@ -55,3 +55,8 @@ ReleasedFrom confirmed number w = is_released confirmed w ≡ true → number �
 -- what is released, where all up to the first number are confirmed, has a number below the second
 abbrev pub ReleasedBelow : ℕ → ℕ → LogWrite → Type 0
 ReleasedBelow confirmed number w = is_released confirmed w ≡ true → w.number < number
+
+-- whether there is a write, and it is not answered
+abbrev pub is_unanswered : Option LogWrite → Bool
+is_unanswered None = false
+is_unanswered (Some w) = not w.answered

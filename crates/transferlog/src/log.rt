@@ -1,7 +1,7 @@
 //! The transfer log of a primary.
 ghost use Rattle.std.specs.Prelude.{◌≡◌, ◌+◌, ◌<◌, ◌≤◌, ◌++◌, ◌⊎◌, ◌↔◌, length, take, drop, replicate, OnErr, IsErrOf, vec_len, vec_capacity, IfOk, IfErr, IsSomeAnd, None, true, false};
 ghost use Rattle.std.specs.Option.{option_copied, option_map, option_to_list};
-ghost use Rattle.transferlog.specs.Log.{accepting, acked, answers_sent, changing, connecting, empty_log, home_in, is_asked, local_done, local_failed, resync_acked, resync_placed, sent, uuids_placed};
+ghost use Rattle.transferlog.specs.Log.{accepting, acked, answers_sent, asks_answers, barrier_acked, changing, connecting, empty_log, home_in, is_asked, may_confirm, local_done, local_failed, resync_acked, resync_placed, sent, uuids_placed};
 ghost use Rattle.transferlog.specs.Ring.{changed, write_at};
 ghost use Rattle.transferlog.specs.declared.local.Local.TheVariants.{Waiting};
 ghost use Rattle.blocks.specs.declared.refusal.Refusal.TheVariants.{LogFull, NoMemory};
@@ -213,6 +213,34 @@ impl TransferLog {
         Ok(self.change(of.number, Change::Answered))
     }
 
+    /// The peer acknowledges an epoch. What is settled of it is released.
+    ///
+    /// `BadBarrierAck` (24) unless the number is that of the oldest barrier that is not acknowledged, the
+    /// size is its epoch's, and, under protocols B and C, each write of the epoch is answered. It takes no
+    /// memory, and time for each write of the epoch.
+    pub fn barrier_acked(&mut self, number: u32, size: u32) -> Result<(), Refusal>
+        ensures { (result, self.new) ≡ barrier_acked number size self.old }
+    {
+        if !self.may_confirm(number, size) {
+            return Err(Refusal::BadBarrierAck);
+        }
+        let first = self.confirmed + 1;
+        let _ = self.epochs.acknowledge(number, size);
+        self.released.clear();
+        self.completed.clear();
+        self.confirmed += u64::from(size);
+        self.ring.release_all(first, self.confirmed + 1, self.confirmed, &mut self.released);
+        Ok(())
+    }
+
+    fn may_confirm(&self, number: u32, size: u32) -> bool
+        ensures { result ≡ may_confirm number size self.now }
+    {
+        let lacks = asks_answers(self.protocol)
+            && self.ring.lacks_answer(self.confirmed + 1, u64::from(size));
+        self.epochs.is_awaited(number, size) && !lacks
+    }
+
     /// What the last call released, by rising number.
     pub fn released(&self) -> &[Released]
         ensures { result.now ≡ self.now.released }
@@ -279,6 +307,16 @@ fn is_asked(protocol: Protocol, kind: Answer) -> bool
     match (protocol, kind) {
         (Protocol::B, Answer::Received) | (Protocol::C, Answer::Written) => true,
         _ => false,
+    }
+}
+
+// Whether the protocol asks for answers at all.
+fn asks_answers(protocol: Protocol) -> bool
+    ensures { result ≡ asks_answers protocol }
+{
+    match protocol {
+        Protocol::A => false,
+        Protocol::B | Protocol::C => true,
     }
 }
 

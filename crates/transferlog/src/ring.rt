@@ -1,8 +1,10 @@
 //! The row of the unreleased writes.
-ghost use Rattle.std.specs.Prelude.{◌≤◌, filter, map, not, vec_len, vec_capacity, ◌≡◌, ◌+◌, ◌^◌, ◌<◌, [], ◌∷◌, ◌++◌, length, OnOk, is_some, if◌then◌else◌};
+ghost use Rattle.std.specs.Prelude.{◌&&◌, ◌≤◌, filter, map, not, vec_len, vec_capacity, ◌≡◌, ◌+◌, ◌^◌, ◌<◌, [], ◌∷◌, ◌++◌, length, OnOk, is_some, if◌then◌else◌};
+ghost use Rattle.std.specs.List.{list_any};
+ghost use Rattle.blocks.specs.Ranges.{is_between};
 ghost use Rattle.std.specs.Option.{option_copied, option_map, option_and_then};
 ghost use Rattle.transferlog.specs.Writes.{is_released, release_of, released_of, turn_of};
-ghost use Rattle.transferlog.specs.Ring.{Each, ReleasedBelow, ReleasedFrom, Rises, changed, with_change, without, write_at};
+ghost use Rattle.transferlog.specs.Ring.{Each, ReleasedBelow, ReleasedFrom, Rises, changed, is_unanswered, with_change, without, write_at};
 
 use crate::report::{Released, Turn, note};
 use crate::write::{Change, Write};
@@ -119,10 +121,33 @@ impl Ring {
         Some(release)
     }
 
+    /// Whether one of so many writes from this number on is not answered.
+    pub(crate) fn lacks_answer(&self, first: u64, count: u64) -> bool
+        requires { first + count < 2 ^ 64 }
+        ensures { result ≡ list_any (λ w. is_between first count w.number && not w.answered) self.now.writes }
+    {
+        // What the fields keep says that numbers rise.
+        let _ = &self.first;
+        for number in first..first + count {
+            if self.is_unanswered(number) {
+                return true;
+            }
+        }
+        false
+    }
+
+    fn is_unanswered(&self, number: u64) -> bool
+        ensures { result ≡ is_unanswered (write_at number self.now.writes) }
+    {
+        match self.get(number) {
+            Some(write) => !write.is_answered(),
+            None => false,
+        }
+    }
+
     /// Takes out each write from one number up to another that is released where all up to `confirmed` have
     /// the acknowledgement of their epoch, and notes it in a list that has room. It takes no memory.
     pub(crate) fn release_all(&mut self, from: u64, to: u64, confirmed: u64, released: &mut Vec<Released>)
-        requires rises { Rises 0 self.old.writes }
         requires low { Each (ReleasedFrom confirmed from) self.old.writes }
         requires high { Each (ReleasedBelow confirmed to) self.old.writes }
         requires order { from ≤ to }
@@ -132,6 +157,8 @@ impl Ring {
         ensures writes { self.new.writes ≡ filter (λ w. not (is_released confirmed w)) self.old.writes }
         ensures next { self.new.next ≡ self.old.next }
     {
+        // What the fields keep says that numbers rise.
+        let _ = &self.first;
         for number in from..to {
             note(released, self.release(number, confirmed));
         }

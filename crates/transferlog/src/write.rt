@@ -159,6 +159,13 @@ impl Write {
         }
     }
 
+    /// Whether it is answered.
+    pub(crate) fn is_answered(&self) -> bool
+        ensures { result ≡ self.now.answered }
+    {
+        self.answered
+    }
+
     /// Whether the local disk is done with it.
     pub(crate) fn is_settled(&self) -> bool
         ensures { result ≡ is_settled self.now }

@@ -3,10 +3,17 @@ use Rattle.std.specs.Prelude.{filter, map, is_some, IsSome, if◌then◌else◌}
 use Rattle.std.specs.Option.{option_and_then, option_to_list}
 use Rattle.std.proofs.lemmas.List.{length-map, append-nil}
 use Rattle.transferlog.specs.Writes.{LogWrite, released_of, release_of}
-use Rattle.transferlog.specs.Ring.{write_at, without, Rises}
+use Rattle.transferlog.specs.Ring.{RingState, write_at, without, Rises}
+use Rattle.transferlog.specs.Slots.{ring_of, IsRing}
+use Rattle.transferlog.specs.declared.ring.Ring.TheInside.{Inside}
+use Rattle.transferlog.proofs.InSlots.{rises_in}
 use Rattle.transferlog.specs.declared.report.Released.{Released}
 use Rattle.transferlog.proofs.Sweep.{goes, remains, release_at, found_still, gone_next, left_next, all_before, all_after, room_left}
 use Rattle.transferlog.proofs.ring.Ring.release_all.Goals as goal
+
+-- numbers rise, by what the fields keep
+rises_of : (r : Inside) (s : RingState) → ring_of r ≡ s → IsRing r → Rises 0 s.writes
+rises_of r s is ring = rw (← is) (rises_in 0 r.first r.slots.items (omega arith) ring.numbered)
 
 onto_nothing : (xs : List Released) (ys : List LogWrite) → ys ≡ [] → xs ≡ xs ++ map released_of ys
 onto_nothing xs ys none = rw none (sym (append-nil xs))
@@ -33,9 +40,9 @@ note-requires c =
     λ some.
     let k = c.loop-number.number in
     let ws = c.args.self.now.writes in
-    let is = by_first c.args.confirmed k ws c.loop-number.self.writes c.release.result c.requires.rises c.release.ensures.release c.loop-number.invariant.writes in
+    let is = by_first c.args.confirmed k ws c.loop-number.self.writes c.release.result (rises_of c.self.inside c.args.self.now c.self.view_is c.self.invariant) c.release.ensures.release c.loop-number.invariant.writes in
     let P : Option Released → Type 0 = λ o. IsSome o in
-    room c.args.confirmed k _ _ ws c.loop-number.released.items c.args.released.now.items c.requires.rises (subst P is some) c.loop-number.invariant.released (omega (arith, c.requires.room, c.args.released.now.ok.0, c.loop-number.invariant.capacity)) (omega (arith, c.loop-number.released.ok.0))
+    room c.args.confirmed k _ _ ws c.loop-number.released.items c.args.released.now.items (rises_of c.self.inside c.args.self.now c.self.view_is c.self.invariant) (subst P is some) c.loop-number.invariant.released (omega (arith, c.requires.room, c.args.released.now.ok.0, c.loop-number.invariant.capacity)) (omega (arith, c.loop-number.released.ok.0))
 
 pub loop-number-preserved : goal.loop-number-preserved
 loop-number-preserved c =
@@ -43,15 +50,15 @@ loop-number-preserved c =
     let ws = c.args.self.now.writes in
     let inv = c.loop-number.invariant in
     let old = c.args.released.now.items in
-    let is = by_first c.args.confirmed k ws c.loop-number.self.writes c.release.result c.requires.rises c.release.ensures.release inv.writes in
+    let is = by_first c.args.confirmed k ws c.loop-number.self.writes c.release.result (rises_of c.self.inside c.args.self.now c.self.view_is c.self.invariant) c.release.ensures.release inv.writes in
     record {
       released = c.note.ensures.items ∙ (ap (λ xs. xs ++ option_to_list c.release.result) inv.released
           ∙ (append_assoc old (map released_of (filter (goes c.args.confirmed k) ws)) (option_to_list c.release.result)
-          ∙ ap (λ ys. old ++ ys) (ap (λ (o : Option Released). map released_of (filter (goes c.args.confirmed k) ws) ++ option_to_list o) is ∙ sym (gone_next c.args.confirmed k 0 ws c.requires.rises))));
+          ∙ ap (λ ys. old ++ ys) (ap (λ (o : Option Released). map released_of (filter (goes c.args.confirmed k) ws) ++ option_to_list o) is ∙ sym (gone_next c.args.confirmed k 0 ws (rises_of c.self.inside c.args.self.now c.self.view_is c.self.invariant)))));
       capacity = c.note.ensures.capacity ∙ inv.capacity;
       writes = ap (λ r. r.writes) c.release.ensures.next ∙ (ap (λ (vs : List LogWrite). if is_some c.release.result then without k vs else vs) inv.writes
           ∙ (ap (λ (o : Option Released). if is_some o then without k (filter (remains c.args.confirmed k) ws) else filter (remains c.args.confirmed k) ws) is
-          ∙ sym (left_next c.args.confirmed k 0 ws c.requires.rises)));
+          ∙ sym (left_next c.args.confirmed k 0 ws (rises_of c.self.inside c.args.self.now c.self.view_is c.self.invariant))));
       next = ap (λ r. r.next) c.release.ensures.next ∙ inv.next;
     }
 

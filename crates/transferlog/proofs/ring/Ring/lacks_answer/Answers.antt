@@ -1,0 +1,21 @@
+use Rattle.std.proofs.Common.{◌≡◌, ◌+◌, ◌≤◌, ℕ, true, false, sym, ◌∙◌, ap, subst, arith}
+use Rattle.transferlog.specs.Ring.{Each, Rises}
+use Rattle.transferlog.proofs.InSlots.{rises_in}
+use Rattle.transferlog.proofs.Answered.{IsAnsweredBelow, answered_next, lacks_one, lacks_none}
+use Rattle.transferlog.proofs.ring.Ring.lacks_answer.Goals as goal
+
+pub returns-then-is_unanswered : goal.returns-then-is_unanswered
+returns-then-is_unanswered c =
+    sym (lacks_one c.args.first c.args.count c.loop-number.number c.args.self.now.writes (omega arith) (omega arith) (sym c.is_unanswered.ensures ∙ c.if-is_unanswered.true))
+
+pub loop-number-preserved : goal.loop-number-preserved
+loop-number-preserved c =
+    let s = c.self.inside in
+    let rises : Rises 0 c.args.self.now.writes = rw (← c.self.view_is) (rises_in 0 s.first s.slots.items (omega arith) c.self.invariant.numbered) in
+    answered_next c.args.first c.loop-number.number 0 c.args.self.now.writes rises (sym c.is_unanswered.ensures ∙ c.if-is_unanswered.false) c.loop-number.invariant
+
+pub returns : goal.returns
+returns c =
+    let end : c.loop-number.number ≡ c.args.first + c.args.count = omega arith in
+    let P : ℕ → Type 0 = λ k. Each (IsAnsweredBelow c.args.first k) c.args.self.now.writes in
+    sym (lacks_none c.args.first c.args.count c.args.self.now.writes (subst P end c.loop-number.invariant))
