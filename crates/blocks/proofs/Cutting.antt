@@ -1,8 +1,7 @@
 -- What cutting bytes into blocks does to their joining, their parts and their places.
-use Rattle.std.proofs.Common.{ℕ, zero, suc, ◌≡◌, ◌+◌, ◌-◌, ◌*◌, ◌/◌, ◌<◌, ◌≤◌, List, [], ◌∷◌, ◌++◌, length, take, drop, replicate, slice_get, Some, refl, sym, ◌∙◌, ap, arith, add-zero, add_assoc, append_assoc, length-append, length-take, length-drop}
-use Rattle.std.proofs.Math.Nat.{mul-zero, mul-suc, suc-mul, zero-mul}
-use Rattle.std.proofs.Math.Seq.{take-append_seam, drop-append_seam}
-use Rattle.std.proofs.lemmas.List.{drop-drop, take-append-drop, take-append-le, drop-append-le, length-take-le, take_at, drop_at, length-replicate, take-replicate, drop-replicate}
+use Rattle.std.proofs.Common.{ℕ, zero, suc, ◌≡◌, ◌+◌, ◌-◌, ◌*◌, ◌/◌, ◌<◌, ◌≤◌, List, ◌++◌, length, take, drop, replicate, slice_get, Some, refl, sym, ◌∙◌, ap, arith, add_assoc, append_assoc, length-append, length-take, length-drop}
+use Rattle.std.proofs.Math.Nat.{mul-suc}
+use Rattle.std.proofs.lemmas.List.{drop-drop, take-append-drop, take-append-le, drop-append-le, length-take-le, take_at, drop_at, take-replicate, drop-replicate}
 use Rattle.blocks.specs.Contents.{cut, blocks_of, overwritten}
 
 -- there are as many blocks as were asked for

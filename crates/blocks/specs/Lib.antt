@@ -1,4 +1,5 @@
 pub mod Contents
+pub mod Faults
 pub mod Identifiers
 pub mod Images
 pub mod Numbered

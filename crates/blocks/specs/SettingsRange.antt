@@ -1,5 +1,5 @@
 -- The ranges of the settings, and what they are where nothing else is asked for.
-use Rattle.std.specs.Prelude.{ℕ, ◌≤◌, ◌<◌}
+use Rattle.std.specs.Prelude.{◌≤◌, ◌<◌}
 use Rattle.blocks.specs.declared.settings.Settings.{Settings}
 use Rattle.blocks.specs.declared.settings.Protocol.TheVariants.{C}
 

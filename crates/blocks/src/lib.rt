@@ -4,18 +4,21 @@
 
 mod block;
 mod command;
+mod faulty;
 mod memory;
 mod outcome;
 mod range;
 mod refusal;
 mod settings;
 mod store;
+mod tally;
 #[cfg(test)]
 mod tests;
 mod tuple;
 
 pub use block::{BLOCK_BYTES, Block, EXTENT_BLOCKS, Extent, MAX_BLOCKS};
 pub use command::Command;
+pub use faulty::FaultStore;
 pub use memory::MemStore;
 pub use outcome::{Decision, Done, Reply, What};
 pub use range::{MAX_RANGE, Range};

@@ -55,6 +55,17 @@ impl MemStore {
     }
 }
 
+impl MemStore {
+    /// Writes whole blocks from this one on.
+    pub(crate) fn overwrite(&mut self, first: Block, bytes: &[u8])
+        requires inside { first.0 + length bytes.now / 4096 ≤ length self.old }
+        requires whole { 4096 * (length bytes.now / 4096) ≡ length bytes.now }
+        ensures { self.new ≡ overwritten self.old first.0 (blocks_of 4096 bytes.now) }
+    {
+        put(&mut self.bytes, first.0 as usize * BLOCK_BYTES, bytes);
+    }
+}
+
 impl Store for MemStore {
     ghost contents = { λ s. s };
 
@@ -71,7 +82,7 @@ impl Store for MemStore {
         ensures written { self.new ≡ overwritten self.old range.first.0 (blocks_of BLOCK_BYTES bytes.now) }
         ensures size { length self.new ≡ length self.old }
     {
-        put(&mut self.bytes, range.first.0 as usize * BLOCK_BYTES, bytes);
+        self.overwrite(range.first, bytes);
         Ok(())
     }
 

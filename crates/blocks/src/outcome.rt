@@ -1,4 +1,6 @@
 //! What a step of a node, or of a pair, reports.
+ghost use Rattle.std.specs.Prelude.{◌≡◌, Option, None, false};
+
 use crate::{Block, Command, Refusal};
 use std::fmt;
 
@@ -50,6 +52,20 @@ pub struct Done {
     pub barrier: Option<u32>,
     /// Whether it ended a resync.
     pub synced: bool,
+}
+
+impl Done {
+    /// A step that did nothing more than what it was about.
+    pub fn about(what: What) -> Done
+        ensures { result ≡ record { what = what; completed = None; barrier = None; synced = false } }
+    {
+        Done {
+            what,
+            completed: None,
+            barrier: None,
+            synced: false,
+        }
+    }
 }
 
 /// The answer to an event.

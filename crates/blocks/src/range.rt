@@ -1,6 +1,6 @@
 //! Ranges of blocks: what one write covers.
 ghost use Rattle.std.specs.Prelude.{◌≡◌, ◌+◌, ◌-◌, ◌/◌, ◌<◌, ◌≤◌, ◌↔◌, IsTrue, IsOk, IfOk, IfErr};
-ghost use Rattle.blocks.specs.Ranges.{IsRange};
+ghost use Rattle.blocks.specs.Ranges.{IsRange, ranges_meet};
 ghost use Rattle.blocks.specs.declared.refusal.Refusal.TheVariants.{BadRange};
 
 use crate::{Block, EXTENT_BLOCKS, Refusal};
@@ -48,5 +48,12 @@ impl Range {
         ensures { IsTrue result ↔ ((self.now.first.0 ≤ block.0) × (block.0 < self.now.first.0 + self.now.count)) }
     {
         self.first.0 <= block.0 && block.0 - self.first.0 < self.count
+    }
+
+    /// Whether the two ranges share a block.
+    pub fn meets(&self, other: &Range) -> bool
+        ensures { result ≡ ranges_meet self.now.first.0 self.now.count other.now.first.0 other.now.count }
+    {
+        self.contains(other.first) || other.contains(self.first)
     }
 }

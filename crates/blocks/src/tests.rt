@@ -1,4 +1,4 @@
-use crate::{Block, MemStore, Range, Refusal, Settings, Store};
+use crate::{Block, FaultStore, MemStore, Range, Refusal, Settings, Store, StoreFault};
 use std::test::Fail;
 
 #[test]
@@ -51,4 +51,25 @@ fn settings_have_ranges(rt: HostRuntime) {
         ..Settings::STANDARD
     };
     assert_eq!(rt; none.check(), Err(Refusal::BadSetting));
+}
+
+#[test]
+fn a_disk_fails_where_it_is_armed(rt: HostRuntime) -> Result<(), Fail> {
+    let mut disk = FaultStore::new(MemStore::zeroed(rt.alloc(), 8)?);
+    assert_eq!(rt; disk.blocks(), 8);
+    let range = Range::new(2, 2, 8)?;
+    let written = Vec::from_elem(rt.alloc(), 0xAAu8, 8192)?;
+    let mut block = Vec::from_elem(rt.alloc(), 1u8, 4096)?;
+    let mut other = Vec::from_elem(rt.alloc(), 1u8, 4096)?;
+    disk.arm_after(1, 1);
+    disk.arm_read();
+    assert_eq!(rt; disk.read(Block(2), &mut block), Err(StoreFault));
+    assert_eq!(rt; disk.write(Range::new(0, 1, 8)?, &written[..4096]), Ok(()));
+    assert_eq!(rt; disk.write(range, &written), Err(StoreFault));
+    assert_eq!(rt; disk.read(Block(2), &mut block), Ok(()));
+    assert!(rt; block.iter().all(|x| *x == 0xAA));
+    assert_eq!(rt; disk.read(Block(3), &mut other), Ok(()));
+    assert!(rt; other.iter().all(|x| *x == 0));
+    assert_eq!(rt; disk.write(range, &written), Ok(()));
+    Ok(())
 }

@@ -1,5 +1,5 @@
 -- The zeros of the buffer are blocks of zeros.
-use Rattle.std.proofs.Common.{ℕ, ◌≡◌, ◌*◌, ◌/◌, ◌∙◌, ap, arith, replicate, length}
+use Rattle.std.proofs.Common.{◌≡◌, ◌*◌, ◌/◌, ◌∙◌, ap, arith, replicate}
 use Rattle.std.proofs.lemmas.List.{length-replicate}
 use Rattle.blocks.specs.Contents.{cut, blocks_of}
 use Rattle.blocks.proofs.Cutting.{cut-zeros}
