@@ -5,12 +5,13 @@ use Rattle.std.proofs.lemmas.List.{length-append, drop_at}
 use Rattle.blocks.specs.declared.block.Block.{Block}
 use Rattle.blocks.specs.declared.command.Command.TheVariants as command
 use Rattle.blocks.specs.declared.settings.Protocol.TheVariants.{A, B, C}
+use Rattle.packets.specs.declared.packet.Acknowledgement.{Acknowledgement}
 use Rattle.packets.specs.declared.packet.Packet.{Packet}
 use Rattle.packets.specs.declared.packet.Packet.TheVariants as packet
 use Rattle.packets.specs.Numbers.{number_in, number_bytes}
 use Rattle.packets.specs.Table.{command_of, is_length, is_blocks}
-use Rattle.packets.specs.Spelling.{payload, IsSpellable, FitsFields}
-use Rattle.packets.specs.Reading.{data_at, barrier_at, write_ack_at, payload_at}
+use Rattle.packets.specs.Spelling.{payload, acknowledgement_bytes, NamesWrite, NamesResync, FitsAcknowledgement, IsSpellable, FitsFields}
+use Rattle.packets.specs.Reading.{data_at, rs_data_at, barrier_at, acknowledgement_at, names_write, names_resync, payload_at}
 use Rattle.packets.proofs.Lengths.{payload_length}
 use Rattle.packets.proofs.Widths.{number_bytes_length, number_in_front}
 use Rattle.packets.proofs.Digits.{number_again, number_last, number_only}
@@ -88,16 +89,44 @@ data_again first number place contents rules fn fp =
     let block : 8 * first.0 / 8 ≡ first.0 = omega arith in
     rw (a, b, c, d, r, t, block) refl
 
-write_ack_again : (first : Block) (number count place : ℕ) → IsSpellable (packet.WriteAck first number count place) → number < 2 ^ 64 → place < 2 ^ 32
-    → write_ack_at (payload (packet.WriteAck first number count place)) ≡ Ok (packet.WriteAck first number count place)
-unfolding write_ack_at words
-write_ack_again first number count place rules fn fp =
-    let f = four 4 (8 * first.0) number (4096 * count) place rules.0 fn (omega (arith, rules.3)) fp in
-    let t = write_tests first.0 number rules.1 in
+rs_data_again : (first : Block) (place : ℕ) (contents : List ℕ) → 8 * first.0 < 2 ^ 64 → place < 2 ^ 32
+    → rs_data_at (payload (packet.RsDataReply first place contents)) ≡ Ok (packet.RsDataReply first place contents)
+unfolding rs_data_at words
+rs_data_again first place contents rules fp =
+    let front = words 4 (8 * first.0) 0 place 0 in
+    let f = four 4 (8 * first.0) 0 place 0 rules (omega arith) fp (omega arith) in
+    let a = number_in_front 8 0 front contents (omega (arith, f.long)) ∙ f.first in
+    let b = number_in_front 8 8 front contents (omega (arith, f.long)) ∙ f.second in
+    let c = number_in_front 4 16 front contents (omega (arith, f.long)) ∙ f.third in
+    let d = number_in_front 4 20 front contents (omega (arith, f.long)) ∙ f.fourth in
+    let r = drop_at front contents 24 f.long in
+    let rest : 8 * first.0 % 8 ≡ 0 = omega arith in
     let block : 8 * first.0 / 8 ≡ first.0 = omega arith in
-    let blocks : 4096 * count / 4096 ≡ count = omega arith in
-    let size = blocks_are (4096 * count) (omega (arith, rules.2)) (omega (arith, rules.3)) (omega arith) in
-    rw (f.first, f.second, f.third, f.fourth, t, size, block, blocks) refl
+    rw (a, b, c, d, r, rest, block) refl
+
+-- the numbers of an acknowledgement are read again
+acknowledgement_again : (ack : Acknowledgement) → 8 * ack.first.0 < 2 ^ 64 → ack.count ≤ 32 → FitsAcknowledgement ack → acknowledgement_at (acknowledgement_bytes ack) ≡ ack
+unfolding acknowledgement_at words
+acknowledgement_again ack sector few fits =
+    let f = four 4 (8 * ack.first.0) ack.number (4096 * ack.count) ack.place sector fits.0 (omega arith) fits.1 in
+    let block : 8 * ack.first.0 / 8 ≡ ack.first.0 = omega arith in
+    let blocks : 4096 * ack.count / 4096 ≡ ack.count = omega arith in
+    rw (f.first, f.second, f.third, f.fourth, block, blocks) refl
+
+write_named : (ack : Acknowledgement) → NamesWrite ack → FitsAcknowledgement ack → names_write (acknowledgement_bytes ack) ≡ true
+unfolding names_write words
+write_named ack names fits =
+    let f = four 4 (8 * ack.first.0) ack.number (4096 * ack.count) ack.place names.0 fits.0 (omega (arith, names.3)) fits.1 in
+    let t = write_tests ack.first.0 ack.number names.1 in
+    let size = blocks_are (4096 * ack.count) (omega (arith, names.2)) (omega (arith, names.3)) (omega arith) in
+    rw (f.first, f.second, f.third, t, size) refl
+
+resync_named : (ack : Acknowledgement) → NamesResync ack → FitsAcknowledgement ack → names_resync (acknowledgement_bytes ack) ≡ true
+unfolding names_resync words
+resync_named ack names fits =
+    let f = four 4 (8 * ack.first.0) ack.number (4096 * ack.count) ack.place names.0 fits.0 (omega (arith, names.2)) fits.1 in
+    let rest : 8 * ack.first.0 % 8 ≡ 0 = omega arith in
+    rw (f.first, f.second, f.third, rest, names.1, names.2) refl
 
 pub payload_again : (p : Packet) → IsSpellable p → FitsFields p → payload_at (command_of p) (payload p) ≡ Ok p
 unfolding payload_at barrier_at words
@@ -109,10 +138,15 @@ payload_again (packet.Uuids t) rules fields =
     let f = four 8 t.current t.bitmap t.first_historical t.second_historical fields.0 fields.1 fields.2 fields.3 in
     rw (f.first, f.second, f.third, f.fourth) refl
 payload_again (packet.Data first number place contents) rules fields = data_again first number place contents rules fields.0 fields.1
+payload_again (packet.RsDataReply first place contents) rules fields = rs_data_again first place contents rules.0 fields
 payload_again (packet.Barrier number) rules fields =
     let t = two 4 4 number 0 fields (omega arith) in
     rw (t.first, t.second) refl
-payload_again (packet.WriteAck first number count place) rules fields = write_ack_again first number count place rules fields.0 fields.1
+payload_again (packet.SyncUuid word) rules fields = rw (number_only 8 word fields) refl
+payload_again (packet.RecvAck ack) rules fields = rw (write_named ack rules fields, acknowledgement_again ack rules.0 rules.3 fields) refl
+payload_again (packet.WriteAck ack) rules fields = rw (write_named ack rules fields, acknowledgement_again ack rules.0 rules.3 fields) refl
+payload_again (packet.RsWriteAck ack) rules fields =
+    rw (resync_named ack rules fields, acknowledgement_again ack rules.0 (omega (arith, rules.2)) fields) refl
 payload_again (packet.BarrierAck number size) rules fields =
     let t = two 4 4 number size fields.0 fields.1 in
     rw (t.first, t.second) refl
@@ -129,6 +163,11 @@ payload_row (packet.Data first number place contents) rules =
     ∙ both (ltb 24 (24 + len)) (is_blocks (24 + len - 24))
     (grind (arith, nat_tests, rules.2))
     (ap is_blocks rest ∙ blocks_are len rules.2 rules.3 rules.4)
+payload_row (packet.RsDataReply first place contents) rules =
+    ap (λ (n : ℕ). eqb n 4120) (payload_length (packet.RsDataReply first place contents) ∙ ap (λ (n : ℕ). 24 + n) rules.1)
 payload_row (packet.Barrier number) rules = ap (λ (n : ℕ). eqb n 8) (payload_length (packet.Barrier number))
-payload_row (packet.WriteAck first number count place) rules = ap (λ (n : ℕ). eqb n 24) (payload_length (packet.WriteAck first number count place))
+payload_row (packet.SyncUuid word) rules = ap (λ (n : ℕ). eqb n 8) (payload_length (packet.SyncUuid word))
+payload_row (packet.RecvAck ack) rules = ap (λ (n : ℕ). eqb n 24) (payload_length (packet.RecvAck ack))
+payload_row (packet.WriteAck ack) rules = ap (λ (n : ℕ). eqb n 24) (payload_length (packet.WriteAck ack))
+payload_row (packet.RsWriteAck ack) rules = ap (λ (n : ℕ). eqb n 24) (payload_length (packet.RsWriteAck ack))
 payload_row (packet.BarrierAck number size) rules = ap (λ (n : ℕ). eqb n 8) (payload_length (packet.BarrierAck number size))

@@ -39,27 +39,43 @@ no_row c e = cc
 -- the number of the command that has a number
 command_number : (number : ℕ) (c : Command) → command_at number ≡ Some c → number_of c ≡ number
 command_number number c e =
-    let r6 : Option Command = cond (eqb number 28) (Some command.BarrierAck) None in
-    let r5 : Option Command = cond (eqb number 22) (Some command.WriteAck) r6 in
-    let r4 : Option Command = cond (eqb number 13) (Some command.Sizes) r5 in
-    let r3 : Option Command = cond (eqb number 12) (Some command.Uuids) r4 in
-    let r2 : Option Command = cond (eqb number 11) (Some command.Protocol) r3 in
-    let r1 : Option Command = cond (eqb number 3) (Some command.Barrier) r2 in
+    let r10 : Option Command = cond (eqb number 28) (Some command.BarrierAck) None in
+    let r9 : Option Command = cond (eqb number 23) (Some command.RsWriteAck) r10 in
+    let r8 : Option Command = cond (eqb number 22) (Some command.WriteAck) r9 in
+    let r7 : Option Command = cond (eqb number 21) (Some command.RecvAck) r8 in
+    let r6 : Option Command = cond (eqb number 15) (Some command.SyncUuid) r7 in
+    let r5 : Option Command = cond (eqb number 13) (Some command.Sizes) r6 in
+    let r4 : Option Command = cond (eqb number 12) (Some command.Uuids) r5 in
+    let r3 : Option Command = cond (eqb number 11) (Some command.Protocol) r4 in
+    let r2 : Option Command = cond (eqb number 3) (Some command.Barrier) r3 in
+    let r1 : Option Command = cond (eqb number 2) (Some command.RsDataReply) r2 in
     elim (chosen (eqb number 0) (Some command.Data) r1 (Some c) e) [
       | inl x0 ↦ row_number command.Data c number x0.0 x0.1
-      | inr x0 ↦ elim (chosen (eqb number 3) (Some command.Barrier) r2 (Some c) x0.1) [
-        | inl x1 ↦ row_number command.Barrier c number x1.0 x1.1
-        | inr x1 ↦ elim (chosen (eqb number 11) (Some command.Protocol) r3 (Some c) x1.1) [
-          | inl x2 ↦ row_number command.Protocol c number x2.0 x2.1
-          | inr x2 ↦ elim (chosen (eqb number 12) (Some command.Uuids) r4 (Some c) x2.1) [
-            | inl x3 ↦ row_number command.Uuids c number x3.0 x3.1
-            | inr x3 ↦ elim (chosen (eqb number 13) (Some command.Sizes) r5 (Some c) x3.1) [
-              | inl x4 ↦ row_number command.Sizes c number x4.0 x4.1
-              | inr x4 ↦ elim (chosen (eqb number 22) (Some command.WriteAck) r6 (Some c) x4.1) [
-                | inl x5 ↦ row_number command.WriteAck c number x5.0 x5.1
-                | inr x5 ↦ elim (chosen (eqb number 28) (Some command.BarrierAck) None (Some c) x5.1) [
-                  | inl x6 ↦ row_number command.BarrierAck c number x6.0 x6.1
-                  | inr x6 ↦ absurd (no_row c x6.1)
+      | inr x0 ↦ elim (chosen (eqb number 2) (Some command.RsDataReply) r2 (Some c) x0.1) [
+        | inl x1 ↦ row_number command.RsDataReply c number x1.0 x1.1
+        | inr x1 ↦ elim (chosen (eqb number 3) (Some command.Barrier) r3 (Some c) x1.1) [
+          | inl x2 ↦ row_number command.Barrier c number x2.0 x2.1
+          | inr x2 ↦ elim (chosen (eqb number 11) (Some command.Protocol) r4 (Some c) x2.1) [
+            | inl x3 ↦ row_number command.Protocol c number x3.0 x3.1
+            | inr x3 ↦ elim (chosen (eqb number 12) (Some command.Uuids) r5 (Some c) x3.1) [
+              | inl x4 ↦ row_number command.Uuids c number x4.0 x4.1
+              | inr x4 ↦ elim (chosen (eqb number 13) (Some command.Sizes) r6 (Some c) x4.1) [
+                | inl x5 ↦ row_number command.Sizes c number x5.0 x5.1
+                | inr x5 ↦ elim (chosen (eqb number 15) (Some command.SyncUuid) r7 (Some c) x5.1) [
+                  | inl x6 ↦ row_number command.SyncUuid c number x6.0 x6.1
+                  | inr x6 ↦ elim (chosen (eqb number 21) (Some command.RecvAck) r8 (Some c) x6.1) [
+                    | inl x7 ↦ row_number command.RecvAck c number x7.0 x7.1
+                    | inr x7 ↦ elim (chosen (eqb number 22) (Some command.WriteAck) r9 (Some c) x7.1) [
+                      | inl x8 ↦ row_number command.WriteAck c number x8.0 x8.1
+                      | inr x8 ↦ elim (chosen (eqb number 23) (Some command.RsWriteAck) r10 (Some c) x8.1) [
+                        | inl x9 ↦ row_number command.RsWriteAck c number x9.0 x9.1
+                        | inr x9 ↦ elim (chosen (eqb number 28) (Some command.BarrierAck) None (Some c) x9.1) [
+                          | inl x10 ↦ row_number command.BarrierAck c number x10.0 x10.1
+                          | inr x10 ↦ absurd (no_row c x10.1)
+                        ]
+                      ]
+                    ]
+                  ]
                 ]
               ]
             ]
@@ -117,8 +133,12 @@ known (packet.Protocol _) = refl
 known (packet.Sizes _) = refl
 known (packet.Uuids _) = refl
 known (packet.Data _ _ _ _) = refl
+known (packet.RsDataReply _ _ _) = refl
 known (packet.Barrier _) = refl
-known (packet.WriteAck _ _ _ _) = refl
+known (packet.SyncUuid _) = refl
+known (packet.RecvAck _) = refl
+known (packet.WriteAck _) = refl
+known (packet.RsWriteAck _) = refl
 known (packet.BarrierAck _ _) = refl
 
 row_again : (c : Command) (len : ℕ) → command_at (number_of c) ≡ Some c → is_length c len ≡ true → len < 2 ^ 32 → header_at (header_bytes c len) ≡ Ok (record { command = c; len = len })

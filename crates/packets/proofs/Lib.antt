@@ -1,9 +1,11 @@
 pub mod Again
 pub mod Digits
 pub mod Frames
+pub mod Hellos
 pub mod Lengths
 pub mod Payloads
 pub mod Readings
 pub mod Rows
 pub mod Steps
 pub mod Widths
+pub mod Written

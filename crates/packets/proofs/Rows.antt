@@ -37,15 +37,15 @@ header_length bytes h e =
 
 pub length_most : (c : Command) (len : ℕ) → is_length c len ≡ true → len ≤ 131096
 length_most command.Data len e = grind (arith, nat_tests)
-length_most command.RsDataReply len e = absurd cc
+length_most command.RsDataReply len e = grind (arith, nat_tests)
 length_most command.Barrier len e = grind (arith, nat_tests)
 length_most command.Protocol len e = grind (arith, nat_tests)
 length_most command.Uuids len e = grind (arith, nat_tests)
 length_most command.Sizes len e = grind (arith, nat_tests)
-length_most command.SyncUuid len e = absurd cc
-length_most command.RecvAck len e = absurd cc
+length_most command.SyncUuid len e = grind (arith, nat_tests)
+length_most command.RecvAck len e = grind (arith, nat_tests)
 length_most command.WriteAck len e = grind (arith, nat_tests)
-length_most command.RsWriteAck len e = absurd cc
+length_most command.RsWriteAck len e = grind (arith, nat_tests)
 length_most command.BarrierAck len e = grind (arith, nat_tests)
 
 pub header_most : (bytes : List ℕ) (h : Header) → header_at bytes ≡ Ok h → h.len ≤ 131096

@@ -16,7 +16,7 @@ use Rattle.packets.specs.declared.packet.Packet.TheVariants as packet
 use Rattle.packets.specs.Numbers.{number_in}
 use Rattle.packets.specs.Table.{magic, command_at, is_length}
 use Rattle.packets.specs.Spelling.{spelling}
-use Rattle.packets.specs.Reading.{row_at, checked, protocol_at, data_at, barrier_at, write_ack_at, header_at, payload_at}
+use Rattle.packets.specs.Reading.{row_at, checked, protocol_at, data_at, rs_data_at, barrier_at, header_at, payload_at}
 use Rattle.packets.specs.Frames.{IsNoSpelling, IsFaultAfter, IsFrameFault, Answers}
 use Rattle.packets.specs.Stream.{IsWritten, spellings, IsFaultWith, IsFaultAt, Gives}
 use Rattle.packets.proofs.Digits.{IsBytes, IsBytes_take}
@@ -50,9 +50,9 @@ data_refuses : (bytes : List ℕ) (e : Refusal) → data_at bytes ≡ Err e → 
 unfolding data_at
 data_refuses bytes e h = checked_refuses _ _ e h
 
-write_ack_refuses : (bytes : List ℕ) (e : Refusal) → write_ack_at bytes ≡ Err e → e ≡ BadField
-unfolding write_ack_at
-write_ack_refuses bytes e h = checked_refuses _ _ e h
+rs_data_refuses : (bytes : List ℕ) (e : Refusal) → rs_data_at bytes ≡ Err e → e ≡ BadField
+unfolding rs_data_at
+rs_data_refuses bytes e h = checked_refuses _ _ e h
 
 barrier_refuses : (bytes : List ℕ) (e : Refusal) → barrier_at bytes ≡ Err e → e ≡ BadField
 unfolding barrier_at
@@ -61,15 +61,15 @@ barrier_refuses bytes e h = checked_refuses _ _ e h
 pub payload_refuses : (c : Command) (bytes : List ℕ) (e : Refusal) → is_length c (length bytes) ≡ true → payload_at c bytes ≡ Err e → e ≡ BadField
 unfolding payload_at
 payload_refuses command.Data bytes e row h = data_refuses bytes e h
-payload_refuses command.RsDataReply bytes e row h = absurd cc
+payload_refuses command.RsDataReply bytes e row h = rs_data_refuses bytes e h
 payload_refuses command.Barrier bytes e row h = barrier_refuses bytes e h
 payload_refuses command.Protocol bytes e row h = protocol_refuses (number_in 4 0 bytes) e h
 payload_refuses command.Uuids bytes e row h = absurd cc
 payload_refuses command.Sizes bytes e row h = absurd cc
 payload_refuses command.SyncUuid bytes e row h = absurd cc
-payload_refuses command.RecvAck bytes e row h = absurd cc
-payload_refuses command.WriteAck bytes e row h = write_ack_refuses bytes e h
-payload_refuses command.RsWriteAck bytes e row h = absurd cc
+payload_refuses command.RecvAck bytes e row h = checked_refuses _ _ e h
+payload_refuses command.WriteAck bytes e row h = checked_refuses _ _ e h
+payload_refuses command.RsWriteAck bytes e row h = checked_refuses _ _ e h
 payload_refuses command.BarrierAck bytes e row h = absurd cc
 
 -- the answer to a frame whose header and length are as they have to be

@@ -1,9 +1,12 @@
 -- What one whole frame of a link is taken for.
-use Rattle.std.specs.Prelude.{ℕ, ◌≡◌, ◌≢◌, ◌+◌, ◌<◌, ◌≤◌, ◌⊎◌, List, length, Result, Ok, Err}
+use Rattle.std.specs.Prelude.{ℕ, ◌≡◌, ◌≢◌, ◌+◌, ◌<◌, ◌≤◌, ◌⊎◌, ◌==◌, Bool, true, false, ◌&&◌, nat_le, List, length, Option, Some, None, Result, Ok, Err}
+use Rattle.blocks.specs.declared.command.Command.{Command}
 use Rattle.blocks.specs.declared.refusal.Refusal.{Refusal}
-use Rattle.blocks.specs.declared.refusal.Refusal.TheVariants.{BadLength, BadField}
+use Rattle.blocks.specs.declared.refusal.Refusal.TheVariants.{BadCommand, BadLength, BadField}
 use Rattle.packets.specs.declared.header.Header.{Header}
 use Rattle.packets.specs.declared.packet.Packet.{Packet}
+use Rattle.packets.specs.Numbers.{number_in}
+use Rattle.packets.specs.Table.{number_of}
 use Rattle.packets.specs.Spelling.{IsSpellable, Spells}
 use Rattle.packets.specs.Reading.{header_at}
 
@@ -28,3 +31,28 @@ IsFrameFault frame refusal =
 abbrev pub Answers : List ℕ → Result Packet Refusal → Type 0
 Answers frame (Ok p) = IsSpellable p × Spells p frame
 Answers frame (Err refusal) = IsFrameFault frame refusal
+
+-- the frame's header has the number of this command
+abbrev pub is_named : Command → List ℕ → Bool
+is_named command frame = nat_le 4 (length frame) && (number_in 2 2 frame == number_of command)
+
+-- whether the frame is of the command that a hello expects, where one goes on
+abbrev pub is_expected : Option Command → List ℕ → Bool
+is_expected None frame = true
+is_expected (Some command) frame = is_named command frame
+
+-- that a frame is not of the command that a hello expects (21) comes before a fault of its fields (23)
+abbrev pub fault_in_hello : Bool → Refusal → Refusal
+fault_in_hello false BadField = BadCommand
+fault_in_hello expected refusal = refusal
+
+-- the answer to a frame, while a hello expects one of this command or none goes on
+abbrev pub in_hello : Option Command → List ℕ → Result Packet Refusal → Result Packet Refusal
+in_hello hello frame (Ok p) = Ok p
+in_hello hello frame (Err refusal) = Err (fault_in_hello (is_expected hello frame) refusal)
+
+-- the frame is read so: as the packet that it spells, or as its first fault, while such a hello goes on
+pub record IsReadAs (hello : Option Command) (frame : List ℕ) (read : Result Packet Refusal) : Type 0 where
+  pub answer : Result Packet Refusal
+  pub answers : Answers frame answer
+  pub is : read ≡ in_hello hello frame answer

@@ -1,7 +1,9 @@
 pub mod Frames
+pub mod Held
 pub mod Numbers
 pub mod Reading
 pub mod Spelling
 pub mod Steps
 pub mod Stream
 pub mod Table
+pub mod Written

@@ -6,6 +6,7 @@ use Rattle.blocks.specs.declared.refusal.Refusal.{Refusal}
 use Rattle.blocks.specs.declared.refusal.Refusal.TheVariants.{BadMagic, BadCommand, BadLength, BadField}
 use Rattle.blocks.specs.declared.settings.Protocol.TheVariants.{A, B, C}
 use Rattle.packets.specs.declared.header.Header.{Header}
+use Rattle.packets.specs.declared.packet.Acknowledgement.{Acknowledgement}
 use Rattle.packets.specs.declared.packet.Packet.{Packet}
 use Rattle.packets.specs.declared.packet.Packet.TheVariants as packet
 use Rattle.packets.specs.Numbers.{number_in}
@@ -47,15 +48,32 @@ data_at bytes =
     checked ((number_in 8 0 bytes % 8 == 0) && nat_lt 0 (number_in 8 8 bytes) && (number_in 4 20 bytes == 0))
     (packet.Data (record { 0 = number_in 8 0 bytes / 8 }) (number_in 8 8 bytes) (number_in 4 16 bytes) (drop 24 bytes))
 
+-- the same of a resync block, whose number is zero
+unfoldable pub rs_data_at : List ℕ → Result Packet Refusal
+rs_data_at bytes =
+    checked ((number_in 8 0 bytes % 8 == 0) && (number_in 8 8 bytes == 0) && (number_in 4 20 bytes == 0))
+    (packet.RsDataReply (record { 0 = number_in 8 0 bytes / 8 }) (number_in 4 16 bytes) (drop 24 bytes))
+
 -- a number, and a word that is zero
 unfoldable pub barrier_at : List ℕ → Result Packet Refusal
 barrier_at bytes = checked (number_in 4 4 bytes == 0) (packet.Barrier (number_in 4 0 bytes))
 
--- a sector that is a block's first, a write number, a size of whole blocks, and a place
-unfoldable pub write_ack_at : List ℕ → Result Packet Refusal
-write_ack_at bytes =
-    checked ((number_in 8 0 bytes % 8 == 0) && nat_lt 0 (number_in 8 8 bytes) && is_blocks (number_in 4 16 bytes))
-    (packet.WriteAck (record { 0 = number_in 8 0 bytes / 8 }) (number_in 8 8 bytes) (number_in 4 16 bytes / 4096) (number_in 4 20 bytes))
+-- what an acknowledgement names: a sector, a number, a size in bytes and a place
+unfoldable pub acknowledgement_at : List ℕ → Acknowledgement
+acknowledgement_at bytes = record {
+  first = record { 0 = number_in 8 0 bytes / 8 };
+  number = number_in 8 8 bytes;
+  count = number_in 4 16 bytes / 4096;
+  place = number_in 4 20 bytes;
+}
+
+-- it may name a write: the sector is a block's first, the number is not zero, and the size is of whole blocks
+unfoldable pub names_write : List ℕ → Bool
+names_write bytes = (number_in 8 0 bytes % 8 == 0) && nat_lt 0 (number_in 8 8 bytes) && is_blocks (number_in 4 16 bytes)
+
+-- it may name a resync block: the sector is a block's first, the number is zero, and the size is of one block
+unfoldable pub names_resync : List ℕ → Bool
+names_resync bytes = (number_in 8 0 bytes % 8 == 0) && (number_in 8 8 bytes == 0) && (number_in 4 16 bytes == 4096)
 
 -- what the payload of each command says
 unfoldable pub payload_at : Command → List ℕ → Result Packet Refusal
@@ -63,7 +81,10 @@ payload_at command.Protocol bytes = protocol_at (number_in 4 0 bytes)
 payload_at command.Sizes bytes = Ok (packet.Sizes (number_in 8 0 bytes))
 payload_at command.Uuids bytes = Ok (uuids_at bytes)
 payload_at command.Data bytes = data_at bytes
+payload_at command.RsDataReply bytes = rs_data_at bytes
 payload_at command.Barrier bytes = barrier_at bytes
-payload_at command.WriteAck bytes = write_ack_at bytes
+payload_at command.SyncUuid bytes = Ok (packet.SyncUuid (number_in 8 0 bytes))
+payload_at command.RecvAck bytes = checked (names_write bytes) (packet.RecvAck (acknowledgement_at bytes))
+payload_at command.WriteAck bytes = checked (names_write bytes) (packet.WriteAck (acknowledgement_at bytes))
+payload_at command.RsWriteAck bytes = checked (names_resync bytes) (packet.RsWriteAck (acknowledgement_at bytes))
 payload_at command.BarrierAck bytes = Ok (packet.BarrierAck (number_in 4 0 bytes) (number_in 4 4 bytes))
-payload_at _ bytes = Err BadCommand

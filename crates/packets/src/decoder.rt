@@ -7,9 +7,11 @@ ghost use Rattle.blocks.specs.declared.refusal.Refusal.TheVariants.{NoMemory};
 
 use crate::header::{HEADER_BYTES, Header};
 use crate::reading::packet_of;
+use crate::short::{SHORT_BYTES, Short};
+use crate::writing::joined;
 use crate::{Frame, Packet};
 use blocks::Refusal;
-use bytes::{Bytes, BytesMut};
+use bytes::BytesMut;
 use std::alloc::Global;
 use std::marker::Model;
 
@@ -198,9 +200,8 @@ fn next_frame<'a>(
         return Ok(Next::Part(Some(header)));
     }
     let (end, after) = piece.split_at(missing);
-    let mut payload = joined(alloc, front, end)?;
-    payload.advance(HEADER_BYTES);
-    Ok(Next::Whole(packet_of(header.command, payload)?, after))
+    let frame = frame_of(alloc, front, end)?;
+    Ok(Next::Whole(packet_of(header, frame)?, after))
 }
 
 /// The header of the frame that begins with `front` and goes on in `piece`, where its 8 bytes are there.
@@ -229,13 +230,16 @@ fn first_bytes(front: &[u8], piece: &[u8]) -> [u8; HEADER_BYTES]
     bytes
 }
 
-/// A frame in a buffer of its own.
-fn joined(alloc: Global, front: &[u8], end: &[u8]) -> Result<Bytes, Refusal>
-    ensures joined { IfOk result (λ b. b ≡ front.now ++ end.now) }
+/// A frame of these bytes. Where it does not stand inline, it has a buffer of its own.
+fn frame_of(alloc: Global, front: &[u8], end: &[u8]) -> Result<Frame, Refusal>
+    ensures joined { IfOk result (λ frame. frame ≡ front.now ++ end.now) }
     ensures refused { IfErr result (λ e. e ≡ NoMemory) }
 {
-    let mut bytes = Vec::with_capacity(alloc, front.len().saturating_add(end.len()))?;
-    bytes.extend_from_slice(front)?;
-    bytes.extend_from_slice(end)?;
-    Ok(Bytes::from_vec(bytes)?)
+    if front.len().saturating_add(end.len()) > SHORT_BYTES {
+        return Ok(Frame::new(joined(alloc, front, end)?));
+    }
+    let mut short = Short::new();
+    short.put(front);
+    short.put(end);
+    Ok(Frame::of(short))
 }

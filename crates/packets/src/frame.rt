@@ -1,13 +1,24 @@
 //! What goes over a link as one.
-ghost use Rattle.std.specs.Prelude.{◌≡◌};
+ghost use Rattle.std.specs.Prelude.{◌≡◌, ◌<◌, ◌≤◌, length};
 
+use crate::short::Short;
 use bytes::Bytes;
 use std::marker::Model;
 
 /// The bytes of one frame of a link. Any bytes may stand here: who takes the frame judges them.
+///
+/// A frame of at most 40 bytes, which is each but those with blocks, stands inline and takes no memory. A
+/// longer one shares its buffer.
 #[derive(Debug, Drop)]
 pub struct Frame {
-    bytes: Bytes,
+    held: Held,
+}
+
+/// Where the bytes of a frame stand.
+#[derive(Debug, Drop)]
+enum Held {
+    Inline(Short),
+    Shared(Bytes),
 }
 
 impl Model for Frame {
@@ -15,7 +26,9 @@ impl Model for Frame {
 
     ghost Value = { List ℕ };
 
-    ghost view = { λ f. f.bytes };
+    ghost use Rattle.packets.specs.Held.{held_bytes};
+
+    ghost view = { λ f. held_bytes f.held };
 }
 
 impl Frame {
@@ -23,20 +36,52 @@ impl Frame {
     pub fn new(bytes: Bytes) -> Frame
         ensures { result ≡ bytes }
     {
-        Frame { bytes }
+        Frame {
+            held: Held::Shared(bytes),
+        }
+    }
+
+    /// A frame of at most 40 bytes. It takes no memory.
+    pub fn inline(bytes: &[u8]) -> Frame
+        requires { length bytes.now ≤ 40 }
+        ensures { result ≡ bytes.now }
+    {
+        let mut short = Short::new();
+        short.put(bytes);
+        Frame::of(short)
+    }
+
+    /// A frame of bytes that stand inline already.
+    pub(crate) fn of(short: Short) -> Frame
+        ensures { result ≡ short }
+    {
+        Frame {
+            held: Held::Inline(short),
+        }
     }
 
     /// Its bytes.
     pub fn as_slice(&self) -> &[u8]
         ensures { result.now ≡ self.now }
     {
-        self.bytes.as_slice()
+        match &self.held {
+            Held::Inline(short) => short.as_slice(),
+            Held::Shared(bytes) => bytes.as_slice(),
+        }
     }
 
-    /// Its bytes, in the same buffer. It takes no memory.
+    /// The bytes of a frame of more than 40, in the same buffer. It takes no memory.
     pub fn into_bytes(self) -> Bytes
+        requires { 40 < length self }
         ensures { result ≡ self }
     {
-        self.bytes
+        match self.held {
+            Held::Inline(short) => {
+                // What stands inline has at most 40 bytes.
+                let _ = short.as_slice();
+                unreachable!()
+            }
+            Held::Shared(bytes) => bytes,
+        }
     }
 }

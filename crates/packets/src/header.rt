@@ -70,17 +70,21 @@ pub(crate) fn command_number(command: Command) -> u16
     }
 }
 
-/// The command that has a number, where a frame of it may come.
+/// The command that has a number.
 fn command_with(number: u16) -> Option<Command>
     ensures { result ≡ command_at number }
 {
     match number {
         0x0000 => Some(Command::Data),
+        0x0002 => Some(Command::RsDataReply),
         0x0003 => Some(Command::Barrier),
         0x000B => Some(Command::Protocol),
         0x000C => Some(Command::Uuids),
         0x000D => Some(Command::Sizes),
+        0x000F => Some(Command::SyncUuid),
+        0x0015 => Some(Command::RecvAck),
         0x0016 => Some(Command::WriteAck),
+        0x0017 => Some(Command::RsWriteAck),
         0x001C => Some(Command::BarrierAck),
         _ => None,
     }
@@ -92,11 +96,11 @@ fn may_have(command: Command, len: u32) -> bool
 {
     match command {
         Command::Data => len > DATA_NUMBERS && is_whole_blocks(len - DATA_NUMBERS),
+        Command::RsDataReply => len == DATA_NUMBERS + BLOCK_BYTES as u32,
         Command::Protocol => len == 4,
-        Command::Barrier | Command::Sizes | Command::BarrierAck => len == 8,
-        Command::WriteAck => len == 24,
+        Command::Barrier | Command::Sizes | Command::SyncUuid | Command::BarrierAck => len == 8,
+        Command::RecvAck | Command::WriteAck | Command::RsWriteAck => len == 24,
         Command::Uuids => len == 32,
-        _ => false,
     }
 }
 

@@ -9,6 +9,7 @@ mod laws;
 mod numbers;
 mod packet;
 mod reading;
+mod short;
 mod stream;
 #[cfg(test)]
 mod tests;
@@ -21,7 +22,7 @@ pub use laws::{
     any_pieces, no_spelling_begins_another, one_answer, one_piece_after_another, one_reading,
     round_trip,
 };
-pub use packet::Packet;
-pub use reading::decode;
+pub use packet::{Acknowledgement, Packet};
+pub use reading::{decode, read};
 pub use stream::{Transcript, decode_all};
 pub use writing::encode;

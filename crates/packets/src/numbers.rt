@@ -1,9 +1,8 @@
 //! Numbers among bytes, the highest byte first.
-ghost use Rattle.std.specs.Prelude.{◌≡◌, ◌+◌, ◌≤◌, ◌++◌, length, OnOk, OnErr, IfErr};
+ghost use Rattle.std.specs.Prelude.{◌≡◌, ◌+◌, ◌≤◌, ◌++◌, length};
 ghost use Rattle.packets.specs.Numbers.{number_in, number_bytes};
-ghost use Rattle.blocks.specs.declared.refusal.Refusal.TheVariants.{NoMemory};
 
-use blocks::Refusal;
+use crate::short::Short;
 use byteorder::{BigEndian, ByteOrder};
 
 /// The number in the two bytes at a place.
@@ -33,38 +32,38 @@ pub(crate) fn u64_at(bytes: &[u8], place: usize) -> u64
     BigEndian::read_u64(&bytes[place..])
 }
 
-/// Writes the two bytes of a number at the end.
+/// Puts the two bytes of a number at the end.
 #[tactic(auto, unfolding(crate::specs::Numbers::number_bytes))]
-pub(crate) fn put_u16(out: &mut Vec<u8>, number: u16) -> Result<(), Refusal>
-    ensures written { OnOk result (out.new.items ≡ out.old.items ++ number_bytes 2 number) }
-    ensures refused { IfErr result (λ e. e ≡ NoMemory) }
+pub(crate) fn put_u16(out: &mut Short, number: u16)
+    requires { length out.old + 2 ≤ 40 }
+    ensures written { out.new ≡ out.old ++ number_bytes 2 number }
+    ensures len { length out.new ≡ length out.old + 2 }
 {
     let mut bytes = [0; 2];
     BigEndian::write_u16(&mut bytes, number);
-    out.extend_from_slice(&bytes)?;
-    Ok(())
+    out.put(&bytes);
 }
 
-/// Writes the four bytes of a number at the end.
+/// Puts the four bytes of a number at the end.
 #[tactic(auto, unfolding(crate::specs::Numbers::number_bytes))]
-pub(crate) fn put_u32(out: &mut Vec<u8>, number: u32) -> Result<(), Refusal>
-    ensures written { OnOk result (out.new.items ≡ out.old.items ++ number_bytes 4 number) }
-    ensures refused { IfErr result (λ e. e ≡ NoMemory) }
+pub(crate) fn put_u32(out: &mut Short, number: u32)
+    requires { length out.old + 4 ≤ 40 }
+    ensures written { out.new ≡ out.old ++ number_bytes 4 number }
+    ensures len { length out.new ≡ length out.old + 4 }
 {
     let mut bytes = [0; 4];
     BigEndian::write_u32(&mut bytes, number);
-    out.extend_from_slice(&bytes)?;
-    Ok(())
+    out.put(&bytes);
 }
 
-/// Writes the eight bytes of a number at the end.
+/// Puts the eight bytes of a number at the end.
 #[tactic(auto, unfolding(crate::specs::Numbers::number_bytes))]
-pub(crate) fn put_u64(out: &mut Vec<u8>, number: u64) -> Result<(), Refusal>
-    ensures written { OnOk result (out.new.items ≡ out.old.items ++ number_bytes 8 number) }
-    ensures refused { IfErr result (λ e. e ≡ NoMemory) }
+pub(crate) fn put_u64(out: &mut Short, number: u64)
+    requires { length out.old + 8 ≤ 40 }
+    ensures written { out.new ≡ out.old ++ number_bytes 8 number }
+    ensures len { length out.new ≡ length out.old + 8 }
 {
     let mut bytes = [0; 8];
     BigEndian::write_u64(&mut bytes, number);
-    out.extend_from_slice(&bytes)?;
-    Ok(())
+    out.put(&bytes);
 }

@@ -5,6 +5,19 @@ ghost use Rattle.packets.specs.Table.{command_of};
 use blocks::{Block, Command, Protocol, Tuple};
 use bytes::Bytes;
 
+/// What an acknowledgement names: a write, or a block of a resync.
+#[derive(Clone, Copy, Debug, PartialEq, Eq)]
+pub struct Acknowledgement {
+    /// The first block that it covers.
+    pub first: Block,
+    /// The number of the write; 0 for a block of a resync.
+    pub number: u64,
+    /// How many blocks it covers: 1 to 32, and 1 for a block of a resync.
+    pub count: u32,
+    /// Its place in the stream.
+    pub place: u32,
+}
+
 /// What a frame says. The packets are DRBD's (`drbd_protocol.h`); those of a hello carry less here.
 #[derive(Debug, PartialEq, Eq, Drop)]
 pub enum Packet {
@@ -28,22 +41,31 @@ pub enum Packet {
         /// What it writes, 1 to 32 whole blocks of 4,096 bytes.
         contents: Bytes,
     },
+    /// A block of a resync.
+    RsDataReply {
+        /// The block.
+        first: Block,
+        /// Its place in the stream.
+        place: u32,
+        /// What stands in it, 4,096 bytes.
+        contents: Bytes,
+    },
     /// The end of an epoch.
     Barrier {
         /// The barrier's number.
         number: u32,
     },
-    /// The write is on the peer's disk.
-    WriteAck {
-        /// The first block that it covers.
-        first: Block,
-        /// The number of the write, not 0.
-        number: u64,
-        /// How many blocks it covers, 1 to 32.
-        count: u32,
-        /// Its place in the stream.
-        place: u32,
+    /// A resync begins, and the sender's disk has this generation identifier for it.
+    SyncUuid {
+        /// The identifier. A node takes no 0 here; the bytes of a frame may say it.
+        word: u64,
     },
+    /// The peer has the write in memory.
+    RecvAck(Acknowledgement),
+    /// The write is on the peer's disk.
+    WriteAck(Acknowledgement),
+    /// The block of a resync is on the peer's disk.
+    RsWriteAck(Acknowledgement),
     /// All writes of an epoch are on the peer's disk.
     BarrierAck {
         /// The number of the barrier that ended the epoch.
@@ -63,8 +85,12 @@ impl Packet {
             Packet::Sizes { .. } => Command::Sizes,
             Packet::Uuids(_) => Command::Uuids,
             Packet::Data { .. } => Command::Data,
+            Packet::RsDataReply { .. } => Command::RsDataReply,
             Packet::Barrier { .. } => Command::Barrier,
-            Packet::WriteAck { .. } => Command::WriteAck,
+            Packet::SyncUuid { .. } => Command::SyncUuid,
+            Packet::RecvAck(_) => Command::RecvAck,
+            Packet::WriteAck(_) => Command::WriteAck,
+            Packet::RsWriteAck(_) => Command::RsWriteAck,
             Packet::BarrierAck { .. } => Command::BarrierAck,
         }
     }

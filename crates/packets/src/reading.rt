@@ -1,24 +1,24 @@
 //! From bytes to packets.
-ghost use Rattle.std.specs.Prelude.{◌≡◌, ◌≢◌, ◌≤◌, true, length, Ok, IfOk, IfErr};
+ghost use Rattle.std.specs.Prelude.{◌≡◌, ◌≢◌, ◌+◌, ◌<◌, ◌≤◌, true, length, drop, Ok, IfOk, IfErr};
 ghost use Rattle.packets.specs.Spelling.{IsSpellable, Spells};
-ghost use Rattle.packets.specs.Frames.{Answers, IsFrameFault};
+ghost use Rattle.packets.specs.Frames.{Answers, IsFrameFault, IsReadAs, is_named, fault_in_hello};
 ghost use Rattle.packets.specs.Table.{is_length};
-ghost use Rattle.packets.specs.Reading.{payload_at, protocol_at, uuids_at, data_at, barrier_at, write_ack_at};
+ghost use Rattle.packets.specs.Reading.{checked, payload_at, protocol_at, uuids_at, data_at, rs_data_at, barrier_at, acknowledgement_at, names_write, names_resync};
 ghost use Rattle.packets.specs.declared.packet.Packet.{Packet};
 ghost use Rattle.packets.specs.declared.packet.Packet.TheVariants as packet;
 ghost use Rattle.blocks.specs.declared.refusal.Refusal.TheVariants.{NoMemory};
 
-use crate::header::{DATA_NUMBERS, HEADER_BYTES, Header, is_whole_blocks};
-use crate::numbers::{u32_at, u64_at};
-use crate::{Frame, Packet};
+use crate::header::{DATA_NUMBERS, HEADER_BYTES, Header, command_number, is_whole_blocks};
+use crate::numbers::{u16_at, u32_at, u64_at};
+use crate::{Acknowledgement, Frame, Packet};
 use blocks::{BLOCK_BYTES, Block, Command, Protocol, Refusal, Tuple};
 use bytes::Bytes;
 
 /// Sectors of 512 bytes in a block.
 pub(crate) const BLOCK_SECTORS: u64 = 8;
 
-/// The packet that one whole frame spells. It takes no memory: the blocks of a DATA frame stay in the
-/// frame's buffer.
+/// The packet that one whole frame spells. It takes no memory: the blocks of a DATA or RS_DATA_REPLY frame
+/// stay in the frame's buffer.
 ///
 /// `BadMagic` (20), `BadCommand` (21) and `BadLength` (22) come for a header with such a fault, in this
 /// order, and `BadLength` also where the frame has no whole header, or ends before or goes on after its
@@ -36,44 +36,110 @@ pub fn decode(frame: Frame) -> Result<Packet, Refusal>
     packet_in(frame)
 }
 
+/// The packet that one whole frame spells, as [`decode`] reads it; but while a hello expects a frame of one
+/// command, a frame of another command with a field that it may not have is `BadCommand` (21), since that
+/// comes before its fields are judged (this project's rule). It takes no memory.
+pub fn read(frame: Frame, hello: Option<Command>) -> Result<Packet, Refusal>
+    ensures { IsReadAs hello frame result }
+{
+    let is_expected = hello.is_none_or(|command| is_named(command, &frame));
+    match packet_in(frame) {
+        Ok(packet) => Ok(packet),
+        Err(fault) => Err(fault_in_hello(is_expected, fault)),
+    }
+}
+
+/// Whether a frame's header has the number of this command.
+fn is_named(command: Command, frame: &Frame) -> bool
+    ensures { result ≡ is_named command frame.now }
+{
+    let bytes = frame.as_slice();
+    bytes.len() >= 4 && u16_at(bytes, 2) == command_number(command)
+}
+
+/// A frame's fault, while a hello goes on or none: that the frame is not the expected one comes before a
+/// fault of its fields.
+fn fault_in_hello(is_expected: bool, fault: Refusal) -> Refusal
+    ensures { result ≡ fault_in_hello is_expected fault }
+{
+    match fault {
+        Refusal::BadField if !is_expected => Refusal::BadCommand,
+        _ => fault,
+    }
+}
+
 /// The packet that a frame spells, or the frame's first fault.
 fn packet_in(frame: Frame) -> Result<Packet, Refusal>
     ensures { Answers frame result }
 {
-    let mut bytes = frame.into_bytes();
+    let bytes = frame.as_slice();
     if bytes.len() < HEADER_BYTES {
         return Err(Refusal::BadLength);
     }
-    let header = Header::judge(bytes.as_slice())?;
+    let header = Header::judge(bytes)?;
     if bytes.len() - HEADER_BYTES != header.len as usize {
         return Err(Refusal::BadLength);
     }
-    bytes.advance(HEADER_BYTES);
-    packet_of(header.command, bytes)
+    packet_of(header, frame)
 }
 
-/// What the payload of a command says.
+/// What the payload of a frame says that is as long as its header says.
 #[tactic(auto, unfolding(crate::specs::Reading::payload_at))]
-pub(crate) fn packet_of(command: Command, payload: Bytes) -> Result<Packet, Refusal>
-    requires { is_length command (length payload) ≡ true }
-    ensures { result ≡ payload_at command payload }
+pub(crate) fn packet_of(header: Header, frame: Frame) -> Result<Packet, Refusal>
+    requires whole { length frame ≡ 8 + header.len }
+    requires row { is_length header.command header.len ≡ true }
+    ensures { result ≡ payload_at header.command (drop 8 frame) }
 {
-    let bytes = payload.as_slice();
-    match command {
+    let bytes = &frame.as_slice()[HEADER_BYTES..];
+    match header.command {
         Command::Protocol => protocol_of(u32_at(bytes, 0)),
         Command::Sizes => Ok(Packet::Sizes {
             blocks: u64_at(bytes, 0),
         }),
         Command::Uuids => Ok(Packet::Uuids(tuple_of(bytes))),
-        Command::Data => data_of(payload),
+        Command::Data => data_of(payload_of(frame)),
+        Command::RsDataReply => rs_data_of(payload_of(frame)),
         Command::Barrier => barrier_of(bytes),
-        Command::WriteAck => write_ack_of(bytes),
+        Command::SyncUuid => Ok(Packet::SyncUuid {
+            word: u64_at(bytes, 0),
+        }),
+        Command::RecvAck => checked(
+            names_write(bytes),
+            Packet::RecvAck(acknowledgement_of(bytes)),
+        ),
+        Command::WriteAck => checked(
+            names_write(bytes),
+            Packet::WriteAck(acknowledgement_of(bytes)),
+        ),
+        Command::RsWriteAck => checked(
+            names_resync(bytes),
+            Packet::RsWriteAck(acknowledgement_of(bytes)),
+        ),
         Command::BarrierAck => Ok(Packet::BarrierAck {
             number: u32_at(bytes, 0),
             size: u32_at(bytes, 4),
         }),
-        // No header of another command is taken so far.
-        _ => Err(Refusal::BadCommand),
+    }
+}
+
+/// The payload of a frame with blocks, in the frame's buffer.
+fn payload_of(frame: Frame) -> Bytes
+    requires { 40 < length frame }
+    ensures { result ≡ drop 8 frame }
+{
+    let mut bytes = frame.into_bytes();
+    bytes.advance(HEADER_BYTES);
+    bytes
+}
+
+/// A packet, if its fields are as they have to be.
+fn checked(fields: bool, packet: Packet) -> Result<Packet, Refusal>
+    ensures { result ≡ checked fields packet }
+{
+    if fields {
+        Ok(packet)
+    } else {
+        Err(Refusal::BadField)
     }
 }
 
@@ -122,6 +188,27 @@ fn data_of(mut payload: Bytes) -> Result<Packet, Refusal>
     })
 }
 
+#[tactic(auto, unfolding(crate::specs::Reading::rs_data_at))]
+fn rs_data_of(mut payload: Bytes) -> Result<Packet, Refusal>
+    requires { 24 ≤ length payload }
+    ensures { result ≡ rs_data_at payload }
+{
+    let bytes = payload.as_slice();
+    let sector = u64_at(bytes, 0);
+    let number = u64_at(bytes, 8);
+    let place = u32_at(bytes, 16);
+    let flags = u32_at(bytes, 20);
+    if sector % BLOCK_SECTORS != 0 || number != 0 || flags != 0 {
+        return Err(Refusal::BadField);
+    }
+    payload.advance(DATA_NUMBERS as usize);
+    Ok(Packet::RsDataReply {
+        first: Block(sector / BLOCK_SECTORS),
+        place,
+        contents: payload,
+    })
+}
+
 #[tactic(auto, unfolding(crate::specs::Reading::barrier_at))]
 fn barrier_of(bytes: &[u8]) -> Result<Packet, Refusal>
     requires { 8 ≤ length bytes.now }
@@ -135,21 +222,38 @@ fn barrier_of(bytes: &[u8]) -> Result<Packet, Refusal>
     })
 }
 
-#[tactic(auto, unfolding(crate::specs::Reading::write_ack_at))]
-fn write_ack_of(bytes: &[u8]) -> Result<Packet, Refusal>
+/// What an acknowledgement names.
+#[tactic(auto, unfolding(crate::specs::Reading::acknowledgement_at))]
+fn acknowledgement_of(bytes: &[u8]) -> Acknowledgement
     requires { 24 ≤ length bytes.now }
-    ensures { result ≡ write_ack_at bytes.now }
+    ensures { result ≡ acknowledgement_at bytes.now }
 {
-    let sector = u64_at(bytes, 0);
-    let number = u64_at(bytes, 8);
-    let size = u32_at(bytes, 16);
-    if sector % BLOCK_SECTORS != 0 || number == 0 || !is_whole_blocks(size) {
-        return Err(Refusal::BadField);
-    }
-    Ok(Packet::WriteAck {
-        first: Block(sector / BLOCK_SECTORS),
-        number,
-        count: size / BLOCK_BYTES as u32,
+    Acknowledgement {
+        first: Block(u64_at(bytes, 0) / BLOCK_SECTORS),
+        number: u64_at(bytes, 8),
+        count: u32_at(bytes, 16) / BLOCK_BYTES as u32,
         place: u32_at(bytes, 20),
-    })
+    }
+}
+
+/// Whether the fields of an acknowledgement may name a write.
+#[tactic(auto, unfolding(crate::specs::Reading::names_write))]
+fn names_write(bytes: &[u8]) -> bool
+    requires { 24 ≤ length bytes.now }
+    ensures { result ≡ names_write bytes.now }
+{
+    u64_at(bytes, 0) % BLOCK_SECTORS == 0
+        && u64_at(bytes, 8) != 0
+        && is_whole_blocks(u32_at(bytes, 16))
+}
+
+/// Whether the fields of an acknowledgement may name a block of a resync.
+#[tactic(auto, unfolding(crate::specs::Reading::names_resync))]
+fn names_resync(bytes: &[u8]) -> bool
+    requires { 24 ≤ length bytes.now }
+    ensures { result ≡ names_resync bytes.now }
+{
+    u64_at(bytes, 0) % BLOCK_SECTORS == 0
+        && u64_at(bytes, 8) == 0
+        && u32_at(bytes, 16) == BLOCK_BYTES as u32
 }

@@ -1,8 +1,10 @@
 ghost use Rattle.std.specs.Prelude.{IfOk};
 ghost use Rattle.packets.specs.Spelling.{IsSpellable};
 
-use crate::{Decoder, Frame, Packet, Protocol, Tuple, decode, decode_all, encode};
-use blocks::{Block, Refusal};
+use crate::{
+    Acknowledgement, Decoder, Frame, Packet, Protocol, Tuple, decode, decode_all, encode, read,
+};
+use blocks::{Block, Command, Refusal};
 use bytes::Bytes;
 use std::alloc::Global;
 use std::process::Abort;
@@ -34,6 +36,19 @@ const UUIDS: [u8; 40] = [
     0, 0, 0, 9, 0, 0, 0, 0, 0, 0, 0, 1,
 ];
 
+const SYNC_UUID: [u8; 16] = [0x83, 0x5A, 0, 0x0F, 0, 0, 0, 8, 0, 0, 0, 0, 0, 0, 0, 9];
+
+/// A header and the numbers of an RS_DATA_REPLY frame: block 3, place 1.
+const RESYNC: [u8; 32] = [
+    0x83, 0x5A, 0, 2, 0, 0, 0x10, 0x18, 0, 0, 0, 0, 0, 0, 0, 0x18, 0, 0, 0, 0, 0, 0, 0, 0, 0, 0, 0,
+    1, 0, 0, 0, 0,
+];
+
+const RS_WRITE_ACK: [u8; 32] = [
+    0x83, 0x5A, 0, 0x17, 0, 0, 0, 0x18, 0, 0, 0, 0, 0, 0, 0, 0x18, 0, 0, 0, 0, 0, 0, 0, 0, 0, 0,
+    0x10, 0, 0, 0, 0, 1,
+];
+
 const OTHER_MAGIC: [u8; 8] = [0x83, 0x5B, 0, 3, 0, 0, 0, 8];
 
 /// The front of a DATA frame of one block, and then a block of bytes AA.
@@ -59,7 +74,8 @@ fn frame_of(alloc: Global, bytes: &[u8]) -> Result<Frame, Fail> {
     Ok(Frame::new(Bytes::copy_from_slice(alloc, bytes)?))
 }
 
-/// The bytes are the packet's frame, and are read as the packet, as one frame and as a stream.
+/// The bytes are the packet's frame, and are read as the packet, as one frame and as a stream, in one piece
+/// and byte by byte.
 fn goes_both_ways(rt: &impl Abort, alloc: Global, packet: Packet, bytes: &[u8]) -> Result<(), Fail>
     requires { IsSpellable packet }
 {
@@ -68,7 +84,11 @@ fn goes_both_ways(rt: &impl Abort, alloc: Global, packet: Packet, bytes: &[u8]) 
     assert_eq!(rt; decode(frame)?, packet);
     let mut packets = Vec::new(alloc);
     Decoder::new(alloc).feed(bytes, &mut packets)?;
-    assert_eq!(rt; packets.len(), 1);
+    let mut byte_by_byte = Decoder::new(alloc);
+    for byte in bytes {
+        byte_by_byte.feed(&[*byte], &mut packets)?;
+    }
+    assert_eq!(rt; packets.len(), 2);
     for given in &packets {
         assert_eq!(rt; *given, packet);
     }
@@ -78,11 +98,23 @@ fn goes_both_ways(rt: &impl Abort, alloc: Global, packet: Packet, bytes: &[u8]) 
 #[test]
 fn each_packet_has_its_frame(rt: HostRuntime) -> Result<(), Fail> {
     let alloc = rt.alloc();
-    let ack = Packet::WriteAck {
+    let ack = Acknowledgement {
         first: Block(2),
         number: 1,
         count: 1,
         place: 0,
+    };
+    let recv_ack = with_byte(&rt, alloc, &WRITE_ACK, 3, 0x15)?;
+    let resynced = Acknowledgement {
+        first: Block(3),
+        number: 0,
+        count: 1,
+        place: 1,
+    };
+    let resync = Packet::RsDataReply {
+        first: Block(3),
+        place: 1,
+        contents: Bytes::copy_from_slice(alloc, &[0xAA; 4096])?,
     };
     let tuple = Tuple {
         current: 7,
@@ -93,7 +125,8 @@ fn each_packet_has_its_frame(rt: HostRuntime) -> Result<(), Fail> {
     let write = with_block(alloc, &WRITE)?;
     goes_both_ways(&rt, alloc, one_block(alloc)?, &write)?;
     goes_both_ways(&rt, alloc, Packet::Barrier { number: 1 }, &BARRIER)?;
-    goes_both_ways(&rt, alloc, ack, &WRITE_ACK)?;
+    goes_both_ways(&rt, alloc, Packet::RecvAck(ack), &recv_ack)?;
+    goes_both_ways(&rt, alloc, Packet::WriteAck(ack), &WRITE_ACK)?;
     goes_both_ways(
         &rt,
         alloc,
@@ -108,7 +141,10 @@ fn each_packet_has_its_frame(rt: HostRuntime) -> Result<(), Fail> {
     )?;
     goes_both_ways(&rt, alloc, Packet::Protocol(Protocol::C), &PROTOCOL_C)?;
     goes_both_ways(&rt, alloc, Packet::Sizes { blocks: 8 }, &SIZES)?;
-    goes_both_ways(&rt, alloc, Packet::Uuids(tuple), &UUIDS)
+    goes_both_ways(&rt, alloc, Packet::Uuids(tuple), &UUIDS)?;
+    goes_both_ways(&rt, alloc, Packet::SyncUuid { word: 9 }, &SYNC_UUID)?;
+    goes_both_ways(&rt, alloc, resync, &with_block(alloc, &RESYNC)?)?;
+    goes_both_ways(&rt, alloc, Packet::RsWriteAck(resynced), &RS_WRITE_ACK)
 }
 
 #[test]
@@ -251,6 +287,10 @@ fn fields_are_judged_last(rt: HostRuntime) -> Result<(), Fail> {
         // The size that an acknowledgement gives, 0 and 33 blocks.
         with_byte(&rt, alloc, &WRITE_ACK, 26, 0)?,
         with_byte(&rt, alloc, &with_byte(&rt, alloc, &WRITE_ACK, 25, 2)?, 26, 0x10)?,
+        // The number of a resync block, and its acknowledgement's, which are 0, and its size, one block.
+        with_byte(&rt, alloc, &with_block(alloc, &RESYNC)?, 23, 1)?,
+        with_byte(&rt, alloc, &RS_WRITE_ACK, 23, 1)?,
+        with_byte(&rt, alloc, &RS_WRITE_ACK, 26, 0x20)?,
     ]?;
     for bytes in &cases {
         refused(&rt, alloc, bytes, Refusal::BadField)?;
@@ -286,5 +326,52 @@ fn a_frame_is_whole(rt: HostRuntime) -> Result<(), Fail> {
     for bytes in [&BARRIER[..7], &BARRIER[..15], &wrong[..15], &long] {
         assert!(rt; matches!(decode(frame_of(alloc, bytes)?), Err(Refusal::BadLength)));
     }
+    Ok(())
+}
+
+#[test]
+fn a_hello_wants_its_next_frame(rt: HostRuntime) -> Result<(), Fail> {
+    let alloc = rt.alloc();
+    let wrong = with_byte(&rt, alloc, &BARRIER, 15, 1)?;
+    let hello = Some(Command::Protocol);
+    // A frame of another command is refused as such, whatever its fields say.
+    assert_eq!(rt;
+        read(frame_of(alloc, &wrong)?, hello),
+        Err(Refusal::BadCommand)
+    );
+    assert_eq!(rt;
+        read(frame_of(alloc, &wrong)?, Some(Command::Barrier)),
+        Err(Refusal::BadField)
+    );
+    assert_eq!(rt;
+        read(frame_of(alloc, &wrong)?, None),
+        Err(Refusal::BadField)
+    );
+    assert_eq!(rt;
+        read(frame_of(alloc, &PROTOCOL_C)?, hello)?,
+        Packet::Protocol(Protocol::C)
+    );
+    // A fault of the header, and another length than it says, come before.
+    assert_eq!(rt;
+        read(frame_of(alloc, &OTHER_MAGIC)?, hello),
+        Err(Refusal::BadMagic)
+    );
+    assert_eq!(rt;
+        read(frame_of(alloc, &BARRIER[..15])?, hello),
+        Err(Refusal::BadLength)
+    );
+    Ok(())
+}
+
+#[test]
+fn a_short_frame_stands_inline(rt: HostRuntime) -> Result<(), Fail> {
+    let alloc = rt.alloc();
+    let frame = Frame::inline(&BARRIER);
+    assert_eq!(rt; frame.as_slice(), BARRIER.as_slice());
+    assert_eq!(rt; decode(frame)?, Packet::Barrier { number: 1 });
+    let long = with_block(alloc, &WRITE)?;
+    let frame = frame_of(alloc, &long)?;
+    assert!(rt; frame.as_slice().len() > 40);
+    assert_eq!(rt; frame.into_bytes().as_slice(), long.as_slice());
     Ok(())
 }

@@ -1,31 +1,71 @@
 //! From packets to bytes.
-ghost use Rattle.std.specs.Prelude.{◌≡◌, ◌++◌, length, OnOk, IfOk, IfErr};
-ghost use Rattle.packets.specs.Spelling.{payload, protocol_number, FitsFields, IsSpellable, Spells};
+ghost use Rattle.std.specs.Prelude.{◌≡◌, ◌*◌, ◌^◌, ◌<◌, ◌≤◌, ◌++◌, true, false, length, IsOk, IfOk, IfErr, MatchOption};
+ghost use Rattle.packets.specs.Spelling.{payload, protocol_number, acknowledgement_bytes, data_numbers, NamesWrite, FitsAcknowledgement, FitsFields, IsSpellable, Spells};
+ghost use Rattle.packets.specs.Table.{has_blocks};
+ghost use Rattle.packets.specs.Written.{front, numbers, blocks_in};
 ghost use Rattle.blocks.specs.declared.refusal.Refusal.TheVariants.{NoMemory};
 ghost use Rattle.packets.specs.declared.packet.Packet.TheVariants as packet;
 
-use crate::header::{DATA_NUMBERS, HEADER_BYTES, MAGIC, command_number};
+use crate::header::{DATA_NUMBERS, MAGIC, command_number};
 use crate::numbers::{put_u16, put_u32, put_u64};
 use crate::reading::BLOCK_SECTORS;
-use crate::{Frame, Packet};
-use blocks::{BLOCK_BYTES, Protocol, Refusal, Tuple};
+use crate::short::Short;
+use crate::{Acknowledgement, Frame, Packet};
+use blocks::{BLOCK_BYTES, Block, Protocol, Refusal, Tuple};
 use bytes::Bytes;
 use std::alloc::Global;
 
-/// The frame that spells a packet. `NoMemory` (7) where its buffer cannot be had; there is no other
-/// refusal.
+/// The frame that spells a packet. `NoMemory` (7) where the buffer of a packet with blocks cannot be had;
+/// there is no other refusal, and none for a packet without blocks, whose frame takes no memory.
 pub fn encode(alloc: Global, packet: &Packet) -> Result<Frame, Refusal>
     requires { IsSpellable packet.now }
     ensures spelled { IfOk result (λ frame. Spells packet.now frame) }
+    ensures short { has_blocks packet.now ≡ false → IsOk result }
     ensures refused { IfErr result (λ e. e ≡ NoMemory) }
 {
-    let len = payload_len(packet);
-    let mut out = Vec::with_capacity(alloc, HEADER_BYTES + len as usize)?;
-    put_u16(&mut out, MAGIC)?;
-    put_u16(&mut out, command_number(packet.command()))?;
-    put_u32(&mut out, len)?;
-    put_payload(&mut out, packet)?;
-    Ok(Frame::new(Bytes::from_vec(out)?))
+    let front = front_of(packet);
+    match blocks_of(packet) {
+        Some(blocks) => Ok(Frame::new(joined(alloc, front.as_slice(), blocks)?)),
+        None => Ok(Frame::of(front)),
+    }
+}
+
+/// The blocks of a packet that carries some.
+fn blocks_of(packet: &Packet) -> Option<&[u8]>
+    ensures { MatchOption result (has_blocks packet.now ≡ false)
+        (λ blocks. (has_blocks packet.now ≡ true) × (blocks.now ≡ blocks_in packet.now)) }
+{
+    match packet {
+        Packet::Data { contents, .. } | Packet::RsDataReply { contents, .. } => {
+            Some(contents.as_slice())
+        }
+        _ => None,
+    }
+}
+
+/// The bytes of both, in a buffer of their own. `NoMemory` (7) where it cannot be had.
+pub(crate) fn joined(alloc: Global, front: &[u8], end: &[u8]) -> Result<Bytes, Refusal>
+    ensures joined { IfOk result (λ b. b ≡ front.now ++ end.now) }
+    ensures refused { IfErr result (λ e. e ≡ NoMemory) }
+{
+    let mut bytes = Vec::with_capacity(alloc, front.len().saturating_add(end.len()))?;
+    bytes.extend_from_slice(front)?;
+    bytes.extend_from_slice(end)?;
+    Ok(Bytes::from_vec(bytes)?)
+}
+
+/// The front of a packet's frame: its header, and the numbers of its payload.
+fn front_of(packet: &Packet) -> Short
+    requires { IsSpellable packet.now }
+    ensures front { result ≡ front packet.now }
+    ensures fields { FitsFields packet.now }
+{
+    let mut out = Short::new();
+    put_u16(&mut out, MAGIC);
+    put_u16(&mut out, command_number(packet.command()));
+    put_u32(&mut out, payload_len(packet));
+    put_numbers(&mut out, packet);
+    out
 }
 
 /// Bytes of a packet's payload.
@@ -36,20 +76,25 @@ fn payload_len(packet: &Packet) -> u32
 {
     match packet {
         Packet::Protocol(_) => 4,
-        Packet::Sizes { .. } | Packet::Barrier { .. } | Packet::BarrierAck { .. } => 8,
+        Packet::Sizes { .. }
+        | Packet::Barrier { .. }
+        | Packet::SyncUuid { .. }
+        | Packet::BarrierAck { .. } => 8,
         Packet::Uuids(_) => 32,
-        Packet::Data { contents, .. } => DATA_NUMBERS + contents.len() as u32,
-        Packet::WriteAck { .. } => 24,
+        Packet::Data { contents, .. } | Packet::RsDataReply { contents, .. } => {
+            DATA_NUMBERS + contents.len() as u32
+        }
+        Packet::RecvAck(_) | Packet::WriteAck(_) | Packet::RsWriteAck(_) => 24,
     }
 }
 
-/// Writes a packet's payload at the end.
-fn put_payload(out: &mut Vec<u8>, packet: &Packet) -> Result<(), Refusal>
-    requires { IsSpellable packet.now }
-    ensures written { OnOk result (out.new.items ≡ out.old.items ++ payload packet.now) }
+/// Puts the numbers of a packet's payload at the end of its header.
+fn put_numbers(out: &mut Short, packet: &Packet)
+    requires spellable { IsSpellable packet.now }
+    requires room { length out.old ≡ 8 }
+    ensures written { out.new ≡ out.old ++ numbers packet.now }
     // Each number fits its field.
-    ensures fields { OnOk result (FitsFields packet.now) }
-    ensures refused { IfErr result (λ e. e ≡ NoMemory) }
+    ensures fields { FitsFields packet.now }
 {
     match packet {
         Packet::Protocol(protocol) => put_u32(out, protocol_word(*protocol)),
@@ -59,33 +104,20 @@ fn put_payload(out: &mut Vec<u8>, packet: &Packet) -> Result<(), Refusal>
             first,
             number,
             place,
-            contents,
-        } => {
-            put_u64(out, BLOCK_SECTORS * first.0)?;
-            put_u64(out, *number)?;
-            put_u32(out, *place)?;
-            put_u32(out, 0)?;
-            out.extend_from_slice(contents.as_slice())?;
-            Ok(())
-        }
+            ..
+        } => put_data(out, *first, *number, *place),
+        Packet::RsDataReply { first, place, .. } => put_data(out, *first, 0, *place),
         Packet::Barrier { number } => {
-            put_u32(out, *number)?;
-            put_u32(out, 0)
+            put_u32(out, *number);
+            put_u32(out, 0);
         }
-        Packet::WriteAck {
-            first,
-            number,
-            count,
-            place,
-        } => {
-            put_u64(out, BLOCK_SECTORS * first.0)?;
-            put_u64(out, *number)?;
-            put_u32(out, BLOCK_BYTES as u32 * *count)?;
-            put_u32(out, *place)
+        Packet::SyncUuid { word } => put_u64(out, *word),
+        Packet::RecvAck(ack) | Packet::WriteAck(ack) | Packet::RsWriteAck(ack) => {
+            put_acknowledgement(out, ack);
         }
         Packet::BarrierAck { number, size } => {
-            put_u32(out, *number)?;
-            put_u32(out, *size)
+            put_u32(out, *number);
+            put_u32(out, *size);
         }
     }
 }
@@ -101,14 +133,40 @@ fn protocol_word(protocol: Protocol) -> u32
     }
 }
 
-/// Writes a tuple's four words at the end.
-fn put_tuple(out: &mut Vec<u8>, tuple: &Tuple) -> Result<(), Refusal>
-    ensures written { OnOk result (out.new.items ≡ out.old.items ++ payload (packet.Uuids tuple.now)) }
-    ensures fields { OnOk result (FitsFields (packet.Uuids tuple.now)) }
-    ensures refused { IfErr result (λ e. e ≡ NoMemory) }
+/// Puts a tuple's four words at the end.
+fn put_tuple(out: &mut Short, tuple: &Tuple)
+    requires { length out.old ≡ 8 }
+    ensures written { out.new ≡ out.old ++ payload (packet.Uuids tuple.now) }
+    ensures fields { FitsFields (packet.Uuids tuple.now) }
 {
-    put_u64(out, tuple.current)?;
-    put_u64(out, tuple.bitmap)?;
-    put_u64(out, tuple.first_historical)?;
-    put_u64(out, tuple.second_historical)
+    put_u64(out, tuple.current);
+    put_u64(out, tuple.bitmap);
+    put_u64(out, tuple.first_historical);
+    put_u64(out, tuple.second_historical);
+}
+
+/// Puts the numbers of a write or of a resync block at the end, flags among them.
+fn put_data(out: &mut Short, first: Block, number: u64, place: u32)
+    requires sector { 8 * first.0 < 2 ^ 64 }
+    requires room { length out.old ≡ 8 }
+    ensures { out.new ≡ out.old ++ data_numbers first.0 number place }
+{
+    put_u64(out, BLOCK_SECTORS * first.0);
+    put_u64(out, number);
+    put_u32(out, place);
+    put_u32(out, 0);
+}
+
+/// Puts what an acknowledgement names at the end.
+fn put_acknowledgement(out: &mut Short, ack: &Acknowledgement)
+    requires sector { 8 * ack.now.first.0 < 2 ^ 64 }
+    requires few { ack.now.count ≤ 32 }
+    requires room { length out.old ≡ 8 }
+    ensures written { out.new ≡ out.old ++ acknowledgement_bytes ack.now }
+    ensures fields { FitsAcknowledgement ack.now }
+{
+    put_u64(out, BLOCK_SECTORS * ack.first.0);
+    put_u64(out, ack.number);
+    put_u32(out, BLOCK_BYTES as u32 * ack.count);
+    put_u32(out, ack.place);
 }

@@ -9,7 +9,7 @@ use Rattle.secondary.specs.State.{SecondaryState}
 
 -- the packet that carries an acknowledgement
 abbrev pub packet_of : Due → Packet
-packet_of (due.Write first number count place) = packet.WriteAck first number count place
+packet_of (due.Write first number count place) = packet.WriteAck (record { first = first; number = number; count = count; place = place })
 packet_of (due.Barrier end) = packet.BarrierAck end.number end.size
 
 -- the packet that is due next: the hello's three, and then the acknowledgements

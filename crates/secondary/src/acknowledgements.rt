@@ -16,7 +16,7 @@ use crate::peer_disk::PeerDisk;
 use crate::receive::done;
 use blocks::{Block, Command, Done, Refusal, Store, What};
 use link::{FrameIn, FrameOut};
-use packets::{Frame, Packet, encode};
+use packets::{Acknowledgement, Frame, Packet, encode};
 use std::alloc::Global;
 use std::collections::VecDeque;
 
@@ -69,12 +69,12 @@ impl Due {
                 number,
                 count,
                 place,
-            } => Packet::WriteAck {
+            } => Packet::WriteAck(Acknowledgement {
                 first,
                 number,
                 count,
                 place,
-            },
+            }),
             Due::Barrier(EpochEnd { number, size }) => Packet::BarrierAck { number, size },
         }
     }

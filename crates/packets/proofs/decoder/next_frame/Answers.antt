@@ -23,30 +23,33 @@ frame_length o front piece end frame h part judged long e f =
     let within = part_within o front piece h part judged.1 in
     ap length f ∙ omega (arith, length-append front end, ap length e, length-take (8 + h.len - length front) piece, within)
 
-pub packet_of-requires : goal.packet_of-requires
-packet_of-requires c =
+pub packet_of-requires-clause-whole : goal.packet_of-requires-clause-whole
+packet_of-requires-clause-whole c =
     let h = c.in-Some.header in
     let front = c.args.front.now in
     let judged : IsJudged (Ok (Some h)) (front ++ c.args.piece.now) = subst (λ o. IsJudged (Ok o) (front ++ c.args.piece.now)) c.in-Some.is c.in_ok-header.ensures in
-    let row = header_length _ h judged.1 in
-    let long = frame_length c.args.header front c.args.piece.now c.split_at.result.0.now c.in_ok-payload.payload h c.requires judged c.if-piece-missing.false c.split_at.ensures.front c.in_ok-payload.ensures.joined in
-    let len : length c.advance.new.self ≡ h.len = ap length c.advance.ensures ∙ omega (arith, length-drop 8 c.in_ok-payload.payload, long) in
-    ap (is_length h.command) len ∙ row
+    frame_length c.args.header front c.args.piece.now c.split_at.result.0.now c.in_ok-frame.frame h c.requires judged c.if-piece-missing.false c.split_at.ensures.front c.in_ok-frame.ensures.joined
+
+pub packet_of-requires-clause-row : goal.packet_of-requires-clause-row
+packet_of-requires-clause-row c =
+    let h = c.in-Some.header in
+    let front = c.args.front.now in
+    let judged : IsJudged (Ok (Some h)) (front ++ c.args.piece.now) = subst (λ o. IsJudged (Ok o) (front ++ c.args.piece.now)) c.in-Some.is c.in_ok-header.ensures in
+    header_length _ h judged.1
 
 pub returns-in_err-packet_of : goal.returns-in_err-packet_of
 returns-in_err-packet_of c =
     let h = c.in-Some.header in
     let front = c.args.front.now in
     let piece = c.args.piece.now in
-    let frame = c.in_ok-payload.payload in
+    let frame = c.in_ok-frame.frame in
     let judged : IsJudged (Ok (Some h)) (front ++ piece) = subst (λ o. IsJudged (Ok o) (front ++ piece)) c.in-Some.is c.in_ok-header.ensures in
-    let long = frame_length c.args.header front piece c.split_at.result.0.now frame h c.requires judged c.if-piece-missing.false c.split_at.ensures.front c.in_ok-payload.ensures.joined in
+    let long = frame_length c.args.header front piece c.split_at.result.0.now frame h c.requires judged c.if-piece-missing.false c.split_at.ensures.front c.in_ok-frame.ensures.joined in
     let is = joined_whole front piece c.split_at.result.0.now c.split_at.result.1.now frame (8 + h.len - length front) h c.split_at.ensures.front c.split_at.ensures.back
-    c.in_ok-payload.ensures.joined long judged.1 (λ i. omega (arith, c.type_inv.front i)) (λ i. omega (arith, c.type_inv.piece i)) in
+    c.in_ok-frame.ensures.joined long judged.1 (λ i. omega (arith, c.type_inv.front i)) (λ i. omega (arith, c.type_inv.piece i)) in
     let rest : length (drop 8 frame) ≡ h.len = omega (arith, length-drop 8 frame, long) in
     let row : is_length h.command (length (drop 8 frame)) ≡ true = ap (is_length h.command) rest ∙ header_length _ h judged.1 in
-    let said : payload_at h.command (drop 8 frame) ≡ Err c.in_err-packet_of.field-0.0 =
-    ap (payload_at h.command) (sym c.advance.ensures) ∙ sym c.packet_of.ensures ∙ c.in_err-packet_of.was in
+    let said : payload_at h.command (drop 8 frame) ≡ Err c.in_err-packet_of.field-0.0 = sym c.packet_of.ensures ∙ c.in_err-packet_of.was in
     let p = err_from_is_err_and c.from_residual-in_err-packet_of.result c.from_residual-in_err-packet_of.ensures.1 in
     rw (p.1, p.2) (inr (whole_stops (front ++ piece) frame c.split_at.result.1.now h c.in_err-packet_of.field-0.0 is row said))
 
@@ -55,11 +58,10 @@ returns c =
     let h = c.in-Some.header in
     let front = c.args.front.now in
     let piece = c.args.piece.now in
-    let frame = c.in_ok-payload.payload in
+    let frame = c.in_ok-frame.frame in
     let judged : IsJudged (Ok (Some h)) (front ++ piece) = subst (λ o. IsJudged (Ok o) (front ++ piece)) c.in-Some.is c.in_ok-header.ensures in
-    let long = frame_length c.args.header front piece c.split_at.result.0.now frame h c.requires judged c.if-piece-missing.false c.split_at.ensures.front c.in_ok-payload.ensures.joined in
+    let long = frame_length c.args.header front piece c.split_at.result.0.now frame h c.requires judged c.if-piece-missing.false c.split_at.ensures.front c.in_ok-frame.ensures.joined in
     let is = joined_whole front piece c.split_at.result.0.now c.split_at.result.1.now frame (8 + h.len - length front) h c.split_at.ensures.front c.split_at.ensures.back
-    c.in_ok-payload.ensures.joined long judged.1 (λ i. omega (arith, c.type_inv.front i)) (λ i. omega (arith, c.type_inv.piece i)) in
-    let said : payload_at h.command (drop 8 frame) ≡ Ok c.in_ok-packet_of.field-0 =
-    ap (payload_at h.command) (sym c.advance.ensures) ∙ sym c.packet_of.ensures ∙ c.in_ok-packet_of.was in
+    c.in_ok-frame.ensures.joined long judged.1 (λ i. omega (arith, c.type_inv.front i)) (λ i. omega (arith, c.type_inv.piece i)) in
+    let said : payload_at h.command (drop 8 frame) ≡ Ok c.in_ok-packet_of.field-0 = sym c.packet_of.ensures ∙ c.in_ok-packet_of.was in
     whole_goes (front ++ piece) frame c.split_at.result.1.now h c.in_ok-packet_of.field-0 is said

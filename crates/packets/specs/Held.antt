@@ -1,0 +1,9 @@
+-- The bytes of a frame, wherever they stand.
+use Rattle.std.specs.Prelude.{ℕ, List}
+use Rattle.packets.specs.declared.frame.Held.{Held}
+use Rattle.packets.specs.declared.frame.Held.TheVariants.{Inline, Shared}
+
+-- the bytes that are held
+abbrev pub held_bytes : Held → List ℕ
+held_bytes (Inline short) = short
+held_bytes (Shared bytes) = bytes
