@@ -1,11 +1,11 @@
 -- What becomes of a frame, by the parts of the judgement.
-use Rattle.std.proofs.Common.{◌≡◌, ◌⊎◌, inr, ℕ, Bool, List, [], ◌∷◌, ◌++◌, drop, Option, Some, None, Result, Ok, Err, IsSome, IfErr, refl, subst, sym}
+use Rattle.std.proofs.Common.{◌≡◌, ◌⊎◌, inr, ℕ, Bool, List, [], ◌∷◌, ◌++◌, drop, Option, Some, None, Result, Ok, Err, IsSome, IfErr, IfOk, refl, subst, sym}
 use Rattle.std.specs.Option.{ForSome, option_map}
 use Rattle.std.specs.Bool.{if◌then◌else◌}
 use Rattle.blocks.specs.declared.outcome.Done.{Done}
 use Rattle.blocks.specs.declared.refusal.Refusal.{Refusal}
 use Rattle.packets.specs.declared.packet.Packet.{Packet}
-use Rattle.primary.specs.Judged.{IsClosedBy, IsJudged, IsNextOf, IsNothingThere, Outcome, ack_read, after_frame, closed, has_number, hello_number, hello_read, judged}
+use Rattle.primary.specs.Judged.{IsClosedBy, IsTakenIn, IsJudged, IsNextOf, IsNothingThere, Outcome, ack_read, after_frame, closed, has_number, hello_number, hello_read, judged}
 use Rattle.primary.specs.Outcomes.{outcome_of}
 use Rattle.primary.specs.Primaries.{is_over, queued_of}
 use Rattle.primary.specs.State.{ConnectionState, PrimaryState}
@@ -53,3 +53,13 @@ closed_by old noted new c taken frame (Err e) is takes rest judges closes =
     let after : (record old { connection = Some taken }) ≡ after_frame frame old = rw (is, taken_on frame c taken takes rest) refl in
     let next : IsNextOf frame (queued_of old.connection) = rw is (next_of frame c.queued taken.queued takes.queued) in
     inr (frame, noted, next, subst (λ (p : PrimaryState). IsJudged p frame (Err (e, noted))) after judges, closes)
+
+-- a frame that was taken and is not refused does what it says
+pub done_by : (old new : PrimaryState) (c taken : ConnectionState) (frame : List ℕ) (answer : Result Done Refusal)
+    → old.connection ≡ Some c → IsTaken frame c taken → taken ≡ record c { taken = taken.taken; queued = taken.queued }
+    → IsJudged (record old { connection = Some taken }) frame (outcome_of answer new) → IfOk answer (λ done. IsTakenIn old done new)
+done_by old new c taken frame (Err e) is takes rest judges = tt
+done_by old new c taken frame (Ok done) is takes rest judges =
+    let after : (record old { connection = Some taken }) ≡ after_frame frame old = rw (is, taken_on frame c taken takes rest) refl in
+    let next : IsNextOf frame (queued_of old.connection) = rw is (next_of frame c.queued taken.queued takes.queued) in
+    (frame, next, subst (λ (p : PrimaryState). IsJudged p frame (Ok (done, new))) after judges)

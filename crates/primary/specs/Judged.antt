@@ -103,8 +103,8 @@ items_sent s = s.places - length s.due
 
 -- a packet once the peer's hello is over: the acknowledgement of a write that was sent and has none, or of the oldest barrier
 abbrev pub ack_judged : PrimaryState → ConnectionState → Packet → Outcome
-ack_judged p c (packet.WriteAck first number count place) =
-    let test = awaits (record { number = number; place = place; first = first; count = count }) (items_sent c.stream) in
+ack_judged p c (packet.WriteAck ack) =
+    let test = awaits (record { number = ack.number; place = ack.place; first = ack.first; count = ack.count }) (items_sent c.stream) in
     if is_some (find test p.log) then Ok (settled (what.Frame command.WriteAck None) step.Acked test p, settling step.Acked test p) else Err (refusal.UnknownAck, p)
 ack_judged p c (packet.BarrierAck number size) =
     if is_oldest number c.stream && is_ended number size p.log

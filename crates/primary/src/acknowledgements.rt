@@ -15,7 +15,7 @@ use crate::submission::step;
 use crate::write::Ack;
 use blocks::{Command, Decision, Done, Refusal, Store, Tuple, What};
 use link::{FrameIn, FrameOut};
-use packets::{Frame, Packet, decode};
+use packets::{Acknowledgement, Frame, Packet, decode};
 
 impl<O: FrameOut, I: FrameIn, S: Store> Primary<O, I, S> {
     /// Takes the peer's next frame: the three of its hello, then acknowledgements. It takes no memory.
@@ -181,12 +181,12 @@ impl<O: FrameOut, I: FrameIn, S: Store> Primary<O, I, S> {
         ensures unchanged { OnErr result (self.new ≡ self.old) }
     {
         match packet {
-            Packet::WriteAck {
+            Packet::WriteAck(Acknowledgement {
                 first,
                 number,
                 count,
                 place,
-            } => self.write_acked(&Ack {
+            }) => self.write_acked(&Ack {
                 number,
                 place,
                 first,
@@ -200,7 +200,12 @@ impl<O: FrameOut, I: FrameIn, S: Store> Primary<O, I, S> {
     /// Takes the acknowledgement of a write.
     fn write_acked(&mut self, ack: &Ack) -> Result<Done, Refusal>
         ensures judged { ForSome self.old.connection (λ c. outcome_of result self.new
-            ≡ ack_judged self.old c (packet.WriteAck ack.now.first ack.now.number ack.now.count ack.now.place)) }
+            ≡ ack_judged self.old c (packet.WriteAck (record {
+              first = ack.now.first;
+              number = ack.now.number;
+              count = ack.now.count;
+              place = ack.now.place;
+            }))) }
         ensures journal { IfOk result (λ done.
             self.new.journal ≡ self.old.journal ++ option_to_list done.completed) }
         ensures ends { KeepsEnds self.old.connection self.new.connection }
