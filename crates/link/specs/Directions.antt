@@ -1,5 +1,6 @@
 -- A queue, the ends of a direction, and how they belong together.
 use Rattle.std.specs.Option.{option_map}
+use Rattle.link.specs.Past.{Past, ended}
 use Rattle.std.specs.Prelude.{ℕ, ◌≡◌, ◌-◌, List, [], ◌∷◌, ◌++◌, Option, None, Some, length}
 
 -- a direction's queue: the frames taken out of it so far, those in it with the next one first, and how
@@ -9,14 +10,20 @@ pub record QueueState : Type 0 where
   pub frames : List (List ℕ)
   pub capacity : ℕ
 
--- a sending end: the frames that it has accepted, and its queue where that lies here
+-- a sending end: the frames that it has accepted on its present connection, that one's number, what went over its
+-- earlier connections, and its queue where that lies here
 pub record OutState : Type 0 where
   pub sent : List (List ℕ)
+  pub number : ℕ
+  pub past : List Past
   pub queue : Option QueueState
 
--- a taking end: the frames that it has taken, and the queue where that lies here
+-- a taking end: the frames that it has taken on its present connection, that one's number, what came over its earlier
+-- connections, and the queue where that lies here
 pub record InState : Type 0 where
   pub taken : List (List ℕ)
+  pub number : ℕ
+  pub past : List Past
   pub queue : Option QueueState
 
 -- how many more frames can be put into the queue; none where it is away
@@ -35,9 +42,31 @@ with_frame frame queue = record queue { frames = queue.frames ++ frame ∷ [] }
 
 -- the sending end after it accepted this frame
 abbrev pub accepting : OutState → List ℕ → OutState
-accepting sender frame = record {
+accepting sender frame = record sender {
   sent = sender.sent ++ frame ∷ [];
   queue = option_map (with_frame frame) sender.queue;
+}
+
+-- the queue with nothing in it, of a connection that begins
+abbrev pub emptied : QueueState → QueueState
+emptied queue = record queue { taken = []; frames = [] }
+
+-- the sending end at the beginning of a connection: what was in the queue is dropped
+abbrev pub restarted_out : ℕ → OutState → OutState
+restarted_out number sender = record {
+  sent = [];
+  number = number;
+  past = ended sender.number sender.sent sender.past;
+  queue = option_map emptied sender.queue;
+}
+
+-- the taking end at the beginning of a connection
+abbrev pub restarted_in : ℕ → InState → InState
+restarted_in number taker = record {
+  taken = [];
+  number = number;
+  past = ended taker.number taker.taken taker.past;
+  queue = option_map emptied taker.queue;
 }
 
 -- the frames sent are those taken and then those in the queue, which lies at one of the ends
@@ -60,5 +89,5 @@ pub record IsDirectionWith (sender : OutState) (taker : InState) (queue : QueueS
 
 -- the two ends of a direction as they are made, with an empty queue at the sending end
 pub record IsUnused (sender : OutState) (taker : InState) (capacity : ℕ) : Type 0 where
-  pub sending : sender ≡ record { sent = []; queue = Some (record { taken = []; frames = []; capacity = capacity }) }
-  pub taking : taker ≡ record { taken = []; queue = None }
+  pub sending : sender ≡ record { sent = []; number = 1; past = []; queue = Some (record { taken = []; frames = []; capacity = capacity }) }
+  pub taking : taker ≡ record { taken = []; number = 1; past = []; queue = None }

@@ -1,2 +1,4 @@
 pub mod Directions
+pub mod Ends
+pub mod Past
 pub mod Taking

@@ -15,8 +15,9 @@ use std::marker::Model;
 /// The taking end of one direction. While the direction's queue does not lie here, this end counts as empty.
 #[derive(Drop)]
 pub struct PlainIn {
-    queue: Option<Queue>,
-    taken: Trail,
+    pub(crate) queue: Option<Queue>,
+    pub(crate) number: u32,
+    pub(crate) taken: Trail,
 }
 
 impl Model for PlainIn {
@@ -26,18 +27,19 @@ impl Model for PlainIn {
 
     ghost Value = { InState };
 
-    ghost view = { λ e. record { taken = e.taken.frames; queue = e.queue } };
+    ghost view = { λ e. record { taken = e.taken.went.frames; number = e.number; past = e.taken.went.past; queue = e.queue } };
 
-    ghost invariant = { λ e. ForSome e.queue (λ q. e.taken.frames ≡ q.taken) };
+    ghost invariant = { λ e. ForSome e.queue (λ q. e.taken.went.frames ≡ q.taken) };
 }
 
 impl PlainIn {
     /// An end that has taken nothing.
     pub(crate) fn new() -> PlainIn
-        ensures { result ≡ record { taken = []; queue = None } }
+        ensures { result ≡ record { taken = []; number = 1; past = []; queue = None } }
     {
         PlainIn {
             queue: None,
+            number: 1,
             taken: Trail::new(),
         }
     }
@@ -45,7 +47,7 @@ impl PlainIn {
     /// Hands out the queue, if it lies here. It takes no memory.
     pub fn give_queue(&mut self) -> Option<Queue>
         ensures given { result ≡ self.old.queue }
-        ensures left { self.new ≡ record { taken = self.old.taken; queue = None } }
+        ensures left { self.new ≡ record self.old { queue = None } }
         ensures taken { IfSome result (λ q. q.taken ≡ self.old.taken) }
         ensures with_queue { IfSome result (λ q. (sender : OutState)
             → IsDirection sender self.old → IsDirectionWith sender self.new q) }
@@ -56,7 +58,7 @@ impl PlainIn {
     /// Takes the queue in, to take from it. It takes no memory.
     pub fn lay_queue(&mut self, queue: Queue)
         requires { queue.taken ≡ self.old.taken }
-        ensures here { self.new ≡ record { taken = self.old.taken; queue = Some queue } }
+        ensures here { self.new ≡ record self.old { queue = Some queue } }
         ensures direction { (sender : OutState)
             → IsDirectionWith sender self.old queue → IsDirection sender self.new }
     {
@@ -79,6 +81,8 @@ impl FrameIn for PlainIn {
         ensures unchanged { OnErr result (self.new ≡ self.old) }
         ensures same_capacity { option_map (λ q. q.capacity) self.new.queue
             ≡ option_map (λ q. q.capacity) self.old.queue }
+        ensures same_number { self.new.number ≡ self.old.number }
+        ensures same_past { self.new.past ≡ self.old.past }
     {
         let Some(queue) = &mut self.queue else {
             return Err(Refusal::NothingThere);

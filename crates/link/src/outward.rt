@@ -13,8 +13,9 @@ use std::marker::Model;
 /// this end counts as full.
 #[derive(Drop)]
 pub struct PlainOut {
-    queue: Option<Queue>,
-    sent: Trail,
+    pub(crate) queue: Option<Queue>,
+    pub(crate) number: u32,
+    pub(crate) sent: Trail,
 }
 
 impl Model for PlainOut {
@@ -24,19 +25,20 @@ impl Model for PlainOut {
 
     ghost Value = { OutState };
 
-    ghost view = { λ e. record { sent = e.sent.frames; queue = e.queue } };
+    ghost view = { λ e. record { sent = e.sent.went.frames; number = e.number; past = e.sent.went.past; queue = e.queue } };
 
-    ghost invariant = { λ e. ForSome e.queue (λ q. e.sent.frames ≡ q.taken ++ q.frames) };
+    ghost invariant = { λ e. ForSome e.queue (λ q. e.sent.went.frames ≡ q.taken ++ q.frames) };
 }
 
 impl PlainOut {
     /// An end that has sent nothing, with its direction's queue.
     pub(crate) fn new(queue: Queue) -> PlainOut
         requires { queue.taken ++ queue.frames ≡ [] }
-        ensures { result ≡ record { sent = []; queue = Some queue } }
+        ensures { result ≡ record { sent = []; number = 1; past = []; queue = Some queue } }
     {
         PlainOut {
             queue: Some(queue),
+            number: 1,
             sent: Trail::new(),
         }
     }
@@ -44,7 +46,7 @@ impl PlainOut {
     /// Hands out the queue, if it is here. It takes no memory.
     pub fn give_queue(&mut self) -> Option<Queue>
         ensures given { result ≡ self.old.queue }
-        ensures left { self.new ≡ record { sent = self.old.sent; queue = None } }
+        ensures left { self.new ≡ record self.old { queue = None } }
         // What went into the queue is what this end has sent.
         ensures whole { IfSome result (λ q. self.old.sent ≡ q.taken ++ q.frames) }
         ensures fits { IfSome result (λ q. length q.frames ≤ q.capacity) }
@@ -57,7 +59,7 @@ impl PlainOut {
     /// Takes the queue back. It takes no memory.
     pub fn lay_queue(&mut self, queue: Queue)
         requires { self.old.sent ≡ queue.taken ++ queue.frames }
-        ensures back { self.new ≡ record { sent = self.old.sent; queue = Some queue } }
+        ensures back { self.new ≡ record self.old { queue = Some queue } }
         ensures direction { (taker : InState)
             → IsDirectionWith self.old taker queue → IsDirection self.new taker }
     {

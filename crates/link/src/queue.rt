@@ -1,5 +1,6 @@
 //! The queue of one direction.
 ghost use Rattle.std.specs.Prelude.{◌≡◌, ◌-◌, ◌↔◌, [], ◌∷◌, ◌++◌, length, IsErr, OnOk, OnErr, IfOk, IfErr, MatchOption};
+ghost use Rattle.link.specs.Directions.{emptied};
 ghost use Rattle.blocks.specs.declared.refusal.Refusal.TheVariants.{NoMemory};
 
 use crate::Offered;
@@ -26,7 +27,7 @@ impl Model for Queue {
 
     ghost Value = { QueueState };
 
-    ghost view = { λ q. record { taken = q.taken.frames; frames = q.frames.items; capacity = q.capacity } };
+    ghost view = { λ q. record { taken = q.taken.went.frames; frames = q.frames.items; capacity = q.capacity } };
 
     ghost invariant = { λ q. (q.capacity ≤ deque_capacity q.frames) × (deque_len q.frames ≤ q.capacity) };
 }
@@ -58,6 +59,14 @@ impl Queue {
         }
         self.frames.push_back_reserved(frame);
         Ok(())
+    }
+
+    /// A connection begins: what is in the queue is dropped. It takes no memory.
+    pub(crate) fn restart(&mut self)
+        ensures { self.new ≡ emptied self.old }
+    {
+        self.frames.clear();
+        self.taken = Trail::new();
     }
 
     /// Takes the first frame out. It takes no memory.

@@ -1,15 +1,16 @@
 //! A list of frames that only contracts read.
-ghost use Rattle.std.specs.Prelude.{◌≡◌, ℕ, List, [], ◌∷◌, ◌++◌};
+ghost use Rattle.std.specs.Prelude.{◌≡◌, []};
 ghost use Rattle.std.specs.Borrow.{ftrue};
+ghost use Rattle.link.specs.Past.{Went, and_then, over};
 
 use packets::Frame;
 use std::marker::Model;
 
-/// The frames that went past a point of a link, in order. It takes no bytes, and its calls do nothing when
-/// the program runs.
+/// The frames that went past a point of a link on the present connection, in order, and those of the
+/// connections before it. It takes no bytes, and its calls do nothing when the program runs.
 #[derive(Drop)]
 pub(crate) struct Trail {
-    pub(crate) ghost frames: { List (List ℕ) },
+    pub(crate) ghost went: { Went },
 }
 
 impl Model for Trail {
@@ -18,13 +19,20 @@ impl Model for Trail {
 
 impl Trail {
     pub(crate) fn new() -> Trail
-        ensures { result.frames ≡ [] }
+        ensures { result.went ≡ record { frames = []; past = [] } }
     {
         Trail {}
     }
 
     pub(crate) fn and(&self, _frame: &Frame) -> Trail
-        ensures { result.frames ≡ self.now.frames ++ _frame.now ∷ [] }
+        ensures { result.went ≡ and_then _frame.now self.now.went }
+    {
+        Trail {}
+    }
+
+    /// The connection of this number is over.
+    pub(crate) fn over(&self, _number: &u32) -> Trail
+        ensures { result.went ≡ over _number.now self.now.went }
     {
         Trail {}
     }

@@ -1,4 +1,5 @@
-use Rattle.std.proofs.Common.{◌≡◌, ℕ, List, [], ◌∷◌, ◌++◌, Some, append_assoc}
+use Rattle.std.proofs.Common.{◌≡◌, ℕ, List, [], ◌∷◌, ◌++◌, Some, ap, append_assoc}
+use Rattle.link.specs.Past.{Went}
 use Rattle.link.specs.Directions.{QueueState}
 use Rattle.link.proofs.outward.PlainOutFrameOut.offer.Goals as goal
 
@@ -11,4 +12,4 @@ put_in queue new frame sent more whole put added x is =
     cc
 
 pub invariant_of-self-2 : goal.invariant_of-self-2
-invariant_of-self-2 c = put_in c.in-Some.queue c.offer.new.self c.args.frame _ _ (c.self.invariant c.in-Some.queue c.in-Some.is) c.in_ok-offer.ensures.put c.and-sent.ensures
+invariant_of-self-2 c = put_in c.in-Some.queue c.offer.new.self c.args.frame _ _ (c.self.invariant c.in-Some.queue c.in-Some.is) c.in_ok-offer.ensures.put (ap (λ (w : Went). w.frames) c.and-sent.ensures)
