@@ -1,12 +1,21 @@
--- How a frame is read while a hello goes on.
-use Rattle.std.proofs.Common.{◌≡◌, ℕ, List, Option, Result, Ok, ap, ◌∙◌}
+-- A spelling is read as its packet, whatever hello goes on.
+use Rattle.std.proofs.Common.{◌≡◌, ℕ, ◌+◌, List, length, Option, Result, Ok, refl, ap, arith, ◌∙◌}
+use Rattle.std.proofs.lemmas.Bool.Decides.{nat_tests}
+use Rattle.std.specs.Prelude.{◌==◌, nat_le, true}
 use Rattle.blocks.specs.declared.command.Command.{Command}
 use Rattle.blocks.specs.declared.refusal.Refusal.{Refusal}
 use Rattle.packets.specs.declared.packet.Packet.{Packet}
-use Rattle.packets.specs.Spelling.{IsSpellable, Spells}
-use Rattle.packets.specs.Frames.{IsReadAs, in_hello}
-use Rattle.packets.proofs.Frames.{answers_only}
+use Rattle.packets.specs.Spelling.{payload, IsSpellable, Spells}
+use Rattle.packets.specs.Frames.{frame_read, in_hello}
+use Rattle.packets.proofs.Frames.{spelled_reads}
 
--- what is spelled so is read, whatever hello goes on
-pub read_only : (hello : Option Command) (frame : List ℕ) (read : Result Packet Refusal) → IsReadAs hello frame read → (p : Packet) → IsSpellable p → Spells p frame → read ≡ Ok p
-read_only hello frame read is p rules s = is.is ∙ ap (in_hello hello frame) (answers_only frame is.answer is.answers p rules s)
+pub frame_read_spelled : (frame : List ℕ) (p : Packet) → IsSpellable p → Spells p frame → frame_read frame ≡ Ok p
+unfolding frame_read
+frame_read_spelled frame p rules s =
+    let r = spelled_reads frame p rules s in
+    let long : nat_le 8 (length frame) ≡ true = grind (arith, nat_tests, r.1) in
+    let whole : (length frame == 8 + length (payload p)) ≡ true = grind (arith, nat_tests, r.1) in
+    rw (long, r.0, whole, r.2) refl
+
+pub read_spelled : (hello : Option Command) (frame : List ℕ) (p : Packet) → IsSpellable p → Spells p frame → in_hello hello frame (frame_read frame) ≡ Ok p
+read_spelled hello frame p rules s = ap (in_hello hello frame) (frame_read_spelled frame p rules s)

@@ -1,5 +1,5 @@
 -- What one whole frame of a link is taken for.
-use Rattle.std.specs.Prelude.{ℕ, ◌≡◌, ◌≢◌, ◌+◌, ◌<◌, ◌≤◌, ◌⊎◌, ◌==◌, Bool, true, false, ◌&&◌, nat_le, List, length, Option, Some, None, Result, Ok, Err}
+use Rattle.std.specs.Prelude.{ℕ, ◌≡◌, ◌≢◌, ◌+◌, ◌<◌, ◌≤◌, ◌⊎◌, ◌==◌, Bool, true, false, ◌&&◌, nat_le, if◌then◌else◌, List, length, drop, Option, Some, None, Result, Ok, Err}
 use Rattle.blocks.specs.declared.command.Command.{Command}
 use Rattle.blocks.specs.declared.refusal.Refusal.{Refusal}
 use Rattle.blocks.specs.declared.refusal.Refusal.TheVariants.{BadCommand, BadLength, BadField}
@@ -8,7 +8,7 @@ use Rattle.packets.specs.declared.packet.Packet.{Packet}
 use Rattle.packets.specs.Numbers.{number_in}
 use Rattle.packets.specs.Table.{number_of}
 use Rattle.packets.specs.Spelling.{IsSpellable, Spells}
-use Rattle.packets.specs.Reading.{header_at}
+use Rattle.packets.specs.Reading.{header_at, payload_at}
 
 -- no packet is spelled so
 abbrev pub IsNoSpelling : List ℕ → Type 0
@@ -36,6 +36,15 @@ Answers frame (Err refusal) = IsFrameFault frame refusal
 abbrev pub is_named : Command → List ℕ → Bool
 is_named command frame = nat_le 4 (length frame) && (number_in 2 2 frame == number_of command)
 
+-- what a frame says whose header was judged so: its payload, where it is as long as the header says
+abbrev pub read_after : Result Header Refusal → List ℕ → Result Packet Refusal
+read_after (Err refusal) frame = Err refusal
+read_after (Ok header) frame = if length frame == 8 + header.len then payload_at header.command (drop 8 frame) else Err BadLength
+
+-- what a frame is read as
+unfoldable pub frame_read : List ℕ → Result Packet Refusal
+frame_read frame = if nat_le 8 (length frame) then read_after (header_at frame) frame else Err BadLength
+
 -- whether the frame is of the command that a hello expects, where one goes on
 abbrev pub is_expected : Option Command → List ℕ → Bool
 is_expected None frame = true
@@ -50,9 +59,3 @@ fault_in_hello expected refusal = refusal
 abbrev pub in_hello : Option Command → List ℕ → Result Packet Refusal → Result Packet Refusal
 in_hello hello frame (Ok p) = Ok p
 in_hello hello frame (Err refusal) = Err (fault_in_hello (is_expected hello frame) refusal)
-
--- the frame is read so: as the packet that it spells, or as its first fault, while such a hello goes on
-pub record IsReadAs (hello : Option Command) (frame : List ℕ) (read : Result Packet Refusal) : Type 0 where
-  pub answer : Result Packet Refusal
-  pub answers : Answers frame answer
-  pub is : read ≡ in_hello hello frame answer

@@ -1,7 +1,7 @@
 //! From bytes to packets.
 ghost use Rattle.std.specs.Prelude.{◌≡◌, ◌≢◌, ◌+◌, ◌<◌, ◌≤◌, true, length, drop, Ok, IfOk, IfErr};
 ghost use Rattle.packets.specs.Spelling.{IsSpellable, Spells};
-ghost use Rattle.packets.specs.Frames.{Answers, IsFrameFault, IsReadAs, is_named, fault_in_hello};
+ghost use Rattle.packets.specs.Frames.{Answers, IsFrameFault, frame_read, in_hello, is_named, fault_in_hello};
 ghost use Rattle.packets.specs.Table.{is_length};
 ghost use Rattle.packets.specs.Reading.{checked, payload_at, protocol_at, uuids_at, data_at, rs_data_at, barrier_at, acknowledgement_at, names_write, names_resync};
 ghost use Rattle.packets.specs.declared.packet.Packet.{Packet};
@@ -40,7 +40,7 @@ pub fn decode(frame: Frame) -> Result<Packet, Refusal>
 /// command, a frame of another command with a field that it may not have is `BadCommand` (21), since that
 /// comes before its fields are judged (this project's rule). It takes no memory.
 pub fn read(frame: Frame, hello: Option<Command>) -> Result<Packet, Refusal>
-    ensures { IsReadAs hello frame result }
+    ensures { result ≡ in_hello hello frame (frame_read frame) }
 {
     let is_expected = hello.is_none_or(|command| is_named(command, &frame));
     match packet_in(frame) {
@@ -69,8 +69,10 @@ fn fault_in_hello(is_expected: bool, fault: Refusal) -> Refusal
 }
 
 /// The packet that a frame spells, or the frame's first fault.
+#[tactic(auto, unfolding(crate::specs::Frames::frame_read))]
 fn packet_in(frame: Frame) -> Result<Packet, Refusal>
-    ensures { Answers frame result }
+    ensures answers { Answers frame result }
+    ensures is { result ≡ frame_read frame }
 {
     let bytes = frame.as_slice();
     if bytes.len() < HEADER_BYTES {

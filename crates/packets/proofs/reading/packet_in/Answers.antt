@@ -11,8 +11,8 @@ packet_of-requires-clause-whole c = omega (arith, ap length c.as_slice-bytes.ens
 pub packet_of-requires-clause-row : goal.packet_of-requires-clause-row
 packet_of-requires-clause-row c = header_length c.as_slice-bytes.result.now c.in_ok-header.header (sym c.judge.ensures.judged ∙ c.in_ok-header.was)
 
-pub returns : goal.returns
-returns c =
+pub returns-clause-answers : goal.returns-clause-answers
+returns-clause-answers c =
     let frame = c.args.frame in
     let header = c.in_ok-header.header in
     let seen = c.as_slice-bytes.ensures in
