@@ -1,0 +1,22 @@
+-- A frame is read as the hello expects it after so many.
+use Rattle.std.proofs.Common.{◌≡◌, ℕ, List, Option, Bool, ap, sym, ◌∙◌, length, min}
+use Rattle.packets.specs.Frames.{frame_read, in_hello}
+use Rattle.link.specs.Ends.{InEnd, with_taken}
+use Rattle.model.specs.Frames.{Received}
+use Rattle.endpoint.specs.Meaning.{received}
+use Rattle.endpoint.specs.Incoming.{IncomingState, incoming, with_received, hello_after, received_after}
+use Rattle.endpoint.proofs.Meanings.{hello_least, taken_in}
+use Rattle.endpoint.proofs.incoming.Incoming.take.Goals as goal
+
+pub returns-clause-taken : goal.returns-clause-taken
+returns-clause-taken g c =
+    let old : InEnd = g.I.FrameIn.state c.self.inside.end in
+    let new : InEnd = g.I.FrameIn.state c.take.new.self in
+    let frame : List ℕ = c.in_ok-frame.frame in
+    let took : new ≡ with_taken frame new.is_ready old = c.in_ok-frame.ensures.next in
+    let expected : c.hello_after-hello.result ≡ hello_after (length old.taken) = c.hello_after-hello.ensures ∙ ap hello_after c.self.invariant ∙ hello_least (length old.taken) in
+    let read : received c.read.result ≡ received_after (length old.taken) frame = ap received (c.read.ensures ∙ ap (λ h. in_hello h frame (frame_read frame)) expected) in
+    ap incoming took ∙ taken_in old frame new.is_ready
+    ∙ ap (λ (r : Received). with_received r (with_taken frame new.is_ready old).taken new.is_ready (incoming old)) (sym read)
+    ∙ ap (λ (s : InEnd). with_received (received c.read.result) s.taken new.is_ready (incoming old)) (sym took)
+    ∙ ap (with_received (received c.read.result) new.taken new.is_ready) c.self.view_is

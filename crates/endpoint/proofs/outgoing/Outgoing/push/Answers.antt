@@ -1,0 +1,25 @@
+-- The frame that is offered spells the packet.
+use Rattle.std.proofs.Common.{◌≡◌, ℕ, List, [], ◌∷◌, ap, sym, subst, ◌∙◌}
+use Rattle.std.specs.Prelude.{IfSome}
+use Rattle.packets.specs.Spelling.{spelling}
+use Rattle.endpoint.specs.Meaning.{meaning}
+use Rattle.endpoint.specs.Outgoing.{OutgoingState, outgoing, with_pushed}
+use Rattle.endpoint.proofs.Meanings.{same_frame, part_meant, pushed_out}
+use Rattle.endpoint.proofs.outgoing.Outgoing.push.Goals as goal
+
+pub offer-requires : goal.offer-requires
+offer-requires g c =
+    same_frame (g.O.FrameOut.state c.self.inside.end).partly c.args.packet c.in_ok-frame.frame c.self.invariant.partly
+    (subst (λ (s : OutgoingState). IfSome s.partly (λ begun. begun ≡ meaning c.args.packet ∷ [])) (sym c.self.view_is) c.requires.again)
+    c.requires.spellable c.in_ok-frame.ensures.spelled
+
+pub returns-in-Ok-clause-pushed : goal.returns-in-Ok-clause-pushed
+returns-in-Ok-clause-pushed g c =
+    let p = c.args.packet in
+    ap outgoing c.in-Ok.ensures.accepted
+    ∙ pushed_out (g.O.FrameOut.state c.self.inside.end) c.in_ok-frame.frame p c.requires.spellable c.in_ok-frame.ensures.spelled
+    ∙ ap (with_pushed (meaning p) (spelling p)) c.self.view_is
+
+pub returns-clause-in_part : goal.returns-clause-in_part
+returns-clause-in_part g c =
+    part_meant (g.O.FrameOut.state c.offer.new.self).partly c.args.packet c.in_ok-frame.frame c.in-Err.ensures.in_part c.requires.spellable c.in_ok-frame.ensures.spelled

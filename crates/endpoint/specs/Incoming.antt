@@ -1,0 +1,67 @@
+-- What came in, as packets and faults.
+use Rattle.std.specs.Prelude.{ℕ, suc, ◌-◌, ◌==◌, Bool, List, [], ◌∷◌, ◌++◌, length, map, Option, Some, None, if◌then◌else◌}
+use Rattle.std.specs.Option.{option_map}
+use Rattle.blocks.specs.declared.command.Command.{Command}
+use Rattle.blocks.specs.declared.command.Command.TheVariants as command
+use Rattle.packets.specs.Frames.{frame_read, in_hello}
+use Rattle.link.specs.Ends.{InEnd}
+use Rattle.link.specs.Past.{Past}
+use Rattle.model.specs.Frames.{Packet, Received}
+use Rattle.endpoint.specs.Meaning.{received}
+
+-- a connection that is over: its number, what was taken on it, and the frames
+pub record TakenBefore : Type 0 where
+  pub number : ℕ
+  pub taken : List Received
+  pub frames : List (List ℕ)
+
+-- The number of the present connection, what was taken on it, the connections before, whether there is room for the
+-- longest frame, and how many frames can be taken, where the link knows. Of the frames taken only a law on both ends
+-- speaks.
+pub record IncomingState : Type 0 where
+  pub number : ℕ
+  pub taken : List Received
+  pub past : List TakenBefore
+  pub is_ready : Bool
+  pub queued : Option ℕ
+  pub frames : List (List ℕ)
+
+-- the frame of a hello that is expected after so many were taken: PROTOCOL, SIZES, UUIDS, and none after them
+abbrev pub hello_after : ℕ → Option Command
+hello_after taken =
+    if taken == 0 then Some command.Protocol else
+    if taken == 1 then Some command.Sizes else
+    if taken == 2 then Some command.Uuids else None
+
+-- what a frame is received as that was taken after so many others
+abbrev pub received_after : ℕ → List ℕ → Received
+received_after taken frame = received (in_hello (hello_after taken) frame (frame_read frame))
+
+-- what frames are received as of which the first was taken after so many others
+abbrev pub received_from : ℕ → List (List ℕ) → List Received
+received_from taken [] = []
+received_from taken (frame ∷ frames) = received_after taken frame ∷ received_from (suc taken) frames
+
+-- a connection that is over, as packets and faults
+abbrev pub taken_before : Past → TakenBefore
+taken_before past = record { number = past.number; taken = received_from 0 past.frames; frames = past.frames }
+
+-- what a link's end says, as packets and faults
+abbrev pub incoming : InEnd → IncomingState
+incoming s = record {
+  number = s.number;
+  taken = received_from 0 s.taken;
+  past = map taken_before s.past;
+  is_ready = s.is_ready;
+  queued = option_map length s.queued;
+  frames = s.taken;
+}
+
+-- this was taken, in a frame, and there is still room for the longest or not
+abbrev pub with_received : Received → List (List ℕ) → Bool → IncomingState → IncomingState
+with_received one frames ready s = record s {
+  taken = s.taken ++ one ∷ [];
+  is_ready = ready;
+  queued = option_map (λ n. n - 1) s.queued;
+  frames = frames;
+}

@@ -1,0 +1,4 @@
+pub mod Incoming
+pub mod Joined
+pub mod Meaning
+pub mod Outgoing

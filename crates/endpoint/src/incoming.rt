@@ -1,0 +1,93 @@
+//! The taking side.
+ghost use Rattle.std.specs.Prelude.{◌≡◌, ◌<◌, ◌≤◌, ◌↔◌, [], true, IsErr, OnOk, OnErr, IfOk, IfErr, IfSome};
+ghost use Rattle.endpoint.specs.Meaning.{received};
+ghost use Rattle.endpoint.specs.Incoming.{incoming, hello_after, with_received};
+ghost use Rattle.blocks.specs.declared.refusal.Refusal.TheVariants.{NoMemory, NothingThere};
+
+use blocks::{Command, Refusal};
+use link::connected::FrameIn;
+use packets::{Packet, read};
+use std::marker::Model;
+
+/// How many frames a hello has.
+const HELLO_FRAMES: u8 = 3;
+
+/// Takes packets from an end of a link.
+#[derive(Drop)]
+pub struct Incoming<I: FrameIn> {
+    pub(crate) end: I,
+    // How many frames of the hello were taken on the present connection, 3 at most.
+    hello: u8,
+}
+
+impl<I: FrameIn> Model for Incoming<I> {
+    ghost use Rattle.std.specs.Prelude.{◌≡◌, min, length};
+    ghost use Rattle.endpoint.specs.Incoming.{IncomingState, incoming};
+
+    ghost Value = { IncomingState };
+
+    ghost view = { λ e. incoming (I.state e.end) };
+
+    ghost invariant = { λ e. e.hello ≡ min (length (I.state e.end).taken) 3 };
+}
+
+impl<I: FrameIn> Incoming<I> {
+    /// Over an end that has taken nothing yet.
+    pub fn new(end: I) -> Incoming<I>
+        requires { (I.state end).taken ≡ [] }
+        ensures { result ≡ incoming (I.state end) }
+    {
+        Incoming { end, hello: 0 }
+    }
+
+    /// Makes room for the longest frame. `NoMemory` (7) where it cannot be had.
+    pub fn ready(&mut self) -> Result<(), Refusal>
+        ensures ready { OnOk result (self.new ≡ record self.old { is_ready = true }) }
+        ensures unchanged { OnErr result (self.new ≡ self.old) }
+        ensures refused { IfErr result (λ e. e ≡ NoMemory) }
+    {
+        self.end.ready()
+    }
+
+    /// Takes the next frame, and gives its packet, or the fault that stands in its place (20 to 23). While
+    /// the hello goes on, a frame of another command than the hello's next one is 21 before its fields are
+    /// judged. `NothingThere` (13) where there is no frame. It takes no memory.
+    pub fn take(&mut self) -> Result<Result<Packet, Refusal>, Refusal>
+        requires { self.old.is_ready ≡ true }
+        ensures taken { IfOk result (λ read.
+            self.new ≡ with_received (received read) self.new.frames self.new.is_ready self.old) }
+        // Where the link knows its queue, there is nothing only where it is empty.
+        ensures exact { IfSome self.old.queued (λ n. IsErr result ↔ (n ≡ 0)) }
+        ensures refused { IfErr result (λ e. e ≡ NothingThere) }
+        ensures unchanged { OnErr result (self.new ≡ self.old) }
+    {
+        let frame = self.end.take()?;
+        let hello = hello_after(self.hello);
+        self.hello = (self.hello + 1).min(HELLO_FRAMES);
+        Ok(read(frame, hello))
+    }
+
+    /// Begins the connection of this number. What is on its way of those before is dropped. It takes no
+    /// memory.
+    pub fn restart(&mut self, number: u32)
+        requires { self.old.number < number }
+        ensures number { self.new.number ≡ number }
+        ensures taken { self.new.taken ≡ [] }
+        ensures ready { self.new.is_ready ≡ self.old.is_ready }
+    {
+        self.end.restart(number);
+        self.hello = 0;
+    }
+}
+
+/// The command of the hello frame that comes after so many.
+fn hello_after(taken: u8) -> Option<Command>
+    ensures { result ≡ hello_after taken }
+{
+    match taken {
+        0 => Some(Command::Protocol),
+        1 => Some(Command::Sizes),
+        2 => Some(Command::Uuids),
+        _ => None,
+    }
+}

@@ -1,0 +1,70 @@
+//! The sending side.
+ghost use Rattle.std.specs.Prelude.{◌≡◌, ◌≢◌, ◌<◌, ◌∷◌, [], true, None, OnOk, OnErr, IfErr, IfSome, IsErr};
+ghost use Rattle.packets.specs.Spelling.{IsSpellable, spelling};
+ghost use Rattle.packets.specs.Table.{has_blocks};
+ghost use Rattle.endpoint.specs.Meaning.{meaning};
+ghost use Rattle.endpoint.specs.Outgoing.{outgoing, with_pushed, pushing_anew};
+ghost use Rattle.blocks.specs.declared.refusal.Refusal.TheVariants.{NoMemory, LinkFull};
+
+use blocks::Refusal;
+use link::connected::FrameOut;
+use packets::{Packet, encode};
+use std::alloc::Global;
+use std::marker::Model;
+
+/// Sends packets through an end of a link.
+#[derive(Drop)]
+pub struct Outgoing<O: FrameOut> {
+    pub(crate) end: O,
+}
+
+impl<O: FrameOut> Model for Outgoing<O> {
+    ghost use Rattle.endpoint.specs.Outgoing.{OutgoingState, IsSpelledOut, outgoing};
+
+    ghost Value = { OutgoingState };
+
+    ghost view = { λ e. outgoing (O.state e.end) };
+
+    ghost invariant = { λ e. IsSpelledOut (O.state e.end) };
+}
+
+impl<O: FrameOut> Outgoing<O> {
+    /// Over an end that has sent nothing yet.
+    pub fn new(end: O) -> Outgoing<O>
+        requires unused { (O.state end).sent ≡ [] }
+        requires first { (O.state end).past ≡ [] }
+        requires whole { (O.state end).partly ≡ None }
+        ensures { result ≡ outgoing (O.state end) }
+    {
+        Outgoing { end }
+    }
+
+    /// Sends a packet. `NoMemory` (7) where a packet with blocks finds no memory for its frame, and then
+    /// `LinkFull` (11), where the link is full. What went of it by then stays on its way, and the next push
+    /// has to be of it.
+    pub fn push(&mut self, alloc: Global, packet: Packet) -> Result<(), Refusal>
+        requires spellable { IsSpellable packet }
+        requires again { IfSome self.old.partly (λ begun. begun ≡ meaning packet ∷ []) }
+        ensures pushed { OnOk result (self.new ≡ with_pushed (meaning packet) (spelling packet) self.old) }
+        // Where the link knows its room, it is full only where there is none.
+        ensures exact { IfSome self.old.room (λ n. n ≡ 0 → IsErr result) }
+        ensures full { IfErr result (λ e. e ≡ LinkFull → IfSome self.old.room (λ n. n ≡ 0)) }
+        ensures refused { IfErr result (λ e. e ≢ LinkFull → (e ≡ NoMemory) × (has_blocks packet ≡ true)) }
+        ensures unchanged { OnErr result (self.new ≡ record self.old { partly = self.new.partly }) }
+        ensures in_part { OnErr result (IfSome self.new.partly (λ begun. begun ≡ meaning packet ∷ [])) }
+    {
+        let frame = encode(alloc, &packet)?;
+        match self.end.offer(frame) {
+            Ok(()) => Ok(()),
+            Err(offered) => Err(offered.refusal()),
+        }
+    }
+
+    /// Begins the connection of this number. A packet that went in part is given up. It takes no memory.
+    pub fn restart(&mut self, number: u32)
+        requires { self.old.number < number }
+        ensures { self.new ≡ record (pushing_anew number self.old) { room = self.new.room } }
+    {
+        self.end.restart(number);
+    }
+}
