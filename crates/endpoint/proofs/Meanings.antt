@@ -1,5 +1,5 @@
 -- A spelling means one packet.
-use Rattle.std.proofs.Common.{◌≡◌, ℕ, zero, suc, ◌+◌, ◌-◌, ◌*◌, ◌/◌, ◌≤◌, min, List, [], ◌∷◌, ◌++◌, length, take, drop, Bool, true, false, Option, Some, None, Result, Ok, Err, refl, sym, ap, ◌∙◌, arith}
+use Rattle.std.proofs.Common.{◌≡◌, ℕ, zero, suc, ◌+◌, ◌*◌, ◌/◌, min, List, [], ◌∷◌, ◌++◌, length, take, drop, Bool, false, Option, Some, None, Result, Ok, Err, refl, sym, ap, ◌∙◌, append_assoc, arith}
 use Rattle.std.specs.Prelude.{◌==◌, IfSome}
 use Rattle.std.specs.List.{flat_map}
 use Rattle.std.specs.Option.{option_map}
@@ -7,18 +7,21 @@ use Rattle.std.proofs.lemmas.Bool.Decides.{nat_tests}
 use Rattle.std.proofs.lemmas.List.{append-nil, length-append, length-drop, take-append-drop}
 use Rattle.std.proofs.lemmas.Grind.{flat_map-append}
 use Rattle.std.proofs.lemmas.List.Concat.{flat_map-cons}
-use Rattle.blocks.specs.Contents.{cut, blocks_of}
+use Rattle.blocks.specs.Contents.{cut}
 use Rattle.packets.specs.declared.packet.Acknowledgement.{Acknowledgement}
 use Rattle.packets.specs.declared.packet.Packet.{Packet}
 use Rattle.packets.specs.declared.packet.Packet.TheVariants as packet
 use Rattle.packets.specs.Spelling.{spelling, IsSpellable, Spells}
 use Rattle.packets.proofs.Hellos.{frame_read_spelled}
+use Rattle.blocks.specs.declared.refusal.Refusal.{Refusal}
+use Rattle.blocks.specs.declared.refusal.Refusal.TheVariants.{NothingThere}
+use Rattle.link.specs.Taking.{TakesFirst}
 use Rattle.link.specs.Ends.{OutEnd, InEnd, with_sent, with_taken}
 use Rattle.model.specs.Frames.{DataFrame, RsDataReplyFrame, BarrierFrame, ProtocolFrame, UuidsFrame, SizesFrame, SyncUuidFrame, RecvAckFrame, WriteAckFrame, RsWriteAckFrame, BarrierAckFrame}
 use Rattle.model.specs.Frames as frames
-use Rattle.endpoint.specs.Meaning.{meaning, received, packet_read, meant, meant_in, IsSpelled}
-use Rattle.endpoint.specs.Outgoing.{OutgoingState, outgoing, with_pushed}
-use Rattle.endpoint.specs.Incoming.{IncomingState, incoming, with_received, hello_after, received_after, received_from}
+use Rattle.endpoint.specs.Meaning.{meaning, packet_read, meant, meant_in, IsSpelled}
+use Rattle.endpoint.specs.Outgoing.{outgoing, with_pushed}
+use Rattle.endpoint.specs.Incoming.{incoming, with_received, hello_after, received_after, received_from}
 
 -- ---- a meaning is of one packet
 
@@ -100,9 +103,13 @@ meant_more sent frame p rules s =
     flat_map-append meant sent (frame ∷ [])
     ∙ ap (λ (x : List frames.Packet). meant_in sent ++ x) (flat_map-cons meant frame [] ∙ append-nil (meant frame) ∙ meant_spelled frame p rules s)
 
+longer : (waiting : Option (List (List ℕ))) (frame : List ℕ) → option_map length (option_map (λ frames. frames ++ frame ∷ []) waiting) ≡ option_map (λ n. n + 1) (option_map length waiting)
+longer None frame = refl
+longer (Some frames) frame = ap (λ (n : ℕ). Some n) (length-append frames (frame ∷ []))
+
 -- a frame that an end accepted is a packet pushed
 pub pushed_out : (s : OutEnd) (frame : List ℕ) (p : Packet) → IsSpellable p → Spells p frame → outgoing (with_sent frame s) ≡ with_pushed (meaning p) (spelling p) (outgoing s)
-pushed_out s frame p rules spells = rw (meant_more s.sent frame p rules spells, spells.bytes_are) refl
+pushed_out s frame p rules spells = rw (meant_more s.sent frame p rules spells, longer s.waiting frame, spells.bytes_are) refl
 
 -- ---- frames that are taken
 
@@ -125,14 +132,33 @@ received_more n (x ∷ taken) frame =
     let next : n + suc (length taken) ≡ suc n + length taken = omega arith in
     rw next (ap (λ (rest : List frames.Received). received_after n x ∷ rest) (received_more (suc n) taken frame))
 
-fewer : (queued : Option (List (List ℕ))) → option_map length (option_map (drop 1) queued) ≡ option_map (λ n. n - 1) (option_map length queued)
-fewer None = refl
-fewer (Some frames) = ap (λ (n : ℕ). Some n) (length-drop 1 frames)
-
 -- a frame that an end took is what it is received as
 pub taken_in : (s : InEnd) (frame : List ℕ) (ready : Bool) → incoming (with_taken frame ready s) ≡ with_received (received_after (length s.taken) frame) (s.taken ++ frame ∷ []) ready (incoming s)
 taken_in s frame ready =
     let zeroed : 0 + length s.taken ≡ length s.taken = omega arith in
     let more : received_from 0 (s.taken ++ frame ∷ []) ≡ received_from 0 s.taken ++ received_after (length s.taken) frame ∷ [] =
     received_more 0 s.taken frame ∙ ap (λ (n : ℕ). received_from 0 s.taken ++ received_after n frame ∷ []) zeroed in
-    rw (more, fewer s.queued) refl
+    rw more refl
+
+abbrev found : List ℕ → Result (List ℕ) Refusal
+found frame = Ok frame
+
+nothing : (frame : List ℕ) → found frame ≡ Err NothingThere → ⊥
+nothing frame e = cc
+
+found_is : (x y : List ℕ) → found x ≡ found y → x ≡ y
+found_is x y e = cc
+
+some_is : (x y : List (List ℕ)) → Some x ≡ Some y → x ≡ y
+some_is x y e = cc
+
+-- the first frame that was to be taken is the last one taken
+pub same_row : (taken after_taken : List (List ℕ)) (frame : List ℕ) (before after : Option (List (List ℕ))) → after_taken ≡ taken ++ frame ∷ [] → TakesFirst before (Ok frame) after
+    → IfSome before (λ x. IfSome after (λ y. after_taken ++ y ≡ taken ++ x))
+same_row taken after_taken frame None after added first = tt
+same_row taken after_taken frame (Some []) after added first = absurd (nothing frame first)
+same_row taken after_taken frame (Some (x ∷ rest)) None added first = tt
+same_row taken after_taken frame (Some (x ∷ rest)) (Some y) added first =
+    let same : frame ≡ x = found_is frame x first.0 in
+    let left : y ≡ rest = some_is y rest first.1 in
+    rw (added, same, left) (append_assoc taken (x ∷ []) rest)

@@ -1,12 +1,12 @@
 -- What came in, as packets and faults.
-use Rattle.std.specs.Prelude.{ℕ, suc, ◌-◌, ◌==◌, Bool, List, [], ◌∷◌, ◌++◌, length, map, Option, Some, None, if◌then◌else◌}
+use Rattle.std.specs.Prelude.{ℕ, suc, ◌≡◌, ◌==◌, Bool, List, [], ◌∷◌, ◌++◌, drop, map, Option, Some, None, IfSome, if◌then◌else◌}
 use Rattle.std.specs.Option.{option_map}
 use Rattle.blocks.specs.declared.command.Command.{Command}
 use Rattle.blocks.specs.declared.command.Command.TheVariants as command
 use Rattle.packets.specs.Frames.{frame_read, in_hello}
 use Rattle.link.specs.Ends.{InEnd}
 use Rattle.link.specs.Past.{Past}
-use Rattle.model.specs.Frames.{Packet, Received}
+use Rattle.model.specs.Frames.{Received}
 use Rattle.endpoint.specs.Meaning.{received}
 
 -- a connection that is over: its number, what was taken on it, and the frames
@@ -15,15 +15,16 @@ pub record TakenBefore : Type 0 where
   pub taken : List Received
   pub frames : List (List ℕ)
 
--- The number of the present connection, what was taken on it, the connections before, whether there is room for the
--- longest frame, and how many frames can be taken, where the link knows. Of the frames taken only a law on both ends
--- speaks.
+-- The number of the present connection, what was taken on it, the connections before, and whether there is room for the
+-- longest frame. Where the link knows: the frames to be taken next, and how many its queue holds where that lies here.
+-- Of the frames taken only what is said of both ends speaks.
 pub record IncomingState : Type 0 where
   pub number : ℕ
   pub taken : List Received
   pub past : List TakenBefore
   pub is_ready : Bool
-  pub queued : Option ℕ
+  pub queued : Option (List (List ℕ))
+  pub capacity : Option ℕ
   pub frames : List (List ℕ)
 
 -- the frame of a hello that is expected after so many were taken: PROTOCOL, SIZES, UUIDS, and none after them
@@ -53,7 +54,8 @@ incoming s = record {
   taken = received_from 0 s.taken;
   past = map taken_before s.past;
   is_ready = s.is_ready;
-  queued = option_map length s.queued;
+  queued = s.queued;
+  capacity = s.capacity;
   frames = s.taken;
 }
 
@@ -62,6 +64,19 @@ abbrev pub with_received : Received → List (List ℕ) → Bool → IncomingSta
 with_received one frames ready s = record s {
   taken = s.taken ++ one ∷ [];
   is_ready = ready;
-  queued = option_map (λ n. n - 1) s.queued;
+  queued = option_map (drop 1) s.queued;
   frames = frames;
 }
+
+-- a connection begins
+abbrev pub taking_anew : ℕ → IncomingState → IncomingState
+taking_anew number s = record s {
+  number = number;
+  taken = [];
+  past = s.past ++ record { number = s.number; taken = s.taken; frames = s.frames } ∷ [];
+  frames = [];
+}
+
+-- the frames taken and then those to be taken are the same row as before, where the link knows them
+abbrev pub SameRow : IncomingState → IncomingState → Type 0
+SameRow old new = IfSome old.queued (λ before. IfSome new.queued (λ after. new.frames ++ after ≡ old.frames ++ before))

@@ -1,5 +1,5 @@
 -- What went out, as packets.
-use Rattle.std.specs.Prelude.{ℕ, ◌-◌, List, [], ◌∷◌, ◌++◌, map, Option, Some, None, IfSome}
+use Rattle.std.specs.Prelude.{ℕ, ◌+◌, ◌-◌, length, List, [], ◌∷◌, ◌++◌, map, Option, None, IfSome}
 use Rattle.std.specs.List.{AllByRecursion}
 use Rattle.std.specs.Option.{option_map}
 use Rattle.link.specs.Ends.{OutEnd}
@@ -14,14 +14,15 @@ pub record PushedBefore : Type 0 where
   pub frames : List (List ℕ)
 
 -- The number of the present connection, the packets pushed on it, the connections before, a packet that went in part
--- (as a list of one at most), and how many more it can take, where the link knows. Of the frames of the packets pushed
--- only a law on both ends speaks.
+-- (as a list of one at most). Where the link knows: how many it can take yet, and how many wait in its queue where that
+-- lies here. Of the frames of the packets pushed only what is said of both ends speaks.
 pub record OutgoingState : Type 0 where
   pub number : ℕ
   pub pushed : List Packet
   pub past : List PushedBefore
   pub partly : Option (List Packet)
   pub room : Option ℕ
+  pub waiting : Option ℕ
   pub frames : List (List ℕ)
 
 -- a connection that is over, as packets
@@ -36,6 +37,7 @@ outgoing s = record {
   past = map pushed_before s.past;
   partly = option_map meant s.partly;
   room = s.room;
+  waiting = option_map length s.waiting;
   frames = s.sent;
 }
 
@@ -45,6 +47,7 @@ with_pushed packet frame s = record s {
   pushed = s.pushed ++ packet ∷ [];
   partly = None;
   room = option_map (λ n. n - 1) s.room;
+  waiting = option_map (λ n. n + 1) s.waiting;
   frames = s.frames ++ frame ∷ [];
 }
 

@@ -1,7 +1,7 @@
 //! The taking side.
 ghost use Rattle.std.specs.Prelude.{◌≡◌, ◌<◌, ◌≤◌, ◌↔◌, [], true, IsErr, OnOk, OnErr, IfOk, IfErr, IfSome};
 ghost use Rattle.endpoint.specs.Meaning.{received};
-ghost use Rattle.endpoint.specs.Incoming.{incoming, hello_after, with_received};
+ghost use Rattle.endpoint.specs.Incoming.{incoming, hello_after, with_received, taking_anew, SameRow};
 ghost use Rattle.blocks.specs.declared.refusal.Refusal.TheVariants.{NoMemory, NothingThere};
 
 use blocks::{Command, Refusal};
@@ -57,7 +57,8 @@ impl<I: FrameIn> Incoming<I> {
         ensures taken { IfOk result (λ read.
             self.new ≡ with_received (received read) self.new.frames self.new.is_ready self.old) }
         // Where the link knows its queue, there is nothing only where it is empty.
-        ensures exact { IfSome self.old.queued (λ n. IsErr result ↔ (n ≡ 0)) }
+        ensures exact { IfSome self.old.queued (λ frames. IsErr result ↔ (frames ≡ [])) }
+        ensures row { SameRow self.old self.new }
         ensures refused { IfErr result (λ e. e ≡ NothingThere) }
         ensures unchanged { OnErr result (self.new ≡ self.old) }
     {
@@ -71,9 +72,10 @@ impl<I: FrameIn> Incoming<I> {
     /// memory.
     pub fn restart(&mut self, number: u32)
         requires { self.old.number < number }
-        ensures number { self.new.number ≡ number }
-        ensures taken { self.new.taken ≡ [] }
-        ensures ready { self.new.is_ready ≡ self.old.is_ready }
+        ensures { self.new ≡ record (taking_anew number self.old) {
+          queued = self.new.queued;
+          capacity = self.new.capacity;
+        } }
     {
         self.end.restart(number);
         self.hello = 0;

@@ -5,6 +5,7 @@
 mod ends;
 mod incoming;
 mod outgoing;
+mod plain;
 
 pub use ends::joined;
 pub use incoming::Incoming;

@@ -63,7 +63,10 @@ impl<O: FrameOut> Outgoing<O> {
     /// Begins the connection of this number. A packet that went in part is given up. It takes no memory.
     pub fn restart(&mut self, number: u32)
         requires { self.old.number < number }
-        ensures { self.new ≡ record (pushing_anew number self.old) { room = self.new.room } }
+        ensures { self.new ≡ record (pushing_anew number self.old) {
+          room = self.new.room;
+          waiting = self.new.waiting;
+        } }
     {
         self.end.restart(number);
     }

@@ -1,11 +1,11 @@
 -- A frame is read as the hello expects it after so many.
-use Rattle.std.proofs.Common.{◌≡◌, ℕ, List, Option, Bool, ap, sym, ◌∙◌, length, min}
+use Rattle.std.proofs.Common.{◌≡◌, ℕ, List, ap, sym, ◌∙◌, length}
 use Rattle.packets.specs.Frames.{frame_read, in_hello}
 use Rattle.link.specs.Ends.{InEnd, with_taken}
 use Rattle.model.specs.Frames.{Received}
 use Rattle.endpoint.specs.Meaning.{received}
-use Rattle.endpoint.specs.Incoming.{IncomingState, incoming, with_received, hello_after, received_after}
-use Rattle.endpoint.proofs.Meanings.{hello_least, taken_in}
+use Rattle.endpoint.specs.Incoming.{incoming, with_received, hello_after, received_after}
+use Rattle.endpoint.proofs.Meanings.{hello_least, taken_in, same_row}
 use Rattle.endpoint.proofs.incoming.Incoming.take.Goals as goal
 
 pub returns-clause-taken : goal.returns-clause-taken
@@ -20,3 +20,9 @@ returns-clause-taken g c =
     ∙ ap (λ (r : Received). with_received r (with_taken frame new.is_ready old).taken new.is_ready (incoming old)) (sym read)
     ∙ ap (λ (s : InEnd). with_received (received c.read.result) s.taken new.is_ready (incoming old)) (sym took)
     ∙ ap (with_received (received c.read.result) new.taken new.is_ready) c.self.view_is
+
+pub returns-clause-row : goal.returns-clause-row
+returns-clause-row g c =
+    let old : InEnd = g.I.FrameIn.state c.self.inside.end in
+    let new : InEnd = g.I.FrameIn.state c.take.new.self in
+    rw (← c.self.view_is) (same_row old.taken new.taken c.in_ok-frame.frame old.queued new.queued (ap (λ (s : InEnd). s.taken) c.in_ok-frame.ensures.next) c.in_ok-frame.ensures.exact)

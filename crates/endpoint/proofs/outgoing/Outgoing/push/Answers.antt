@@ -1,5 +1,5 @@
 -- The frame that is offered spells the packet.
-use Rattle.std.proofs.Common.{◌≡◌, ℕ, List, [], ◌∷◌, ap, sym, subst, ◌∙◌}
+use Rattle.std.proofs.Common.{◌≡◌, [], ◌∷◌, ap, sym, subst, ◌∙◌}
 use Rattle.std.specs.Prelude.{IfSome}
 use Rattle.packets.specs.Spelling.{spelling}
 use Rattle.endpoint.specs.Meaning.{meaning}
