@@ -5,3 +5,4 @@ pub mod Kept
 pub mod Moves
 pub mod Sweep
 pub mod Turned
+pub mod Unlinking

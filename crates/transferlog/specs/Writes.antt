@@ -97,3 +97,7 @@ is_at place (Some home) = home.1 == place
 -- that stands and is not answered
 abbrev pub awaits : Named → LogWrite → Bool
 awaits of w = (is_at of.place w.home && ((w.first == of.first) && (w.count == of.count))) && (w.linked && (w.sent && not w.answered))
+
+-- the local disk has it to do
+abbrev pub is_waiting : LogWrite → Bool
+is_waiting w = not (is_settled w)

@@ -1,12 +1,12 @@
 //! The row of the unreleased writes.
-ghost use Rattle.std.specs.Prelude.{◌&&◌, ◌≤◌, filter, map, not, vec_len, vec_capacity, ◌≡◌, ◌+◌, ◌^◌, ◌<◌, [], ◌∷◌, ◌++◌, length, OnOk, is_some, if◌then◌else◌};
+ghost use Rattle.std.specs.Prelude.{find, slice_get, ◌&&◌, ◌≤◌, filter, map, not, vec_len, vec_capacity, ◌≡◌, ◌+◌, ◌^◌, ◌<◌, [], ◌∷◌, ◌++◌, length, OnOk, is_some, if◌then◌else◌};
 ghost use Rattle.std.specs.List.{list_any};
 ghost use Rattle.blocks.specs.Ranges.{is_between};
 ghost use Rattle.std.specs.Option.{option_copied, option_map, option_and_then};
-ghost use Rattle.transferlog.specs.Writes.{is_released, release_of, released_of, turn_of};
+ghost use Rattle.transferlog.specs.Writes.{completed_of, is_completed, is_open, is_released, is_waiting, release_of, released_of, turn_of, unlinking};
 ghost use Rattle.transferlog.specs.Ring.{Each, ReleasedBelow, ReleasedFrom, Rises, changed, is_unanswered, with_change, without, write_at};
 
-use crate::report::{Released, Turn, note};
+use crate::report::{Completed, Released, Turn, note};
 use crate::write::{Change, Write};
 use std::alloc::{AllocError, Global};
 use std::collections::VecDeque;
@@ -87,6 +87,36 @@ impl Ring {
         self.slots[index].as_ref()
     }
 
+    /// The first write that the local disk has to do.
+    pub(crate) fn first_waiting(&self) -> Option<&Write>
+        ensures { option_copied result ≡ find is_waiting self.now.writes }
+    {
+        for index in 0..self.slots.len() {
+            if let Some(write) = self.slots[index].as_ref() {
+                if !write.is_settled() {
+                    return Some(write);
+                }
+            }
+        }
+        None
+    }
+
+    /// The write that has so many below it.
+    pub(crate) fn nth(&self, below: u32) -> Option<&Write>
+        ensures { option_copied result ≡ slice_get self.now.writes below }
+    {
+        let mut left = below;
+        for index in 0..self.slots.len() {
+            if let Some(write) = self.slots[index].as_ref() {
+                if left == 0 {
+                    return Some(write);
+                }
+                left -= 1;
+            }
+        }
+        None
+    }
+
     /// The change happens to the write with this number, if there is one. Answers what it did to it.
     pub(crate) fn change(&mut self, number: u64, change: Change) -> Option<Turn>
         ensures next { self.new ≡ record self.old { writes = with_change number (changed change) self.old.writes } }
@@ -164,6 +194,37 @@ impl Ring {
         }
     }
 
+    /// Takes out each write that is released where all up to `confirmed` have the acknowledgement of their
+    /// epoch, and notes it in a list that has room. It takes no memory.
+    pub(crate) fn release_rest(&mut self, confirmed: u64, released: &mut Vec<Released>)
+        requires { vec_len released.old + length self.old.writes ≤ vec_capacity released.old }
+        ensures released { released.new.items ≡ released.old.items ++ map released_of (filter (is_released confirmed) self.old.writes) }
+        ensures capacity { vec_capacity released.new ≡ vec_capacity released.old }
+        ensures writes { self.new.writes ≡ filter (λ w. not (is_released confirmed w)) self.old.writes }
+        ensures next { self.new.next ≡ self.old.next }
+    {
+        let from = self.first;
+        let to = self.first + self.slots.len() as u64;
+        self.release_all(from, to, confirmed, released);
+    }
+
+    /// Takes the connection from each write, and notes what is completed by that in a list that has room. It
+    /// takes no memory.
+    pub(crate) fn unlink_all(&mut self, completed: &mut Vec<Completed>)
+        requires { vec_len completed.old + length self.old.writes ≤ vec_capacity completed.old }
+        ensures completed { completed.new.items
+            ≡ completed.old.items ++ map completed_of (filter is_completed (map unlinking (filter is_open self.old.writes))) }
+        ensures capacity { vec_capacity completed.new ≡ vec_capacity completed.old }
+        ensures next { self.new ≡ record self.old { writes = map unlinking self.old.writes } }
+    {
+        let from = self.first;
+        let to = self.first + self.slots.len() as u64;
+        for number in from..to {
+            let turn = self.change(number, Change::Unlinked);
+            note(completed, completion_in(turn));
+        }
+    }
+
     fn remove(&mut self, number: u64)
         ensures { self.new ≡ record { writes = without number self.old.writes; next = self.old.next; spare = self.new.spare } }
     {
@@ -189,4 +250,11 @@ impl Ring {
             self.first += 1;
         }
     }
+}
+
+// The completion of a turn.
+fn completion_in(turn: Option<Turn>) -> Option<Completed>
+    ensures { result ≡ option_and_then (λ t. t.completion) turn }
+{
+    turn?.completion
 }
