@@ -1,11 +1,11 @@
 -- What is kept about a log where something happened to one write, or an epoch was acknowledged.
-use Rattle.std.proofs.Common.{◌≡◌, ℕ, zero, suc, ◌+◌, ◌<◌, ◌≤◌, ◌==◌, nat_le, Bool, true, false, ◌&&◌, ◌||◌, List, [], ◌∷◌, ◌++◌, length, drop, refl, sym, ◌∙◌, ap, arith, Option, Some, None, not}
-use Rattle.std.specs.Prelude.{filter, map, sum, vec_capacity, Result, Ok}
+use Rattle.std.proofs.Common.{◌≡◌, ℕ, ◌+◌, ◌<◌, ◌≤◌, ◌==◌, nat_le, Bool, true, false, ◌&&◌, ◌||◌, List, [], ◌∷◌, ◌++◌, length, drop, refl, sym, ◌∙◌, ap, arith, Option, not}
+use Rattle.std.specs.Prelude.{filter, sum, vec_capacity, Result, Ok}
 use Rattle.blocks.specs.declared.refusal.Refusal.{Refusal}
 use Rattle.std.specs.Option.{option_map}
 use Rattle.std.proofs.lemmas.Bool.Decides.{nat_tests}
 use Rattle.std.proofs.lemmas.Grind.{common_steps}
-use Rattle.epochs.specs.Epochs.{EpochsState, is_in_last, ended_if, completing, is_awaited, begins_with, acknowledging}
+use Rattle.epochs.specs.Epochs.{EpochsState, is_in_last, ended_if, is_awaited, begins_with, acknowledging}
 use Rattle.transferlog.specs.Writes.{LogWrite, is_released, is_settled}
 use Rattle.transferlog.specs.Ring.{Each, ReleasedFrom, ReleasedBelow, on, with_change, changed}
 use Rattle.transferlog.specs.Log.{LogState, moved, changing, ended_by, closes_any, home_in, with_latest, accepted_write, accepting, confirming, may_confirm, lacks_answer, asks_answers}
@@ -76,9 +76,11 @@ pub accepted_is : (s : LogState) (first count : ℕ) (contents : List ℕ) (home
     → (let answer : Option (ℕ × ℕ) × (Option ℕ × EpochsState) = (home, (barrier, e)) in answer ≡ home_in s.connection (s.accepted + 1) s.epochs)
     → place ≡ option_map (λ h. h.1) home → latest ≡ with_latest (s.accepted + 1) first count s.latest
     → writes ≡ s.writes ++ accepted_write first count contents home s ∷ [] → released ≡ [] → completed ≡ []
-    → (let result : Accepted × LogState = (record { number = s.accepted + 1; place = place; barrier = barrier },
-        record s { accepted = s.accepted + 1; latest = latest; writes = writes; epochs = e; released = released; completed = completed }) in
-      result ≡ accepting first count contents s)
+    → (let result : Accepted × LogState = (
+      record { number = s.accepted + 1; place = place; barrier = barrier },
+      record s { accepted = s.accepted + 1; latest = latest; writes = writes; epochs = e; released = released; completed = completed },
+    ) in
+    result ≡ accepting first count contents s)
 accepted_is s first count contents home barrier place e latest writes released completed is p l w r c =
     rw (p, l, w, r, c) (rw (ap (λ a. a.0) is, ap (λ a. a.1.0) is, ap (λ a. a.1.1) is) refl)
 
@@ -96,15 +98,17 @@ number_within n c is = grind (arith, nat_tests)
 
 pub newly_from : (c k : ℕ) (ws : List LogWrite) → Each (IsKept c) ws → Each (ReleasedFrom k (c + 1)) ws
 newly_from c k [] each = tt
-newly_from c k (w ∷ ws) each =
-    (λ released. let e = newly (is_settled w) w.linked (nat_le w.number c) (nat_le w.number k) each.0 released in omega (arith, number_above w.number c e.0),
-    newly_from c k ws each.1)
+newly_from c k (w ∷ ws) each = (
+  λ released. let e = newly (is_settled w) w.linked (nat_le w.number c) (nat_le w.number k) each.0 released in omega (arith, number_above w.number c e.0),
+  newly_from c k ws each.1,
+)
 
 pub newly_below : (c k : ℕ) (ws : List LogWrite) → Each (IsKept c) ws → Each (ReleasedBelow k (k + 1)) ws
 newly_below c k [] each = tt
-newly_below c k (w ∷ ws) each =
-    (λ released. let e = newly (is_settled w) w.linked (nat_le w.number c) (nat_le w.number k) each.0 released in omega (arith, number_within w.number k e.1),
-    newly_below c k ws each.1)
+newly_below c k (w ∷ ws) each = (
+  λ released. let e = newly (is_settled w) w.linked (nat_le w.number c) (nat_le w.number k) each.0 released in omega (arith, number_within w.number k e.1),
+  newly_below c k ws each.1,
+)
 
 sum-first : (size : ℕ) (sizes : List ℕ) → begins_with size sizes ≡ true → sum sizes ≡ size + sum (drop 1 sizes)
 sum-first size [] begins = cc
@@ -150,5 +154,5 @@ log_confirmed l m confirmed log next accepted connection confirmed_is backlog wr
 pub confirmed_is : (number size : ℕ) (s : LogState) (confirmed : ℕ) (writes : List LogWrite) (e : EpochsState) (released : List Released) (completed : List Completed)
     → confirmed ≡ s.confirmed + size → writes ≡ (confirming number size s).writes → e ≡ (confirming number size s).epochs → released ≡ (confirming number size s).released → completed ≡ []
     → (let result : Result (Unit {0}) Refusal × LogState = (Ok tt, record s { confirmed = confirmed; writes = writes; epochs = e; released = released; completed = completed }) in
-      result ≡ (Ok tt, confirming number size s))
+    result ≡ (Ok tt, confirming number size s))
 confirmed_is number size s confirmed writes e released completed c w ep r d = rw (c, w, ep, r, d) refl

@@ -1,5 +1,5 @@
 -- Writes that go one number after another: what comes of them and what is left, number by number.
-use Rattle.std.proofs.Common.{◌≡◌, ℕ, zero, suc, ◌+◌, ◌<◌, ◌≤◌, ◌==◌, nat_lt, nat_le, Bool, true, false, ◌&&◌, List, [], ◌∷◌, ◌++◌, length, refl, sym, ◌∙◌, ap, arith, Option, Some, None, not, length-append}
+use Rattle.std.proofs.Common.{◌≡◌, ℕ, suc, ◌+◌, ◌<◌, ◌≤◌, ◌==◌, nat_lt, Bool, true, false, ◌&&◌, List, [], ◌∷◌, ◌++◌, length, refl, ap, arith, Option, Some, None, not, length-append}
 use Rattle.std.specs.Prelude.{filter, map, is_some, if◌then◌else◌, IsSome}
 use Rattle.std.specs.Option.{option_and_then, option_to_list}
 use Rattle.std.proofs.lemmas.List.{length-map}
@@ -164,9 +164,10 @@ pub all_after : (p : LogWrite → Bool) (k : ℕ) (ws : List LogWrite) → Each 
 all_after p k [] each = (refl, refl)
 all_after p k (w ∷ ws) each =
     let same = gone_is (nat_lt w.number k) (p w) (λ released. below_is w.number k (each.0 released)) in
-    let rest = all_after p k ws each.1 in
-    (rw same (ap (λ more. if p w then w ∷ more else more) rest.0),
-    rw same (ap (λ more. if not (p w) then w ∷ more else more) rest.1))
+    let rest = all_after p k ws each.1 in (
+      rw same (ap (λ more. if p w then w ∷ more else more) rest.0),
+      rw same (ap (λ more. if not (p w) then w ∷ more else more) rest.1),
+    )
 
 few_if : (b : Bool) (w : LogWrite) (ws : List LogWrite) (n : ℕ) → length ws ≤ n → length (if b then w ∷ ws else ws) ≤ suc n
 few_if true w ws n few = omega (arith, few)

@@ -1,5 +1,5 @@
 -- Writes that lose their connection one number after another.
-use Rattle.std.proofs.Common.{◌≡◌, ℕ, suc, ◌+◌, ◌<◌, ◌≤◌, ◌==◌, nat_lt, Bool, true, false, ◌&&◌, List, [], ◌∷◌, ◌++◌, length, refl, sym, ◌∙◌, ap, arith, Option, Some, None}
+use Rattle.std.proofs.Common.{◌≡◌, ℕ, suc, ◌+◌, ◌<◌, ◌≤◌, ◌==◌, nat_lt, Bool, true, false, ◌&&◌, List, [], ◌∷◌, ◌++◌, length, refl, ◌∙◌, ap, arith, Option, Some, None}
 use Rattle.std.proofs.lemmas.List.{length-map}
 use Rattle.std.specs.Prelude.{filter, map, if◌then◌else◌}
 use Rattle.std.specs.Option.{option_map, option_and_then}
@@ -10,7 +10,6 @@ use Rattle.transferlog.specs.Slots.{writes_in, AreNumbered}
 use Rattle.transferlog.specs.Fields.{IsAlone}
 use Rattle.transferlog.specs.declared.report.Completed.{Completed}
 use Rattle.transferlog.specs.declared.report.Turn.{Turn}
-use Rattle.transferlog.proofs.Numbers.{lower_number}
 use Rattle.transferlog.proofs.Moves.{number_is}
 use Rattle.transferlog.proofs.Sweep.{out_at}
 

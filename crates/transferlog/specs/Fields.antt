@@ -1,5 +1,5 @@
 -- What the fields of a transfer log stand for, and what is kept about them.
-use Rattle.std.specs.Prelude.{ℕ, ◌≡◌, ◌+◌, ◌<◌, ◌≤◌, false, List, [], ◌∷◌, length, sum, vec_capacity, None}
+use Rattle.std.specs.Prelude.{ℕ, ◌≡◌, ◌+◌, ◌<◌, ◌≤◌, false, length, sum, vec_capacity, None}
 use Rattle.transferlog.specs.Writes.{LogWrite, is_released}
 use Rattle.transferlog.specs.Ring.{Each}
 use Rattle.transferlog.specs.Log.{LogState}

@@ -1,6 +1,6 @@
 -- The transfer log in plain values, and how each call changes it. The rules are this project's, after the DRBD User's Guide,
 -- "Replication modes", and DRBD's transfer log.
-use Rattle.std.specs.Prelude.{ℕ, suc, ◌+◌, ◌-◌, nat_lt, nat_le, ◌==◌, Bool, true, false, ◌&&◌, ◌||◌, not, if◌then◌else◌, List, [], ◌∷◌, ◌++◌, length, take, drop, map, filter, find, replicate, Option, Some, None, is_some, is_none, Result, Ok, Err}
+use Rattle.std.specs.Prelude.{ℕ, ◌+◌, ◌==◌, Bool, true, false, ◌&&◌, not, if◌then◌else◌, List, [], ◌∷◌, ◌++◌, length, take, drop, map, filter, replicate, slice_get, Option, Some, None, is_some, Result, Ok, Err}
 use Rattle.std.specs.List.{list_any}
 use Rattle.transferlog.specs.declared.local.Local.TheVariants.{Waiting}
 use Rattle.std.specs.Option.{option_map}
@@ -142,9 +142,10 @@ home_in (Some connection) number e = let answer = placed number e in (Some (conn
 -- A write is accepted: its number, place and barrier, and what is left.
 abbrev pub accepting : ℕ → ℕ → List ℕ → LogState → Accepted × LogState
 accepting first count contents s =
-    let home = home_in s.connection (s.accepted + 1) s.epochs in
-    (record { number = s.accepted + 1; place = option_map (λ h. h.1) home.0; barrier = home.1.0 },
-    with_write (accepted_write first count contents home.0 s) home.1.1 s)
+    let home = home_in s.connection (s.accepted + 1) s.epochs in (
+      record { number = s.accepted + 1; place = option_map (λ h. h.1) home.0; barrier = home.1.0 },
+      with_write (accepted_write first count contents home.0 s) home.1.1 s,
+    )
 
 -- The stream's other items.
 
@@ -225,3 +226,14 @@ draining s = record (moved unlinking s.confirmed s) { connection = None; epochs 
 -- The connection is closed: how many writes that completed, and what is left.
 abbrev pub drained : LogState → ℕ × LogState
 drained s = (length (draining s).completed, draining s)
+
+-- Marks.
+
+-- whether this is the number
+abbrev pub is_number : ℕ → Option ℕ → Bool
+is_number number None = false
+is_number number (Some latest) = latest == number
+
+-- Whether a release clears the mark of a block: the write clears marks, the block is one of its, and no later write has it.
+abbrev pub clears : Released → ℕ → List ℕ → Bool
+clears r block latest = (r.clears && is_between r.first r.count block) && is_number r.number (slice_get latest block)

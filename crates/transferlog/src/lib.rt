@@ -1,8 +1,9 @@
-//! The transfer log.
+//! The transfer log of a primary: the writes that are not released, with their states.
 #![tactic(auto)]
 
 mod local;
 mod log;
+mod protocol;
 mod report;
 mod ring;
 mod write;

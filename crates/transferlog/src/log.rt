@@ -1,21 +1,30 @@
 //! The transfer log of a primary.
-ghost use Rattle.std.specs.Prelude.{◌≡◌, ◌+◌, ◌<◌, ◌≤◌, ◌++◌, ◌⊎◌, ◌↔◌, length, take, drop, replicate, OnErr, IsErrOf, vec_len, vec_capacity, IfOk, IfErr, IsSomeAnd, None, true, false};
+ghost use Rattle.std.specs.Prelude.{MatchOption, find, slice_get, ◌≡◌, ◌+◌, ◌<◌, ◌≤◌, ◌++◌, ◌⊎◌, ◌↔◌, length, take, drop, replicate, OnErr, IsErrOf, vec_len, vec_capacity, IfOk, IfErr, IsSomeAnd, None, true, false};
 ghost use Rattle.std.specs.Option.{option_copied, option_map, option_to_list};
-ghost use Rattle.transferlog.specs.Log.{accepting, acked, answers_sent, asks_answers, barrier_acked, changing, connecting, drained, empty_log, home_in, is_asked, may_confirm, local_done, local_failed, resync_acked, resync_placed, sent, uuids_placed};
+ghost use Rattle.transferlog.specs.Log.{accepting, acked, barrier_acked, changing, clears, connecting, drained, empty_log, home_in, local_done, local_failed, may_confirm, resync_acked, resync_placed, sent, uuids_placed};
+ghost use Rattle.transferlog.specs.Writes.{is_waiting};
 ghost use Rattle.transferlog.specs.Ring.{changed, write_at};
 ghost use Rattle.transferlog.specs.declared.local.Local.TheVariants.{Waiting};
 ghost use Rattle.blocks.specs.declared.refusal.Refusal.TheVariants.{LogFull, NoMemory};
 
+use crate::protocol::{answers_sent, asks_answers, is_asked};
 use crate::report::{Accepted, Answer, Completed, Named, Released, note};
 use crate::ring::Ring;
 use crate::write::{Change, Write};
-use blocks::{Protocol, Range, Refusal};
+use blocks::{Block, Protocol, Range, Refusal};
 use bytes::Bytes;
 use epochs::Epochs;
 use std::alloc::Global;
 use std::marker::Model;
 
-/// The unreleased writes of a primary.
+/// The unreleased writes of a primary under protocols A, B and C (DRBD's transfer log): which are completed
+/// and which released, the epochs of the connection's stream, and which marks a release clears.
+///
+/// Numbers are consecutive, so a write is found by subtraction: a call takes constant time, but for a
+/// release, which takes time for each number released, `barrier_acked`, for each write of the epoch, `drain`,
+/// for each unreleased write, and `unreleased` and `next_local`, for each unreleased write below the answer.
+/// The memory is a slot for each number from the first unreleased one on, four bytes a block of the device,
+/// and room for `backlog` reports of either kind.
 #[derive(Drop)]
 pub struct TransferLog {
     protocol: Protocol,
@@ -106,7 +115,12 @@ impl TransferLog {
         self.released.clear();
         self.completed.clear();
         self.accepted = number;
-        put(&mut self.latest, range.first.0 as usize, range.count as usize, number as u32);
+        put(
+            &mut self.latest,
+            range.first.0 as usize,
+            range.count as usize,
+            number as u32,
+        );
         self.ring.push(Write::new(number, range, contents, home));
         Ok(Accepted {
             number,
@@ -229,7 +243,12 @@ impl TransferLog {
         self.released.clear();
         self.completed.clear();
         self.confirmed += u64::from(size);
-        self.ring.release_all(first, self.confirmed + 1, self.confirmed, &mut self.released);
+        self.ring.release_all(
+            first,
+            self.confirmed + 1,
+            self.confirmed,
+            &mut self.released,
+        );
         Ok(())
     }
 
@@ -284,6 +303,41 @@ impl TransferLog {
         self.accepted
     }
 
+    /// The lowest number of a write that the local disk has to do. It takes time for each unreleased write
+    /// below it.
+    pub fn next_local(&self) -> Option<u64>
+        ensures { result ≡ option_map (λ w. w.number) (find is_waiting self.now.writes) }
+    {
+        let write = self.ring.first_waiting()?;
+        Some(write.number())
+    }
+
+    /// The range of the unreleased write that has `index` unreleased ones below it. It takes time for each
+    /// of those.
+    pub fn unreleased(&self, index: u32) -> Option<Range>
+        ensures { MatchOption (slice_get self.now.writes index) (result ≡ None)
+            (λ w. IsSomeAnd result (λ range. (range.first.0 ≡ w.first) × (range.count ≡ w.count))) }
+    {
+        let write = self.ring.nth(index)?;
+        Some(write.range())
+    }
+
+    /// Whether the release of a write, by the last call, clears the mark of this block: the write clears
+    /// marks, the block is one of its, and no later write has it. It takes constant time.
+    pub fn clears(&self, released: &Released, block: Block) -> bool
+        ensures { result ≡ clears released.now block.0 self.now.latest }
+    {
+        let inside = released.first <= block.0 && block.0 - released.first < released.count;
+        released.clears && inside && self.latest_on(block) == Some(released.number)
+    }
+
+    fn latest_on(&self, block: Block) -> Option<u64>
+        ensures { result ≡ slice_get self.now.latest block.0 }
+    {
+        let number = self.latest.get(block.0 as usize)?;
+        Some(u64::from(*number))
+    }
+
     /// The unreleased write with this number.
     pub fn get(&self, number: u64) -> Option<&Write>
         ensures { option_copied result ≡ write_at number self.now.writes }
@@ -293,7 +347,11 @@ impl TransferLog {
 }
 
 // The home of the next write, and the barrier that follows it.
-fn home_in(connection: Option<u32>, number: u64, epochs: &mut Epochs) -> Result<(Option<(u32, u32)>, Option<u32>), Refusal>
+fn home_in(
+    connection: Option<u32>,
+    number: u64,
+    epochs: &mut Epochs,
+) -> Result<(Option<(u32, u32)>, Option<u32>), Refusal>
     requires room { epochs.old.places < 4294967290 }
     requires rising { 0 < epochs.old.size → epochs.old.first + epochs.old.size ≤ number }
     ensures home { IfOk result (λ home. (home.0, (home.1, epochs.new)) ≡ home_in connection number epochs.old) }
@@ -313,36 +371,6 @@ fn place_in(home: Option<(u32, u32)>) -> Option<u32>
 {
     let (_, place) = home?;
     Some(place)
-}
-
-// Whether the protocol asks for this kind of answer.
-fn is_asked(protocol: Protocol, kind: Answer) -> bool
-    ensures { result ≡ is_asked protocol kind }
-{
-    match (protocol, kind) {
-        (Protocol::B, Answer::Received) | (Protocol::C, Answer::Written) => true,
-        _ => false,
-    }
-}
-
-// Whether the protocol asks for answers at all.
-fn asks_answers(protocol: Protocol) -> bool
-    ensures { result ≡ asks_answers protocol }
-{
-    match protocol {
-        Protocol::A => false,
-        Protocol::B | Protocol::C => true,
-    }
-}
-
-// Whether a write is answered by standing in the link's queue.
-fn answers_sent(protocol: Protocol) -> bool
-    ensures { result ≡ answers_sent protocol }
-{
-    match protocol {
-        Protocol::A => true,
-        Protocol::B | Protocol::C => false,
-    }
 }
 
 // Writes the number over so many others, from `at` on.

@@ -177,7 +177,13 @@ impl Ring {
 
     /// Takes out each write from one number up to another that is released where all up to `confirmed` have
     /// the acknowledgement of their epoch, and notes it in a list that has room. It takes no memory.
-    pub(crate) fn release_all(&mut self, from: u64, to: u64, confirmed: u64, released: &mut Vec<Released>)
+    pub(crate) fn release_all(
+        &mut self,
+        from: u64,
+        to: u64,
+        confirmed: u64,
+        released: &mut Vec<Released>,
+    )
         requires low { Each (ReleasedFrom confirmed from) self.old.writes }
         requires high { Each (ReleasedBelow confirmed to) self.old.writes }
         requires order { from ≤ to }

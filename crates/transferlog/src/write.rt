@@ -1,4 +1,16 @@
-//! A write in the transfer log.
+//! A write in the transfer log, and its life.
+//!
+//! | State | Event (call) | State then |
+//! |---|---|---|
+//! | open | its frame stands in the link's queue (`sent`) | sent; under protocol A answered by that |
+//! | open, sent | RECV_ACK under B, WRITE_ACK under C (`acked`) | answered |
+//! | open, waiting for the local disk | the disk has it (`local_done`) | on disk |
+//! | open, waiting for the local disk | the disk failed (`local_failed`) | failed, never completed |
+//! | open, on disk and answered | at once | completed (linked) |
+//! | on disk or failed, linked | its epoch's BARRIER_ACK (`barrier_acked`), or it came before | released |
+//! | linked | the connection is closed (`drain`) | without a connection |
+//! | open, on disk, without a connection | at once | completed (alone, where it is not answered) |
+//! | on disk or failed, without a connection | at once | released, clears nothing |
 ghost use Rattle.std.specs.Prelude.{◌≡◌, is_some, false};
 ghost use Rattle.transferlog.specs.Writes.{awaits, completed_of, is_at, is_completed, is_open, is_released, is_settled, release_of, turn_of};
 ghost use Rattle.transferlog.specs.Ring.{changed};
@@ -56,6 +68,42 @@ pub(crate) enum Change {
 }
 
 impl Write {
+    /// Its number.
+    pub fn number(&self) -> u64
+        ensures { result ≡ self.now.number }
+    {
+        self.number
+    }
+
+    /// Its blocks.
+    pub fn range(&self) -> Range
+        ensures first { result.first.0 ≡ self.now.first }
+        ensures count { result.count ≡ self.now.count }
+    {
+        self.range
+    }
+
+    /// What is to be written.
+    pub fn contents(&self) -> &Bytes
+        ensures { result.now ≡ self.now.contents }
+    {
+        &self.contents
+    }
+
+    /// The connection and the place in its stream, if it has one.
+    pub fn home(&self) -> Option<(u32, u32)>
+        ensures { result ≡ self.now.home }
+    {
+        self.home
+    }
+
+    /// Whether it was sent.
+    pub fn is_sent(&self) -> bool
+        ensures { result ≡ self.now.sent }
+    {
+        self.sent
+    }
+
     /// A write that the local disk has to do, at its home in a stream, or without one.
     pub(crate) fn new(number: u64, range: Range, contents: Bytes, home: Option<(u32, u32)>) -> Write
         ensures { result ≡ record {

@@ -1,4 +1,4 @@
-use Rattle.std.proofs.Common.{◌≡◌, ◌+◌, ◌++◌, List, ℕ, [], ◌∷◌, length, take, drop, arith, sym, ◌∙◌, ap}
+use Rattle.std.proofs.Common.{◌≡◌, ◌+◌, ◌++◌, List, ℕ, [], ◌∷◌, length, take, drop, arith, ◌∙◌, ap}
 use Rattle.std.proofs.Math.Seq.{take-append_seam}
 use Rattle.transferlog.specs.Writes.{LogWrite}
 use Rattle.transferlog.specs.Log.{with_latest}
@@ -16,6 +16,6 @@ returns-clause-accepted c =
     let s = log_of l in
     let r = c.args.range in
     let writes = ap (λ ring. ring.writes) c.push.ensures ∙ (ap (λ ring. ring.writes ++ c.new.result ∷ []) c.in_ok-reserve.ensures.same
-      ∙ ap (λ (w : LogWrite). s.writes ++ w ∷ []) c.new.ensures) in
+    ∙ ap (λ (w : LogWrite). s.writes ++ w ∷ []) c.new.ensures) in
     let latest = whole l.latest.len l.latest.items c.put.new.numbers (omega (arith, c.put.auto.numbers, c.deref_mut.ensures.len)) ∙ c.put.ensures ∙ ap (λ xs. with_latest (l.accepted + 1) r.first.0 r.count xs) c.deref_mut.ensures.value in
     rw (← c.self.view_is) (accepted_is s r.first.0 r.count c.args.contents _ _ _ _ _ _ _ _ c.in_ok-home.ensures.home c.place_in.ensures latest writes c.clear.ensures.items c.clear-2.ensures.items)

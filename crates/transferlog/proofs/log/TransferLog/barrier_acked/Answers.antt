@@ -1,9 +1,9 @@
-use Rattle.std.proofs.Common.{◌≡◌, ◌+◌, ℕ, Bool, true, false, not, refl, sym, ◌∙◌, ap, List, ◌++◌, []}
+use Rattle.std.proofs.Common.{◌≡◌, ◌+◌, ℕ, Bool, true, not, refl, sym, ◌∙◌, ap, List, ◌++◌, []}
 use Rattle.transferlog.specs.Log.{LogState, may_confirm}
 use Rattle.std.specs.Prelude.{filter, map}
 use Rattle.transferlog.specs.Writes.{is_released, released_of}
 use Rattle.transferlog.specs.Fields.{log_of}
-use Rattle.transferlog.proofs.Kept.{newly_from, newly_below, bounded_confirmed, awaited_of, log_confirmed, confirmed_is, IsBounded}
+use Rattle.transferlog.proofs.Kept.{newly_from, newly_below, bounded_confirmed, awaited_of, log_confirmed, confirmed_is}
 use Rattle.transferlog.proofs.log.TransferLog.barrier_acked.Goals as goal
 
 -- what is added to a list that was cleared

@@ -1,6 +1,6 @@
-use Rattle.std.proofs.Common.{◌≡◌, ◌+◌, ◌<◌, ◌≤◌, ℕ, List, length, refl, sym, ◌∙◌, ap, arith, not}
+use Rattle.std.proofs.Common.{◌≤◌, length, ◌∙◌, ap, arith, not}
 use Rattle.std.specs.Prelude.{filter, map}
-use Rattle.transferlog.specs.Writes.{LogWrite, is_released, unlinking}
+use Rattle.transferlog.specs.Writes.{is_released, unlinking}
 use Rattle.transferlog.specs.Ring.{RingState}
 use Rattle.transferlog.specs.Fields.{IsAlone}
 use Rattle.transferlog.proofs.Moves.{left_kept, each_filter, few_left}

@@ -1,4 +1,4 @@
-use Rattle.std.proofs.Common.{◌≡◌, ◌+◌, ◌≤◌, ℕ, true, false, sym, ◌∙◌, ap, subst, arith}
+use Rattle.std.proofs.Common.{◌≡◌, ◌+◌, ℕ, sym, ◌∙◌, subst, arith}
 use Rattle.transferlog.specs.Ring.{Each, Rises}
 use Rattle.transferlog.proofs.InSlots.{rises_in}
 use Rattle.transferlog.proofs.Answered.{IsAnsweredBelow, answered_next, lacks_one, lacks_none}

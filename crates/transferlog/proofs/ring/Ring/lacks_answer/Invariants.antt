@@ -1,4 +1,3 @@
-use Rattle.std.proofs.Common.{◌≡◌}
 use Rattle.transferlog.specs.Ring.{Each}
 use Rattle.transferlog.proofs.Answered.{IsAnsweredBelow}
 use Rattle.transferlog.proofs.ring.Ring.lacks_answer.Given as goal

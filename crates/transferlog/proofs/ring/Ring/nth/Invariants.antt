@@ -1,6 +1,5 @@
 use Rattle.std.proofs.Common.{◌≡◌, drop}
-use Rattle.std.specs.Prelude.{find, slice_get}
-use Rattle.transferlog.specs.Writes.{is_waiting}
+use Rattle.std.specs.Prelude.{slice_get}
 use Rattle.transferlog.specs.Slots.{writes_in}
 use Rattle.transferlog.proofs.ring.Ring.nth.Given as goal
 

@@ -1,6 +1,6 @@
-use Rattle.std.proofs.Common.{◌≡◌, ◌+◌, ◌<◌, ◌≤◌, ℕ, true, arith}
+use Rattle.std.proofs.Common.{◌+◌, ◌<◌, ◌≤◌, arith}
 use Rattle.transferlog.specs.Writes.{LogWrite}
-use Rattle.transferlog.specs.Ring.{Each, ReleasedFrom, ReleasedBelow}
+use Rattle.transferlog.specs.Ring.{ReleasedFrom, ReleasedBelow}
 use Rattle.transferlog.specs.Slots.{writes_in}
 use Rattle.transferlog.proofs.Unlinking.{numbers_from, numbers_below, each_to}
 use Rattle.transferlog.proofs.ring.Ring.release_rest.Goals as goal

@@ -4,7 +4,7 @@ use Rattle.std.specs.Option.{option_map, option_and_then, option_to_list}
 use Rattle.std.proofs.lemmas.List.{length-map, append-nil}
 use Rattle.transferlog.specs.Writes.{LogWrite, completed_of, turn_of, unlinking}
 use Rattle.transferlog.specs.Ring.{RingState, Each, Rises, with_change, write_at}
-use Rattle.transferlog.specs.Slots.{ring_of, IsRing, writes_in}
+use Rattle.transferlog.specs.Slots.{ring_of, IsRing}
 use Rattle.transferlog.specs.declared.ring.Ring.TheInside.{Inside}
 use Rattle.transferlog.specs.declared.report.Completed.{Completed}
 use Rattle.transferlog.specs.declared.report.Turn.{Turn}

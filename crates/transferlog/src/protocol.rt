@@ -1,0 +1,36 @@
+//! What the replication protocols ask of the peer (DRBD User's Guide, "Replication modes").
+ghost use Rattle.std.specs.Prelude.{◌≡◌};
+ghost use Rattle.transferlog.specs.Log.{answers_sent, asks_answers, is_asked};
+
+use crate::report::Answer;
+use blocks::Protocol;
+
+/// Whether the protocol asks for this kind of answer.
+pub(crate) fn is_asked(protocol: Protocol, kind: Answer) -> bool
+    ensures { result ≡ is_asked protocol kind }
+{
+    match (protocol, kind) {
+        (Protocol::B, Answer::Received) | (Protocol::C, Answer::Written) => true,
+        _ => false,
+    }
+}
+
+/// Whether the protocol asks for answers at all.
+pub(crate) fn asks_answers(protocol: Protocol) -> bool
+    ensures { result ≡ asks_answers protocol }
+{
+    match protocol {
+        Protocol::A => false,
+        Protocol::B | Protocol::C => true,
+    }
+}
+
+/// Whether a write is answered by standing in the link's queue.
+pub(crate) fn answers_sent(protocol: Protocol) -> bool
+    ensures { result ≡ answers_sent protocol }
+{
+    match protocol {
+        Protocol::A => true,
+        Protocol::B | Protocol::C => false,
+    }
+}
