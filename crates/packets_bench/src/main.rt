@@ -1,12 +1,13 @@
-//! How fast a decoder takes a stream of DATA frames in small pieces, beside a plain copy of the same bytes.
-//! What was decoded goes to standard output, the rates go to standard error.
+//! How fast a decoder takes a stream of DATA frames in small pieces, beside a plain copy of the same bytes, and
+//! how many acknowledgements a second are encoded and decoded. What was decoded goes to standard output, the
+//! rates go to standard error.
 #![tactic(auto)]
 
 ghost use Rattle.std.specs.Prelude.{◌<◌, ◌≤◌};
 
 use blocks::Block;
 use bytes::Bytes;
-use packets::{Decoder, Packet, encode};
+use packets::{Acknowledgement, Decoder, Packet, encode, read};
 use std::alloc::Global;
 use std::time::{Duration, Instant};
 
@@ -90,8 +91,52 @@ fn measure(rt: &HostRuntime, blocks: usize) -> anyhow::Result<()>
     Ok(())
 }
 
+/// Acknowledgements of a run.
+const ACKNOWLEDGEMENTS: u32 = 1_000_000;
+
+/// So many in a second; 0 where the clock shows no time.
+fn frequency(count: u32, time: Duration) -> u128 {
+    match time.as_micros() {
+        0 => 0,
+        micros => u128::from(count) * 1_000_000 / micros,
+    }
+}
+
+/// Encodes acknowledgements and decodes each frame, and counts those that are read.
+fn acknowledge(alloc: Global) -> anyhow::Result<u32> {
+    let mut count: u32 = 0;
+    for place in 0..ACKNOWLEDGEMENTS {
+        let frame = encode(
+            alloc,
+            &Packet::WriteAck(Acknowledgement {
+                first: Block(2),
+                number: 1,
+                count: 1,
+                place,
+            }),
+        )?;
+        if matches!(read(frame, None)?, Packet::WriteAck(_)) {
+            count = count.saturating_add(1);
+        }
+    }
+    Ok(count)
+}
+
+fn measure_acknowledgements(rt: &HostRuntime) -> anyhow::Result<()> {
+    let start = Instant::now(rt)?;
+    let count = acknowledge(rt.alloc())?;
+    let time = start.elapsed(rt)?;
+    println!(rt; "acknowledgements: {count}")?;
+    eprintln!(rt;
+        "acknowledgements: {} a second encoded and decoded",
+        frequency(count, time)
+    )?;
+    Ok(())
+}
+
 fn main(rt: HostRuntime) -> anyhow::Result<()> {
     measure(&rt, 1)?;
     measure(&rt, 8)?;
-    measure(&rt, 32)
+    measure(&rt, 32)?;
+    measure_acknowledgements(&rt)
 }
