@@ -1,0 +1,20 @@
+-- The rule of a row: what was pushed is what was taken and then what the row holds. One pass at most may push, and it
+-- has the list of what was pushed; and one at most may take, and has the list of what was taken.
+use Rattle.std.specs.Prelude.{◌≡◌, ℕ, Bool, true, List, ◌++◌}
+use mathlib.Core.Option.{some}
+use lib.ListN.{get_elem?}
+use Rattle.ruled_link.specs.Pieces.{PieceState}
+use Rattle.ruled_link.specs.declared.pieces.Log.{Log}
+
+-- what a pass may do and knows
+abbrev pub log : Bool → Bool → List PieceState → List PieceState → Log
+log pushes takes pushed taken = record { pushes = pushes; takes = takes; pushed = pushed; taken = taken }
+
+-- what a pass knows is so
+abbrev pub Fits : ℕ → ℕ → List PieceState → List PieceState → ℕ → Log → Type 0
+Fits writer reader pushed taken port v = (v.pushes ≡ true → (port ≡ writer) × (v.pushed ≡ pushed)) × (v.takes ≡ true → (port ≡ reader) × (v.taken ≡ taken))
+
+-- the pieces taken, and then those in the row, are the pieces pushed
+abbrev pub InOrder : List PieceState → List Log → Type 0
+InOrder pieces views = (writer : ℕ) × (reader : ℕ) × (pushed : List PieceState) × (taken : List PieceState) × (pushed ≡ taken ++ pieces)
+    × ((port : ℕ) (v : Log) → get_elem? views port ≡ some v → Fits writer reader pushed taken port v)

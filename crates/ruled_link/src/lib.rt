@@ -1,0 +1,9 @@
+//! The link between two nodes in threads of their own: its pieces, and the row in which they go from one end
+//! to the other.
+#![tactic(auto)]
+
+mod piece;
+mod pieces;
+
+pub use piece::{PIECE_BYTES, Piece};
+pub use pieces::{PieceIn, PieceOut, row};
