@@ -2,7 +2,7 @@
 use Rattle.std.proofs.Common.{◌≡◌, ◌≢◌, ℕ, zero, suc, true, false, true≢false, List, [], ◌∷◌, ◌++◌, length, set, sym, refl, ap, ◌∙◌, subst, ⊎_elim, append_assoc}
 use mathlib.Core.Option.{some, some-ne-none}
 use lib.ListN.{get_elem?}
-use Rattle.crossbeam_queue.specs.Fifo.{Pushes, Pops, Forks}
+use Rattle.crossbeam_queue.specs.Fifo.{Pushes, Pops, Forks, Merges, Learns}
 use Rattle.crossbeam_queue.proofs.Lists.{at_set, at_snoc}
 use Rattle.ruled_link.specs.declared.pieces.Log.{Log}
 use Rattle.ruled_link.specs.Pieces.{PieceState}
@@ -66,3 +66,13 @@ forks port v a b items views h at = let l : Log = log true false v.pushed [] in 
       λ j u e. ⊎_elim (λ x. ((old j u x).0, λ p. absurd ((old j u x).1 p)))
           (λ (is : r ≡ u). ((λ p. absurd (true≢false (sym (ap (λ (y : Log). y.pushes) is ∙ p)))), λ p. (at_end vs r u j (λ x. (old j u x).1 p) e, ap (λ (y : Log). y.taken) (sym is) ∙ (mine.1 b).1))) (at_snoc vs r u j e),
     )
+
+pub merges : (port : ℕ) (v : Log) (other : ℕ) (u : Log) → v.pushes ≡ true → u.takes ≡ true → Merges InOrder port v other u (log true true v.pushed u.taken) (log false false [] [])
+merges port v other u a b items views h at two at' = let both : Log = log true true v.pushed u.taken in let mine = h.5 port v at in let vs : List Log = set views port both in
+    let was : get_elem? views other ≡ some u = ⊎_elim (λ x. absurd (two x.0)) (λ x. x.1) (at_set views port other both u at') in let theirs = (h.5 other u was).1 b in
+    let Now : ℕ → Log → Type 0 = λ j y. j ≢ other → Fits h.0 port h.2 h.3 j y in
+    let now : All Now vs = all_set Now views port both (λ _. ((λ _. mine.0 a), λ _. (refl, theirs.1))) (λ j y _ e apart. ((h.5 j y e).0, λ p. absurd (apart (((h.5 j y e).1 p).0 ∙ sym theirs.0)))) in
+    (h.0, port, h.2, h.3, h.4, all_set (Fits h.0 port h.2 h.3) vs other (log false false [] []) ((λ p. absurd (true≢false (sym p))), λ p. absurd (true≢false (sym p))) (λ j y apart e. now j y e apart))
+
+pub totals : (port : ℕ) (v : Log) → v.pushes ≡ true → v.takes ≡ true → Learns InOrder port v (λ items. v.pushed ≡ v.taken ++ items)
+totals port v a b items views h at = let mine = h.5 port v at in (mine.0 a).1 ∙ h.4 ∙ ap (λ l. l ++ items) (sym (mine.1 b).1)

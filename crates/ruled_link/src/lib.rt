@@ -6,4 +6,4 @@ mod piece;
 mod pieces;
 
 pub use piece::{PIECE_BYTES, Piece};
-pub use pieces::{PieceIn, PieceOut, row};
+pub use pieces::{PieceIn, PieceOut, join_ends, row};

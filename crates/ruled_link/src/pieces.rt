@@ -1,8 +1,9 @@
 //! The row of pieces of one direction, and its two ends.
-ghost use Rattle.std.specs.Prelude.{◌≡◌, ◌<◌, [], ◌∷◌, ◌++◌, OnOk, OnErr, IfOk, IfErr, MatchOption};
+ghost use Rattle.std.specs.Prelude.{◌≡◌, ◌<◌, List, [], ◌∷◌, ◌++◌, OnOk, OnErr, IfOk, IfErr, MatchOption};
+ghost use Rattle.ruled_link.specs.Pieces.{PieceState};
 
 use crate::Piece;
-use crossbeam_queue::protocol::{Free, Lesson, Outcome, Protocol, Split};
+use crossbeam_queue::protocol::{Join, Lesson, Outcome, Protocol, Split};
 use crossbeam_queue::{Pass, RuledArrayQueue};
 use std::alloc::{AllocError, Global};
 use std::collections::LinkedList;
@@ -39,6 +40,24 @@ impl Split<Log> for Ends {
     ghost left = { λ v. log true false v.pushed [] };
 
     ghost right = { λ v. log false true [] v.taken };
+}
+
+impl Join<Log> for Ends {
+    ghost use Rattle.std.specs.Prelude.{true, false, []};
+    ghost use Rattle.ruled_link.specs.Row.{log};
+
+    ghost both = { λ v w. log true true v.pushed w.taken };
+
+    ghost spent = { log false false [] [] };
+}
+
+/// What a pass learns that may do both.
+struct Whole;
+
+impl Lesson<Piece, Log> for Whole {
+    ghost use Rattle.std.specs.Prelude.{◌≡◌, ◌++◌};
+
+    ghost fact = { λ v pieces. v.pushed ≡ v.taken ++ pieces };
 }
 
 struct Pushed;
@@ -81,15 +100,15 @@ pub struct PieceOut<R: Wait> {
 }
 
 impl<R: Wait> Model for PieceOut<R> {
-    ghost use Rattle.std.specs.Prelude.{◌≡◌, List, true, false, []};
+    ghost use Rattle.std.specs.Prelude.{◌≡◌, true, false, []};
     ghost use Rattle.crossbeam_queue.specs.Passes as passes;
-    ghost use Rattle.ruled_link.specs.Pieces.{PieceState};
+    ghost use Rattle.ruled_link.specs.Pieces.{EndState};
 
-    ghost Value = { List PieceState };
+    ghost Value = { EndState };
 
     ghost use Rattle.ruled_link.specs.Row.{log};
 
-    ghost view = { λ e. (passes.view e.pass).pushed };
+    ghost view = { λ e. record { row = e.pass.table_id; pieces = (passes.view e.pass).pushed } };
 
     ghost invariant = { λ e. passes.IsPassOf e.row.value e.pass × (passes.view e.pass ≡ log true false (passes.view e.pass).pushed []) };
 }
@@ -102,15 +121,15 @@ pub struct PieceIn<R: Wait> {
 }
 
 impl<R: Wait> Model for PieceIn<R> {
-    ghost use Rattle.std.specs.Prelude.{◌≡◌, List, true, false, []};
+    ghost use Rattle.std.specs.Prelude.{◌≡◌, true, false, []};
     ghost use Rattle.crossbeam_queue.specs.Passes as passes;
-    ghost use Rattle.ruled_link.specs.Pieces.{PieceState};
+    ghost use Rattle.ruled_link.specs.Pieces.{EndState};
 
-    ghost Value = { List PieceState };
+    ghost Value = { EndState };
 
     ghost use Rattle.ruled_link.specs.Row.{log};
 
-    ghost view = { λ e. (passes.view e.pass).taken };
+    ghost view = { λ e. record { row = e.pass.table_id; pieces = (passes.view e.pass).taken } };
 
     ghost invariant = { λ e. passes.IsPassOf e.row.value e.pass × (passes.view e.pass ≡ log false true [] (passes.view e.pass).taken) };
 }
@@ -122,7 +141,7 @@ pub fn row<R: Wait + Copy>(
     capacity: usize,
 ) -> Result<(PieceOut<R>, PieceIn<R>), AllocError>
     requires { 0 < capacity }
-    ensures { IfOk result (λ ends. (ends.0 ≡ []) × (ends.1 ≡ [])) }
+    ensures { IfOk result (λ ends. (ends.0.pieces ≡ []) × (ends.1.pieces ≡ []) × (ends.0.row ≡ ends.1.row)) }
 {
     let (queue, mut pass) = Row::ruled(alloc, capacity)?;
     let taker = queue.another::<Ends>(&mut pass);
@@ -142,7 +161,7 @@ impl<R: Wait> PieceOut<R> {
     /// Pushes a piece at the end of the row, or hands it back where the row was full at some moment of the
     /// call. It takes no memory.
     pub fn push(&mut self, piece: Piece) -> Result<(), Piece>
-        ensures pushed { OnOk result (self.new ≡ self.old ++ piece ∷ []) }
+        ensures pushed { OnOk result (self.new ≡ record self.old { pieces = self.old.pieces ++ piece ∷ [] }) }
         ensures handed_back { IfErr result (λ back. back ≡ piece) }
         ensures unchanged { OnErr result (self.new ≡ self.old) }
     {
@@ -155,8 +174,35 @@ impl<R: Wait> PieceIn<R> {
     /// Takes the first piece of the row, or nothing where the row was empty at some moment of the call. It
     /// takes no memory.
     pub fn pop(&mut self) -> Option<Piece>
-        ensures { MatchOption result (self.new ≡ self.old) (λ piece. self.new ≡ self.old ++ piece ∷ []) }
+        ensures { MatchOption result (self.new ≡ self.old) (λ piece.
+            self.new ≡ record self.old { pieces = self.old.pieces ++ piece ∷ [] }) }
     {
         self.row.pop_as::<Taken, R>(&self.rt, &mut self.pass)
     }
+}
+
+/// The two ends of one row, as they were: whoever holds both knows that the pieces taken begin the pieces
+/// pushed. It takes no memory.
+pub fn join_ends<R: Wait>(outward: PieceOut<R>, inward: PieceIn<R>) -> (PieceOut<R>, PieceIn<R>)
+    requires { outward.row ≡ inward.row }
+    ensures ends { (result.0 ≡ outward) × (result.1 ≡ inward) }
+    ensures begins { (rest : List PieceState) × (inward.pieces ++ rest ≡ outward.pieces) }
+{
+    let PieceOut { rt, row, mut pass } = outward;
+    let PieceIn {
+        rt: other_rt,
+        row: other,
+        pass: taker,
+    } = inward;
+    row.absorb::<Ends>(&mut pass, taker);
+    row.learn_as::<Whole>(&mut pass);
+    let taker = row.another::<Ends>(&mut pass);
+    (
+        PieceOut { rt, row, pass },
+        PieceIn {
+            rt: other_rt,
+            row: other,
+            pass: taker,
+        },
+    )
 }
