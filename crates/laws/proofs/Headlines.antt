@@ -1,19 +1,18 @@
 -- The theorems as the contracts name them: of the primary, of the secondary, of the two joined, and of the pair.
-use Rattle.std.proofs.Common.{ℕ, zero, suc, ◌≡◌, ◌-◌, ◌≤◌, inl, inr, not, ◌&&◌, List, [], ◌∷◌, length, take, Some, slice_get, sym, ◌∙◌, ap, subst, arith}
+use Rattle.std.proofs.Common.{◌≤◌, inl, inr, List, length, sym, ◌∙◌, subst}
 use Rattle.std.proofs.lemmas.Bool.{cases_Bool, both_ways, lt-ltb}
 use Rattle.blocks.specs.declared.settings.Settings.{Settings}
 use Rattle.model.specs.Contents.{IsDisk}
-use Rattle.model.specs.Stream.{Item, IsLawful, below}
+use Rattle.model.specs.Stream.{IsLawful}
 use Rattle.model.specs.LocalRuns.{PrimaryEvent, primary_run, secondary_run}
-use Rattle.model.specs.Primary.{PrimaryHistory, last_of, no_outward, outward, local_map, items_sent, active_extents}
-use Rattle.model.specs.Secondary.{Inward, SecondaryHistory, no_inward, inward, items_taken, secondary_map}
+use Rattle.model.specs.Primary.{PrimaryHistory, local_map, active_extents}
+use Rattle.model.specs.Secondary.{SecondaryHistory, secondary_map}
 use Rattle.model.specs.Pair.{PairHistory, run, same_block}
-use Rattle.model.specs.Headline.{IsJoined, TakesABeginning, StaysClosed, StaysClosedToo, HoldsEarlierEpochs, KeepsPromises, MarksDifferences, CoversDifferences, Headline, is_marked, is_covered}
+use Rattle.model.specs.Headline.{IsJoined, TakesABeginning, StaysClosed, StaysClosedToo, HoldsEarlierEpochs, KeepsPromises, MarksDifferences, CoversDifferences, Headline, is_covered}
 use Rattle.model.specs.Theorems.{Opening, primary_at, secondary_at, pair_at, AnyOpening, HasRanges, IsSoundOpening, EveryRun, JoinedRuns, JoinedRunsHaveTheHeadline, JoinedRunsCoverDifferences, JoinedRunsSettle, EveryRunHasTheHeadline, EveryRunCoversDifferences}
 use Rattle.laws.specs.Statements.{PrimaryStreamsAreLawful, PrimaryExtentsAreFew, PrimaryStaysClosed, PrimaryReflects, PrimaryMarksAtRest, SecondaryStaysClosed, EveryRunIsJoined, EveryRunTakesABeginning, EveryRunStaysClosed, EveryRunHoldsEarlierEpochs, EveryRunKeepsPromises, EveryRunMarksDifferences}
 use Rattle.laws.proofs.Primary.Moves.{keeps-run}
 use Rattle.laws.proofs.Primary.HomesMoves.{homes-opening}
-use Rattle.laws.proofs.Lists.Beginnings.{length-begins}
 use Rattle.laws.proofs.Secondary.Runs.{holds_earlier_epochs}
 use Rattle.laws.proofs.Joining.Promises.{keeps_promises, writes_once}
 use Rattle.laws.proofs.Primary.LawfulMoves.{primary_lawful}
@@ -25,11 +24,9 @@ use Rattle.laws.proofs.Primary.LastOpen.{last-open-kept}
 use Rattle.laws.proofs.Accounted.{IsAccounted}
 use Rattle.laws.proofs.Accounted.Kept.{accounted-kept, accounted-opening}
 use Rattle.laws.proofs.Accounted.Reflected.{reflected, rest-marked}
-use Rattle.laws.proofs.Lists.Last.{last-at}
 use Rattle.laws.proofs.Joining.Openings.{kept-opening-primary}
 use Rattle.laws.proofs.Joining.Agreeing.{joined-agrees}
 use Rattle.laws.proofs.Pair.Runs.{pair_runs_are_joined, leads-run}
-use Rattle.laws.proofs.Lists.Picks.{none-passes}
 use Rattle.laws.proofs.Joining.Taking.{takes_a_beginning}
 use Rattle.laws.proofs.Settling.{settles}
 

@@ -6,11 +6,11 @@ use Rattle.std.proofs.lemmas.Bool.{cases_Bool, both_ways, and_parts, or_parts, n
 use Rattle.blocks.specs.declared.refusal.Refusal.{Refusal}
 use Rattle.blocks.specs.declared.refusal.Refusal.TheVariants.{ReadFault, StrangeReceipt, NotDrained}
 use Rattle.model.specs.Stream.{Item, below, IsBeginning}
-use Rattle.model.specs.Refusals.{Test, first_refusal}
+use Rattle.model.specs.Refusals.{first_refusal}
 use Rattle.model.specs.Primary.{Kind, Linked, Alone, Completion, PrimaryHistory, no_outward, outward, outward_at, items_sent, local_map, next_local, Outward}
 use Rattle.model.specs.Secondary.{SecondaryHistory, inward, inward_at, items_taken, secondary_map, is_drained}
 use Rattle.model.specs.Pair.{same_block}
-use Rattle.model.specs.Headline.{IsJoined, IsGrounded, Headline, is_marked}
+use Rattle.model.specs.Headline.{IsJoined, Headline, is_marked}
 use Rattle.model.specs.Settlement.{Receipt, receipt_of, same_kind, same_home, same_receipt, has_strange, is_at_rest, Settlement, settlement, settle_tests, settle}
 use Rattle.model.specs.Theorems.{Settles}
 use Rattle.laws.proofs.Lists.Beginnings.{length-begins}

@@ -1,5 +1,5 @@
 -- The history of a primary, and what is read off it.
-use Rattle.std.specs.Prelude.{ℕ, zero, suc, unwrap_or, ◌-◌, nat_lt, ◌==◌, Bool, true, false, ◌&&◌, ◌||◌, not, if◌then◌else◌, List, [], ◌∷◌, ◌++◌, length, take, map, filter, find, Option, Some, None, option_map, slice_get, Ok}
+use Rattle.std.specs.Prelude.{ℕ, zero, suc, unwrap_or, ◌-◌, nat_lt, ◌==◌, Bool, true, false, ◌&&◌, ◌||◌, not, if◌then◌else◌, List, [], ◌∷◌, ◌++◌, length, map, filter, find, Option, Some, None, option_map, slice_get, Ok}
 use Rattle.std.specs.List.{list_any}
 use Rattle.blocks.specs.declared.tuple.Tuple.{Tuple}
 use Rattle.blocks.specs.declared.settings.Settings.{Settings}

@@ -1,6 +1,5 @@
 -- Worked examples of what a secondary says of its use, of connections that it never opened, and of settlements.
 use Rattle.std.specs.Prelude.{ℕ, ◌≡◌, Bool, true, false, List, [], ◌∷◌, ◌++◌, take, Some, Ok, Err}
-use Rattle.blocks.specs.declared.settings.Settings.{Settings}
 use Rattle.blocks.specs.declared.settings.Protocol.TheVariants as protocol
 use Rattle.blocks.specs.declared.refusal.Refusal.TheVariants.{StrangeReceipt, NotDrained, ReadFault}
 use Rattle.blocks.specs.SettingsRange.{standard}
@@ -8,7 +7,7 @@ use Rattle.model.specs.Contents.{filled}
 use Rattle.model.specs.Primary.{Linked, Alone, PrimaryHistory, primary_opening, no_outward, outward_at}
 use Rattle.model.specs.Secondary.{SecondaryHistory, secondary_opening, inward, inward_at}
 use Rattle.model.specs.LocalRuns.{Opens, Closes, primary_run, OpensToo, ClosesToo, secondary_run}
-use Rattle.model.specs.Pair.{Event, LocalEvent, SendEvent, ReceiveEvent, PeerEvent, PeerFaultEvent, AckOutEvent, AckInEvent, ClosePrimaryEvent, CloseSecondaryEvent, PairHistory}
+use Rattle.model.specs.Pair.{Event, LocalEvent, SendEvent, ReceiveEvent, PeerFaultEvent, AckOutEvent, AckInEvent, ClosePrimaryEvent, CloseSecondaryEvent, PairHistory}
 use Rattle.model.specs.Settlement.{Receipt, settle}
 use Rattle.model.specs.Status.{secondary_line, linked_secondary, target_secondary}
 use Rattle.model.specs.Rows.{words, connected, after, fill}

@@ -1,21 +1,17 @@
 -- What lending the secondary's queue to the primary leaves of the link.
-use Rattle.std.proofs.Common.{ℕ, ◌≡◌, ◌-◌, ◌≤◌, ◌⊎◌, inl, inr, Bool, true, false, not, ◌&&◌, List, [], ◌∷◌, ◌++◌, length, Option, Some, None, Result, Ok, Err, refl, sym, ◌∙◌, ap, subst, arith, append_assoc}
-use Rattle.std.specs.Prelude.{IfOk, IfErr, IsSome, is_none}
+use Rattle.std.proofs.Common.{ℕ, ◌≡◌, ◌-◌, ◌≤◌, inl, inr, true, false, List, [], ◌∷◌, ◌++◌, length, Option, Some, None, Result, Ok, Err, refl, sym, ◌∙◌, ap, subst, arith, append_assoc}
+use Rattle.std.specs.Prelude.{IsSome}
 use Rattle.std.specs.Option.{option_map}
 use Rattle.std.proofs.lemmas.Bool.{cases_Bool}
 use Rattle.std.proofs.lemmas.List.{append_cancel_right}
 use Rattle.blocks.specs.declared.outcome.Done.{Done}
-use Rattle.blocks.specs.declared.outcome.Reply.{Reply}
-use Rattle.blocks.specs.declared.outcome.Reply.TheVariants as reply
 use Rattle.blocks.specs.declared.refusal.Refusal.{Refusal}
-use Rattle.blocks.specs.declared.refusal.Refusal.TheVariants.{NoMemory, NotConnected, NothingThere}
 use Rattle.link.specs.Directions.{QueueState}
-use Rattle.primary.specs.Judged.{IsClosedBy, IsNothingThere, IsTakenIn}
 use Rattle.primary.specs.Primaries.{capacity_of, changed, is_connected, queued_of, room_of, sent_of, taken_of, waiting_of, with_queued}
 use Rattle.primary.specs.State.{ConnectionState, PrimaryState}
 use Rattle.primary.specs.Taking.{IsNext, TakesIfThere, TakesOne}
 use Rattle.secondary.specs.State.{SecondaryState}
-use Rattle.pair.specs.Linked.{AreEnds, Carries, IsLinked}
+use Rattle.pair.specs.Linked.{AreEnds, IsLinked}
 use Rattle.pair.specs.State.{PairState}
 use Rattle.pair.proofs.Links.{carries-same}
 use Rattle.pair.proofs.Receives.{capacity-is}

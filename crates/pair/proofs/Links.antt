@@ -1,20 +1,17 @@
 -- What the link carries after a call.
-use Rattle.std.proofs.Common.{ℕ, ◌≡◌, ◌-◌, ◌<◌, List, [], ◌∷◌, ◌++◌, length, Option, Some, None, refl, sym, ◌∙◌, ap, arith, length-append, append_assoc, zero, suc, ◌+◌, ◌⊎◌, true, false, not, nat_lt, nat_le, Result, Ok, Err, subst}
+use Rattle.std.proofs.Common.{ℕ, ◌≡◌, ◌-◌, ◌<◌, List, [], ◌∷◌, ◌++◌, length, Option, Some, None, refl, sym, ◌∙◌, ap, arith, length-append, append_assoc, zero, suc, false, Result, Ok, Err, subst}
 use Rattle.std.specs.Option.{option_map}
-use Rattle.primary.specs.State.{ConnectionState, PrimaryState}
+use Rattle.primary.specs.State.{ConnectionState}
 use Rattle.primary.specs.Taking.{KeepsEnds}
 use Rattle.secondary.specs.State.{SecondaryState}
 use Rattle.pair.specs.Linked.{Carries, IsLinked}
-use Rattle.std.specs.Prelude.{◌↔◌, IfOk, IfErr, IfSome, IsErr, IsErrOf, OnOk, OnErr}
+use Rattle.std.specs.Prelude.{IfSome, IsErr, OnOk, OnErr}
 use Rattle.std.specs.Result.{is_err}
 use Rattle.std.proofs.lemmas.Bool.{both_ways}
 use Rattle.blocks.specs.declared.outcome.Done.{Done}
 use Rattle.blocks.specs.declared.refusal.Refusal.{Refusal}
-use Rattle.blocks.specs.declared.refusal.Refusal.TheVariants.{LinkFull, NoMemory, NotConnected, NothingThere}
-use Rattle.blocks.specs.declared.settings.Settings.{Settings}
 use Rattle.packets.specs.declared.packet.Packet.{Packet}
-use Rattle.primary.specs.Primaries.{SendsOneOn, due_in, is_connected, place_in, room_of}
-use Rattle.primary.specs.Sending.{Tells}
+use Rattle.primary.specs.Primaries.{SendsOneOn, room_of}
 
 -- what a direction is, by its parts
 pub carries-same : (link : ℕ) (sent other : List (List ℕ)) (waiting held : Option (List (List ℕ))) (room left : Option ℕ) (taken gone : List (List ℕ)) → other ≡ sent → held ≡ waiting → left ≡ room → gone ≡ taken → Carries link sent waiting room taken → Carries link other held left gone

@@ -1,26 +1,16 @@
 -- Both ends open over a new link.
-use Rattle.std.proofs.Common.{ℕ, ◌≡◌, ◌⊎◌, inl, inr, ◌==◌, Bool, true, false, not, ◌&&◌, List, [], ◌∷◌, ◌++◌, length, nat_le, Option, Some, None, Result, Ok, Err, refl, sym, ◌∙◌, ap, subst, arith}
-use Rattle.std.specs.Prelude.{◌↔◌, if◌then◌else◌, is_some, IfErr, IsOk, IsErrOf, IsSome}
+use Rattle.std.proofs.Common.{ℕ, ◌≡◌, ◌==◌, true, false, not, ◌&&◌, List, [], ◌++◌, length, Option, Some, None, refl, sym, ◌∙◌, ap, subst, arith}
+use Rattle.std.specs.Prelude.{if◌then◌else◌}
 use Rattle.std.specs.Option.{option_map}
-use Rattle.std.proofs.lemmas.Bool.{both_ways, ne_eqb}
-use Rattle.blocks.specs.declared.outcome.Reply.{Reply}
-use Rattle.blocks.specs.declared.outcome.Reply.TheVariants as reply
-use Rattle.blocks.specs.declared.outcome.What.TheVariants as what
-use Rattle.blocks.specs.declared.refusal.Refusal.{Refusal}
-use Rattle.blocks.specs.declared.refusal.Refusal.TheVariants.{NoMemory, NotDrained, StreamFull, UsedIdentifier}
+use Rattle.blocks.specs.declared.refusal.Refusal.TheVariants.{NotDrained}
 use Rattle.link.specs.Directions.{InState, IsUnused, OutState, frames_in, room_in}
-use Rattle.primary.specs.Openings as code
-use Rattle.primary.specs.Openings.{AreFresh}
-use Rattle.primary.specs.Primaries.{is_connected}
-use Rattle.primary.specs.State.{ConnectionState, PrimaryState}
+use Rattle.primary.specs.State.{PrimaryState}
 use Rattle.primary.specs.Streams.{unused_stream}
 use Rattle.primary.specs.declared.hello.Hello.TheVariants.{Protocol}
 use Rattle.secondary.specs.Opened.{opened}
 use Rattle.secondary.specs.Refused.{open_refusal}
 use Rattle.secondary.specs.State.{SecondaryState}
 use Rattle.pair.specs.Linked.{Carries, IsLinked}
-use Rattle.pair.specs.State.{PairState}
-use Rattle.pair.proofs.Links.{carries-same}
 
 -- any other opens
 pub drained-opens : (t : SecondaryState) → t.is_open ≡ false → t.intake.pending ≡ [] → open_refusal t ≡ None

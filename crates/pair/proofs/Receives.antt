@@ -1,15 +1,12 @@
 -- What lending the primary's queue to the secondary leaves of the link.
-use Rattle.std.proofs.Common.{ℕ, ◌≡◌, ◌-◌, ◌≤◌, ◌⊎◌, inl, inr, Bool, true, not, List, [], ◌∷◌, ◌++◌, drop, length, nat_le, Option, Some, None, Result, Ok, Err, slice_get, take, refl, sym, ◌∙◌, ap, subst, arith, append_assoc}
-use Rattle.std.specs.Prelude.{IfOk, IfErr, IfSome, IsSome, if◌then◌else◌, is_none}
+use Rattle.std.proofs.Common.{ℕ, ◌≡◌, ◌-◌, ◌≤◌, ◌⊎◌, inl, inr, Bool, not, List, [], ◌∷◌, ◌++◌, drop, length, nat_le, Option, Some, None, Result, Ok, Err, refl, sym, ◌∙◌, ap, subst, arith, append_assoc}
+use Rattle.std.specs.Prelude.{IfOk, IfErr, IfSome, IsSome, if◌then◌else◌}
 use Rattle.std.specs.Option.{option_map}
-use Rattle.std.proofs.lemmas.Bool.{not-false}
 use Rattle.std.proofs.lemmas.List.{append_cancel_right}
 use Rattle.std.proofs.lemmas.Result.{IfErr-at_err}
 use Rattle.blocks.specs.declared.outcome.Done.{Done}
-use Rattle.blocks.specs.declared.outcome.Reply.{Reply}
-use Rattle.blocks.specs.declared.outcome.Reply.TheVariants as reply
 use Rattle.blocks.specs.declared.refusal.Refusal.{Refusal}
-use Rattle.blocks.specs.declared.refusal.Refusal.TheVariants.{NoMemory, NotConnected, NothingThere, PendingFull}
+use Rattle.blocks.specs.declared.refusal.Refusal.TheVariants.{NotConnected, PendingFull}
 use Rattle.link.specs.Directions.{QueueState}
 use Rattle.primary.specs.Primaries.{changed, room_of, sent_of, waiting_of, with_waiting}
 use Rattle.primary.specs.State.{ConnectionState, PrimaryState}
@@ -17,7 +14,7 @@ use Rattle.secondary.specs.Links.{IsNext}
 use Rattle.secondary.specs.Received.{IsReceived, IsNotTaken, IsClosedBy}
 use Rattle.secondary.specs.Refused.{receive_refusal}
 use Rattle.secondary.specs.State.{SecondaryState}
-use Rattle.pair.specs.Linked.{Carries, IsLinked}
+use Rattle.pair.specs.Linked.{IsLinked}
 use Rattle.pair.specs.State.{PairState}
 use Rattle.pair.proofs.Links.{carries-same}
 

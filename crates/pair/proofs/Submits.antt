@@ -1,19 +1,12 @@
 -- What an accepted write leaves of the link.
-use Rattle.std.proofs.Common.{ℕ, suc, ◌≡◌, ◌+◌, ◌<◌, ◌≤◌, ◌==◌, inl, inr, Bool, true, false, not, ◌&&◌, List, [], ◌∷◌, length, nat_le, Option, Some, None, Result, Ok, Err, refl, sym, ◌∙◌, ap, subst, arith}
-use Rattle.std.specs.Prelude.{◌↔◌, if◌then◌else◌, is_some, unwrap_or, IfOk, IfErr, IfSome, IsOk, IsErr, IsErrOf, OnOk, OnErr}
-use Rattle.std.specs.Option.{ForSome}
+use Rattle.std.proofs.Common.{ℕ, ◌≡◌, Bool, true, false, List, Option, Some, None, Result, Ok, Err, refl, sym, ap, subst}
+use Rattle.std.specs.Prelude.{if◌then◌else◌, IsOk, OnOk, OnErr}
 use Rattle.blocks.specs.declared.outcome.Done.{Done}
-use Rattle.blocks.specs.declared.outcome.What.TheVariants as what
 use Rattle.blocks.specs.declared.refusal.Refusal.{Refusal}
-use Rattle.blocks.specs.declared.refusal.Refusal.TheVariants.{ActivityFull, BadRange, Conflict, JournalFull, LogFull, NoMemory, NotConnected, StreamFull, UnknownJob}
-use Rattle.primary.specs.Primaries.{IsFailed, IsWritten, changed, has_stream}
-use Rattle.primary.specs.Settling.{is_unfinished, settled, settling}
+use Rattle.primary.specs.Primaries.{changed, has_stream}
 use Rattle.primary.specs.State.{ConnectionState, PrimaryState}
-use Rattle.primary.specs.Submissions.{IsAccepted, IsSubmission, obstacle, placing}
+use Rattle.primary.specs.Submissions.{IsAccepted, placing}
 use Rattle.primary.specs.Taking.{KeepsEnds}
-use Rattle.primary.specs.Writes.{unfinished_in}
-use Rattle.primary.specs.declared.write.Step.TheVariants as step
-use Rattle.pair.specs.State.{PairState}
 use Rattle.pair.specs.Linked.{IsLinked}
 use Rattle.secondary.specs.State.{SecondaryState}
 use Rattle.pair.proofs.Links.{link-kept}

@@ -1,29 +1,20 @@
 -- What the calls of the secondary alone leave of the link: its disk does an item, or it sends an acknowledgement.
-use Rattle.std.proofs.Common.{ℕ, ◌≡◌, ◌≤◌, inl, inr, false, List, length, Option, Some, None, Result, Ok, Err, refl, sym, ◌∙◌, ap, subst, arith}
+use Rattle.std.proofs.Common.{ℕ, ◌≡◌, inl, inr, false, List, length, Option, Some, None, Result, Ok, Err, refl, sym, ◌∙◌, ap, subst, arith}
 use Rattle.std.specs.Prelude.{IfOk, IsSome, OnOk, OnErr}
-use Rattle.std.specs.Result.{result_err}
 use Rattle.blocks.specs.declared.outcome.Done.{Done}
-use Rattle.blocks.specs.declared.outcome.What.TheVariants.{Nothing}
 use Rattle.blocks.specs.declared.refusal.Refusal.{Refusal}
-use Rattle.blocks.specs.declared.settings.Settings.{Settings}
 use Rattle.primary.specs.State.{ConnectionState}
 use Rattle.secondary.specs.Applied.{IsApplied}
-use Rattle.secondary.specs.Received as code
-use Rattle.secondary.specs.Refused.{peer_refusal}
 use Rattle.secondary.specs.State.{SecondaryState}
 use Rattle.pair.specs.Linked.{IsLinked}
-use Rattle.pair.specs.State.{PairState}
-use Rattle.std.proofs.Common.{ℕ, zero, suc, ◌≡◌, ◌+◌, ◌-◌, ◌<◌, ◌⊎◌, inl, inr, Bool, true, false, not, List, [], ◌∷◌, ◌++◌, length, nat_lt, nat_le, Option, Some, None, Result, Ok, Err, refl, sym, ◌∙◌, ap, subst, arith, length-append}
-use Rattle.std.specs.Prelude.{IfOk, IfErr, IfSome, IsSome, OnErr, if◌then◌else◌}
+use Rattle.std.proofs.Common.{ℕ, zero, suc, ◌≡◌, ◌+◌, ◌-◌, ◌<◌, ◌⊎◌, inl, inr, Bool, true, false, not, List, [], ◌∷◌, ◌++◌, length, nat_lt, Option, Some, None, Result, Ok, Err, refl, sym, ◌∙◌, ap, subst, arith}
+use Rattle.std.specs.Prelude.{IfOk, IfSome, IsSome, OnErr, if◌then◌else◌}
 use Rattle.std.specs.Option.{option_map}
-use Rattle.std.proofs.lemmas.Bool.{not-false}
 use Rattle.std.proofs.lemmas.Result.{IfErr-at_err}
-use Rattle.blocks.specs.declared.outcome.Reply.{Reply}
-use Rattle.blocks.specs.declared.outcome.Reply.TheVariants as reply
-use Rattle.blocks.specs.declared.refusal.Refusal.TheVariants.{LinkFull, NoMemory, NotConnected, NothingThere}
+use Rattle.blocks.specs.declared.refusal.Refusal.TheVariants.{NotConnected}
 use Rattle.secondary.specs.Outgoing.{due_packet}
 use Rattle.secondary.specs.Refused.{ack_refusal, none_due}
-use Rattle.secondary.specs.Sent.{IsNotSent, IsAcknowledged, after_sending}
+use Rattle.secondary.specs.Sent.{IsAcknowledged, after_sending}
 use Rattle.secondary.specs.Steps.{without_first}
 use Rattle.pair.specs.Linked.{AreEnds, IsLinked}
 use Rattle.pair.specs.Linked.{AreEnds}

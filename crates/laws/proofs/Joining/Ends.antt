@@ -1,12 +1,11 @@
 -- The two ends of a connection, by where they stand and by its number.
-use Rattle.std.proofs.Common.{ℕ, zero, suc, ◌≡◌, ◌<◌, ◌⊎◌, inl, inr, Bool, true, false, List, [], ◌∷◌, ◌++◌, length, map, take, Option, Some, None, slice_get, refl, sym, ◌∙◌, ap, subst, arith}
-use Rattle.std.specs.Prelude.{filter_map, unwrap_or, drop, if◌then◌else◌}
+use Rattle.std.proofs.Common.{ℕ, zero, suc, ◌≡◌, ◌⊎◌, inl, inr, Bool, true, false, List, [], ◌∷◌, Option, Some, None, slice_get, refl, sym, ◌∙◌, ap, subst, arith}
+use Rattle.std.specs.Prelude.{filter_map, unwrap_or, drop}
 use Rattle.model.specs.Stream.{Item, IsBeginning}
 use Rattle.model.specs.Frames.{Received, counting}
-use Rattle.model.specs.Primary.{Outward, PrimaryHistory, no_outward, outward_at, frames_due}
-use Rattle.model.specs.Secondary.{Inward, SecondaryHistory, no_inward, inward_at, items_taken, received_item, answers_due}
+use Rattle.model.specs.Primary.{Outward, PrimaryHistory, no_outward, outward_at}
+use Rattle.model.specs.Secondary.{Inward, SecondaryHistory, no_inward, inward_at, items_taken, received_item}
 use Rattle.model.specs.Headline.{IsJoined, pushed_by, pushed_back_by}
-use Rattle.laws.proofs.Lists.Beginnings.{length-begins}
 use Rattle.laws.proofs.Lists.Elements.{append-empty}
 use Rattle.laws.proofs.Secondary.Numbers.{NumbersRise, inward-there, inward-cases}
 

@@ -1,10 +1,9 @@
 -- The two ends of joined nodes, and the opening disks: they agree on a block that stands as it did at the opening and was
 -- not marked there.
-use Rattle.std.proofs.Common.{ℕ, zero, suc, ◌≡◌, ◌<◌, inl, inr, Bool, true, false, ◌&&◌, List, [], ◌∷◌, map, take, Option, Some, None, slice_get, Ok, refl, sym, ◌∙◌, ap, subst, arith, nat_lt}
+use Rattle.std.proofs.Common.{ℕ, zero, suc, ◌≡◌, ◌<◌, inl, inr, Bool, true, false, ◌&&◌, List, [], ◌∷◌, take, Option, Some, None, slice_get, Ok, refl, sym, ◌∙◌, ap, subst, arith, nat_lt}
 use Rattle.std.specs.Prelude.{is_some}
 use Rattle.std.specs.List.{list_any}
 use Rattle.std.proofs.lemmas.Bool.{cases_Bool, both_ways, or_from, ltb-true, lt-ltb, cases_lt, and_right}
-use Rattle.std.proofs.lemmas.Option.{slice_get_within}
 use Rattle.blocks.specs.declared.settings.Settings.{Settings}
 use Rattle.blocks.specs.declared.tuple.Tuple.{Tuple}
 use Rattle.blocks.specs.declared.outcome.Decision.{Decision}
@@ -28,8 +27,7 @@ use Rattle.laws.proofs.Blocks.SameBlocks.{same-equal, decided-by}
 use Rattle.laws.proofs.Secondary.Tuples.{secondary_hello}
 use Rattle.laws.proofs.Joining.SureApplied.{taken-begins}
 use Rattle.laws.proofs.Secondary.TrueBarriers.{due_is_no_tuple}
-use Rattle.laws.proofs.Lists.Elements.{get-there, append-empty}
-use Rattle.laws.proofs.Joining.Taking.{read}
+use Rattle.laws.proofs.Lists.Elements.{append-empty}
 use Rattle.laws.proofs.Joining.Ends.{AreEnds, joined-back, primary-end, secondary-end, item-taken}
 use Rattle.laws.proofs.Secondary.Numbers.{NumbersRise, numbers-rise}
 use Rattle.model.specs.Stream.{Item}

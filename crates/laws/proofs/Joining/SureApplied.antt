@@ -22,7 +22,6 @@ use Rattle.laws.proofs.Joining.Taking.{items-begin, read}
 use Rattle.laws.proofs.Joining.Ends.{AreEnds, joined-out, joined-back}
 use Rattle.laws.proofs.Secondary.Numbers.{NumbersRise, numbers-rise}
 use Rattle.std.specs.List.{list_any}
-use Rattle.std.specs.Prelude.{if◌then◌else◌}
 
 -- the acknowledgement of a barrier in a frame that passes
 barrier-ack : (epoch : ℕ) (frame : Received) → is_barrier_ack epoch frame ≡ true → (number : ℕ) × (size : ℕ) × (frame ≡ Ok (BarrierAckFrame number size)) × (number ≡ epoch)

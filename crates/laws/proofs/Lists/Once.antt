@@ -1,5 +1,5 @@
 -- Lists in which each number stands once: what adds to them, and what takes from them, keeps that.
-use Rattle.std.proofs.Common.{ℕ, zero, suc, ◌≡◌, inl, inr, Bool, true, false, cond, List, [], ◌∷◌, ◌++◌, length, map, filter, Some, slice_get, refl, sym, ◌∙◌, ap, subst, arith}
+use Rattle.std.proofs.Common.{ℕ, zero, suc, ◌≡◌, inl, inr, Bool, cond, List, [], ◌∷◌, ◌++◌, map, filter, Some, slice_get, refl, sym, ◌∙◌, ap, subst, arith}
 use Rattle.std.proofs.lemmas.Bool.{cases_Bool}
 use Rattle.laws.proofs.Lists.Elements.{get-split}
 use Rattle.laws.proofs.Lists.Picks.{pick-filtered, pick-image}

@@ -32,7 +32,7 @@ use Rattle.laws.proofs.Secondary.Moves.{framed, refused_end}
 use Rattle.laws.proofs.Secondary.Orderly.{IsOrderly}
 use Rattle.laws.proofs.Secondary.OrderlyRuns.{secondary_orderly, HasOrderlyEnds}
 use Rattle.laws.proofs.Joining.Openings.{kept-opening-primary, kept-opening-secondary}
-use Rattle.laws.proofs.Joining.Taking.{read, takes_a_beginning, items-begin}
+use Rattle.laws.proofs.Joining.Taking.{read, items-begin}
 use Rattle.laws.proofs.Joining.HonestEnds.{AreHonestEnds}
 use Rattle.laws.proofs.Joining.Receiving.{IsFine, receiving-fine}
 use Rattle.laws.proofs.Joining.Acknowledging.{IsFineToo, acknowledging-fine}

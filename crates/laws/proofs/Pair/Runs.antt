@@ -4,16 +4,14 @@ use Rattle.std.specs.Prelude.{option_map, if◌then◌else◌}
 use Rattle.blocks.specs.declared.refusal.Refusal.{Refusal}
 use Rattle.blocks.specs.declared.refusal.Refusal.TheVariants.{BadRange, UnknownJob, NotDrained}
 use Rattle.blocks.specs.declared.settings.Settings.{Settings}
-use Rattle.blocks.specs.declared.tuple.Tuple.{Tuple}
 use Rattle.blocks.specs.declared.outcome.Reply.{Reply}
 use Rattle.blocks.specs.declared.outcome.Reply.TheVariants as reply
 use Rattle.blocks.specs.declared.outcome.What.TheVariants as what
-use Rattle.model.specs.Contents.{BlockMap}
 use Rattle.model.specs.Stream.{below, contents_of, IsBeginning}
 use Rattle.model.specs.Refusals.{Test, first_refusal}
-use Rattle.model.specs.Primary.{PrimaryHistory, Outward, primary_opening, no_outward, outward_at}
+use Rattle.model.specs.Primary.{PrimaryHistory, Outward, no_outward, outward_at}
 use Rattle.model.specs.PrimarySteps.{open_tests, opened, open_primary, succeeding, tested, follows, is_unfinished, accepted_at, local_fault}
-use Rattle.model.specs.Secondary.{SecondaryHistory, Inward, secondary_opening, no_inward, inward, with_inward, is_drained, items_taken, inward_at}
+use Rattle.model.specs.Secondary.{SecondaryHistory, Inward, no_inward, inward, with_inward, is_drained, items_taken, inward_at}
 use Rattle.model.specs.SecondarySteps.{answering, open_secondary_tests, opened_secondary, open_secondary, succeeding_secondary, tested_secondary, peer_tests, peer_fault}
 use Rattle.model.specs.LocalRuns.{PrimaryEvent, Opens, Submits, WritesLocally, FailsLocally, Sends, Takes, Resyncs, FailsResync, Closes, primary_after, primary_run, SecondaryEvent, OpensToo, Receives, Applies, FailsToApply, Acknowledges, ClosesToo, secondary_after, secondary_run}
 use Rattle.model.specs.Headline.{IsJoined, pushed_by, pushed_back_by}
@@ -26,7 +24,7 @@ use Rattle.laws.proofs.Pair.Primary.{HasEnds, ends-following, ends-submit, ends-
 use Rattle.laws.proofs.Pair.Secondary.{HasEndsToo, ends-answering, ends-receive, ends-peer, ends-fault-too, ends-push, ends-close-too}
 use Rattle.laws.proofs.Lists.Pairs.{Pairs, pairs-length, pairs-get, pairs-append}
 use Rattle.laws.proofs.Lists.Tests.{test-passed}
-use Rattle.laws.proofs.Secondary.Numbers.{NumbersRise, AreCounted, IsSeen, counted-opened, counted-after, numbers-rise, inward-there, inward-cases}
+use Rattle.laws.proofs.Secondary.Numbers.{NumbersRise, AreCounted, IsSeen, counted-after, numbers-rise, inward-there, inward-cases}
 use Rattle.laws.proofs.Joining.Ends.{outward-there, outward-cases}
 use Rattle.laws.proofs.Lists.Elements.{get-there}
 use Rattle.model.specs.Theorems.{Opening, primary_at, secondary_at, pair_at}

@@ -229,7 +229,6 @@ homes-kept = record {
   receipts = λ h number homes. record { numbered = homes.numbered; housed = homes.housed; homed = homes.homed; empty = homes.empty; refused = homes.refused; journal = homes.journal };
 }
 
-
 -- a primary opens with no writes, and no connections
 pub homes-opening : (settings : Settings) (disk : BlockMap) (tuple : Tuple) (marks : ℕ → Bool) → HasHomes (primary_opening settings disk tuple marks)
 homes-opening settings disk tuple marks = record {

@@ -1,5 +1,5 @@
 -- A stream begins only where the peer's device is of the primary's size: its SIZES frame was taken and accepted before.
-use Rattle.std.proofs.Common.{ℕ, suc, ◌≡◌, ◌<◌, ◌⊎◌, inl, inr, Bool, true, false, not, ◌&&◌, List, [], ◌∷◌, ◌++◌, length, Option, Some, None, slice_get, Ok, refl, sym, ◌∙◌, ap, subst, arith, length-append, ◌-◌}
+use Rattle.std.proofs.Common.{ℕ, ◌≡◌, ◌<◌, ◌⊎◌, inl, inr, Bool, true, false, List, [], ◌∷◌, ◌++◌, length, Option, Some, None, slice_get, Ok, refl, sym, ◌∙◌, ap, subst, arith, length-append, ◌-◌}
 use Rattle.std.specs.Prelude.{unwrap_or}
 use Rattle.std.proofs.lemmas.Bool.{both_ways}
 use Rattle.blocks.specs.declared.settings.Settings.{Settings}
@@ -11,10 +11,10 @@ use Rattle.model.specs.Frames.{Received, SizesFrame, UuidsFrame, RsWriteAckFrame
 use Rattle.model.specs.Identifiers.{sync_end}
 use Rattle.model.specs.Marks.{marking}
 use Rattle.model.specs.Primary.{Waiting, Failed, Accepted, Outward, PrimaryHistory, no_outward, outward, last_index, change_last, with_outward, stands, local_map, primary_opening}
-use Rattle.model.specs.PrimarySteps.{appending, follows, submission, submitted, with_outcome, faulted, accepted_at, closing}
+use Rattle.model.specs.PrimarySteps.{appending, submission, submitted, with_outcome, faulted, accepted_at, closing}
 use Rattle.model.specs.Acknowledgements.{begun_with}
 use Rattle.model.specs.LocalRuns.{PrimaryEvent, primary_run}
-use Rattle.laws.proofs.Lists.Each.{Each, each-get, each-append, each-change}
+use Rattle.laws.proofs.Lists.Each.{Each, each-append, each-change}
 use Rattle.laws.proofs.Lists.Elements.{get-left, get-end}
 use Rattle.laws.proofs.Lists.Last.{change-twice}
 use Rattle.laws.proofs.Primary.Moves.{IsKeptByMoves, IsGreeting, following-from, keeps-run, with_frame, refusing, pushing}

@@ -1,7 +1,7 @@
 -- The numbers of a secondary's connections: they rise from 1 on, and go one by one where it never missed a connection.
-use Rattle.std.proofs.Common.{ℕ, zero, suc, ◌≡◌, ◌+◌, ◌-◌, ◌<◌, ◌⊎◌, inl, inr, Bool, true, false, not, List, [], ◌∷◌, ◌++◌, length, map, Option, Some, None, slice_get, refl, sym, ◌∙◌, ap, subst, arith, ◌==◌}
+use Rattle.std.proofs.Common.{ℕ, zero, suc, ◌≡◌, ◌-◌, ◌<◌, ◌⊎◌, inl, inr, true, false, List, [], ◌∷◌, ◌++◌, length, map, Option, Some, None, slice_get, refl, sym, ◌∙◌, ap, subst, arith, ◌==◌}
 use Rattle.std.specs.Prelude.{find, unwrap_or}
-use Rattle.std.proofs.lemmas.Bool.{cases_Bool, both_ways, eqb-true, eq-eqb, ne_eqb, cases_lt}
+use Rattle.std.proofs.lemmas.Bool.{eqb-true, eq-eqb, ne_eqb, cases_lt}
 use Rattle.std.proofs.lemmas.Option.{slice_get_within}
 use Rattle.blocks.specs.declared.settings.Protocol.{Protocol}
 use Rattle.model.specs.Stream.{Item, below, contents_of}
@@ -10,7 +10,6 @@ use Rattle.model.specs.Primary.{last_of, change_last}
 use Rattle.model.specs.Secondary.{Inward, SecondaryHistory, no_inward, inward, inward_at, with_inward, items_taken, secondary_map}
 use Rattle.model.specs.SecondarySteps.{answering, barrier_answer, barriers_to_answer, next_number, opened_secondary, offsets_at, applied_answer, applying, failing}
 use Rattle.model.specs.LocalRuns.{SecondaryEvent, OpensToo, Receives, Applies, FailsToApply, Acknowledges, ClosesToo, secondary_after, secondary_run}
-use Rattle.model.specs.Theorems.{secondary_at}
 use Rattle.laws.proofs.Lists.Elements.{get-more, same-at}
 use Rattle.laws.proofs.Lists.Fronts.{find-first}
 use Rattle.laws.proofs.Lists.Last.{get-change-back, last-at}

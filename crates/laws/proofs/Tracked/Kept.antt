@@ -52,16 +52,19 @@ pub record IsKnown (h : PrimaryHistory) : Type 0 where
 pub known-completions : (h : PrimaryHistory) → IsKnown h → IsKnown (with_completions h)
 known-completions h known = record {
   tracked = tracked-completions h known.tracked;
-  numbers = (λ n entry at. elim (get-split h.journal (map (completion_of h) (newly_completed h)) n entry at) [
-    | inl old ↦ known.numbers.0 n entry old
-    | inr new ↦
-        let of = pick-image (completion_of h) (newly_completed h) new.0 entry new.2 in
-        let stood = pick-filtered (λ (a : Accepted). is_open h a && completes h a) h.writes new.0 of.0 of.1 in
-        let number : of.0.write.number ≡ suc stood.0 = known.tracked.homes.numbered stood.0 of.0 stood.1 in
-        let same : of.0.write.number ≡ entry.write.number = ap (λ (e : Completion). e.write.number) of.2 in
-        let within = slice_get_within h.writes stood.0 of.0 stood.1 in
-        omega arith
-  ], once);
+  numbers = (
+    λ n entry at. elim (get-split h.journal (map (completion_of h) (newly_completed h)) n entry at) [
+      | inl old ↦ known.numbers.0 n entry old
+      | inr new ↦
+          let of = pick-image (completion_of h) (newly_completed h) new.0 entry new.2 in
+          let stood = pick-filtered (λ (a : Accepted). is_open h a && completes h a) h.writes new.0 of.0 of.1 in
+          let number : of.0.write.number ≡ suc stood.0 = known.tracked.homes.numbered stood.0 of.0 stood.1 in
+          let same : of.0.write.number ≡ entry.write.number = ap (λ (e : Completion). e.write.number) of.2 in
+          let within = slice_get_within h.writes stood.0 of.0 stood.1 in
+          omega arith
+    ],
+    once,
+  );
 }
   where
     passes : Accepted → Bool

@@ -1,6 +1,5 @@
 -- Both ends open, over the two ends of one new link, or none does.
-use Rattle.std.proofs.Common.{◌≡◌, None, Some, sym, ◌∙◌, ap, subst}
-use Rattle.blocks.specs.declared.refusal.Refusal.{Refusal}
+use Rattle.std.proofs.Common.{◌≡◌, None, Some, sym, ◌∙◌, subst}
 use Rattle.primary.specs.State.{PrimaryState}
 use Rattle.secondary.specs.Refused.{open_refusal}
 use Rattle.pair.specs.Linked.{IsLinked}

@@ -1,5 +1,5 @@
 -- The primary's queue is lent to the secondary for the one call.
-use Rattle.std.proofs.Common.{◌≡◌, sym, ◌∙◌, ap}
+use Rattle.std.proofs.Common.{sym, ◌∙◌, ap}
 use Rattle.primary.specs.Primaries.{sent_of}
 use Rattle.primary.specs.State.{PrimaryState}
 use Rattle.pair.specs.State.{PairState}
