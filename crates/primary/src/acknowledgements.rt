@@ -181,12 +181,14 @@ impl<O: FrameOut, I: FrameIn, S: Store> Primary<O, I, S> {
         ensures unchanged { OnErr result (self.new ≡ self.old) }
     {
         match packet {
-            Packet::WriteAck(Acknowledgement {
-                first,
-                number,
-                count,
-                place,
-            }) => self.write_acked(&Ack {
+            Packet::WriteAck(
+                Acknowledgement {
+                    first,
+                    number,
+                    count,
+                    place,
+                },
+            ) => self.write_acked(&Ack {
                 number,
                 place,
                 first,
