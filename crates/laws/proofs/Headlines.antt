@@ -10,7 +10,7 @@ use Rattle.model.specs.Secondary.{SecondaryHistory, secondary_map}
 use Rattle.model.specs.Pair.{PairHistory, run, same_block}
 use Rattle.model.specs.Headline.{IsJoined, TakesABeginning, StaysClosed, StaysClosedToo, HoldsEarlierEpochs, KeepsPromises, MarksDifferences, CoversDifferences, Headline, is_covered}
 use Rattle.model.specs.Theorems.{Opening, primary_at, secondary_at, pair_at, AnyOpening, HasRanges, IsSoundOpening, EveryRun, JoinedRuns, JoinedRunsHaveTheHeadline, JoinedRunsCoverDifferences, JoinedRunsSettle, EveryRunHasTheHeadline, EveryRunCoversDifferences}
-use Rattle.laws.specs.Statements.{PrimaryStreamsAreLawful, PrimaryExtentsAreFew, PrimaryStaysClosed, PrimaryReflects, PrimaryMarksAtRest, SecondaryStaysClosed, EveryRunIsJoined, EveryRunTakesABeginning, EveryRunStaysClosed, EveryRunHoldsEarlierEpochs, EveryRunKeepsPromises, EveryRunMarksDifferences}
+use Rattle.laws.specs.Statements.{PrimaryStreamsAreLawful, PrimaryExtentsAreFew, PrimaryStaysClosed, PrimaryReflects, PrimaryMarksAtRest, SecondaryStaysClosed, EveryRunIsJoined, EveryRunTakesABeginning, EveryRunStaysClosed, EveryRunHoldsEarlierEpochs, EveryRunKeepsPromises, EveryRunMarksDifferences, PrimaryReleasesInOrder}
 use Rattle.laws.proofs.Primary.Moves.{keeps-run}
 use Rattle.laws.proofs.Primary.HomesMoves.{homes-opening}
 use Rattle.laws.proofs.Secondary.Runs.{holds_earlier_epochs}
@@ -29,6 +29,7 @@ use Rattle.laws.proofs.Joining.Agreeing.{joined-agrees}
 use Rattle.laws.proofs.Pair.Runs.{pair_runs_are_joined, leads-run}
 use Rattle.laws.proofs.Joining.Taking.{takes_a_beginning}
 use Rattle.laws.proofs.Settling.{settles}
+use Rattle.laws.proofs.Primary.InOrderMoves.{ordered-run, released-in-order}
 
 -- The primary by itself.
 
@@ -39,6 +40,11 @@ streams_are_lawful o events ranges = primary_lawful o.settings o.local o.own o.m
 -- its active extents are no more than its slots
 pub extents_are_few : PrimaryExtentsAreFew
 extents_are_few o events = primary_extents o.settings o.local o.own o.marks events
+
+-- its releases come in the order of the writes of a block
+pub releases_in_order : PrimaryReleasesInOrder
+releases_in_order o events ranges sized i j block a b less ata atb cova covb released =
+    released-in-order o.settings (primary_run events (primary_at o)) (ordered-run o.settings o.local o.own o.marks events ranges.here (λ block inside. sized block ∙ lt-ltb block o.settings.blocks inside)) i j block a b less ata atb cova covb released
 
 -- a closed end of a primary stays as it is
 pub stays_closed : PrimaryStaysClosed

@@ -5,6 +5,8 @@ pub mod ExtentsMoves
 pub mod Homes
 pub mod HomesFollowing
 pub mod HomesMoves
+pub mod InOrder
+pub mod InOrderMoves
 pub mod LastEpoch
 pub mod LastOpen
 pub mod LawfulMoves

@@ -4,9 +4,9 @@ use Rattle.std.specs.Prelude.{ℕ, suc, ◌≡◌, ◌<◌, ◌≤◌, ◌⊎◌
 use Rattle.blocks.specs.declared.refusal.Refusal.{Refusal}
 use Rattle.blocks.specs.declared.refusal.Refusal.TheVariants.{BadRange, Conflict, LogFull, ActivityFull, JournalFull, StreamFull, NoMemory, LocalFault, NotCompleted, NothingToDo, LinkFull, NotConnected, NothingThere, ReadFault, BadSetting, UnknownJob, EpochOpen, PendingFull, StrangeReceipt, BadMagic, BadCommand, BadLength, BadField, BadBarrierAck, UnknownAck, PrimaryStale, SplitBrain, Unrelated, UsedIdentifier, OtherProtocol, OtherSize, NotDrained}
 use Rattle.blocks.specs.declared.outcome.Reply.TheVariants as reply
-use Rattle.model.specs.Contents.{Write, IsDisk}
+use Rattle.model.specs.Contents.{Write, IsDisk, covers}
 use Rattle.model.specs.LocalRuns.{PrimaryEvent, primary_run, SecondaryEvent, secondary_run}
-use Rattle.model.specs.Primary.{Outward, PrimaryHistory, outward, outward_at, stands, items_sent, active_extents}
+use Rattle.model.specs.Primary.{Outward, PrimaryHistory, outward, outward_at, stands, items_sent, active_extents, Accepted, is_released}
 use Rattle.model.specs.Secondary.{Inward, SecondaryHistory, inward_at, items_taken, pending, inward}
 use Rattle.model.specs.Stream.{WriteItem, IsBeginning, IsLawful}
 use Rattle.model.specs.Pair.{Event, PairHistory, step, run, ReceiveEvent, AckInEvent}
@@ -33,6 +33,13 @@ PrimaryStreamsAreLawful =
 -- its unreleased writes lie in as many extents as there are slots, or in fewer
 abbrev pub PrimaryExtentsAreFew : Type 0
 PrimaryExtentsAreFew = (o : Opening) (events : List PrimaryEvent) → length (active_extents (primary_run events (primary_at o))) ≤ o.settings.slots
+
+-- of two writes that share a block, where the later one is released the earlier one is
+abbrev pub PrimaryReleasesInOrder : Type 0
+PrimaryReleasesInOrder =
+    (o : Opening) (events : List PrimaryEvent) → HasRanges o → IsDisk o.settings.blocks o.local
+    → (i j block : ℕ) (a b : Accepted) → i < j → slice_get (primary_run events (primary_at o)).writes i ≡ Some a → slice_get (primary_run events (primary_at o)).writes j ≡ Some b → covers a.write block ≡ true → covers b.write block ≡ true
+    → is_released (primary_run events (primary_at o)) b ≡ true → is_released (primary_run events (primary_at o)) a ≡ true
 
 -- a closed end stays as it is, from any history on
 abbrev pub PrimaryStaysClosed : Type 0

@@ -4,17 +4,19 @@
 //! `docs/PROOFS.md`.
 #![tactic(auto)]
 
-ghost use Rattle.laws.specs.Statements.{PrimaryWritesOnce, PrimaryStreamsAreLawful, PrimaryExtentsAreFew, PrimaryStaysClosed, PrimaryReflects, PrimaryMarksAtRest, SecondaryHoldsEarlierEpochs, SecondaryDrainsFirst, SecondaryStaysClosed, JoinedTakesABeginning, JoinedRunsKeepPromises, EveryRunIsJoined, EveryRunTakesABeginning, EveryRunStaysClosed, EveryRunHoldsEarlierEpochs, EveryRunKeepsPromises, EveryRunMarksDifferences, EveryStepIsHonest, RefusedStepsChangeNothing, RefusedFramesClose};
+ghost use Rattle.laws.specs.Statements.{PrimaryWritesOnce, PrimaryStreamsAreLawful, PrimaryExtentsAreFew, PrimaryReleasesInOrder, PrimaryStaysClosed, PrimaryReflects, PrimaryMarksAtRest, SecondaryHoldsEarlierEpochs, SecondaryDrainsFirst, SecondaryStaysClosed, JoinedTakesABeginning, JoinedRunsKeepPromises, EveryRunIsJoined, EveryRunTakesABeginning, EveryRunStaysClosed, EveryRunHoldsEarlierEpochs, EveryRunKeepsPromises, EveryRunMarksDifferences, EveryStepIsHonest, RefusedStepsChangeNothing, RefusedFramesClose};
 ghost use Rattle.laws.specs.Examples.{OpeningsAreMet, OneWriteIsMet, CoverIsMet, ReflectionIsMet, RestIsMet};
 ghost use Rattle.model.specs.Theorems.{JoinedRunsHaveTheHeadline, JoinedRunsCoverDifferences, JoinedRunsSettle, EveryRunHasTheHeadline, EveryRunCoversDifferences};
 
 /// A primary by itself, for any frames taken. Each write has one place, on one connection; streams are lawful; a closed
-/// end stays as it is; the extents of unreleased writes are no more than the activity log has slots.
+/// end stays as it is; the extents of unreleased writes are no more than the activity log has slots; and of two writes that
+/// share a block, where the later one is released the earlier one is.
 pub fn primary_alone()
     ensures once { PrimaryWritesOnce }
     ensures lawful { PrimaryStreamsAreLawful }
     ensures closed { PrimaryStaysClosed }
     ensures extents { PrimaryExtentsAreFew }
+    ensures released { PrimaryReleasesInOrder }
 {}
 
 /// A primary's half of the cover, for any frames taken: a block that is neither marked nor under an unreleased write

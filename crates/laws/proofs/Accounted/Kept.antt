@@ -101,7 +101,7 @@ resynced-now h ack contents plain same =
     ∙ (list_any-append test (outward h).taken (Ok (RsWriteAckFrame ack) ∷ []) ∙ or_right (list_any test (outward h).taken) (same_naming (naming ack.place (ResyncItem ack.first contents)) ack || false) (or_left (same_naming (naming ack.place (ResyncItem ack.first contents)) ack) false same))
 
 -- a write that waits for the local disk is open
-waits-open : (h : PrimaryHistory) → IsKnown h → (i : ℕ) (a : Accepted) → slice_get h.writes i ≡ Some a → is_waiting a.outcome ≡ true → is_open h a ≡ true
+pub waits-open : (h : PrimaryHistory) → IsKnown h → (i : ℕ) (a : Accepted) → slice_get h.writes i ≡ Some a → is_waiting a.outcome ≡ true → is_open h a ≡ true
 waits-open h known i a at waits = go (is_completed h a.write.number) refl a.outcome refl
   where
     go : (b : Bool) → is_completed h a.write.number ≡ b → (o : LocalOutcome) → a.outcome ≡ o → (not b && not (is_failed o)) ≡ true

@@ -80,6 +80,37 @@ reflected h block a clean = elim (cases_lt block h.settings.blocks) [
               })
         ]
 
+-- no stream stands: each home is on a closed connection
+pub alone-at-rest : (h : PrimaryHistory) → HasHomes h → IsLastOpen h → stands (outward h) ≡ false → (i : ℕ) (w : Accepted) → slice_get h.writes i ≡ Some w → is_alone h w ≡ true
+alone-at-rest h homes closed resting i w at = go w.home refl
+  where
+    go : (v : Option (ℕ × ℕ)) → w.home ≡ v → is_alone h w ≡ true
+    go None is = ap (λ (v : Option (ℕ × ℕ)). elim v as (λ _. Bool) [ None ↦ true | Some home ↦ elim (slice_get h.connections home.0) as (λ _. Bool) [ None ↦ true | Some c ↦ c.closed ] ]) is
+    go (Some home) is =
+        let was = homes.housed i home.0 home.1 w at is in
+        let within = slice_get_within h.connections home.0 was.0 was.1 in
+        alone-at h w home was.0 is was.1 ∙ elim (cases_lt (suc home.0) (length h.connections)) [
+          | inl early ↦ closed home.0 was.0 was.1 early
+          | inr last ↦
+              let index : home.0 ≡ length h.connections - 1 = omega arith in
+              elim (last-at (no_outward h.tuple) h.connections) [
+                | inl none ↦ absurd (let size : length h.connections ≡ 0 = ap length none in omega arith)
+                | inr there ↦
+                    let end : was.0 ≡ outward h = same-at h.connections (length h.connections - 1) was.0 (outward h) (subst (λ (n : ℕ). slice_get h.connections n ≡ Some was.0) index was.1) there in
+                    elim (cases_Bool was.0.closed) [
+                      | inl shut ↦ shut
+                      | inr unshut ↦ absurd (
+                          let fresh : was.0.begun ≡ false = elim (cases_Bool was.0.begun) [
+                            | inr new ↦ new
+                            | inl begun ↦ absurd (both_ways (stands (outward h)) resting (subst (λ (c : Outward). stands c ≡ true) end (and_from (not was.0.closed) was.0.begun (subst (λ b. not b ≡ true) (sym unshut) refl) begun)))
+                          ] in
+                          let empty : was.0.stream ≡ [] = homes.empty home.0 was.0 was.1 fresh in
+                          let item = was.2 in
+                          cc (empty, item))
+                    ]
+              ]
+        ]
+
 -- Where no stream stands, an unreleased write waits without a connection, so its blocks are marked.
 pub rest-marked : (h : PrimaryHistory) (block : ℕ) → IsAccounted h → IsLastOpen h → stands (outward h) ≡ false → is_covered h block ≡ true → is_marked h block ≡ true
 rest-marked h block a closed resting covered = elim (or_cases (is_marked h block) (list_any (λ (x : Accepted). covers x.write block) (unreleased h)) covered) [
@@ -98,34 +129,3 @@ rest-marked h block a closed resting covered = elim (or_cases (is_marked h block
   where
     homes-of : (h : PrimaryHistory) → IsAccounted h → HasHomes h
     homes-of h a = a.known.tracked.homes
-
-    -- no stream stands: each home is on a closed connection
-    alone-at-rest : (h : PrimaryHistory) → HasHomes h → IsLastOpen h → stands (outward h) ≡ false → (i : ℕ) (w : Accepted) → slice_get h.writes i ≡ Some w → is_alone h w ≡ true
-    alone-at-rest h homes closed resting i w at = go w.home refl
-      where
-        go : (v : Option (ℕ × ℕ)) → w.home ≡ v → is_alone h w ≡ true
-        go None is = ap (λ (v : Option (ℕ × ℕ)). elim v as (λ _. Bool) [ None ↦ true | Some home ↦ elim (slice_get h.connections home.0) as (λ _. Bool) [ None ↦ true | Some c ↦ c.closed ] ]) is
-        go (Some home) is =
-            let was = homes.housed i home.0 home.1 w at is in
-            let within = slice_get_within h.connections home.0 was.0 was.1 in
-            alone-at h w home was.0 is was.1 ∙ elim (cases_lt (suc home.0) (length h.connections)) [
-              | inl early ↦ closed home.0 was.0 was.1 early
-              | inr last ↦
-                  let index : home.0 ≡ length h.connections - 1 = omega arith in
-                  elim (last-at (no_outward h.tuple) h.connections) [
-                    | inl none ↦ absurd (let size : length h.connections ≡ 0 = ap length none in omega arith)
-                    | inr there ↦
-                        let end : was.0 ≡ outward h = same-at h.connections (length h.connections - 1) was.0 (outward h) (subst (λ (n : ℕ). slice_get h.connections n ≡ Some was.0) index was.1) there in
-                        elim (cases_Bool was.0.closed) [
-                          | inl shut ↦ shut
-                          | inr unshut ↦ absurd (
-                              let fresh : was.0.begun ≡ false = elim (cases_Bool was.0.begun) [
-                                | inr new ↦ new
-                                | inl begun ↦ absurd (both_ways (stands (outward h)) resting (subst (λ (c : Outward). stands c ≡ true) end (and_from (not was.0.closed) was.0.begun (subst (λ b. not b ≡ true) (sym unshut) refl) begun)))
-                              ] in
-                              let empty : was.0.stream ≡ [] = homes.empty home.0 was.0 was.1 fresh in
-                              let item = was.2 in
-                              cc (empty, item))
-                        ]
-                  ]
-            ]

@@ -66,7 +66,7 @@ get-of-epoch items epoch n entry at =
     (found.0, there.0, is, there.1, subst (λ (e : ℕ × Item). epoch_of items e.0 ≡ epoch) is (eqb-true (epoch_of items entry.0) epoch found.2))
 
 -- a place of a front keeps its epoch
-epoch-front : (items : List Item) (n place : ℕ) → place < n → n ≤ length items → epoch_of (take n items) place ≡ epoch_of items place
+pub epoch-front : (items : List Item) (n place : ℕ) → place < n → n ≤ length items → epoch_of (take n items) place ≡ epoch_of items place
 epoch-front items n place less within =
     let size : length (take n items) ≡ n = length-take-le n items within in
     sym (epoch-grows (take n items) (drop n items) place (omega arith)) ∙ ap (λ (l : List Item). epoch_of l place) (take-append-drop n items)

@@ -223,14 +223,14 @@ lawful-opens settings h sync loss streams = record {
 }
 
 -- what holds between steps
-abbrev Before : Settings → PrimaryHistory → Type 0
+abbrev pub Before : Settings → PrimaryHistory → Type 0
 Before settings h = HasHomes h × IsLawfulBetween settings h
 
 -- what holds after a step's effect, before what follows from it
-abbrev After : Settings → PrimaryHistory → Type 0
+abbrev pub After : Settings → PrimaryHistory → Type 0
 After settings h = HasHomes h × HasLawfulStreams settings h
 
-lawful-kept : (settings : Settings) → 0 < settings.max_epoch → IsKeptByMoves (Before settings) (After settings)
+pub lawful-kept : (settings : Settings) → 0 < settings.max_epoch → IsKeptByMoves (Before settings) (After settings)
 lawful-kept settings bound = record {
   following = λ h p. (homes-kept.following h p.0, lawful-following settings bound h p.1);
   opens = λ h sync loss closed p. (homes-kept.opens h sync loss closed p.0, lawful-opens settings h sync loss p.1.streams);
@@ -254,7 +254,7 @@ lawful-kept settings bound = record {
   receipts = λ h number p. (homes-kept.receipts h number p.0, record { streams = lawful-same settings h _ refl refl p.1.streams; on = p.1.on });
 }
 
-lawful-opening : (settings : Settings) (disk : BlockMap) (tuple : Tuple) (marks : ℕ → Bool) → IsLawfulBetween settings (primary_opening settings disk tuple marks)
+pub lawful-opening : (settings : Settings) (disk : BlockMap) (tuple : Tuple) (marks : ℕ → Bool) → IsLawfulBetween settings (primary_opening settings disk tuple marks)
 lawful-opening settings disk tuple marks = record { streams = record { setting = refl; lawful = λ k c at. absurd (cc) }; on = refl }
 
 -- what holds of a primary after every run from an opening: homes, and lawful streams

@@ -1,6 +1,6 @@
 -- By the invariants of a primary's runs.
 use Rattle.laws.proofs.Joining.Promises.{writes_once}
-use Rattle.laws.proofs.Headlines.{streams_are_lawful, stays_closed, extents_are_few}
+use Rattle.laws.proofs.Headlines.{streams_are_lawful, stays_closed, extents_are_few, releases_in_order}
 use Rattle.laws.proofs.primary_alone.Goals as goal
 
 pub returns-clause-once : goal.returns-clause-once
@@ -14,3 +14,6 @@ returns-clause-closed c = stays_closed
 
 pub returns-clause-extents : goal.returns-clause-extents
 returns-clause-extents c = extents_are_few
+
+pub returns-clause-released : goal.returns-clause-released
+returns-clause-released c = releases_in_order
