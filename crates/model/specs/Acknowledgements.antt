@@ -17,7 +17,7 @@ use Rattle.model.specs.Stream.{Item, WriteItem, ResyncItem, BarrierItem, SyncUui
 use Rattle.model.specs.Frames.{Packet, ProtocolFrame, SizesFrame, UuidsFrame, RecvAckFrame, WriteAckFrame, RsWriteAckFrame, BarrierAckFrame, Acknowledged, Received, naming}
 use Rattle.model.specs.Identifiers.{stands_in, decision, sync_start}
 use Rattle.model.specs.Primary.{Outward, PrimaryHistory, outward, with_outward, items_sent, same_naming, was_received, was_written, was_resynced, barrier_acknowledged, is_resync}
-use Rattle.model.specs.Marks.{marking_all, clearing}
+use Rattle.model.specs.Marks.{marking_all, clearing, releasing}
 use Rattle.model.specs.PrimarySteps.{follows, succeeding, tested, closing}
 
 -- two protocols are the same
@@ -122,7 +122,7 @@ taking_ack (RsWriteAckFrame ack) before h =
     let c = outward before in
     if names_sent is_resync ack c && not (was_named was_resynced ack c) then Ok (what.Frame command.RsWriteAck None, record h { marks = clearing ack.first h.marks }) else Err (UnknownAck, h)
 taking_ack (BarrierAckFrame number size) before h =
-    if is_in_turn before number size then Ok (what.Frame command.BarrierAck None, h) else Err (BadBarrierAck, h)
+    if is_in_turn before number size then Ok (what.Frame command.BarrierAck None, releasing before h) else Err (BadBarrierAck, h)
 taking_ack packet before h = Err (BadCommand, h)
 
 -- A frame as it was read: a fault of its bytes, a frame of the hello, or an acknowledgement.

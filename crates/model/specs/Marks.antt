@@ -3,7 +3,7 @@
 use Rattle.std.specs.Prelude.{ℕ, ◌==◌, Bool, ◌&&◌, ◌||◌, not, nat_lt}
 use Rattle.std.specs.List.{list_any}
 use Rattle.model.specs.Contents.{Write, covers}
-use Rattle.model.specs.Primary.{PrimaryHistory, unreleased}
+use Rattle.model.specs.Primary.{Accepted, PrimaryHistory, is_on_disk, is_alone, is_released, unreleased}
 
 -- The bitmap: for each block whether the disks may differ there (DRBD User's Guide, "Quick sync bitmap").
 abbrev pub Marks : Type 0
@@ -24,3 +24,23 @@ marking_all blocks block = nat_lt block blocks
 -- an RS_WRITE_ACK was taken: its block
 abbrev pub clearing : ℕ → Marks → Marks
 clearing resynced marks block = marks block && not (block == resynced)
+
+-- A step released the write: it was in the transfer log before, on a connection that stands, and is on the local disk.
+-- (That such a write clears its marks is this project's rule. A failed write and one without a connection clear nothing.)
+abbrev pub is_releasing : PrimaryHistory → PrimaryHistory → Accepted → Bool
+is_releasing before h accepted =
+    (list_any (λ was. was.write.number == accepted.write.number) (unreleased before) && is_released h accepted)
+    && (is_on_disk accepted.outcome && not (is_alone h accepted))
+
+-- an unreleased write of a higher number has the block
+abbrev pub is_under_later : PrimaryHistory → ℕ → ℕ → Bool
+is_under_later h number block = list_any (λ later. nat_lt number later.write.number && covers later.write block) (unreleased h)
+
+-- a write that the step released has the block, and no later one that is still in the transfer log has it
+abbrev pub is_cleared : PrimaryHistory → PrimaryHistory → ℕ → Bool
+is_cleared before h block =
+    list_any (λ accepted. (is_releasing before h accepted && covers accepted.write block) && not (is_under_later h accepted.write.number block)) h.writes
+
+-- a step released writes: the blocks that they clear
+abbrev pub releasing : PrimaryHistory → PrimaryHistory → PrimaryHistory
+releasing before h = record h { marks = λ block. h.marks block && not (is_cleared before h block) }

@@ -14,7 +14,7 @@ use Rattle.model.specs.Frames.{command_of}
 use Rattle.model.specs.Identifiers.{are_fresh, lost, sync_end}
 use Rattle.model.specs.Refusals.{Test, first_refusal}
 use Rattle.model.specs.Primary.{LocalOutcome, Waiting, OnDisk, Failed, Accepted, Linked, Alone, Completion, Outward, PrimaryHistory, outward, last_index, with_outward, stands, frames_due, was_resynced, is_answered, is_waiting, is_open, completes, unreleased, open_writes, local_map, active_extents, is_resync, resync_runs, under_way, marked_blocks, free_block}
-use Rattle.model.specs.Marks.{marking, marking_unreleased}
+use Rattle.model.specs.Marks.{marking, marking_unreleased, releasing}
 
 -- What follows an effect in the same step.
 
@@ -163,9 +163,9 @@ set_outcome number outcome accepted = if accepted.write.number == number then re
 abbrev pub with_outcome : ℕ → LocalOutcome → PrimaryHistory → PrimaryHistory
 with_outcome number outcome h = record h { writes = map (set_outcome number outcome) h.writes }
 
--- the local disk does a write
+-- The local disk does a write, which may be released by it.
 abbrev pub local_done : ℕ → PrimaryHistory → Reply × PrimaryHistory
-local_done number h = tested h ((not (is_unfinished h number), UnknownJob) ∷ []) (λ _. succeeding what.Nothing (with_outcome number OnDisk h))
+local_done number h = tested h ((not (is_unfinished h number), UnknownJob) ∷ []) (λ _. succeeding what.Nothing (releasing h (with_outcome number OnDisk h)))
 
 -- the accepted write of a number, if there is one
 abbrev pub accepted_at : PrimaryHistory → ℕ → Option Accepted

@@ -5,6 +5,7 @@
 //! pair replies to a list of events, and what its disks, marks and identifiers then are.
 #![tactic(auto)]
 
+ghost use Rattle.model.specs.ClearingRows.{Cleared, ClearedToTheEnd, ClearedByTheLocalWrite, UnderALaterWrite, FailedClearsNothing};
 ghost use Rattle.model.specs.CloseRows.{LostLink, Reconnected, AcknowledgedFirst};
 ghost use Rattle.model.specs.DecisionRows.{Decisions, RefusedHello};
 ghost use Rattle.model.specs.DiskRows.{Ranges, OneSlot, LocalFault, LateFault, PeerFault};
@@ -56,6 +57,15 @@ pub fn resyncs()
     ensures resynced { Resynced }
     ensures broken_end { BrokenEnd }
     ensures among_writes { AmongWrites }
+{}
+
+/// Marks that a connected write clears as it is released.
+pub fn releases()
+    ensures cleared { Cleared }
+    ensures cleared_to_the_end { ClearedToTheEnd }
+    ensures cleared_by_the_local_write { ClearedByTheLocalWrite }
+    ensures under_a_later_write { UnderALaterWrite }
+    ensures failed_clears_nothing { FailedClearsNothing }
 {}
 
 /// Frames that the other end never makes: each is answered with its number, and closes the end.
