@@ -19,7 +19,7 @@ use Rattle.model.specs.Theorems.{Opening, IsSoundOpening, primary_at, secondary_
 use Rattle.laws.specs.Reflections.{FromOpening, FirstBegan}
 use Rattle.laws.proofs.Lists.Beginnings.{begins-take, get-beginning}
 use Rattle.laws.proofs.Primary.Homes.{HasHomes}
-use Rattle.laws.proofs.Primary.HomesMoves.{homes-kept, homes-opening}
+use Rattle.laws.proofs.Primary.HomesMoves.{homes-kept, homes-released, homes-opening}
 use Rattle.laws.proofs.Primary.Moves.{keeps-run}
 use Rattle.laws.proofs.Joining.Promises.{read-back}
 use Rattle.laws.proofs.Joining.Openings.{HasOpening, HasOpeningToo, kept-opening-primary, kept-opening-secondary}
@@ -47,7 +47,7 @@ pub first-peer : (o : Opening) (here : List PrimaryEvent) (there : List Secondar
 first-peer o here there decided joined first =
     let p : PrimaryHistory = primary_run here (primary_at o) in
     let s : SecondaryHistory = secondary_run there (secondary_at o) in
-    let homes : HasHomes p = keeps-run HasHomes HasHomes homes-kept here (primary_at o) (homes-opening o.settings o.local o.own o.marks) in
+    let homes : HasHomes p = keeps-run HasHomes HasHomes homes-kept homes-released here (primary_at o) (homes-opening o.settings o.local o.own o.marks) in
     let rise = numbers-rise there (secondary_at o) refl in
     let end = secondary-end p s joined first.connection first.n first.end (Ok (UuidsFrame first.peer)) first.at first.taken in
     let d : Inward = end.1 in

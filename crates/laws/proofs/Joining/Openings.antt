@@ -12,7 +12,7 @@ use Rattle.model.specs.Acknowledgements.{begun_with}
 use Rattle.model.specs.Secondary.{SecondaryHistory}
 use Rattle.model.specs.LocalRuns.{PrimaryEvent, primary_run, SecondaryEvent, secondary_after, secondary_run}
 use Rattle.model.specs.Theorems.{Opening, primary_at, secondary_at}
-use Rattle.laws.proofs.Primary.Moves.{following-from, IsKeptByMoves, keeps-run, with_frame}
+use Rattle.laws.proofs.Primary.Moves.{following-from, IsKeptByMoves, IsKeptByReleases, kept-by-releases, keeps-run, with_frame}
 use Rattle.laws.proofs.Secondary.Moves.{after-event}
 
 -- A primary's history that began at this opening.
@@ -73,9 +73,12 @@ opening-kept o = record {
   receipts = λ h number a. kept o h _ refl refl refl refl a;
 }
 
+opening-released : (o : Opening) → IsKeptByReleases (HasOpening o) (HasOpening o)
+opening-released o = kept-by-releases (HasOpening o) (HasOpening o) (λ h marks a. kept o h _ refl refl refl refl a)
+
 -- Every run of a primary keeps its opening.
 pub kept-opening-primary : (o : Opening) (here : List PrimaryEvent) → HasOpening o (primary_run here (primary_at o))
-kept-opening-primary o here = keeps-run (HasOpening o) (HasOpening o) (opening-kept o) here (primary_at o) (record { settings = refl; disk = refl; marks = refl; tuple = refl })
+kept-opening-primary o here = keeps-run (HasOpening o) (HasOpening o) (opening-kept o) (opening-released o) here (primary_at o) (record { settings = refl; disk = refl; marks = refl; tuple = refl })
 
 -- A secondary's history that began at this opening.
 pub record HasOpeningToo (o : Opening) (h : SecondaryHistory) : Type 0 where

@@ -19,7 +19,7 @@ use Rattle.laws.proofs.Lists.Beginnings.{begins-take, begins-self, begins-trans,
 use Rattle.laws.proofs.Secondary.TrueAnswers.{IsTruthful, all-run, truthful-none}
 use Rattle.laws.proofs.Primary.Moves.{keeps-run}
 use Rattle.laws.proofs.Primary.Homes.{HasHomes, IsLinked}
-use Rattle.laws.proofs.Primary.HomesMoves.{homes-kept, homes-opening}
+use Rattle.laws.proofs.Primary.HomesMoves.{homes-kept, homes-released, homes-opening}
 use Rattle.laws.proofs.Lists.Elements.{same-at}
 use Rattle.laws.proofs.Lists.Picks.{pick-any}
 use Rattle.laws.proofs.Joining.Taking.{takes_a_beginning, read}
@@ -119,7 +119,7 @@ pub keeps_promises : JoinedRunsKeepPromises
 keeps_promises o here there any joined =
     let p : PrimaryHistory = primary_run here (primary_at o) in
     let s : SecondaryHistory = secondary_run there (secondary_at o) in
-    let homes : HasHomes p = keeps-run HasHomes HasHomes homes-kept here (primary_at o) (homes-opening o.settings o.local o.own o.marks) in
+    let homes : HasHomes p = keeps-run HasHomes HasHomes homes-kept homes-released here (primary_at o) (homes-opening o.settings o.local o.own o.marks) in
     let truthful : Each IsTruthful s.connections = all-run there (secondary_at o) tt in
     record {
       promised = λ n k place entry at linked home.
@@ -143,7 +143,7 @@ keeps_promises o here there any joined =
 pub writes_once : PrimaryWritesOnce
 writes_once o events k l place other c d a b atc atd ina inb number =
     let p : PrimaryHistory = primary_run events (primary_at o) in
-    let homes : HasHomes p = keeps-run HasHomes HasHomes homes-kept events (primary_at o) (homes-opening o.settings o.local o.own o.marks) in
+    let homes : HasHomes p = keeps-run HasHomes HasHomes homes-kept homes-released events (primary_at o) (homes-opening o.settings o.local o.own o.marks) in
     let x = homes.homed k place c a atc ina in
     let y = homes.homed l other d b atd inb in
     let nx : a.number ≡ suc x.0 = ap (λ (w : Write). w.number) (sym x.3) ∙ homes.numbered x.0 x.1 x.2 in

@@ -12,6 +12,7 @@ use Rattle.model.specs.Stream.{ResyncItem, IsBeginning, below, contents_of}
 use Rattle.model.specs.Frames.{Packet, Received}
 use Rattle.model.specs.Refusals.{Test, first_refusal, done_with}
 use Rattle.model.specs.Primary.{PrimaryHistory, Outward, OnDisk, no_outward, last_of, outward, with_outward, items_sent, frames_due, local_map, free_block}
+use Rattle.model.specs.Marks.{releasing}
 use Rattle.model.specs.PrimarySteps.{follows, appending, succeeding, open_tests, open_primary, opened, submit_tests, submitted, submit, is_unfinished, with_outcome, local_done, accepted_at, faulted, local_fault, send_tests, sending, send, resync_tests, resync_next, resync_fault, closing, close_primary}
 use Rattle.model.specs.Acknowledgements.{Taken, taking, take_frame, ack_in}
 use Rattle.model.specs.Secondary.{SecondaryHistory, Inward, no_inward, inward, with_inward, items_taken, pending, answers_due}
@@ -156,7 +157,7 @@ honest-submit first contents starved h =
     by-tests (submit_tests h first contents starved) h (λ _. succeeding (what.Write (suc (length h.writes))) (submitted h first contents)) (refl, (refl, (refl, (refl, (refl, (refl, (refl, (refl, tt)))))))) (λ none. tt)
 
 honest-local : (number : ℕ) (h : PrimaryHistory) → IsHonestReply (local_done number h).0
-honest-local number h = by-tests ((not (is_unfinished h number), UnknownJob) ∷ []) h (λ _. succeeding what.Nothing (with_outcome number OnDisk h)) (refl, tt) (λ none. tt)
+honest-local number h = by-tests ((not (is_unfinished h number), UnknownJob) ∷ []) h (λ _. succeeding what.Nothing (releasing h (with_outcome number OnDisk h))) (refl, tt) (λ none. tt)
 
 honest-fault : (number kept : ℕ) (h : PrimaryHistory) → IsHonestReply (local_fault_kept number kept h).0
 honest-fault number kept h =

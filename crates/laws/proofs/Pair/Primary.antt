@@ -16,7 +16,7 @@ use Rattle.blocks.specs.declared.tuple.Tuple.{Tuple}
 use Rattle.model.specs.Stream.{Item, WriteItem, ResyncItem, SyncUuidItem, IsBeginning, within}
 use Rattle.model.specs.Frames.{Packet, ProtocolFrame, UuidsFrame, SizesFrame, RecvAckFrame, WriteAckFrame, RsWriteAckFrame, BarrierAckFrame, Received}
 use Rattle.model.specs.Identifiers.{decision, stands_in}
-use Rattle.model.specs.Marks.{marking, clearing}
+use Rattle.model.specs.Marks.{marking, clearing, releasing}
 use Rattle.model.specs.Refusals.{Test}
 use Rattle.model.specs.Primary.{Accepted, Waiting, OnDisk, Failed, last_index, PrimaryHistory, Outward, no_outward, outward, last_of, change_last, with_outward, stands, frames_due, local_map, free_block}
 use Rattle.model.specs.PrimarySteps.{follows, appending, succeeding, submission, submit_tests, submitted, submit, is_unfinished, with_outcome, local_done, accepted_at, faulted, local_fault, send_tests, sending, send, resync_tests, resync_next, resync_fault, closing, close_primary}
@@ -80,7 +80,7 @@ so-ack : (packet : Packet) (before taken : PrimaryHistory) → TakesSo taken (ta
 so-ack (RecvAckFrame ack) before taken = so-if taken taken _ _ _ refl refl
 so-ack (WriteAckFrame ack) before taken = so-if taken taken _ _ _ refl refl
 so-ack (RsWriteAckFrame ack) before taken = so-if taken (record taken { marks = clearing ack.first taken.marks }) _ _ _ refl refl
-so-ack (BarrierAckFrame number size) before taken = so-if taken taken _ _ _ refl refl
+so-ack (BarrierAckFrame number size) before taken = so-if taken (releasing before taken) _ _ _ refl refl
 so-ack packet before taken = (refl, refl)
 
 -- the stream of an end that has not begun is empty, also after a frame was taken
@@ -149,8 +149,8 @@ module _ (here there : Settings) (ends : List Inward) (none : Inward) where
 
   -- the local disk does a write
   pub ends-local : (number : ℕ) (h : PrimaryHistory) → HasEnds here there ends h → HasEnds here there ends (local_done number h).1
-  ends-local number h e = tested-keeps (HasEnds here there ends) h ((not (is_unfinished h number), UnknownJob) ∷ []) (λ _. succeeding what.Nothing (with_outcome number OnDisk h)) e (λ passed.
-      ends-following (with_outcome number OnDisk h) (record { settings = e.settings; pairs = e.pairs }))
+  ends-local number h e = tested-keeps (HasEnds here there ends) h ((not (is_unfinished h number), UnknownJob) ∷ []) (λ _. succeeding what.Nothing (releasing h (with_outcome number OnDisk h))) e (λ passed.
+      ends-following (releasing h (with_outcome number OnDisk h)) (record { settings = e.settings; pairs = e.pairs }))
 
   -- the local disk fails a write
   pub ends-fault : (number : ℕ) (offsets : List ℕ) (h : PrimaryHistory) → HasEnds here there ends h → HasEnds here there ends (local_fault number offsets h).1

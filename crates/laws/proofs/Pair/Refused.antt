@@ -17,6 +17,7 @@ use Rattle.model.specs.Frames.{Packet, DataFrame, RsDataReplyFrame, BarrierFrame
 use Rattle.model.specs.Refusals.{Test, first_refusal, done_with}
 use Rattle.model.specs.Identifiers.{stands_in, decision, is_historical, share_identifier}
 use Rattle.model.specs.Primary.{PrimaryHistory, OnDisk, outward, with_outward, local_map, free_block, Outward, no_outward, last_of, change_last, stands}
+use Rattle.model.specs.Marks.{releasing}
 use Rattle.model.specs.PrimarySteps.{follows, appending, succeeding, open_primary, submit_tests, submitted, submit, is_unfinished, with_outcome, local_done, accepted_at, faulted, local_fault, send_tests, sending, send, resync_tests, resync_next, resync_fault, closing, close_primary, open_tests, opened}
 use Rattle.model.specs.Acknowledgements.{Taken, begun_with, meeting, taking_hello, taking_ack, taking, take_frame, ack_in}
 use Rattle.model.specs.Secondary.{SecondaryHistory, Inward, inward, with_inward, items_taken, is_drained, pending, no_inward}
@@ -284,7 +285,7 @@ spared-submit first contents starved h = spared-tests (submit_tests h first cont
 
 -- the local disk does a write
 spared-local : (number : ℕ) (h : PrimaryHistory) → IsSpared h (local_done number h)
-spared-local number h = spared-tests ((not (is_unfinished h number), UnknownJob) ∷ []) h (λ _. succeeding what.Nothing (with_outcome number OnDisk h)) (spared-ok h _ _)
+spared-local number h = spared-tests ((not (is_unfinished h number), UnknownJob) ∷ []) h (λ _. succeeding what.Nothing (releasing h (with_outcome number OnDisk h))) (spared-ok h _ _)
 
 -- the local disk fails a write
 spared-fault : (number kept : ℕ) (h : PrimaryHistory) → IsSpared h (local_fault_kept number kept h)

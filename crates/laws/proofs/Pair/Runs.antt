@@ -18,7 +18,7 @@ use Rattle.model.specs.Headline.{IsJoined, pushed_by, pushed_back_by}
 use Rattle.model.specs.Pair.{Event, OpenEvent, SubmitEvent, LocalEvent, LocalFaultEvent, SendEvent, ReceiveEvent, PeerEvent, PeerFaultEvent, AckOutEvent, AckInEvent, ResyncEvent, ResyncFaultEvent, ClosePrimaryEvent, CloseSecondaryEvent, PairHistory, has_room, next_frame, answers_have_room, next_answer, keeps_too_many, local_fault_kept, peer_fault_kept, open_pair_tests, open_pair, step, run}
 use Rattle.laws.proofs.Primary.Moves.{keeps-after}
 use Rattle.laws.proofs.Primary.Homes.{HasHomes}
-use Rattle.laws.proofs.Primary.HomesMoves.{homes-kept, homes-opening}
+use Rattle.laws.proofs.Primary.HomesMoves.{homes-kept, homes-released, homes-opening}
 use Rattle.laws.proofs.Pair.Links.{AreLinked}
 use Rattle.laws.proofs.Pair.Primary.{HasEnds, ends-following, ends-submit, ends-local, ends-fault, ends-send, ends-resync, ends-resync-fault, ends-close, ends-ack-in}
 use Rattle.laws.proofs.Pair.Secondary.{HasEndsToo, ends-answering, ends-receive, ends-peer, ends-fault-too, ends-push, ends-close-too}
@@ -56,7 +56,7 @@ leads-primary : (h : PairHistory) (event : PrimaryEvent) → IsLinkedPair h → 
 leads-primary h event linked ends = (
   record { here = event ∷ []; there = []; primary = refl; secondary = refl },
   record {
-    homes = keeps-after HasHomes HasHomes homes-kept event h.primary linked.homes;
+    homes = keeps-after HasHomes HasHomes homes-kept homes-released event h.primary linked.homes;
     pairs = subst (λ (s : Settings). Pairs (AreLinked s h.secondary.settings) (primary_after event h.primary).connections h.secondary.connections) (sym ends.settings) ends.pairs;
     counted = linked.counted;
   },
@@ -119,7 +119,7 @@ leads-open sync loss starved h linked = go (first_refusal (open_pair_tests h syn
         let linked_too = opens-linked sync loss h linked in (
           record { here = Opens sync loss starved ∷ []; there = OpensToo 0 ∷ []; primary = refl; secondary = refl },
           record {
-            homes = keeps-after HasHomes HasHomes homes-kept (Opens sync loss starved) h.primary linked.homes;
+            homes = keeps-after HasHomes HasHomes homes-kept homes-released (Opens sync loss starved) h.primary linked.homes;
             pairs =
                 rw (here, there) (subst (λ (s : Settings). Pairs (AreLinked s h.secondary.settings) (follows (opened h.primary sync loss)).history.connections (with_inward answering (opened_secondary 0 h.secondary)).connections) (sym linked_too.1) linked_too.0);
             counted = counted-after (OpensToo 0) refl h.secondary linked.counted;

@@ -19,9 +19,9 @@ use Rattle.model.specs.LocalRuns.{PrimaryEvent, primary_run}
 use Rattle.laws.proofs.Lists.Beginnings.{begins-self, any-grows}
 use Rattle.laws.proofs.Lists.Last.{get-change, change-twice}
 use Rattle.laws.proofs.Streams.Places.{epoch-grows}
-use Rattle.laws.proofs.Primary.Moves.{following-from, IsKeptByMoves, MaySubmit, keeps-run, with_frame, refusing, pushing}
+use Rattle.laws.proofs.Primary.Moves.{following-from, IsKeptByMoves, IsKeptByReleases, kept-by-releases, MaySubmit, keeps-run, with_frame, refusing, pushing}
 use Rattle.laws.proofs.Primary.Homes.{HasHomes, alone-at, confirmed-at}
-use Rattle.laws.proofs.Primary.HomesMoves.{homes-kept, homes-opening}
+use Rattle.laws.proofs.Primary.HomesMoves.{homes-kept, homes-marks, homes-opening}
 use Rattle.laws.proofs.Primary.Extents.{has, has-extent, insert-has, insert-keeps, extents-bound, insert-bound}
 use Rattle.laws.proofs.Lists.Elements.{get-left, get-more}
 use Rattle.laws.proofs.Lists.Picks.{filtered-pick, pick-filtered}
@@ -268,10 +268,13 @@ few-kept settings = record {
   receipts = λ h number p. (homes-kept.receipts h number p.0, few-later settings h _ refl (keep-same h.connections h.connections refl) (later-self h.writes) p.0 p.1);
 }
 
+few-released : (settings : Settings) → IsKeptByReleases (Both settings) (Both settings)
+few-released settings = kept-by-releases (Both settings) (Both settings) (λ h marks p. (homes-marks h marks p.0, record { setting = p.1.setting; few = p.1.few }))
+
 -- what holds of a primary after every run from an opening: its settings are those of the opening, and its extents few
 pub primary-few : (settings : Settings) (disk : BlockMap) (tuple : Tuple) (marks : ℕ → Bool) (events : List PrimaryEvent) → HasFewExtents settings (primary_run events (primary_opening settings disk tuple marks))
 primary-few settings disk tuple marks events =
-    (keeps-run (Both settings) (Both settings) (few-kept settings) events (primary_opening settings disk tuple marks) (homes-opening settings disk tuple marks, record { setting = refl; few = omega arith })).1
+    (keeps-run (Both settings) (Both settings) (few-kept settings) (few-released settings) events (primary_opening settings disk tuple marks) (homes-opening settings disk tuple marks, record { setting = refl; few = omega arith })).1
 
 -- Whatever frames a primary takes, its active extents are no more than its slots.
 pub primary_extents : (settings : Settings) (disk : BlockMap) (tuple : Tuple) (marks : ℕ → Bool) (events : List PrimaryEvent)

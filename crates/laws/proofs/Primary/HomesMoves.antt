@@ -10,13 +10,13 @@ use Rattle.blocks.specs.declared.outcome.Decision.TheVariants.{NoSync, BitmapSyn
 use Rattle.model.specs.Contents.{BlockMap, Write}
 use Rattle.model.specs.Stream.{Item, WriteItem, SyncUuidItem, IsBeginning, within}
 use Rattle.model.specs.Frames.{Received, UuidsFrame, RsWriteAckFrame}
-use Rattle.model.specs.Marks.{marking, clearing}
+use Rattle.model.specs.Marks.{Marks, marking, clearing}
 use Rattle.model.specs.Primary.{LocalOutcome, Waiting, OnDisk, Failed, Accepted, Outward, PrimaryHistory, primary_opening, no_outward, outward, change_last, last_index, with_outward, stands, in_resync, accepted_frames}
 use Rattle.model.specs.PrimarySteps.{appending, opened, submission, submitted, set_outcome, with_outcome, faulted, accepted_at, closing}
 use Rattle.model.specs.Acknowledgements.{begun_with}
 use Rattle.laws.proofs.Lists.Beginnings.{begins-self}
 use Rattle.laws.proofs.Lists.Last.{get-change, get-change-back, change-twice, change-none, get-last-changed}
-use Rattle.laws.proofs.Primary.Moves.{IsKeptByMoves, with_frame, refusing, pushing}
+use Rattle.laws.proofs.Primary.Moves.{IsKeptByMoves, IsKeptByReleases, kept-by-releases, with_frame, refusing, pushing}
 use Rattle.laws.proofs.Primary.Homes.{HasHomes, AllGrow, Grows, grows-self, linked-grows, KeepsConnection, SameWrites, same-writes, open-at, homes-change, outcome-write, outcome-home}
 use Rattle.laws.proofs.Lists.Elements.{get-left, get-more, get-end}
 use Rattle.laws.proofs.Primary.Ends.{no-more, stands-parts, not-refused, frames-taking, keeps-self, keeps-pushing, keeps-taking, keeps-refusing, keeps-closing}
@@ -228,6 +228,13 @@ homes-kept = record {
   closes = λ h standing homes. homes-with h (closing h) (λ c. record c { closed = true }) homes refl refl refl refl (keeps-closing h homes);
   receipts = λ h number homes. record { numbered = homes.numbered; housed = homes.housed; homed = homes.homed; empty = homes.empty; refused = homes.refused; journal = homes.journal };
 }
+
+-- no mark matters to them
+pub homes-marks : (h : PrimaryHistory) (marks : Marks) → HasHomes h → HasHomes (record h { marks = marks })
+homes-marks h marks homes = record { numbered = homes.numbered; housed = homes.housed; homed = homes.homed; empty = homes.empty; refused = homes.refused; journal = homes.journal }
+
+pub homes-released : IsKeptByReleases HasHomes HasHomes
+homes-released = kept-by-releases HasHomes HasHomes homes-marks
 
 -- a primary opens with no writes, and no connections
 pub homes-opening : (settings : Settings) (disk : BlockMap) (tuple : Tuple) (marks : ℕ → Bool) → HasHomes (primary_opening settings disk tuple marks)

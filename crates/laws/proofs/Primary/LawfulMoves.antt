@@ -13,16 +13,16 @@ use Rattle.model.specs.Contents.{BlockMap}
 use Rattle.model.specs.Stream.{Item, WriteItem, ResyncItem, BarrierItem, SyncUuidItem, UuidsItem, is_write, last_epoch, items_of_epoch, epoch_size, IsLawful, within}
 use Rattle.model.specs.Frames.{UuidsFrame}
 use Rattle.model.specs.Identifiers.{sync_end}
-use Rattle.model.specs.Marks.{marking}
+use Rattle.model.specs.Marks.{Marks, marking}
 use Rattle.model.specs.Primary.{Waiting, Failed, Accepted, Outward, PrimaryHistory, primary_opening, no_outward, outward, last_of, last_index, change_last, with_outward, stands, in_resync, local_map, under_way, free_block}
 use Rattle.model.specs.PrimarySteps.{is_settled, epoch_is_over, appending, resync_is_over, ending_resync, follows, submission, submitted, with_outcome, faulted, accepted_at, opened}
 use Rattle.model.specs.Acknowledgements.{begun_with}
 use Rattle.model.specs.LocalRuns.{PrimaryEvent, primary_run}
 use Rattle.laws.proofs.Lists.Last.{get-change-back, change-twice, last-change}
 use Rattle.laws.proofs.Streams.Places.{barriers-append}
-use Rattle.laws.proofs.Primary.Moves.{following-from, IsKeptByMoves, MaySubmit, keeps-run, with_frame, refusing, pushing}
+use Rattle.laws.proofs.Primary.Moves.{following-from, IsKeptByMoves, IsKeptByReleases, kept-by-releases, MaySubmit, keeps-run, with_frame, refusing, pushing}
 use Rattle.laws.proofs.Primary.Homes.{HasHomes}
-use Rattle.laws.proofs.Primary.HomesMoves.{homes-kept, homes-opening}
+use Rattle.laws.proofs.Primary.HomesMoves.{homes-kept, homes-marks, homes-opening}
 use Rattle.laws.proofs.Primary.StaysClosed.{open-stands, over-stands}
 use Rattle.laws.proofs.Streams.Lawful.{MayFollow, lawful-append, lawful-empty, meets-none, epoch-items-grow, epoch-empty, size-grow}
 use Rattle.laws.proofs.Primary.LastEpoch.{end-open, write-follows, resync-follows}
@@ -254,6 +254,13 @@ lawful-kept settings bound = record {
   receipts = λ h number p. (homes-kept.receipts h number p.0, record { streams = lawful-same settings h _ refl refl p.1.streams; on = p.1.on });
 }
 
+-- no mark matters to it
+pub lawful-marks : (settings : Settings) (h : PrimaryHistory) (marks : Marks) → After settings h → After settings (record h { marks = marks })
+lawful-marks settings h marks p = (homes-marks h marks p.0, lawful-same settings h _ refl refl p.1)
+
+lawful-released : (settings : Settings) → IsKeptByReleases (Before settings) (After settings)
+lawful-released settings = kept-by-releases (Before settings) (After settings) (lawful-marks settings)
+
 pub lawful-opening : (settings : Settings) (disk : BlockMap) (tuple : Tuple) (marks : ℕ → Bool) → IsLawfulBetween settings (primary_opening settings disk tuple marks)
 lawful-opening settings disk tuple marks = record { streams = record { setting = refl; lawful = λ k c at. absurd (cc) }; on = refl }
 
@@ -261,7 +268,7 @@ lawful-opening settings disk tuple marks = record { streams = record { setting =
 pub primary-between : (settings : Settings) (disk : BlockMap) (tuple : Tuple) (marks : ℕ → Bool) (events : List PrimaryEvent) → IsInRange settings
     → HasHomes (primary_run events (primary_opening settings disk tuple marks)) × IsLawfulBetween settings (primary_run events (primary_opening settings disk tuple marks))
 primary-between settings disk tuple marks events range =
-    keeps-run (Before settings) (After settings) (lawful-kept settings range.max_epoch.0) events (primary_opening settings disk tuple marks) (homes-opening settings disk tuple marks, lawful-opening settings disk tuple marks)
+    keeps-run (Before settings) (After settings) (lawful-kept settings range.max_epoch.0) (lawful-released settings) events (primary_opening settings disk tuple marks) (homes-opening settings disk tuple marks, lawful-opening settings disk tuple marks)
 
 -- Whatever frames a primary takes, each of its streams is lawful.
 pub primary_lawful : (settings : Settings) (disk : BlockMap) (tuple : Tuple) (marks : ℕ → Bool) (events : List PrimaryEvent) → IsInRange settings

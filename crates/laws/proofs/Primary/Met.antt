@@ -17,9 +17,9 @@ use Rattle.model.specs.LocalRuns.{PrimaryEvent, primary_run}
 use Rattle.laws.proofs.Lists.Each.{Each, each-append, each-change}
 use Rattle.laws.proofs.Lists.Elements.{get-left, get-end}
 use Rattle.laws.proofs.Lists.Last.{change-twice}
-use Rattle.laws.proofs.Primary.Moves.{IsKeptByMoves, IsGreeting, following-from, keeps-run, with_frame, refusing, pushing}
+use Rattle.laws.proofs.Primary.Moves.{IsKeptByMoves, IsKeptByReleases, kept-by-releases, IsGreeting, following-from, keeps-run, with_frame, refusing, pushing}
 use Rattle.laws.proofs.Primary.Homes.{HasHomes, open-at}
-use Rattle.laws.proofs.Primary.HomesMoves.{homes-kept, homes-opening}
+use Rattle.laws.proofs.Primary.HomesMoves.{homes-kept, homes-marks, homes-opening}
 use Rattle.laws.proofs.Primary.Ends.{not-refused}
 use Rattle.model.specs.Contents.{BlockMap}
 
@@ -167,8 +167,11 @@ module _ (settings : Settings) where
     receipts = λ h number p. (homes-kept.receipts h number p.0, met-still h _ p.1 refl refl);
   }
 
+  met-released : IsKeptByReleases Both Both
+  met-released = kept-by-releases Both Both (λ h marks p. (homes-marks h marks p.0, met-still h _ p.1 refl refl))
+
 -- In every run of a primary each end that has begun took the peer's size, which is its own.
 pub primary-met : (settings : Settings) (disk : BlockMap) (tuple : Tuple) (marks : ℕ → Bool) (events : List PrimaryEvent) → AllMet settings (primary_run events (primary_opening settings disk tuple marks))
 primary-met settings disk tuple marks events =
-    (keeps-run (Both settings) (Both settings) (met-kept settings) events (primary_opening settings disk tuple marks)
+    (keeps-run (Both settings) (Both settings) (met-kept settings) (met-released settings) events (primary_opening settings disk tuple marks)
     (homes-opening settings disk tuple marks, record { setting = refl; ends = tt })).1

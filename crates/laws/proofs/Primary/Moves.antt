@@ -18,7 +18,7 @@ use Rattle.model.specs.Frames.{Packet, DataFrame, RsDataReplyFrame, BarrierFrame
 use Rattle.model.specs.Identifiers.{are_fresh, decision, stands_in}
 use Rattle.model.specs.Refusals.{Test, first_refusal}
 use Rattle.model.specs.Primary.{OnDisk, Completion, PrimaryHistory, Outward, outward, with_outward, stands, frames_due, unreleased, local_map, resync_runs, under_way, free_block, is_resync, was_received, was_written, was_resynced}
-use Rattle.model.specs.Marks.{clearing}
+use Rattle.model.specs.Marks.{Marks, clearing, releasing}
 use Rattle.model.specs.PrimarySteps.{Followed, with_completions, epoch_is_over, resync_is_over, ending_resync, follows, appending, succeeding, tested, known_tuples, open_tests, opened, open_primary, conflict, activity_is_full, submission, submit_tests, submitted, submit, is_unfinished, with_outcome, local_done, faulted, local_fault, send_tests, sending, send, resync_tests, resync_next, resync_fault, closing, close_primary, take_completed_tests, receipted, take_completed}
 use Rattle.model.specs.Acknowledgements.{same_protocol, Taken, begun_with, meeting, taking_hello, names_sent, was_named, is_protocol, is_in_turn, taking_ack, taking, take_frame, ack_in}
 use Rattle.model.specs.LocalRuns.{PrimaryEvent, Opens, Submits, WritesLocally, FailsLocally, Sends, Takes, Resyncs, FailsResync, Closes, Receipts, primary_after, primary_run}
@@ -81,6 +81,37 @@ pub record IsKeptByMoves (P Q : PrimaryHistory → Type 0) : Type 0 where
   pub closes : (h : PrimaryHistory) → (outward h).closed ≡ false → P h → Q (closing h)
   pub receipts : (h : PrimaryHistory) (number : ℕ) → P h → P (receipted number h)
 
+-- The two steps that may release a write: its effect stands, and then the marks are cleared of what it released.
+pub record IsKeptByReleases (P Q : PrimaryHistory → Type 0) : Type 0 where
+  pub writes : (h : PrimaryHistory) (number : ℕ) → is_unfinished h number ≡ true → P h → Q (with_outcome number OnDisk h) → Q (releasing h (with_outcome number OnDisk h))
+  pub confirms : (h : PrimaryHistory) (number size : ℕ) → (outward h).closed ≡ false → (outward h).begun ≡ true → is_in_turn h number size ≡ true → P h → Q (with_outward (with_frame (Ok (BarrierAckFrame number size))) h)
+      → Q (releasing h (with_outward (with_frame (Ok (BarrierAckFrame number size))) h))
+
+-- A property that no mark matters to is kept by them.
+pub kept-by-releases : (P Q : PrimaryHistory → Type 0) → ((h : PrimaryHistory) (marks : Marks) → Q h → Q (record h { marks = marks })) → IsKeptByReleases P Q
+kept-by-releases P Q same = record { writes = λ h number waiting p q. same (with_outcome number OnDisk h) _ q; confirms = λ h number size standing begun turn p q. same (with_outward (with_frame (Ok (BarrierAckFrame number size))) h) _ q }
+
+-- Two properties that are kept, together.
+pub both-kept : (P Q P' Q' : PrimaryHistory → Type 0) → IsKeptByMoves P Q → IsKeptByMoves P' Q' → IsKeptByMoves (λ h. P h × P' h) (λ h. Q h × Q' h)
+both-kept P Q P' Q' one two = record {
+  following = λ h q. (one.following h q.0, two.following h q.1);
+  opens = λ h sync loss closed p. (one.opens h sync loss closed p.0, two.opens h sync loss closed p.1);
+  submits = λ h first contents may p. (one.submits h first contents may p.0, two.submits h first contents may p.1);
+  writes = λ h number waiting p. (one.writes h number waiting p.0, two.writes h number waiting p.1);
+  faults = λ h number offsets waiting p. (one.faults h number offsets waiting p.0, two.faults h number offsets waiting p.1);
+  sends = λ h standing due p. (one.sends h standing due p.0, two.sends h standing due p.1);
+  greets = λ h frame standing new met p. (one.greets h frame standing new met p.0, two.greets h frame standing new met p.1);
+  begins = λ h peer decided standing new late is p. (one.begins h peer decided standing new late is p.0, two.begins h peer decided standing new late is p.1);
+  receives = λ h ack standing begun may p. (one.receives h ack standing begun may p.0, two.receives h ack standing begun may p.1);
+  applies = λ h ack standing begun may p. (one.applies h ack standing begun may p.0, two.applies h ack standing begun may p.1);
+  clears = λ h ack standing begun may p. (one.clears h ack standing begun may p.0, two.clears h ack standing begun may p.1);
+  confirms = λ h number size standing begun turn p. (one.confirms h number size standing begun turn p.0, two.confirms h number size standing begun turn p.1);
+  refuses = λ h frame peer standing p. (one.refuses h frame peer standing p.0, two.refuses h frame peer standing p.1);
+  resyncs = λ h block runs alone is p. (one.resyncs h block runs alone is p.0, two.resyncs h block runs alone is p.1);
+  closes = λ h standing p. (one.closes h standing p.0, two.closes h standing p.1);
+  receipts = λ h number p. (one.receipts h number p.0, two.receipts h number p.1);
+}
+
 -- Tests.
 
 -- a step that its tests refuse leaves the history
@@ -129,7 +160,7 @@ fine-if : (Q : PrimaryHistory → Type 0) (taken done : PrimaryHistory) (good : 
 fine-if Q taken done true name refusal q = q refl
 fine-if Q taken done false name refusal q = (taken.peer, refl)
 
-module _ (P Q : PrimaryHistory → Type 0) (K : IsKeptByMoves P Q) where
+module _ (P Q : PrimaryHistory → Type 0) (K : IsKeptByMoves P Q) (R : IsKeptByReleases P Q) where
   keeps-open : (sync loss : ℕ) (starved : Bool) (h : PrimaryHistory) → P h → P (open_primary sync loss starved h).1
   keeps-open sync loss starved h p = tested-keeps P h (open_tests h sync loss starved) (λ _. succeeding what.Nothing (opened h sync loss)) p (λ none.
       let first = test-passed (not (outward h).closed) NotDrained ((not (are_fresh sync loss (known_tuples h)), UsedIdentifier) ∷ (nat_le 4294967295 (length h.connections), StreamFull) ∷ (starved, NoMemory) ∷ []) none in
@@ -155,9 +186,9 @@ module _ (P Q : PrimaryHistory → Type 0) (K : IsKeptByMoves P Q) where
       K.following (submitted h first contents) (K.submits h first contents (record { range = not-false (is_range h.settings first (length contents)) one.0; free = five.0; active = six.0 }) p))
 
   keeps-local : (number : ℕ) (h : PrimaryHistory) → P h → P (local_done number h).1
-  keeps-local number h p = tested-keeps P h ((not (is_unfinished h number), UnknownJob) ∷ []) (λ _. succeeding what.Nothing (with_outcome number OnDisk h)) p (λ none.
-      let one = test-passed (not (is_unfinished h number)) UnknownJob [] none in
-      K.following (with_outcome number OnDisk h) (K.writes h number (not-false (is_unfinished h number) one.0) p))
+  keeps-local number h p = tested-keeps P h ((not (is_unfinished h number), UnknownJob) ∷ []) (λ _. succeeding what.Nothing (releasing h (with_outcome number OnDisk h))) p (λ none.
+      let waiting : is_unfinished h number ≡ true = not-false (is_unfinished h number) (test-passed (not (is_unfinished h number)) UnknownJob [] none).0 in
+      K.following (releasing h (with_outcome number OnDisk h)) (R.writes h number waiting p (K.writes h number waiting p)))
 
   keeps-fault : (number : ℕ) (offsets : List ℕ) (h : PrimaryHistory) → P h → P (local_fault number offsets h).1
   keeps-fault number offsets h p = tested-keeps P h ((not (is_unfinished h number), UnknownJob) ∷ []) (λ _. succeeding what.Nothing (faulted number offsets h)) p (λ none.
@@ -283,7 +314,8 @@ module _ (P Q : PrimaryHistory → Type 0) (K : IsKeptByMoves P Q) where
       let parts = and_parts names (not again) good in
       K.clears h ack standing begun (record { names = parts.0; first = not-true again parts.1 }) p)
   keeps-ack h standing begun p (BarrierAckFrame number size) =
-      fine-if Q (with_outward (with_frame (Ok (BarrierAckFrame number size))) h) (with_outward (with_frame (Ok (BarrierAckFrame number size))) h) (is_in_turn h number size) (what.Frame command.BarrierAck None) BadBarrierAck (λ good. K.confirms h number size standing begun good p)
+      let taken : PrimaryHistory = with_outward (with_frame (Ok (BarrierAckFrame number size))) h in
+      fine-if Q taken (releasing h taken) (is_in_turn h number size) (what.Frame command.BarrierAck None) BadBarrierAck (λ good. R.confirms h number size standing begun good p (K.confirms h number size standing begun good p))
 
   keeps-taking : (h : PrimaryHistory) → (outward h).closed ≡ false → P h → (frame : Received) → Fine Q (with_outward (with_frame frame) h) (taking frame h (with_outward (with_frame frame) h))
   keeps-taking h standing p (Err fault) = (h.peer, refl)

@@ -17,7 +17,7 @@ use Rattle.model.specs.Contents.{BlockMap, is_range, extent_of}
 use Rattle.model.specs.Stream.{Item, WriteItem, ResyncItem, SyncUuidItem, below, within}
 use Rattle.model.specs.Frames.{Packet, ProtocolFrame, UuidsFrame, SizesFrame, RecvAckFrame, WriteAckFrame, RsWriteAckFrame, BarrierAckFrame, Received}
 use Rattle.model.specs.Identifiers.{are_fresh, decision, stands_in, sync_end}
-use Rattle.model.specs.Marks.{marking}
+use Rattle.model.specs.Marks.{marking, releasing}
 use Rattle.model.specs.Refusals.{Test, first_refusal}
 use Rattle.model.specs.Primary.{Accepted, Waiting, OnDisk, Failed, Completion, Outward, PrimaryHistory, primary_opening, no_outward, outward, last_index, change_last, with_outward, stands, unreleased, open_writes, local_map, in_resync, resync_runs, under_way, marked_blocks, free_block}
 use Rattle.model.specs.Contents.{covers}
@@ -126,8 +126,8 @@ module _ (settings : Settings) (bound : 0 < settings.max_epoch) where
       (λ standing. leb-false 4294967288 (length (outward h).stream) (subst (λ b. (b && full) ≡ false) standing seven.0)) a))
 
   fit-local : (number : ℕ) (h : PrimaryHistory) → HasFitEnds settings h → HasFitEnds settings (local_done number h).1
-  fit-local number h a = tested-keeps (HasFitEnds settings) h ((not (is_unfinished h number), UnknownJob) ∷ []) (λ _. succeeding what.Nothing (with_outcome number OnDisk h)) a (λ none.
-      fit-following (with_outcome number OnDisk h) (fit-same h _ refl refl a))
+  fit-local number h a = tested-keeps (HasFitEnds settings) h ((not (is_unfinished h number), UnknownJob) ∷ []) (λ _. succeeding what.Nothing (releasing h (with_outcome number OnDisk h))) a (λ none.
+      fit-following (releasing h (with_outcome number OnDisk h)) (fit-same h _ refl refl a))
 
   fit-fault : (number : ℕ) (offsets : List ℕ) (h : PrimaryHistory) → HasFitEnds settings h → HasFitEnds settings (local_fault number offsets h).1
   fit-fault number offsets h a = tested-keeps (HasFitEnds settings) h ((not (is_unfinished h number), UnknownJob) ∷ []) (λ _. succeeding what.Nothing (faulted number offsets h)) a (λ none.

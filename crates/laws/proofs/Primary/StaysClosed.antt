@@ -13,7 +13,7 @@ use Rattle.model.specs.Acknowledgements.{begun_with}
 use Rattle.model.specs.LocalRuns.{PrimaryEvent, primary_run}
 use Rattle.model.specs.Headline.{StaysClosed}
 use Rattle.laws.proofs.Lists.Last.{get-change, change-twice}
-use Rattle.laws.proofs.Primary.Moves.{following-from, IsKeptByMoves, keeps-run, with_frame, refusing, pushing}
+use Rattle.laws.proofs.Primary.Moves.{following-from, IsKeptByMoves, IsKeptByReleases, kept-by-releases, keeps-run, with_frame, refusing, pushing}
 use Rattle.laws.proofs.Lists.Elements.{get-left}
 
 -- an end that stands is open
@@ -96,6 +96,9 @@ stays-kept p = record {
   receipts = λ h number stays. stays-same p h _ refl stays;
 }
 
+stays-released : (p : PrimaryHistory) → IsKeptByReleases (StaysClosed p) (StaysClosed p)
+stays-released p = kept-by-releases (StaysClosed p) (StaysClosed p) (λ h marks stays. stays-same p h _ refl stays)
+
 -- A closed end of the primary stays as it is in every run, from any history on.
 pub primary_stays_closed : (events : List PrimaryEvent) (p : PrimaryHistory) → StaysClosed p (primary_run events p)
-primary_stays_closed events p = keeps-run (StaysClosed p) (StaysClosed p) (stays-kept p) events p (record { same = λ k c at closed. at })
+primary_stays_closed events p = keeps-run (StaysClosed p) (StaysClosed p) (stays-kept p) (stays-released p) events p (record { same = λ k c at closed. at })
