@@ -1,5 +1,5 @@
--- Why an unmarked block is accounted for, whatever frames a primary takes: the last item there is surely applied, or is a
--- write that is not released.
+-- Why an unmarked block is accounted for, whatever frames a primary takes: an item there is surely applied and what comes
+-- behind it has the same contents, or the last one is a write that is not released.
 pub mod Begins
 pub mod Kept
 pub mod Moves
@@ -20,28 +20,38 @@ use Rattle.model.specs.Stream.{Item, WriteItem, ResyncItem, BarrierItem, SyncUui
 use Rattle.model.specs.Frames.{Received, UuidsFrame, naming}
 use Rattle.model.specs.Identifiers.{decision}
 use Rattle.model.specs.Primary.{Accepted, Outward, PrimaryHistory, is_waiting, is_alone, is_confirmed, is_released, unreleased, accepted_frames, is_barrier_ack, is_rs_write_ack, barrier_acknowledged}
-use Rattle.laws.specs.Reflections.{touches, is_sure, NoneBegan, FirstBegan}
+use Rattle.laws.specs.Reflections.{touches, content_at, is_sure, NoneBegan, FirstBegan}
 use Rattle.laws.proofs.Streams.Places.{epoch-grows}
 use Rattle.laws.proofs.Primary.Homes.{Grows, AllGrow}
 use Rattle.laws.proofs.Blocks.Latest.{Touch, latest}
+use Rattle.laws.proofs.Blocks.LatestPlaces.{latest-at, latest-last}
+use Rattle.laws.proofs.Lists.Elements.{same-at}
 use Rattle.laws.proofs.Tracked.Kept.{IsKnown}
 use Rattle.laws.proofs.Lists.Picks.{any-filtered}
 use Rattle.laws.proofs.Lists.Beginnings.{any-grows}
 
--- An item is settled: the peer has said that it is on its disk, or it is a write that is not released.
-abbrev pub IsSure : PrimaryHistory → Touch → Type 0
-IsSure h touch = (c : Outward) × (slice_get h.connections touch.connection ≡ Some c) × (is_sure c touch.place touch.item ≡ true)
+-- Of the items of the connection of the last one that touches a block: the peer has said that this one is on its disk, and it
+-- and every later one has what the last one has.
+pub record IsSure (connections : List Outward) (block : ℕ) (touch : Touch) : Type 0 where
+  pub place : ℕ
+  pub end : Outward
+  pub item : Item
+  pub at : slice_get connections touch.connection ≡ Some end
+  pub there : slice_get end.stream place ≡ Some item
+  pub touched : touches item block ≡ true
+  pub sure : is_sure end place item ≡ true
+  pub same : (next : ℕ) (i : Item) → place ≤ next → slice_get end.stream next ≡ Some i → touches i block ≡ true → content_at i block ≡ content_at touch.item block
 
 -- the item is of a write that is not released
 abbrev pub IsHeld : PrimaryHistory → Touch → Type 0
 IsHeld h touch = (i : ℕ) × (accepted : Accepted) × (slice_get h.writes i ≡ Some accepted) × (accepted.home ≡ Some (touch.connection, touch.place)) × (is_released h accepted ≡ false)
 
--- A write without a connection that waits for the local disk is marked; on an unmarked block the last item is sure, or is a
--- write that is not released; where there is none, the block was not marked at the opening, and no full resync began.
+-- A write without a connection that waits for the local disk is marked; on an unmarked block an item is sure and what comes
+-- behind it is the same, or the last one is a write that is not released; where there is none, the block was not marked at the opening, and no full resync began.
 pub record IsAccounted (h : PrimaryHistory) : Type 0 where
   pub known : IsKnown h
   pub waiting : (i block : ℕ) (accepted : Accepted) → slice_get h.writes i ≡ Some accepted → is_alone h accepted ≡ true → is_waiting accepted.outcome ≡ true → covers accepted.write block ≡ true → h.marks block ≡ true
-  pub settled : (block : ℕ) (touch : Touch) → h.marks block ≡ false → latest h.connections block ≡ Some touch → IsSure h touch ⊎ IsHeld h touch
+  pub settled : (block : ℕ) (touch : Touch) → h.marks block ≡ false → latest h.connections block ≡ Some touch → IsSure h.connections block touch ⊎ IsHeld h touch
   pub untouched : (block : ℕ) → block < h.settings.blocks → h.marks block ≡ false → latest h.connections block ≡ None → h.opening_marks block ≡ false
   pub began : NoneBegan h ⊎ ((decided : Decision) × FirstBegan h decided × (decided ≡ FullSync → (block : ℕ) → block < h.settings.blocks → h.marks block ≡ false → latest h.connections block ≡ None → ⊥))
 
@@ -62,6 +72,28 @@ pub record Carries (h later : PrimaryHistory) : Type 0 where
 pub record KeepsBegun (h later : PrimaryHistory) : Type 0 where
   pub forward : (k : ℕ) (c : Outward) → slice_get h.connections k ≡ Some c → c.begun ≡ true → (d : Outward) × (slice_get later.connections k ≡ Some d) × (d.begun ≡ true) × IsBeginning c.taken d.taken
   pub back : (k : ℕ) (d : Outward) → slice_get later.connections k ≡ Some d → ((c : Outward) × (slice_get h.connections k ≡ Some c) × (d.begun ≡ c.begun)) ⊎ (d.begun ≡ false)
+
+-- the last item is sure itself
+pub sure-last : (connections : List Outward) (block : ℕ) (touch : Touch) (c : Outward) → latest connections block ≡ Some touch → slice_get connections touch.connection ≡ Some c → is_sure c touch.place touch.item ≡ true → IsSure connections block touch
+sure-last connections block touch c is at sure =
+    let last = latest-at connections block touch is in
+    let end : last.0 ≡ c = same-at connections touch.connection last.0 c last.1 at in
+    let there : slice_get c.stream touch.place ≡ Some touch.item = subst (λ (x : Outward). slice_get x.stream touch.place ≡ Some touch.item) end last.2 in
+    record {
+      place = touch.place;
+      end = c;
+      item = touch.item;
+      at = at;
+      there = there;
+      touched = last.3;
+      sure = sure;
+      same = λ next i behind found touched. elim (latest-last connections block touch is touch.connection next c i at found touched) [
+        | inl before ↦ absurd (omega arith)
+        | inr here ↦
+            let index : next ≡ touch.place = let low = here.1 in omega arith in
+            ap (λ (x : Item). content_at x block) (same-at c.stream touch.place i touch.item (subst (λ (n : ℕ). slice_get c.stream n ≡ Some i) index found) there)
+      ];
+    }
 
 -- a write that is not released is in the transfer log
 pub held-covers : (h : PrimaryHistory) (block i : ℕ) (accepted : Accepted) → slice_get h.writes i ≡ Some accepted → is_released h accepted ≡ false → covers accepted.write block ≡ true

@@ -13,7 +13,7 @@ use Rattle.model.specs.Identifiers.{sync_end}
 use Rattle.model.specs.Marks.{marking, clearing}
 use Rattle.model.specs.Primary.{LocalOutcome, Waiting, OnDisk, Failed, Accepted, Outward, PrimaryHistory, primary_opening, no_outward, outward, last_index, change_last, with_outward, stands, in_resync, is_waiting, free_block, resync_runs, is_resync, was_resynced, open_writes, local_map, is_rs_write_ack, under_way, same_naming, items_sent, is_open, is_completed, is_failed, is_on_disk}
 use Rattle.model.specs.PrimarySteps.{with_completions, epoch_is_over, appending, resync_is_over, ending_resync, follows, opened, is_unfinished, with_outcome, faulted, accepted_at}
-use Rattle.laws.specs.Reflections.{touches}
+use Rattle.laws.specs.Reflections.{touches, is_sure}
 use Rattle.laws.proofs.Lists.Beginnings.{begins-self}
 use Rattle.laws.proofs.Lists.Last.{get-last-changed}
 use Rattle.laws.proofs.Primary.Moves.{following-from, IsKeptByMoves, MayAcknowledge, with_frame, pushing}
@@ -23,7 +23,8 @@ use Rattle.laws.proofs.Blocks.LatestMoves.{latest-same-last, latest-opened}
 use Rattle.laws.proofs.Blocks.LatestPlaces.{latest-at}
 use Rattle.laws.proofs.Tracked.{IsUnderWay}
 use Rattle.laws.proofs.Tracked.Kept.{IsKnown, known-kept, known-completions, known-parting, known-ending}
-use Rattle.laws.proofs.Accounted.{IsSure, IsAccounted, Carries, KeepsBegun}
+use Rattle.laws.proofs.Tracked.Quiet.{under-way-copied}
+use Rattle.laws.proofs.Accounted.{sure-last, IsAccounted, Carries, KeepsBegun}
 use Rattle.laws.proofs.Accounted.Moves.{settled-carries, waiting-carries, first-carries}
 use Rattle.laws.proofs.Accounted.Turns.{account-submits, account-closes, account-refuses}
 use Rattle.laws.proofs.Accounted.Begins.{account-begins}
@@ -63,7 +64,7 @@ same-some {X} {x} {y} e = cc
 
 -- An acknowledgement of a resync names a block that is under way.
 named-item : (h : PrimaryHistory) (ack : Acknowledged) → (outward h).closed ≡ false → (outward h).begun ≡ true → MayAcknowledge h is_resync was_resynced ack
-    → (contents : List ℕ) × IsUnderWay h ack.place ack.first contents × (same_naming (naming ack.place (ResyncItem ack.first contents)) ack ≡ true)
+    → (contents : List ℕ) × IsUnderWay (outward h) ack.place ack.first contents × (same_naming (naming ack.place (ResyncItem ack.first contents)) ack ≡ true)
 named-item h ack standing begun may = go (slice_get (outward h).stream ack.place) refl may.names may.first
   where
     stood : stands (outward h) ≡ true
@@ -71,7 +72,7 @@ named-item h ack standing begun may = go (slice_get (outward h).stream ack.place
 
     one : (item : Item) → slice_get (outward h).stream ack.place ≡ Some item
         → ((is_resync item && same_naming (naming ack.place item) ack) && nat_lt ack.place (items_sent (outward h))) ≡ true → was_resynced (outward h) ack.place item ≡ false
-        → (contents : List ℕ) × IsUnderWay h ack.place ack.first contents × (same_naming (naming ack.place (ResyncItem ack.first contents)) ack ≡ true)
+        → (contents : List ℕ) × IsUnderWay (outward h) ack.place ack.first contents × (same_naming (naming ack.place (ResyncItem ack.first contents)) ack ≡ true)
     one (WriteItem write) is names first = absurd (cc)
     one (BarrierItem epoch) is names first = absurd (cc)
     one (SyncUuidItem word) is names first = absurd (cc)
@@ -81,14 +82,14 @@ named-item h ack standing begun may = go (slice_get (outward h).stream ack.place
         let firsts = (and_parts ((block == ack.first) && (0 == ack.number)) ((1 == ack.count) && (ack.place == ack.place)) both).0 in
         let same : block ≡ ack.first = eqb-true block ack.first (and_parts (block == ack.first) (0 == ack.number) firsts).0 in (
           contents,
-          subst (λ (b : ℕ). IsUnderWay h ack.place b contents) same (record { standing = stood; there = is; unanswered = first }),
+          subst (λ (b : ℕ). IsUnderWay (outward h) ack.place b contents) same (record { standing = stood; there = is; unanswered = first }),
           subst (λ (b : ℕ). same_naming (naming ack.place (ResyncItem b contents)) ack ≡ true) same both,
         )
 
     go : (v : Option Item) → slice_get (outward h).stream ack.place ≡ v
         → elim v as (λ _. Bool) [ None ↦ false | Some item ↦ (is_resync item && same_naming (naming ack.place item) ack) && nat_lt ack.place (items_sent (outward h)) ] ≡ true
         → elim v as (λ _. Bool) [ None ↦ false | Some item ↦ was_resynced (outward h) ack.place item ] ≡ false
-        → (contents : List ℕ) × IsUnderWay h ack.place ack.first contents × (same_naming (naming ack.place (ResyncItem ack.first contents)) ack ≡ true)
+        → (contents : List ℕ) × IsUnderWay (outward h) ack.place ack.first contents × (same_naming (naming ack.place (ResyncItem ack.first contents)) ack ≡ true)
     go None is names first = absurd (cc)
     go (Some item) is names first = one item is names first
 
@@ -184,7 +185,7 @@ account-clears h ack standing begun may accounted =
     ] in
     let free : (block : ℕ) → later.marks block ≡ false → latest h.connections block ≡ None → h.marks block ≡ false = λ block unmarked none. elim (elsewhere block unmarked) [
       | inl clean ↦ clean
-      | inr same ↦ absurd (let some : latest h.connections block ≡ Some (record { connection = last_index h.connections; place = ack.place; item = ResyncItem ack.first named.0 }) = subst (λ (n : ℕ). latest h.connections n ≡ Some (record { connection = last_index h.connections; place = ack.place; item = ResyncItem ack.first named.0 })) (sym same) way.0 in cc (some, none))
+      | inr same ↦ absurd (let some : latest h.connections block ≡ Some (record { connection = last_index h.connections; place = ack.place; item = ResyncItem ack.first named.0 }) = subst (λ (n : ℕ). latest h.connections n ≡ Some (record { connection = last_index h.connections; place = ack.place; item = ResyncItem ack.first named.0 })) (sym same) way in cc (some, none))
     ] in
     record {
       known = known;
@@ -196,18 +197,20 @@ account-clears h ack standing begun may accounted =
               | inl clean ↦ both_ways (h.marks block) clean before.4
               | inr same ↦
                   let a : Accepted = before.0 in
-                  let uncovered = accounted.known.tracked.free ack.place ack.first named.0 i a named.1 before.1 (waits-open h accounted.known i a before.1 before.3) in
+                  let uncovered = (accounted.known.tracked.copied ack.place ack.first named.0 (under-way-copied h ack.place ack.first named.0 accounted.known.tracked named.1)).1 i a before.1 before.3 in
                   both_ways (covers b.write block) (subst (λ (w : Write). covers w block ≡ false) (sym before.2) (subst (λ (n : ℕ). covers a.write n ≡ false) (sym same) uncovered)) covered
             ])
           ];
       settled = λ block touch unmarked is.
           let was : latest h.connections block ≡ Some touch = sym (last block) ∙ is in
           elim (elsewhere block unmarked) [
-            | inl clean ↦ settled-carries h later block touch accounted carries (latest-at h.connections block touch was) clean was
+            | inl clean ↦ settled-carries h later block touch accounted carries (latest-at h.connections block touch was) clean was is
             | inr same ↦ inl (
                 let at : slice_get later.connections (last_index h.connections) ≡ Some (with_frame (Ok (RsWriteAckFrame ack)) (outward h)) = get-last-changed (with_frame (Ok (RsWriteAckFrame ack))) (no_outward h.tuple) h.connections (outward h) (open-at h standing) refl in
-                let one : touch ≡ record { connection = last_index h.connections; place = ack.place; item = ResyncItem ack.first named.0 } = same-some (sym was ∙ subst (λ (n : ℕ). latest h.connections n ≡ Some (record { connection = last_index h.connections; place = ack.place; item = ResyncItem ack.first named.0 })) (sym same) way.0) in
-                subst (λ (t : Touch). IsSure later t) (sym one) (with_frame (Ok (RsWriteAckFrame ack)) (outward h), at, resynced-now h ack named.0 (open-plain h accounted.known.tracked.homes standing) named.2))
+                let one : touch ≡ record { connection = last_index h.connections; place = ack.place; item = ResyncItem ack.first named.0 } = same-some (sym was ∙ subst (λ (n : ℕ). latest h.connections n ≡ Some (record { connection = last_index h.connections; place = ack.place; item = ResyncItem ack.first named.0 })) (sym same) way) in
+                let sure : is_sure (with_frame (Ok (RsWriteAckFrame ack)) (outward h)) touch.place touch.item ≡ true =
+                subst (λ (t : Touch). is_sure (with_frame (Ok (RsWriteAckFrame ack)) (outward h)) t.place t.item ≡ true) (sym one) (resynced-now h ack named.0 (open-plain h accounted.known.tracked.homes standing) named.2) in
+                sure-last later.connections block touch (with_frame (Ok (RsWriteAckFrame ack)) (outward h)) is (subst (λ (t : Touch). slice_get later.connections t.connection ≡ Some (with_frame (Ok (RsWriteAckFrame ack)) (outward h))) (sym one) at) sure)
           ];
       untouched = λ block inside unmarked none. accounted.untouched block inside (free block unmarked (sym (last block) ∙ none)) (sym (last block) ∙ none);
       began = elim accounted.began [

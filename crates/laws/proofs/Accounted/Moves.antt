@@ -1,6 +1,7 @@
 -- What accounts for an unmarked block, carried over the moves of a primary that close nothing and clear nothing.
-use Rattle.std.proofs.Common.{ℕ, ◌≡◌, ◌⊎◌, inl, inr, Bool, true, false, not, ◌&&◌, ◌||◌, List, Option, Some, None, slice_get, Ok, refl, sym, ◌∙◌, ap, subst}
+use Rattle.std.proofs.Common.{ℕ, ◌≡◌, ◌⊎◌, inl, inr, Bool, true, false, not, ◌&&◌, ◌||◌, List, ◌++◌, Option, Some, None, slice_get, Ok, refl, sym, ◌∙◌, ap, subst, arith}
 use Rattle.std.proofs.lemmas.Bool.{cases_Bool, both_ways, or_cases, and_parts}
+use Rattle.std.proofs.lemmas.Option.{slice_get_within}
 use Rattle.blocks.specs.declared.tuple.Tuple.{Tuple}
 use Rattle.blocks.specs.declared.outcome.Decision.{Decision}
 use Rattle.model.specs.Contents.{Write, covers}
@@ -11,20 +12,38 @@ use Rattle.model.specs.Identifiers.{decision}
 use Rattle.laws.specs.Reflections.{touches, is_sure, NoneBegan, FirstBegan}
 use Rattle.laws.proofs.Primary.Homes.{HasHomes, AllGrow, alone-at, confirmed-at}
 use Rattle.laws.proofs.Blocks.Latest.{Touch, latest}
-use Rattle.laws.proofs.Accounted.{IsSure, IsHeld, IsAccounted, Carries, KeepsBegun, sure-grows}
-use Rattle.laws.proofs.Lists.Elements.{get-left, same-at}
+use Rattle.laws.proofs.Blocks.LatestPlaces.{latest-last}
+use Rattle.laws.proofs.Accounted.{IsSure, IsHeld, IsAccounted, Carries, KeepsBegun, sure-last, sure-grows}
+use Rattle.laws.proofs.Lists.Elements.{get-left, get-split, same-at}
 
 -- Where the last item on a block stands.
 abbrev pub IsThere : List Outward → ℕ → Touch → Type 0
 IsThere connections block touch = (c : Outward) × (slice_get connections touch.connection ≡ Some c) × (slice_get c.stream touch.place ≡ Some touch.item) × (touches touch.item block ≡ true)
 
 -- what is sure stays so where connections grow
-pub sure-carries : (h later : PrimaryHistory) (block : ℕ) (touch : Touch) → AllGrow h.connections later.connections → IsThere h.connections block touch → IsSure h touch → IsSure later touch
-sure-carries h later block touch grow there sure =
-    let same : there.0 ≡ sure.0 = same-at h.connections touch.connection there.0 sure.0 there.1 sure.1 in
-    let item : slice_get sure.0.stream touch.place ≡ Some touch.item = subst (λ (c : Outward). slice_get c.stream touch.place ≡ Some touch.item) same there.2 in
-    let new = grow touch.connection sure.0 sure.1 in
-    (new.0, new.1, sure-grows sure.0 new.0 touch.place touch.item new.2 item sure.2)
+pub sure-carries : (h later : PrimaryHistory) (block : ℕ) (touch : Touch) → AllGrow h.connections later.connections → IsThere h.connections block touch → latest later.connections block ≡ Some touch → IsSure h.connections block touch
+    → IsSure later.connections block touch
+sure-carries h later block touch grow there last sure =
+    let new = grow touch.connection sure.end sure.at in
+    let more : sure.end.stream ++ new.2.stream.0 ≡ new.0.stream = new.2.stream.1 in
+    let end : there.0 ≡ sure.end = same-at h.connections touch.connection there.0 sure.end there.1 sure.at in
+    let within = slice_get_within sure.end.stream touch.place touch.item (subst (λ (c : Outward). slice_get c.stream touch.place ≡ Some touch.item) end there.2) in
+    record {
+      place = sure.place;
+      end = new.0;
+      item = sure.item;
+      at = new.1;
+      there = subst (λ (l : List Item). slice_get l sure.place ≡ Some sure.item) more (get-left sure.end.stream new.2.stream.0 sure.place sure.item sure.there);
+      touched = sure.touched;
+      sure = sure-grows sure.end new.0 sure.place sure.item new.2 sure.there sure.sure;
+      same = λ next i behind found touched. elim (get-split sure.end.stream new.2.stream.0 next i (subst (λ (l : List Item). slice_get l next ≡ Some i) (sym more) found)) [
+        | inl old ↦ sure.same next i behind old touched
+        | inr added ↦ absurd (elim (latest-last later.connections block touch last touch.connection next new.0 i new.1 found touched) [
+          | inl before ↦ omega arith
+          | inr here ↦ let past = added.1 in let low = here.1 in omega arith
+        ])
+      ];
+    }
 
 -- a write that is alone afterwards was so before
 pub alone-before : (h later : PrimaryHistory) (i : ℕ) (a b : Accepted) → HasHomes h → Carries h later → slice_get h.writes i ≡ Some a → b.home ≡ a.home → is_alone later b ≡ true → is_alone h a ≡ true
@@ -42,9 +61,9 @@ alone-before h later i a b homes carries at same alone = go a.home refl
         ]
 
 -- A write that is not released stays so, or its item is sure then; unless it waited without a connection.
-held-carries : (h later : PrimaryHistory) (block : ℕ) (touch : Touch) → HasHomes h → Carries h later → IsThere h.connections block touch → (held : IsHeld h touch)
-    → (is_alone h held.1 ≡ true → is_waiting held.1.outcome ≡ true → ⊥) → IsSure later touch ⊎ IsHeld later touch
-held-carries h later block touch homes carries there held free =
+held-carries : (h later : PrimaryHistory) (block : ℕ) (touch : Touch) → HasHomes h → Carries h later → IsThere h.connections block touch → latest later.connections block ≡ Some touch → (held : IsHeld h touch)
+    → (is_alone h held.1 ≡ true → is_waiting held.1.outcome ≡ true → ⊥) → IsSure later.connections block touch ⊎ IsHeld later touch
+held-carries h later block touch homes carries there last held free =
     let a : Accepted = held.1 in
     let new = carries.writes held.0 a held.2 in
     let b : Accepted = new.0 in
@@ -59,7 +78,7 @@ held-carries h later block touch homes carries there held free =
                 let same : there.0 ≡ was.0 = same-at h.connections touch.connection there.0 was.0 there.1 was.1 in
                 let item : WriteItem a.write ≡ touch.item = same-at was.0.stream touch.place (WriteItem a.write) touch.item was.2 (subst (λ (c : Outward). slice_get c.stream touch.place ≡ Some touch.item) same there.2) in
                 let grown = carries.grow touch.connection was.0 was.1 in
-                inl (grown.0, grown.1, subst (λ (x : Item). is_sure grown.0 touch.place x ≡ true) item (sym (confirmed-at later b (touch.connection, touch.place) grown.0 home grown.1) ∙ confirmed))
+                inl (sure-last later.connections block touch grown.0 last grown.1 (subst (λ (x : Item). is_sure grown.0 touch.place x ≡ true) item (sym (confirmed-at later b (touch.connection, touch.place) grown.0 home grown.1) ∙ confirmed)))
             | inr alone ↦ absurd (
                 let before = alone-before h later held.0 a b homes carries held.2 new.3 alone in
                 let unreleased = held.4 in
@@ -74,12 +93,12 @@ held-carries h later block touch homes carries there held free =
 
 -- on an unmarked block, so it is settled still
 pub settled-carries : (h later : PrimaryHistory) (block : ℕ) (touch : Touch) → IsAccounted h → Carries h later → IsThere h.connections block touch → h.marks block ≡ false
-    → latest h.connections block ≡ Some touch → IsSure later touch ⊎ IsHeld later touch
-settled-carries h later block touch accounted carries there unmarked last =
+    → latest h.connections block ≡ Some touch → latest later.connections block ≡ Some touch → IsSure later.connections block touch ⊎ IsHeld later touch
+settled-carries h later block touch accounted carries there unmarked last still =
     let homes = accounted.known.tracked.homes in
     elim (accounted.settled block touch unmarked last) [
-      | inl sure ↦ inl (sure-carries h later block touch carries.grow there sure)
-      | inr held ↦ held-carries h later block touch homes carries there held (λ alone waits.
+      | inl sure ↦ inl (sure-carries h later block touch carries.grow there still sure)
+      | inr held ↦ held-carries h later block touch homes carries there still held (λ alone waits.
           let a : Accepted = held.1 in
           let was = homes.housed held.0 touch.connection touch.place a held.2 held.3 in
           let same : there.0 ≡ was.0 = same-at h.connections touch.connection there.0 was.0 there.1 was.1 in

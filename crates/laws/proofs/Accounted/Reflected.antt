@@ -7,7 +7,7 @@ use Rattle.model.specs.Contents.{covers}
 use Rattle.model.specs.Stream.{Item, WriteItem}
 use Rattle.model.specs.Primary.{Accepted, Outward, PrimaryHistory, is_waiting, is_confirmed, is_alone, is_released, unreleased, local_map, no_outward, outward, stands}
 use Rattle.model.specs.Headline.{is_marked, is_covered}
-use Rattle.laws.specs.Reflections.{touches, FromItem, FromOpening}
+use Rattle.laws.specs.Reflections.{touches, content_at, FromItem, FromOpening}
 use Rattle.laws.proofs.Blocks.Latest.{Touch, latest, sent_map, content_of}
 use Rattle.laws.proofs.Blocks.LatestPlaces.{latest-at, latest-none, latest-last}
 use Rattle.laws.proofs.Blocks.Overlays.{settled-is-local}
@@ -62,21 +62,24 @@ reflected h block a clean = elim (cases_lt block h.settings.blocks) [
               let item : touch.item ≡ WriteItem accepted.write = same-at home.0.stream touch.place touch.item (WriteItem accepted.write) (subst (λ (c : Outward). slice_get c.stream touch.place ≡ Some touch.item) end there.2) home.2 in
               both_ways (covers accepted.write block) (free held.0 accepted held.2 held.4) (subst (λ (x : Item). touches x block ≡ true) item there.3))
           | inl sure ↦
-              let end : there.0 ≡ sure.0 = same-at h.connections touch.connection there.0 sure.0 there.1 sure.1 in
+              let last : content_at touch.item block ≡ local_map h block = sym (ap (content_of (h.opening_map block) block) is) ∙ same in
               inl (record {
                 connection = touch.connection;
-                place = touch.place;
-                end = sure.0;
-                item = touch.item;
-                at = sure.1;
-                there = subst (λ (c : Outward). slice_get c.stream touch.place ≡ Some touch.item) end there.2;
-                touched = there.3;
-                sure = sure.2;
-                content = sym (ap (content_of (h.opening_map block) block) is) ∙ same;
-                later = λ other next c i at stands touched after. absurd (elim (latest-last h.connections block touch is other next c i at stands touched) [
-                  | inl before ↦ elim after [ inl beyond_it ↦ omega arith | inr here ↦ let e = here.0 in omega arith ]
-                  | inr here ↦ elim after [ inl beyond_it ↦ let e = here.0 in omega arith | inr behind ↦ let less = behind.1 in let more = here.1 in omega arith ]
-                ]);
+                place = sure.place;
+                end = sure.end;
+                item = sure.item;
+                at = sure.at;
+                there = sure.there;
+                touched = sure.touched;
+                sure = sure.sure;
+                content = sure.same sure.place sure.item (omega arith) sure.there sure.touched ∙ last;
+                later = λ other next c i at stands touched after. elim after [
+                  | inl beyond_it ↦ absurd (elim (latest-last h.connections block touch is other next c i at stands touched) [ inl before ↦ omega arith | inr here ↦ let e = here.0 in omega arith ])
+                  | inr behind ↦
+                      let less = behind.1 in
+                      let end : c ≡ sure.end = same-at h.connections touch.connection c sure.end (subst (λ (n : ℕ). slice_get h.connections n ≡ Some c) (sym behind.0) at) sure.at in
+                      sure.same next i (omega arith) (subst (λ (x : Outward). slice_get x.stream next ≡ Some i) end stands) touched ∙ last
+                ];
               })
         ]
 

@@ -139,7 +139,7 @@ accounted-from h later accounted known carries come settings opening_marks began
       ];
   settled = λ block touch unmarked is.
       let was : latest h.connections block ≡ Some touch = sym (last block unmarked) ∙ is in
-      settled-carries h later block touch accounted carries (latest-at h.connections block touch was) (marks block (known.tracked.items_inside block touch is) unmarked) was;
+      settled-carries h later block touch accounted carries (latest-at h.connections block touch was) (marks block (known.tracked.items_inside block touch is) unmarked) was is;
   untouched = λ block inside unmarked none.
       ap (λ (m : ℕ → Bool). m block) opening_marks ∙ accounted.untouched block (subst (λ (s : Settings). block < s.blocks) settings inside) (marks block inside unmarked) (sym (last block unmarked) ∙ none);
   began = began;

@@ -51,7 +51,7 @@ account-shuts h later f standing accounted known connections writes grows stream
           let there = latest-at h.connections block touch was in
           let clean = marks block unmarked in
           elim (accounted.settled block touch clean.0 was) [
-            | inl sure ↦ inl (sure-carries h later block touch grow there sure)
+            | inl sure ↦ inl (sure-carries h later block touch grow there is sure)
             | inr held ↦ absurd (
                 let a : Accepted = held.1 in
                 let home = accounted.known.tracked.homes.housed held.0 touch.connection touch.place a held.2 held.3 in
@@ -177,7 +177,7 @@ account-submits h first contents accounted known = go (stands (outward h)) refl 
             | inl old ↦ or_left (h.marks block) (covers w block) (accounted.waiting i block b old alone waits covered)
             | inr new ↦ or_right (h.marks block) (covers w block) (ap (λ (x : Accepted). covers x.write block) (sym new.1) ∙ covered)
           ];
-          settled = λ block touch unmarked is. settled-carries h later block touch accounted carries (latest-at h.connections block touch is) (clean block unmarked) is;
+          settled = λ block touch unmarked is. settled-carries h later block touch accounted carries (latest-at h.connections block touch is) (clean block unmarked) is is;
           untouched = λ block inside unmarked none. accounted.untouched block inside (clean block unmarked) none;
           began = began-carries h later keeps refl refl (λ none. refl) (λ block inside unmarked none. (clean block unmarked, none)) accounted.began;
         }
@@ -212,7 +212,7 @@ account-submits h first contents accounted known = go (stands (outward h)) refl 
                 inr (length h.writes, added, get-end h.writes added, ap (λ (t : Touch). Some (t.connection, t.place)) same, refl)
             | inr free ↦
                 let was : latest h.connections block ≡ Some touch = sym (ap (λ b. if b then Some (record { connection = k0; place = p0; item = WriteItem w }) else latest h.connections block) free) ∙ (sym (last block) ∙ is) in
-                settled-carries h later block touch accounted carries (latest-at h.connections block touch was) unmarked was
+                settled-carries h later block touch accounted carries (latest-at h.connections block touch was) unmarked was is
           ];
           untouched = λ block inside unmarked none. accounted.untouched block inside unmarked (past block none);
           began = began-carries h later (begun-change h later f refl refl (begins-self (outward h).taken)) refl refl (λ none. refl) (λ block inside unmarked none. (unmarked, past block none)) accounted.began;

@@ -16,12 +16,12 @@ use Rattle.laws.proofs.Primary.Moves.{MaySubmit}
 use Rattle.laws.proofs.Primary.Homes.{HasHomes}
 use Rattle.laws.proofs.Blocks.Latest.{latest, content_of, settling_layer, settling_map}
 use Rattle.laws.proofs.Blocks.LatestMoves.{latest-appended}
-use Rattle.laws.proofs.Tracked.{IsUnderWay, IsTracked}
+use Rattle.laws.proofs.Tracked.{IsUnderWay, IsCopy, IsTracked}
 use Rattle.laws.proofs.Lists.Picks.{pick-none, pick-found, pick-filtered, filtered-pick, pick-below}
 use Rattle.laws.proofs.Blocks.Overlays.{overlay-append, overlay-some, under-outside, under-inside, settled-is-local}
-use Rattle.laws.proofs.Tracked.Moves.{some-connection, outward-change, Hangs, hangs}
+use Rattle.laws.proofs.Tracked.Moves.{some-connection, outward-change}
 use Rattle.laws.proofs.Tracked.Outcomes.{waiting-open}
-use Rattle.laws.proofs.Lists.Elements.{get-more}
+use Rattle.laws.proofs.Lists.Elements.{get-left, get-more, get-end}
 use Rattle.laws.proofs.Streams.Places.{placed-at}
 use Rattle.laws.proofs.Blocks.Ranges.{between-parts}
 use Rattle.laws.proofs.Primary.Ends.{stands-parts}
@@ -44,11 +44,22 @@ appended-apart h item block standing apart =
     appended h item block standing ∙ ap (λ b. if b then Some (record { connection = last_index h.connections; place = length (outward h).stream; item = item }) else latest h.connections block) apart
 
 -- what is under way then was so, or is the new item
-hangs-appended : (h : PrimaryHistory) (item : Item) (place block : ℕ) (contents : List ℕ) → Hangs (record (outward h) { stream = (outward h).stream ++ item ∷ [] }) place block contents
-    → IsUnderWay h place block contents ⊎ ((place ≡ length (outward h).stream) × (ResyncItem block contents ≡ item))
-hangs-appended h item place block contents way = elim (get-more (outward h).stream item place (ResyncItem block contents) way.there) [
+way-appended : (c : Outward) (item : Item) (place block : ℕ) (contents : List ℕ) → IsUnderWay (record c { stream = c.stream ++ item ∷ [] }) place block contents
+    → IsUnderWay c place block contents ⊎ ((place ≡ length c.stream) × (ResyncItem block contents ≡ item))
+way-appended c item place block contents way = elim (get-more c.stream item place (ResyncItem block contents) way.there) [
   | inl old ↦ inl (record { standing = way.standing; there = old; unanswered = way.unanswered })
   | inr new ↦ inr new
+]
+
+-- a copy on the longer stream was one before, and the new item is no write that has the block; or it is the new item
+copy-appended : (c : Outward) (item : Item) (place block : ℕ) (contents : List ℕ) → IsCopy (record c { stream = c.stream ++ item ∷ [] }) place block contents
+    → (IsCopy c place block contents × ((write : Write) → item ≡ WriteItem write → covers write block ≡ false)) ⊎ (ResyncItem block contents ≡ item)
+copy-appended c item place block contents copy = elim (get-more c.stream item place (ResyncItem block contents) copy.there) [
+  | inl old ↦ inl (
+    record { standing = copy.standing; there = old; last = λ next write after at. copy.last next write after (get-left c.stream (item ∷ []) next (WriteItem write) at) },
+    λ write is. copy.last (length c.stream) write (let within = slice_get_within c.stream place (ResyncItem block contents) old in omega arith) (get-end c.stream item ∙ ap (λ (x : Item). Some x) is),
+  )
+  | inr new ↦ inr new.1
 ]
 
 -- A write is accepted.
@@ -62,7 +73,7 @@ settling-apart : (h : PrimaryHistory) (added : Accepted) (block : ℕ) → cover
 settling-apart h added block apart = settling-more h added block ∙ under-outside (settling_layer added) block (settling_map h block) apart
 
 -- a new write has no block that is under way
-conflict-free : (h : PrimaryHistory) (write : Write) (place block : ℕ) (contents : List ℕ) → is_some (conflict h write) ≡ false → IsUnderWay h place block contents → covers write block ≡ false
+conflict-free : (h : PrimaryHistory) (write : Write) (place block : ℕ) (contents : List ℕ) → is_some (conflict h write) ≡ false → IsUnderWay (outward h) place block contents → covers write block ≡ false
 conflict-free h write place block contents free way =
     let c : Outward = outward h in
     let item : Item = ResyncItem block contents in
@@ -122,8 +133,8 @@ tracked-submits h first contents may fresh t = go (stands (outward h)) refl
           writes_inside = inside None;
           items_inside = t.items_inside;
           on_disk = done None;
-          free = λ place block contents i accepted way at opens. absurd (both_ways (stands (outward h)) is way.standing);
           under_way = λ place block contents way. absurd (both_ways (stands (outward h)) is way.standing);
+          copied = λ place block contents copy. absurd (both_ways (stands (outward h)) is copy.standing);
           equal = λ block within unmarked.
               let parts = or_parts (h.marks block) (covers write block) unmarked in
               t.equal block within parts.0 ∙ sym (settling-apart h added block parts.1);
@@ -136,33 +147,34 @@ tracked-submits h first contents may fresh t = go (stands (outward h)) refl
         let item : Item = WriteItem write in
         let f : Outward → Outward = λ x. record x { stream = x.stream ++ item ∷ [] } in
         let later : PrimaryHistory = appending item (record h { writes = h.writes ++ added ∷ [] }) in
-        let before : (place block : ℕ) (contents : List ℕ) → IsUnderWay later place block contents → IsUnderWay h place block contents =
-        λ place block contents way.
-        elim (hangs-appended h item place block contents (subst (λ (x : Outward). Hangs x place block contents) (outward-change h (no_outward h.tuple) f standing) (hangs later place block contents way))) [
-          | inl old ↦ old
-          | inr new ↦ absurd (let e = new.1 in cc)
-        ] in
+        let last : outward later ≡ f c = outward-change h (no_outward h.tuple) f standing in
         record {
           homes = homes;
           sized = t.sized;
           writes_inside = inside home;
-          items_inside = λ block touch last. elim (cases_Bool (touches item block)) [
+          items_inside = λ block touch latest_is. elim (cases_Bool (touches item block)) [
             | inl touched ↦ let ends = between-parts first (length contents) block touched in let high = ends.1 in let low = fits in omega arith
-            | inr apart ↦ t.items_inside block touch (sym (appended-apart h item block standing apart) ∙ last)
+            | inr apart ↦ t.items_inside block touch (sym (appended-apart h item block standing apart) ∙ latest_is)
           ];
           on_disk = done home;
-          free = λ place block inner i accepted way at opens. elim (get-more h.writes added i accepted at) [
-            | inl old ↦ t.free place block inner i accepted (before place block inner way) old opens
-            | inr new ↦ subst (λ (a : Accepted). covers a.write block ≡ false) (sym new.1) (conflict-free h write place block inner may.free (before place block inner way))
+          under_way = λ place block inner way. elim (way-appended c item place block inner (subst (λ (x : Outward). IsUnderWay x place block inner) last way)) [
+            | inr new ↦ absurd (let e = new.1 in cc)
+            | inl old ↦
+                let index : last_index h.connections ≡ last_index (change_last f h.connections) = ap (λ (n : ℕ). n - 1) (sym (length-change f h.connections)) in
+                appended-apart h item block standing (conflict-free h write place block inner may.free old) ∙ (t.under_way place block inner old ∙ ap (λ (n : ℕ). Some (record { connection = n; place = place; item = ResyncItem block inner })) index)
           ];
-          under_way = λ place block inner way.
-              let old = before place block inner way in
-              let was = t.under_way place block inner old in
-              let apart : covers write block ≡ false = conflict-free h write place block inner may.free old in
-              let index : last_index h.connections ≡ last_index (change_last f h.connections) = ap (λ (n : ℕ). n - 1) (sym (length-change f h.connections)) in (
-                appended-apart h item block standing apart ∙ (was.0 ∙ ap (λ (n : ℕ). Some (record { connection = n; place = place; item = ResyncItem block inner })) index),
-                settling-apart h added block apart ∙ was.1,
-              );
+          copied = λ place block inner copy. elim (copy-appended c item place block inner (subst (λ (x : Outward). IsCopy x place block inner) last copy)) [
+            | inr new ↦ absurd (let e = new in cc)
+            | inl old ↦
+                let was = t.copied place block inner old.0 in
+                let apart : covers write block ≡ false = old.1 write refl in (
+                  settling-apart h added block apart ∙ was.0,
+                  λ i accepted at waits. elim (get-more h.writes added i accepted at) [
+                    | inl before ↦ was.1 i accepted before waits
+                    | inr new ↦ subst (λ (a : Accepted). covers a.write block ≡ false) (sym new.1) apart
+                  ],
+                )
+          ];
           equal = λ block within unmarked. elim (cases_Bool (touches item block)) [
             | inl touched ↦
                 ap (content_of (h.opening_map block) block) (appended-touching h item block standing touched)
@@ -178,7 +190,7 @@ some-unwrap None some = absurd (cc)
 some-unwrap (Some bytes) some = refl
 
 -- nothing is under way where that list is empty
-none-under-way : (h : PrimaryHistory) (place block : ℕ) (contents : List ℕ) → nat_lt 0 (length (under_way (outward h))) ≡ false → IsUnderWay h place block contents → ⊥
+none-under-way : (h : PrimaryHistory) (place block : ℕ) (contents : List ℕ) → nat_lt 0 (length (under_way (outward h))) ≡ false → IsUnderWay (outward h) place block contents → ⊥
 none-under-way h place block contents none way =
     let c : Outward = outward h in
     let item : Item = ResyncItem block contents in
@@ -221,11 +233,7 @@ tracked-resyncs h block runs none is t homes =
     let only : (other : ℕ) → touches item other ≡ true → other ≡ block = λ other touched. let ends = between-parts block 1 other touched in let low = ends.0 in let high = ends.1 in omega arith in
     let touched : touches item block ≡ true = and_from (nat_le block block) (nat_lt block (block + 1)) (le-leb block block (omega arith)) (lt-ltb block (block + 1) (omega arith)) in
     let last : latest (change_last f h.connections) block ≡ Some (record { connection = last_index h.connections; place = length c.stream; item = item }) = appended-touching h item block standing touched in
-    let new : (place other : ℕ) (inner : List ℕ) → IsUnderWay later place other inner → (place ≡ length c.stream) × (ResyncItem other inner ≡ item) = λ place other inner way.
-    elim (hangs-appended h item place other inner (subst (λ (x : Outward). Hangs x place other inner) (outward-change h (no_outward h.tuple) f standing) (hangs later place other inner way))) [
-      | inl old ↦ absurd (none-under-way h place other inner none old)
-      | inr is_new ↦ is_new
-    ] in
+    let end : outward later ≡ f c = outward-change h (no_outward h.tuple) f standing in
     record {
       homes = homes;
       sized = t.sized;
@@ -235,21 +243,26 @@ tracked-resyncs h block runs none is t homes =
         | inr apart ↦ t.items_inside other touch (sym (appended-apart h item other standing apart) ∙ latest_is)
       ];
       on_disk = t.on_disk;
-      free = λ place other inner i accepted way at opens.
-          let same : other ≡ block = let e = (new place other inner way).1 in cc in
-          subst (λ (n : ℕ). covers accepted.write n ≡ false) (sym same) (next.free i accepted at opens);
-      under_way = λ place other inner way.
-          let is_new = new place other inner way in
-          let same : other ≡ block = let e = is_new.1 in cc in
-          let bytes : inner ≡ contents = let e = is_new.1 in cc in
-          let index : last_index h.connections ≡ last_index (change_last f h.connections) = ap (λ (n : ℕ). n - 1) (sym (length-change f h.connections)) in (
+      under_way = λ place other inner way. elim (way-appended c item place other inner (subst (λ (x : Outward). IsUnderWay x place other inner) end way)) [
+        | inl old ↦ absurd (none-under-way h place other inner none old)
+        | inr new ↦
+            let same : other ≡ block = let e = new.1 in cc in
+            let index : last_index h.connections ≡ last_index (change_last f h.connections) = ap (λ (n : ℕ). n - 1) (sym (length-change f h.connections)) in
             ap (latest (change_last f h.connections)) same
-                ∙ (last
-                ∙ (ap (λ (n : ℕ). Some (record { connection = n; place = length c.stream; item = item })) index
-                ∙ (ap (λ (n : ℕ). Some (record { connection = last_index (change_last f h.connections); place = n; item = item })) (sym is_new.0)
-                ∙ ap (λ (x : Item). Some (record { connection = last_index (change_last f h.connections); place = place; item = x })) (sym is_new.1)))),
-            ap (settling_map h) same ∙ (settled ∙ ap (λ (l : List ℕ). Some l) (sym bytes)),
-          );
+            ∙ (last
+            ∙ (ap (λ (n : ℕ). Some (record { connection = n; place = length c.stream; item = item })) index
+            ∙ (ap (λ (n : ℕ). Some (record { connection = last_index (change_last f h.connections); place = n; item = item })) (sym new.0)
+            ∙ ap (λ (x : Item). Some (record { connection = last_index (change_last f h.connections); place = place; item = x })) (sym new.1))))
+      ];
+      copied = λ place other inner copy. elim (copy-appended c item place other inner (subst (λ (x : Outward). IsCopy x place other inner) end copy)) [
+        | inl old ↦ t.copied place other inner old.0
+        | inr new ↦
+            let same : other ≡ block = cc in
+            let bytes : inner ≡ contents = cc in (
+              ap (settling_map h) same ∙ (settled ∙ ap (λ (l : List ℕ). Some l) (sym bytes)),
+              λ i accepted at waits. subst (λ (n : ℕ). covers accepted.write n ≡ false) (sym same) (next.free i accepted at (waiting-open h i accepted t at waits)),
+            )
+      ];
       equal = λ other within unmarked. elim (cases_Bool (touches item other)) [
         | inl here ↦ absurd (both_ways (h.marks block) (subst (λ (n : ℕ). h.marks n ≡ false) (only other here) unmarked) next.marked)
         | inr apart ↦ ap (content_of (h.opening_map other) other) (appended-apart h item other standing apart) ∙ t.equal other within unmarked

@@ -6,8 +6,8 @@ use Rattle.std.proofs.lemmas.Bool.{both_ways, le-ltb, and_right, or_parts}
 use Rattle.std.proofs.lemmas.List.Folds.{list_any-append}
 use Rattle.blocks.specs.declared.settings.Settings.{Settings}
 use Rattle.blocks.specs.declared.tuple.Tuple.{Tuple}
-use Rattle.model.specs.Contents.{BlockMap}
-use Rattle.model.specs.Stream.{Item, ResyncItem, first_of, contents_of, IsBeginning}
+use Rattle.model.specs.Contents.{BlockMap, Write}
+use Rattle.model.specs.Stream.{Item, WriteItem, ResyncItem, first_of, contents_of, IsBeginning}
 use Rattle.model.specs.Frames.{Received, naming}
 use Rattle.model.specs.Marks.{Marks}
 use Rattle.model.specs.Primary.{Outward, PrimaryHistory, primary_opening, no_outward, last_of, outward, last_index, change_last, stands, accepted_frames, is_rs_write_ack, was_resynced, local_layer, local_map}
@@ -17,9 +17,9 @@ use Rattle.laws.proofs.Primary.Homes.{HasHomes}
 use Rattle.laws.proofs.Primary.HomesMoves.{homes-opening}
 use Rattle.laws.proofs.Blocks.Latest.{Touch, latest, content_of, sent_map, settling_map}
 use Rattle.laws.proofs.Blocks.LatestMoves.{latest-appended}
-use Rattle.laws.proofs.Tracked.{IsUnderWay, IsTracked}
+use Rattle.laws.proofs.Tracked.{IsUnderWay, IsCopy, IsTracked}
 use Rattle.laws.proofs.Blocks.Overlays.{overlay-none, under-outside}
-use Rattle.laws.proofs.Lists.Elements.{get-more}
+use Rattle.laws.proofs.Lists.Elements.{get-left, get-more}
 use Rattle.laws.proofs.Blocks.Ranges.{outside-range}
 
 -- At the opening nothing was written or sent.
@@ -31,8 +31,8 @@ tracked-opening settings disk tuple marks sized = record {
   writes_inside = λ i accepted at. absurd (cc);
   items_inside = λ block touch is. absurd (cc);
   on_disk = λ i accepted at completed. absurd (cc);
-  free = λ place block contents i accepted way at opens. absurd (cc);
   under_way = λ place block contents way. absurd (let s = way.standing in cc);
+  copied = λ place block contents copy. absurd (let s = copy.standing in cc);
   equal = λ block within unmarked. refl;
 }
 
@@ -57,19 +57,27 @@ some-connection h standing none = both_ways (outward h).closed standing (ap (λ 
 pub outward-change : (h : PrimaryHistory) (none : Outward) (f : Outward → Outward) → (outward h).closed ≡ false → last_of none (change_last f h.connections) ≡ f (outward h)
 outward-change h none f standing = elim (last-change f (no_outward h.tuple) none h.connections) [ inl empty ↦ absurd (some-connection h standing empty) | inr changed ↦ changed ]
 
--- what `IsUnderWay` says, of a connection
-pub record Hangs (c : Outward) (place block : ℕ) (contents : List ℕ) : Type 0 where
+-- A block of a resync on a stream that stands after a change of its connection: it stood there before, acknowledged if it is
+-- not under way any more, and so did each write that stands there.
+pub record KeepsBlock (c d : Outward) (place block : ℕ) (contents : List ℕ) : Type 0 where
   pub standing : stands c ≡ true
   pub there : slice_get c.stream place ≡ Some (ResyncItem block contents)
-  pub unanswered : was_resynced c place (ResyncItem block contents) ≡ false
+  pub unanswered : was_resynced d place (ResyncItem block contents) ≡ false → was_resynced c place (ResyncItem block contents) ≡ false
+  pub writes : (next : ℕ) (write : Write) → slice_get c.stream next ≡ Some (WriteItem write) → slice_get d.stream next ≡ Some (WriteItem write)
 
--- of the last connection the two say the same
-pub hangs : (h : PrimaryHistory) (place block : ℕ) (contents : List ℕ) → IsUnderWay h place block contents → Hangs (outward h) place block contents
-hangs h place block contents way = record { standing = way.standing; there = way.there; unanswered = way.unanswered }
+-- a change that adds no block of a resync to a stream
+abbrev pub KeepsBlocks : Outward → Outward → Type 0
+KeepsBlocks c d = (place block : ℕ) (contents : List ℕ) → stands d ≡ true → slice_get d.stream place ≡ Some (ResyncItem block contents) → KeepsBlock c d place block contents
 
--- and back
-pub under-way : (h : PrimaryHistory) (place block : ℕ) (contents : List ℕ) → Hangs (outward h) place block contents → IsUnderWay h place block contents
-under-way h place block contents way = record { standing = way.standing; there = way.there; unanswered = way.unanswered }
+-- what is under way then was so before
+pub way-before : (c d : Outward) (place block : ℕ) (contents : List ℕ) → KeepsBlocks c d → IsUnderWay d place block contents → IsUnderWay c place block contents
+way-before c d place block contents keeps way = let old = keeps place block contents way.standing way.there in record { standing = old.standing; there = old.there; unanswered = old.unanswered way.unanswered }
+
+-- and what no later write has
+pub copy-before : (c d : Outward) (place block : ℕ) (contents : List ℕ) → KeepsBlocks c d → IsCopy d place block contents → IsCopy c place block contents
+copy-before c d place block contents keeps copy =
+    let old = keeps place block contents copy.standing copy.there in
+    record { standing = old.standing; there = old.there; last = λ next write after at. copy.last next write after (old.writes next write at) }
 
 -- what was acknowledged stays so as frames are taken
 pub unanswered-before : (c d : Outward) (place : ℕ) (item : Item) → IsBeginning (accepted_frames c) (accepted_frames d) → was_resynced d place item ≡ false → was_resynced c place item ≡ false
@@ -87,33 +95,32 @@ changed h connections marks tuple peer receipts = record h { connections = conne
 -- The same items touch blocks last, what is under way was so, and what was sent is the same where no mark is.
 pub tracked-quiet : (h : PrimaryHistory) (connections : List Outward) (marks : Marks) (tuple : Tuple) (peer : Option Tuple) (receipts : List ℕ) → IsTracked h → HasHomes (changed h connections marks tuple peer receipts)
     → ((block : ℕ) → latest connections block ≡ latest h.connections block)
-    → ((place block : ℕ) (contents : List ℕ) → IsUnderWay (changed h connections marks tuple peer receipts) place block contents → IsUnderWay h place block contents × (last_index connections ≡ last_index h.connections))
+    → (stands (outward (changed h connections marks tuple peer receipts)) ≡ true → last_index connections ≡ last_index h.connections) → KeepsBlocks (outward h) (outward (changed h connections marks tuple peer receipts))
     → ((block : ℕ) → block < h.settings.blocks → marks block ≡ false → sent_map h block ≡ settling_map h block) → IsTracked (changed h connections marks tuple peer receipts)
-tracked-quiet h connections marks tuple peer receipts t homes same under equal = record {
+tracked-quiet h connections marks tuple peer receipts t homes same index keeps equal = record {
   homes = homes;
   sized = t.sized;
   writes_inside = t.writes_inside;
   items_inside = λ block touch is. t.items_inside block touch (sym (same block) ∙ is);
   on_disk = t.on_disk;
-  free = λ place block contents i accepted way at opens. t.free place block contents i accepted (under place block contents way).0 at opens;
   under_way = λ place block contents way.
-      let old = under place block contents way in
-      let was = t.under_way place block contents old.0 in
-      (same block ∙ (was.0 ∙ ap (λ (n : ℕ). Some (record { connection = n; place = place; item = ResyncItem block contents })) (sym old.1)), was.1);
+      let was = t.under_way place block contents (way-before (outward h) (outward later) place block contents keeps way) in
+      same block ∙ (was ∙ ap (λ (n : ℕ). Some (record { connection = n; place = place; item = ResyncItem block contents })) (sym (index way.standing)));
+  copied = λ place block contents copy. t.copied place block contents (copy-before (outward h) (outward later) place block contents keeps copy);
   equal = λ block within unmarked. ap (content_of (h.opening_map block) block) (same block) ∙ equal block within unmarked;
 }
+  where
+    later : PrimaryHistory
+    later = changed h connections marks tuple peer receipts
 
 -- The last connection of an open end changes.
 pub tracked-turn : (h : PrimaryHistory) (f : Outward → Outward) (marks : Marks) (tuple : Tuple) (peer : Option Tuple) (receipts : List ℕ) → (outward h).closed ≡ false → IsTracked h
     → HasHomes (changed h (change_last f h.connections) marks tuple peer receipts) → ((block : ℕ) → latest (change_last f h.connections) block ≡ latest h.connections block)
-    → ((place block : ℕ) (contents : List ℕ) → Hangs (f (outward h)) place block contents → Hangs (outward h) place block contents)
+    → KeepsBlocks (outward h) (f (outward h))
     → ((block : ℕ) → block < h.settings.blocks → marks block ≡ false → sent_map h block ≡ settling_map h block) → IsTracked (changed h (change_last f h.connections) marks tuple peer receipts)
-tracked-turn h f marks tuple peer receipts standing t homes same under equal =
-    let later : PrimaryHistory = changed h (change_last f h.connections) marks tuple peer receipts in
-    tracked-quiet h (change_last f h.connections) marks tuple peer receipts t homes same (λ place block contents way. (
-      under-way h place block contents (under place block contents (subst (λ (c : Outward). Hangs c place block contents) (outward-change h (no_outward tuple) f standing) (hangs later place block contents way))),
-      ap (λ (n : ℕ). n - 1) (length-change f h.connections),
-    )) equal
+tracked-turn h f marks tuple peer receipts standing t homes same keeps equal =
+    tracked-quiet h (change_last f h.connections) marks tuple peer receipts t homes same (λ stood. ap (λ (n : ℕ). n - 1) (length-change f h.connections))
+    (subst (KeepsBlocks (outward h)) (sym (outward-change h (no_outward tuple) f standing)) keeps) equal
 
 -- an item without blocks touches none
 pub untouched : (item : Item) (block : ℕ) → contents_of item ≡ [] → first_of item ≡ 0 → touches item block ≡ false
@@ -130,9 +137,10 @@ tracked-appending h item tuple standing none first t homes =
     let c : Outward = outward h in
     tracked-turn h f h.marks tuple h.peer h.receipts standing t homes
     (λ block. latest-appended (no_outward h.tuple) f item h.connections block (some-connection h standing) refl ∙ ap (λ b. if b then Some (record { connection = last_index h.connections; place = length c.stream; item = item }) else latest h.connections block) (untouched item block none first))
-    (λ place block contents way. record {
-      standing = way.standing;
-      there = elim (get-more c.stream item place (ResyncItem block contents) way.there) [ inl old ↦ old | inr new ↦ absurd (let e = new.1 in let same : [] ≡ contents ∷ [] = sym none ∙ ap contents_of (sym e) in cc) ];
-      unanswered = way.unanswered;
+    (λ place block contents stood there. record {
+      standing = stood;
+      there = elim (get-more c.stream item place (ResyncItem block contents) there) [ inl old ↦ old | inr new ↦ absurd (let e = new.1 in let same : [] ≡ contents ∷ [] = sym none ∙ ap contents_of (sym e) in cc) ];
+      unanswered = λ unanswered. unanswered;
+      writes = λ next write at. get-left c.stream (item ∷ []) next (WriteItem write) at;
     })
     t.equal

@@ -1,16 +1,16 @@
 -- What a primary's history keeps of its blocks is kept as the local disk does or fails a write.
 use Rattle.std.proofs.Common.{ℕ, ◌≡◌, ◌+◌, ◌-◌, ◌≤◌, ◌⊎◌, inl, inr, true, false, not, ◌&&◌, ◌||◌, List, map, Option, Some, None, slice_get, refl, sym, ◌∙◌, ap, subst, ◌==◌}
 use Rattle.std.specs.Prelude.{if◌then◌else◌, length}
-use Rattle.std.proofs.lemmas.Bool.{cases_Bool, and_parts, and_from, not_from_false, or_parts, or_left, eqb-true, false_from_ne_true}
+use Rattle.std.proofs.lemmas.Bool.{cases_Bool, both_ways, and_parts, and_from, not_from_false, or_parts, or_left, eqb-true, false_from_ne_true}
 use Rattle.std.proofs.lemmas.Simd.{map-map}
 use Rattle.model.specs.Contents.{Write, Layer, block_under, overlay, covers}
 use Rattle.model.specs.Marks.{Marks, marking}
-use Rattle.model.specs.Primary.{LocalOutcome, Waiting, OnDisk, Failed, Accepted, PrimaryHistory, is_on_disk, is_failed, is_waiting, is_completed, is_open, offset_reached}
+use Rattle.model.specs.Primary.{LocalOutcome, Waiting, OnDisk, Failed, Accepted, PrimaryHistory, outward, is_on_disk, is_failed, is_waiting, is_completed, is_open, offset_reached}
 use Rattle.model.specs.PrimarySteps.{is_unfinished, set_outcome, with_outcome, accepted_at, faulted}
 use Rattle.laws.proofs.Primary.Homes.{HasHomes}
 use Rattle.laws.proofs.Primary.HomesMoves.{homes-kept}
 use Rattle.laws.proofs.Blocks.Latest.{settling_layer, settling_map}
-use Rattle.laws.proofs.Tracked.{IsUnderWay, IsTracked}
+use Rattle.laws.proofs.Tracked.{IsCopy, IsTracked}
 use Rattle.laws.proofs.Lists.Picks.{pick-any, pick-found, pick-image}
 use Rattle.laws.proofs.Blocks.Overlays.{overlay-agrees, under-outside, under-alike}
 use Rattle.laws.proofs.Tracked.Quiet.{same-number}
@@ -36,7 +36,7 @@ waiting-open h i accepted t at waits =
     (not_from_false (is_failed accepted.outcome) (waiting-not-failed accepted.outcome waits))
 
 -- the accepted write of an unfinished number waits
-unfinished-waits : (h : PrimaryHistory) (number i : ℕ) (accepted : Accepted) → HasHomes h → is_unfinished h number ≡ true → slice_get h.writes i ≡ Some accepted
+pub unfinished-waits : (h : PrimaryHistory) (number i : ℕ) (accepted : Accepted) → HasHomes h → is_unfinished h number ≡ true → slice_get h.writes i ≡ Some accepted
     → accepted.write.number ≡ number → is_waiting accepted.outcome ≡ true
 unfinished-waits h number i accepted homes unfinished at is =
     let found = pick-any (λ (a : Accepted). (a.write.number == number) && is_waiting a.outcome) h.writes unfinished in
@@ -45,7 +45,7 @@ unfinished-waits h number i accepted homes unfinished at is =
     subst (λ (a : Accepted). is_waiting a.outcome ≡ true) same parts.1
 
 -- an outcome is put down with the write of its number, and no other
-outcome-cases : (number : ℕ) (outcome : LocalOutcome) (a : Accepted) → ((a.write.number ≡ number) × (set_outcome number outcome a ≡ record a { outcome = outcome })) ⊎ (set_outcome number outcome a ≡ a)
+pub outcome-cases : (number : ℕ) (outcome : LocalOutcome) (a : Accepted) → ((a.write.number ≡ number) × (set_outcome number outcome a ≡ record a { outcome = outcome })) ⊎ (set_outcome number outcome a ≡ a)
 outcome-cases number outcome a = elim (cases_Bool (a.write.number == number)) [
   | inl same ↦ inl (eqb-true a.write.number number same, ap (λ b. if b then record a { outcome = outcome } else a) same)
   | inr other ↦ inr (ap (λ b. if b then record a { outcome = outcome } else a) other)
@@ -68,9 +68,9 @@ concluded h number outcome marks = record h { writes = map (set_outcome number o
 
 -- An outcome is put down with a waiting write.
 tracked-outcome : (h : PrimaryHistory) (number : ℕ) (outcome : LocalOutcome) (marks : Marks) → is_unfinished h number ≡ true → IsTracked h → HasHomes (concluded h number outcome marks)
-    → ((place block : ℕ) (contents : List ℕ) → IsUnderWay h place block contents → settling_map (concluded h number outcome marks) block ≡ settling_map h block)
+    → is_waiting outcome ≡ false → ((place block : ℕ) (contents : List ℕ) → IsCopy (outward h) place block contents → settling_map (concluded h number outcome marks) block ≡ settling_map h block)
     → ((block : ℕ) → marks block ≡ false → (h.marks block ≡ false) × (settling_map (concluded h number outcome marks) block ≡ settling_map h block)) → IsTracked (concluded h number outcome marks)
-tracked-outcome h number outcome marks unfinished t homes under equal = record {
+tracked-outcome h number outcome marks unfinished t homes done copied equal = record {
   homes = homes;
   sized = t.sized;
   writes_inside = λ i b at. let a = before i b at in subst (λ (w : Write). w.first + length w.contents ≤ h.settings.blocks) a.2 (t.writes_inside i a.0 a.1);
@@ -82,22 +82,20 @@ tracked-outcome h number outcome marks unfinished t homes under equal = record {
         | inl changed ↦ absurd (waiting-not-done a.0.outcome (unfinished-waits h number i a.0 t.homes unfinished a.1 changed.0) was)
         | inr kept ↦ subst (λ (x : Accepted). is_on_disk x.outcome ≡ true) (sym kept) was
       ];
-  free = λ place block contents i b way at opens.
-      let a = before i b at in
-      let parts = and_parts (not (is_completed h b.write.number)) (not (is_failed b.outcome)) opens in
-      let standing : not (is_failed a.0.outcome) ≡ true = elim a.3 [
-        | inl changed ↦ not_from_false (is_failed a.0.outcome) (waiting-not-failed a.0.outcome (unfinished-waits h number i a.0 t.homes unfinished a.1 changed.0))
-        | inr kept ↦ subst (λ (x : Accepted). not (is_failed x.outcome) ≡ true) kept parts.1
-      ] in
-      let old : is_open h a.0 ≡ true = and_from (not (is_completed h a.0.write.number)) (not (is_failed a.0.outcome)) (subst (λ (w : Write). not (is_completed h w.number) ≡ true) (sym a.2) parts.0) standing in
-      subst (λ (w : Write). covers w block ≡ false) a.2 (t.free place block contents i a.0 (earlier place block contents way) a.1 old);
-  under_way = λ place block contents way. let was = t.under_way place block contents (earlier place block contents way) in (was.0, under place block contents (earlier place block contents way) ∙ was.1);
+  under_way = t.under_way;
+  copied = λ place block contents copy.
+      let was = t.copied place block contents copy in (
+        copied place block contents copy ∙ was.0,
+        λ i b at waits.
+            let a = before i b at in
+            elim a.3 [
+              | inl changed ↦ absurd (both_ways (is_waiting b.outcome) (ap is_waiting changed.1 ∙ done) waits)
+              | inr kept ↦ subst (λ (x : Accepted). covers x.write block ≡ false) (sym kept) (was.1 i a.0 a.1 (subst (λ (x : Accepted). is_waiting x.outcome ≡ true) kept waits))
+            ],
+      );
   equal = λ block within unmarked. t.equal block within (equal block unmarked).0 ∙ sym (equal block unmarked).1;
 }
   where
-    earlier : (place block : ℕ) (contents : List ℕ) → IsUnderWay (concluded h number outcome marks) place block contents → IsUnderWay h place block contents
-    earlier place block contents way = record { standing = way.standing; there = way.there; unanswered = way.unanswered }
-
     before : (i : ℕ) (b : Accepted) → slice_get (map (set_outcome number outcome) h.writes) i ≡ Some b
         → (a : Accepted) × (slice_get h.writes i ≡ Some a) × (a.write ≡ b.write) × (((a.write.number ≡ number) × (b.outcome ≡ outcome)) ⊎ (b ≡ a))
     before i b at =
@@ -110,7 +108,7 @@ tracked-outcome h number outcome marks unfinished t homes under equal = record {
 -- The local disk does a write: what the disk comes to hold is the same.
 pub tracked-writes : (h : PrimaryHistory) (number : ℕ) → is_unfinished h number ≡ true → IsTracked h → IsTracked (with_outcome number OnDisk h)
 tracked-writes h number unfinished t =
-    tracked-outcome h number OnDisk h.marks unfinished t (homes-kept.writes h number unfinished t.homes) (λ place block contents way. same block) (λ block unmarked. (unmarked, same block))
+    tracked-outcome h number OnDisk h.marks unfinished t (homes-kept.writes h number unfinished t.homes) refl (λ place block contents copy. same block) (λ block unmarked. (unmarked, same block))
   where
     same : (block : ℕ) → overlay h.opening_map (map settling_layer (map (set_outcome number OnDisk) h.writes)) block ≡ settling_map h block
     same block = settling-outcome h number OnDisk block (λ i a at is v.
@@ -133,6 +131,6 @@ tracked-faults h number offsets unfinished t = go (accepted_at h number) refl
         let one : accepted ≡ a = same-number h found.0 i accepted a t.homes found.1 at (is ∙ sym number_is) in
         let off : covers a.write block ≡ false = subst (λ (x : Accepted). covers x.write block ≡ false) one outside in
         under-outside (settling_layer (record a { outcome = Failed (within (length accepted.write.contents) offsets) })) block v off ∙ sym (under-outside (settling_layer a) block v off)) in
-        tracked-outcome h number (Failed (within (length accepted.write.contents) offsets)) (marking accepted.write h.marks) unfinished t homes
-        (λ place block contents way. same block (t.free place block contents found.0 accepted way found.1 (waiting-open h found.0 accepted t found.1 (unfinished-waits h number found.0 accepted t.homes unfinished found.1 is))))
+        tracked-outcome h number (Failed (within (length accepted.write.contents) offsets)) (marking accepted.write h.marks) unfinished t homes refl
+        (λ place block contents copy. same block ((t.copied place block contents copy).1 found.0 accepted found.1 (unfinished-waits h number found.0 accepted t.homes unfinished found.1 is)))
         (λ block unmarked. let parts = or_parts (h.marks block) (covers accepted.write block) unmarked in (parts.0, same block parts.1))

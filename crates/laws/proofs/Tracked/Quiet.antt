@@ -2,11 +2,12 @@
 use Rattle.std.proofs.Common.{ℕ, zero, suc, ◌≡◌, ◌-◌, ◌<◌, inl, inr, Bool, true, false, not, ◌&&◌, ◌||◌, List, [], ◌∷◌, ◌++◌, length, map, Option, Some, None, slice_get, Ok, refl, sym, ◌∙◌, ap, subst, arith, ◌==◌, nat_lt}
 use Rattle.std.specs.Prelude.{if◌then◌else◌}
 use Rattle.std.specs.List.{list_any}
-use Rattle.std.proofs.lemmas.Bool.{both_ways, not-true, not-false, and_parts, and_cases, and_from, not_from_false, or_parts, or_cases, eqb-true, lt-ltb}
+use Rattle.std.proofs.lemmas.Bool.{cases_Bool, both_ways, not-true, not-false, and_parts, and_cases, and_from, not_from_false, or_parts, or_cases, eqb-true, lt-ltb}
 use Rattle.std.proofs.lemmas.List.Folds.{list_any-append}
 use Rattle.blocks.specs.declared.tuple.Tuple.{Tuple}
 use Rattle.blocks.specs.declared.outcome.Decision.{Decision}
 use Rattle.blocks.specs.declared.outcome.Decision.TheVariants.{NoSync, BitmapSync, FullSync}
+use Rattle.model.specs.Contents.{covers}
 use Rattle.model.specs.Stream.{Item, WriteItem, ResyncItem, BarrierItem, SyncUuidItem, UuidsItem, last_epoch}
 use Rattle.model.specs.Frames.{Received, UuidsFrame, RsWriteAckFrame, Acknowledged, naming}
 use Rattle.model.specs.Identifiers.{sync_start, sync_end, lost}
@@ -14,13 +15,15 @@ use Rattle.model.specs.Marks.{Marks, clearing, marking_all, marking_unreleased}
 use Rattle.model.specs.Primary.{Accepted, Completion, Outward, PrimaryHistory, no_outward, last_of, outward, last_index, change_last, with_outward, stands, is_on_disk, is_failed, is_completed, is_open, is_answered, is_alone, completes, in_resync, resync_runs, under_way, marked_blocks, is_resync, was_resynced, same_naming, items_sent}
 use Rattle.model.specs.PrimarySteps.{newly_completed, completion_of, with_completions, epoch_is_over, appending, resync_is_over, ending_resync, opened, closing, receipted}
 use Rattle.model.specs.Acknowledgements.{begun_with}
+use Rattle.laws.specs.Reflections.{content_at}
+use Rattle.laws.proofs.Blocks.LatestPlaces.{latest-last}
 use Rattle.laws.proofs.Lists.Last.{last-change, change-twice, last-more}
 use Rattle.laws.proofs.Primary.Moves.{with_frame, refusing, pushing, MayAcknowledge}
 use Rattle.laws.proofs.Primary.Homes.{HasHomes, open-at}
 use Rattle.laws.proofs.Primary.HomesMoves.{homes-kept}
 use Rattle.laws.proofs.Blocks.Latest.{latest, content_of, sent_map, settling_map}
 use Rattle.laws.proofs.Blocks.LatestMoves.{latest-same, latest-appended, latest-opened}
-use Rattle.laws.proofs.Tracked.{IsUnderWay, IsTracked}
+use Rattle.laws.proofs.Tracked.{IsUnderWay, IsCopy, IsTracked}
 use Rattle.laws.proofs.Lists.Picks.{pick-any, pick-filtered, pick-image}
 use Rattle.laws.proofs.Tracked.Moves.{some-connection, unanswered-before, untouched, changed, tracked-quiet, tracked-turn, tracked-appending}
 use Rattle.laws.proofs.Primary.Ends.{stands-parts, not-refused, frames-taking}
@@ -55,11 +58,8 @@ tracked-completions h t = record {
         let disk : is_on_disk of.0.outcome ≡ true = (and_parts (is_on_disk of.0.outcome) (is_answered h of.0 || is_alone h of.0) (and_parts (is_open h of.0) (completes h of.0) stood.2).1).0 in
         subst (λ (a : Accepted). is_on_disk a.outcome ≡ true) same disk
   ];
-  free = λ place block contents i accepted way at opens.
-      let parts = and_parts (not (is_completed (with_completions h) accepted.write.number)) (not (is_failed accepted.outcome)) opens in
-      let none = or_parts (is_completed h accepted.write.number) (list_any (has accepted) entries) (sym (list_any-append (has accepted) h.journal entries) ∙ not-true (is_completed (with_completions h) accepted.write.number) parts.0) in
-      t.free place block contents i accepted (was place block contents way) at (and_from (not (is_completed h accepted.write.number)) (not (is_failed accepted.outcome)) (not_from_false (is_completed h accepted.write.number) none.0) parts.1);
-  under_way = λ place block contents way. t.under_way place block contents (was place block contents way);
+  under_way = t.under_way;
+  copied = t.copied;
   equal = t.equal;
 }
   where
@@ -68,9 +68,6 @@ tracked-completions h t = record {
 
     has : Accepted → Completion → Bool
     has accepted entry = entry.write.number == accepted.write.number
-
-    was : (place block : ℕ) (contents : List ℕ) → IsUnderWay (with_completions h) place block contents → IsUnderWay h place block contents
-    was place block contents way = record { standing = way.standing; there = way.there; unanswered = way.unanswered }
 
 -- A barrier ends an epoch.
 pub tracked-parting : (g : PrimaryHistory) → epoch_is_over g ≡ true → IsTracked g → IsTracked (appending (BarrierItem (last_epoch (outward g).stream)) g)
@@ -94,9 +91,9 @@ tracked-ending g over t = tracked-appending g (UuidsItem (sync_end g.tuple)) (sy
 pub tracked-opens : (h : PrimaryHistory) (sync loss : ℕ) → (outward h).closed ≡ true → IsTracked h → IsTracked (opened h sync loss)
 tracked-opens h sync loss closed t =
     let new : Outward = record { sync = sync; loss = loss; hello = h.tuple; stream = []; pushed = 0; taken = []; refused = false; begun = false; closed = false } in
+    let none : stands (outward (opened h sync loss)) ≡ false = ap stands (last-more (no_outward h.tuple) new h.connections) in
     tracked-quiet h (h.connections ++ new ∷ []) h.marks h.tuple h.peer h.receipts t (homes-kept.opens h sync loss closed t.homes) (λ block. latest-opened h.connections new block refl)
-    (λ place block contents way. absurd (let none : stands (outward (opened h sync loss)) ≡ false = ap stands (last-more (no_outward h.tuple) new h.connections) in both_ways (stands (outward (opened h sync loss))) none way.standing))
-    t.equal
+    (λ stood. absurd (both_ways (stands (outward (opened h sync loss))) none stood)) (λ place block contents stood there. absurd (both_ways (stands (outward (opened h sync loss))) none stood)) t.equal
 
 -- a stream without items has no block of a resync, nor has one that only begins a resync
 no-block : (place block : ℕ) (contents : List ℕ) → slice_get [] place ≡ Some (ResyncItem block contents) → ⊥
@@ -128,7 +125,7 @@ tracked-begins h peer decided standing new t = go decided
         let f : Outward → Outward = λ c. g (with_frame (Ok (UuidsFrame peer)) c) in
         let twice : change_last g (change_last (with_frame (Ok (UuidsFrame peer))) h.connections) ≡ change_last f h.connections = change-twice (with_frame (Ok (UuidsFrame peer))) g h.connections in
         subst (λ (cs : List Outward). IsTracked (changed h cs marks tuple (Some peer) h.receipts)) (sym twice)
-        (tracked-turn h f marks tuple (Some peer) h.receipts standing t (subst (λ (cs : List Outward). HasHomes (changed h cs marks tuple (Some peer) h.receipts)) twice homes) same (λ place block contents way. absurd (none place block contents way.there)) equal)
+        (tracked-turn h f marks tuple (Some peer) h.receipts standing t (subst (λ (cs : List Outward). HasHomes (changed h cs marks tuple (Some peer) h.receipts)) twice homes) same (λ place block contents stood there. absurd (none place block contents there)) equal)
 
     started : (word : ℕ) (block : ℕ)
         → latest (change_last (λ (c : Outward). record c { taken = c.taken ++ Ok (UuidsFrame peer) ∷ []; begun = true; stream = SyncUuidItem word ∷ [] }) h.connections) block ≡ latest h.connections block
@@ -163,9 +160,13 @@ tracked-closed : (h : PrimaryHistory) (connections : List Outward) (marks : Mark
     → IsTracked (changed h (change_last (λ c. record c { closed = true }) connections) marks tuple peer h.receipts)
 tracked-closed h connections marks tuple peer t homes same grow =
     tracked-quiet h (change_last (λ c. record c { closed = true }) connections) marks tuple peer h.receipts t homes (λ block. latest-same (λ c. record c { closed = true }) connections block (λ c. refl) ∙ same block)
-    (λ place block contents way. absurd (let last : Outward = last_of (no_outward tuple) (change_last (λ (c : Outward). record c { closed = true }) connections) in
-    both_ways last.closed (stands-parts last way.standing).0 (closed-last (no_outward tuple) connections refl)))
-    (λ block within unmarked. t.equal block within (grow block unmarked))
+    (λ stood. absurd (shut stood)) (λ place block contents stood there. absurd (shut stood)) (λ block within unmarked. t.equal block within (grow block unmarked))
+  where
+    last : Outward
+    last = last_of (no_outward tuple) (change_last (λ (c : Outward). record c { closed = true }) connections)
+
+    shut : stands last ≡ true → ⊥
+    shut stood = both_ways last.closed (stands-parts last stood).0 (closed-last (no_outward tuple) connections refl)
 
 -- The primary closes its end.
 pub tracked-closes : (h : PrimaryHistory) → (outward h).closed ≡ false → IsTracked h → IsTracked (closing h)
@@ -185,17 +186,17 @@ tracked-refuses h frame peer standing t =
 -- A frame is sent.
 pub tracked-sends : (h : PrimaryHistory) → (outward h).closed ≡ false → IsTracked h → HasHomes (with_outward pushing h) → IsTracked (with_outward pushing h)
 tracked-sends h standing t homes = tracked-turn h pushing h.marks h.tuple h.peer h.receipts standing t homes (λ block. latest-same pushing h.connections block (λ c. refl))
-    (λ place block contents way. record { standing = way.standing; there = way.there; unanswered = way.unanswered }) t.equal
+    (λ place block contents stood there. record { standing = stood; there = there; unanswered = λ unanswered. unanswered; writes = λ next write at. at }) t.equal
 
 -- A frame is taken, and marks may change where what was sent is the same.
 tracked-taking : (h : PrimaryHistory) (frame : Received) (marks : Marks) → (outward h).closed ≡ false → IsTracked h → HasHomes (changed h (change_last (with_frame frame) h.connections) marks h.tuple h.peer h.receipts)
     → ((block : ℕ) → block < h.settings.blocks → marks block ≡ false → sent_map h block ≡ settling_map h block) → IsTracked (changed h (change_last (with_frame frame) h.connections) marks h.tuple h.peer h.receipts)
 tracked-taking h frame marks standing t homes equal = tracked-turn h (with_frame frame) marks h.tuple h.peer h.receipts standing t homes (λ block. latest-same (with_frame frame) h.connections block (λ c. refl))
-    (λ place block contents way. record {
-      standing = way.standing;
-      there = way.there;
-      unanswered =
-          unanswered-before (outward h) (with_frame frame (outward h)) place (ResyncItem block contents) (frames-taking (outward h) frame (not-refused h t.homes standing (length h.connections - 1) (open-at h standing))) way.unanswered;
+    (λ place block contents stood there. record {
+      standing = stood;
+      there = there;
+      unanswered = unanswered-before (outward h) (with_frame frame (outward h)) place (ResyncItem block contents) (frames-taking (outward h) frame (not-refused h t.homes standing (length h.connections - 1) (open-at h standing)));
+      writes = λ next write at. at;
     }) equal
 
 -- A frame is taken.
@@ -204,15 +205,31 @@ tracked-takes h frame standing t homes = tracked-taking h frame h.marks standing
 
 -- A receipt is taken.
 pub tracked-receipts : (h : PrimaryHistory) (number : ℕ) → IsTracked h → IsTracked (receipted number h)
-tracked-receipts h number t = tracked-quiet h h.connections h.marks h.tuple h.peer (h.receipts ++ number ∷ []) t (homes-kept.receipts h number t.homes) (λ block. refl)
-    (λ place block contents way. (record { standing = way.standing; there = way.there; unanswered = way.unanswered }, refl)) t.equal
+tracked-receipts h number t = tracked-quiet h h.connections h.marks h.tuple h.peer (h.receipts ++ number ∷ []) t (homes-kept.receipts h number t.homes) (λ block. refl) (λ stood. refl)
+    (λ place block contents stood there. record { standing = stood; there = there; unanswered = λ unanswered. unanswered; writes = λ next write at. at }) t.equal
+
+-- no write behind a block that is under way has it
+pub under-way-copied : (h : PrimaryHistory) (place block : ℕ) (contents : List ℕ) → IsTracked h → IsUnderWay (outward h) place block contents → IsCopy (outward h) place block contents
+under-way-copied h place block contents t way = record {
+  standing = way.standing;
+  there = way.there;
+  last = λ next write after at. elim (cases_Bool (covers write block)) [
+    | inr apart ↦ apart
+    | inl covered ↦ absurd (elim (latest-last h.connections block _ (t.under_way place block contents way) (last_index h.connections) next (outward h) (WriteItem write) (open-at h (stands-parts (outward h) way.standing).0) at covered) [
+      | inl before ↦ omega arith
+      | inr here ↦ let low = here.1 in omega arith
+    ])
+  ];
+}
+
+-- what a block of a resync puts into its block
+pub copy-content : (block : ℕ) (contents : List ℕ) → content_at (ResyncItem block contents) block ≡ Some contents
+copy-content block contents = let none : block - block ≡ 0 = omega arith in ap (λ (n : ℕ). slice_get (contents ∷ []) n) none
 
 -- on a block that is under way what was sent is what the local disk comes to hold
-under-way-equal : (h : PrimaryHistory) (place block : ℕ) (contents : List ℕ) → IsTracked h → IsUnderWay h place block contents → sent_map h block ≡ settling_map h block
+under-way-equal : (h : PrimaryHistory) (place block : ℕ) (contents : List ℕ) → IsTracked h → IsUnderWay (outward h) place block contents → sent_map h block ≡ settling_map h block
 under-way-equal h place block contents t way =
-    let last = t.under_way place block contents way in
-    let none : block - block ≡ 0 = omega arith in
-    ap (content_of (h.opening_map block) block) last.0 ∙ (ap (λ (n : ℕ). slice_get (contents ∷ []) n) none ∙ sym last.1)
+    ap (content_of (h.opening_map block) block) (t.under_way place block contents way) ∙ (copy-content block contents ∙ sym (t.copied place block contents (under-way-copied h place block contents t way)).0)
 
 -- A block's acknowledgement clears its mark: it was under way.
 pub tracked-clears : (h : PrimaryHistory) (ack : Acknowledged) → (outward h).closed ≡ false → (outward h).begun ≡ true → MayAcknowledge h is_resync was_resynced ack → IsTracked h
