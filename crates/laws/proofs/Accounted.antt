@@ -4,6 +4,7 @@ pub mod Begins
 pub mod Kept
 pub mod Moves
 pub mod Reflected
+pub mod Released
 pub mod Steps
 pub mod Turns
 use Rattle.std.proofs.Common.{ℕ, zero, suc, ◌≡◌, ◌≤◌, ◌<◌, ◌⊎◌, inl, inr, Bool, true, false, cond, not, ◌&&◌, ◌||◌, List, [], ◌∷◌, ◌++◌, length, filter, Option, Some, None, slice_get, Ok, refl, sym, ◌∙◌, ap, subst, arith}

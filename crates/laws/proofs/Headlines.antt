@@ -11,7 +11,6 @@ use Rattle.model.specs.Pair.{PairHistory, run, same_block}
 use Rattle.model.specs.Headline.{IsJoined, TakesABeginning, StaysClosed, StaysClosedToo, HoldsEarlierEpochs, KeepsPromises, MarksDifferences, CoversDifferences, Headline, is_covered}
 use Rattle.model.specs.Theorems.{Opening, primary_at, secondary_at, pair_at, AnyOpening, HasRanges, IsSoundOpening, EveryRun, JoinedRuns, JoinedRunsHaveTheHeadline, JoinedRunsCoverDifferences, JoinedRunsSettle, EveryRunHasTheHeadline, EveryRunCoversDifferences}
 use Rattle.laws.specs.Statements.{PrimaryStreamsAreLawful, PrimaryExtentsAreFew, PrimaryStaysClosed, PrimaryReflects, PrimaryMarksAtRest, SecondaryStaysClosed, EveryRunIsJoined, EveryRunTakesABeginning, EveryRunStaysClosed, EveryRunHoldsEarlierEpochs, EveryRunKeepsPromises, EveryRunMarksDifferences, PrimaryReleasesInOrder}
-use Rattle.laws.proofs.Primary.Moves.{keeps-run}
 use Rattle.laws.proofs.Primary.HomesMoves.{homes-opening}
 use Rattle.laws.proofs.Secondary.Runs.{holds_earlier_epochs}
 use Rattle.laws.proofs.Joining.Promises.{keeps_promises, writes_once}
@@ -19,17 +18,17 @@ use Rattle.laws.proofs.Primary.LawfulMoves.{primary_lawful}
 use Rattle.laws.proofs.Primary.ExtentsMoves.{primary_extents}
 use Rattle.laws.proofs.Primary.StaysClosed.{primary_stays_closed}
 use Rattle.laws.proofs.Secondary.Stays.{secondary_stays_closed}
-use Rattle.laws.proofs.Tracked.Kept.{known-opening}
-use Rattle.laws.proofs.Primary.LastOpen.{last-open-kept}
+use Rattle.laws.proofs.Primary.InOrderMoves.{Ordered}
+use Rattle.laws.proofs.Primary.Releases.{released-in-order}
+use Rattle.laws.proofs.Tracked.Released.{ordered-run}
 use Rattle.laws.proofs.Accounted.{IsAccounted}
-use Rattle.laws.proofs.Accounted.Kept.{accounted-kept, accounted-opening}
 use Rattle.laws.proofs.Accounted.Reflected.{reflected, rest-marked}
+use Rattle.laws.proofs.Accounted.Released.{accounted-run}
 use Rattle.laws.proofs.Joining.Openings.{kept-opening-primary}
 use Rattle.laws.proofs.Joining.Agreeing.{joined-agrees}
 use Rattle.laws.proofs.Pair.Runs.{pair_runs_are_joined, leads-run}
 use Rattle.laws.proofs.Joining.Taking.{takes_a_beginning}
 use Rattle.laws.proofs.Settling.{settles}
-use Rattle.laws.proofs.Primary.InOrderMoves.{ordered-run, released-in-order}
 
 -- The primary by itself.
 
@@ -50,19 +49,19 @@ releases_in_order o events ranges sized i j block a b less ata atb cova covb rel
 pub stays_closed : PrimaryStaysClosed
 stays_closed p events = primary_stays_closed events p
 
--- every run accounts for its unmarked blocks
-accounted-run : (o : Opening) (events : List PrimaryEvent) → IsDisk o.settings.blocks o.local → IsAccounted (primary_run events (primary_at o))
-accounted-run o events sized =
-    keeps-run IsAccounted IsAccounted accounted-kept events (primary_at o) (accounted-opening o.settings o.local o.own o.marks (known-opening o.settings o.local o.own o.marks (λ block inside. sized block ∙ lt-ltb block o.settings.blocks inside)))
+-- every run keeps the order of its writes, and accounts for its unmarked blocks
+accounted : (o : Opening) (events : List PrimaryEvent) → HasRanges o → IsDisk o.settings.blocks o.local → Ordered o.settings (primary_run events (primary_at o)) × IsAccounted (primary_run events (primary_at o))
+accounted o events ranges sized = accounted-run o.settings o.local o.own o.marks events ranges.here (λ block inside. sized block ∙ lt-ltb block o.settings.blocks inside)
 
 -- a block that is neither marked nor under an unreleased write stands as an item that is surely applied has it, or as at the opening
 pub reflects : PrimaryReflects
-reflects o events sized block clean = reflected (primary_run events (primary_at o)) block (accounted-run o events sized) clean
+reflects o events ranges sized block clean = reflected (primary_run events (primary_at o)) block (accounted o events ranges sized).1 clean
 
 -- while no stream stands, every block under an unreleased write is marked
 pub marks_at_rest : PrimaryMarksAtRest
-marks_at_rest o events sized resting block covered =
-    rest-marked (primary_run events (primary_at o)) block (accounted-run o events sized) (keeps-run _ _ last-open-kept events (primary_at o) (λ k c at less. absurd (cc))) resting covered
+marks_at_rest o events ranges sized resting block covered =
+    let both = accounted o events ranges sized in
+    rest-marked (primary_run events (primary_at o)) block both.1 both.0.1.0 resting covered
 
 -- The secondary by itself.
 
@@ -90,13 +89,13 @@ joined_covers o here there sound joined =
     record {
       covered = λ grounded block differs. elim (cases_Bool (is_covered p block)) [
         | inl is ↦ is
-        | inr clean ↦ absurd (both_ways (same_block (local_map p block) (secondary_map s block)) differs (joined-agrees o here there sound joined grounded block (reflects o here sound.local block clean)))
+        | inr clean ↦ absurd (both_ways (same_block (local_map p block) (secondary_map s block)) differs (joined-agrees o here there sound joined grounded block (reflects o here sound.ranges sound.local block clean)))
       ];
       active = subst (λ (x : Settings). length (active_extents p) ≤ x.slots) (sym (kept-opening-primary o here).settings) (extents_are_few o here);
     }
 
 joined-marks : JoinedRuns IsSoundOpening MarksDifferences
-joined-marks o here there sound joined grounded resting block differs = marks_at_rest o here sound.local resting block ((joined_covers o here there sound joined).covered grounded block differs)
+joined-marks o here there sound joined grounded resting block differs = marks_at_rest o here sound.ranges sound.local resting block ((joined_covers o here there sound joined).covered grounded block differs)
 
 -- where the two are joined, the whole headline holds
 pub joined_headline : JoinedRunsHaveTheHeadline
@@ -110,7 +109,7 @@ joined_headline o here there sound joined = record {
 -- once both are at rest, a settlement says so
 pub joined_settles : JoinedRunsSettle
 joined_settles o here there sound joined =
-    settles (primary_run here (primary_at o)) (secondary_run there (secondary_at o)) joined (joined_headline o here there sound joined) (accounted-run o here sound.local).known.numbers.1
+    settles (primary_run here (primary_at o)) (secondary_run there (secondary_at o)) joined (joined_headline o here there sound joined) (accounted o here sound.ranges sound.local).1.known.numbers.1
 
 -- The pair.
 

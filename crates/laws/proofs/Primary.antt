@@ -12,5 +12,6 @@ pub mod LastOpen
 pub mod LawfulMoves
 pub mod Met
 pub mod Moves
+pub mod Releases
 pub mod Sendable
 pub mod StaysClosed

@@ -48,13 +48,13 @@ PrimaryStaysClosed = (p : PrimaryHistory) (events : List PrimaryEvent) → Stays
 -- its half of the cover: a block that is neither marked nor under an unreleased write stands as the streams have it
 abbrev pub PrimaryReflects : Type 0
 PrimaryReflects =
-    (o : Opening) (events : List PrimaryEvent) → IsDisk o.settings.blocks o.local
+    (o : Opening) (events : List PrimaryEvent) → HasRanges o → IsDisk o.settings.blocks o.local
     → (block : ℕ) → is_covered (primary_run events (primary_at o)) block ≡ false → FromItem (primary_run events (primary_at o)) block ⊎ FromOpening (primary_run events (primary_at o)) block
 
 -- while no stream stands, every block under an unreleased write is marked
 abbrev pub PrimaryMarksAtRest : Type 0
 PrimaryMarksAtRest =
-    (o : Opening) (events : List PrimaryEvent) → IsDisk o.settings.blocks o.local → stands (outward (primary_run events (primary_at o))) ≡ false
+    (o : Opening) (events : List PrimaryEvent) → HasRanges o → IsDisk o.settings.blocks o.local → stands (outward (primary_run events (primary_at o))) ≡ false
     → (block : ℕ) → is_covered (primary_run events (primary_at o)) block ≡ true → is_marked (primary_run events (primary_at o)) block ≡ true
 
 -- A secondary by itself, whatever frames it takes and however its disk fails.

@@ -140,6 +140,13 @@ of-has block k found (d ∷ connections) (suc n) place c item at there touched =
     let rest = of-has block (suc k) (found_in k (latest_from block 0 None d.stream) found) connections n place c item at there touched in
     (rest.0, rest.1, elim rest.2 [ inl more ↦ inl (omega arith) | inr same ↦ let is = same.0 in inr (omega arith, same.1) ])
 
+-- Where an item touches a block one is found, there or behind it.
+pub latest-some : (connections : List Outward) (block k place : ℕ) (c : Outward) (item : Item) → slice_get connections k ≡ Some c → slice_get c.stream place ≡ Some item → touches item block ≡ true
+    → (touch : Touch) × (latest connections block ≡ Some touch) × ((k < touch.connection) ⊎ ((k ≡ touch.connection) × (place ≤ touch.place)))
+latest-some connections block k place c item at there touched =
+    let found = of-has block 0 None connections k place c item at there touched in
+    (found.0, found.1, elim found.2 [ inl more ↦ inl (omega arith) | inr here ↦ let is = here.0 in inr (omega arith, here.1) ])
+
 -- Where nothing is found no item touches the block.
 pub latest-none : (connections : List Outward) (block : ℕ) → latest connections block ≡ None → (k place : ℕ) (c : Outward) (item : Item) → slice_get connections k ≡ Some c
     → slice_get c.stream place ≡ Some item → touches item block ≡ false

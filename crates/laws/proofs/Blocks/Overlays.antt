@@ -1,10 +1,10 @@
 -- What blocks hold once layers are laid over a disk, and what the local disk comes to hold once its waiting writes are done.
-use Rattle.std.proofs.Common.{ℕ, suc, ◌≡◌, ◌-◌, inl, inr, Bool, true, false, ◌&&◌, ◌||◌, List, [], ◌∷◌, ◌++◌, length, map, Option, Some, slice_get, refl, sym, ◌∙◌, ap, arith}
+use Rattle.std.proofs.Common.{ℕ, zero, suc, ◌≡◌, ◌-◌, ◌<◌, inl, inr, Bool, true, false, ◌&&◌, ◌||◌, List, [], ◌∷◌, ◌++◌, length, map, Option, Some, slice_get, refl, sym, ◌∙◌, ap, arith}
 use Rattle.std.specs.Prelude.{if◌then◌else◌, is_some}
 use Rattle.std.proofs.lemmas.Bool.{cases_Bool, and_right}
 use Rattle.std.proofs.lemmas.Option.{slice_get-get_or}
 use Rattle.model.specs.Contents.{BlockMap, Layer, is_between, block_under, overlay, covers}
-use Rattle.model.specs.Primary.{Accepted, PrimaryHistory, is_waiting, offset_reached, local_layer, local_map}
+use Rattle.model.specs.Primary.{LocalOutcome, Waiting, OnDisk, Failed, Accepted, PrimaryHistory, is_on_disk, is_waiting, offset_reached, local_layer, local_map}
 use Rattle.laws.proofs.Blocks.Latest.{settling_layer, settling_map}
 use Rattle.laws.proofs.Blocks.Ranges.{between-parts}
 
@@ -32,6 +32,15 @@ pub overlay-none : {X : Type 0} (f : X → Layer) (base : BlockMap) (xs : List X
     → ((i : ℕ) (x : X) → slice_get xs i ≡ Some x → (v : Option (List ℕ)) → block_under (f x) block v ≡ v) → overlay base (map f xs) block ≡ base block
 overlay-none f base [] block same = refl
 overlay-none f base (x ∷ xs) block same = overlay-none f (λ b. block_under (f x) b (base b)) xs block (λ i y at. same (suc i) y at) ∙ same 0 x refl (base block)
+
+-- what a layer lays in a block that no later one has
+pub overlay-last : {X : Type 0} (f : X → Layer) (base : BlockMap) (xs : List X) (block n : ℕ) (x : X) (laid : Option (List ℕ)) → slice_get xs n ≡ Some x → ((v : Option (List ℕ)) → block_under (f x) block v ≡ laid)
+    → ((i : ℕ) (y : X) → n < i → slice_get xs i ≡ Some y → (v : Option (List ℕ)) → block_under (f y) block v ≡ v) → overlay base (map f xs) block ≡ laid
+overlay-last f base [] block n x laid at lays none = absurd (cc)
+overlay-last f base (y ∷ xs) block zero x laid at lays none =
+    let same : y ≡ x = cc in
+    overlay-none f (λ b. block_under (f y) b (base b)) xs block (λ i z there. none (suc i) z (omega arith) there) ∙ (ap (λ z. block_under (f z) block (base block)) same ∙ lays (base block))
+overlay-last f base (y ∷ xs) block (suc n) x laid at lays none = overlay-last f (λ b. block_under (f y) b (base b)) xs block n x laid at lays (λ i z after there. none (suc i) z (omega arith) there)
 
 -- a layer holds nothing outside its range
 pub under-outside : (layer : Layer) (block : ℕ) (v : Option (List ℕ)) → is_between layer.first (length layer.contents) block ≡ false → block_under layer block v ≡ v
@@ -88,3 +97,15 @@ settled-is-local h block free = overlay-agrees settling_layer local_layer h.open
           under-alike accepted.write.first accepted.write.contents (λ offset. is_waiting accepted.outcome || offset_reached accepted.outcome offset) (offset_reached accepted.outcome) block v
           (ap (λ b. b || offset_reached accepted.outcome (block - accepted.write.first)) done)
     ]
+
+-- A write that is on the local disk, and the last one with a block: the disk comes to hold what it has there.
+pub settling-last : (h : PrimaryHistory) (i block : ℕ) (a : Accepted) → slice_get h.writes i ≡ Some a → covers a.write block ≡ true → is_on_disk a.outcome ≡ true
+    → ((j : ℕ) (b : Accepted) → i < j → slice_get h.writes j ≡ Some b → covers b.write block ≡ false) → settling_map h block ≡ slice_get a.write.contents (block - a.write.first)
+settling-last h i block a at covered done last =
+    overlay-last settling_layer h.opening_map h.writes block i a (slice_get a.write.contents (block - a.write.first)) at (λ v. under-inside (settling_layer a) block v covered (reached a.outcome (block - a.write.first) done))
+    (λ j b after there v. under-outside (settling_layer b) block v (last j b after there))
+  where
+    reached : (outcome : LocalOutcome) (offset : ℕ) → is_on_disk outcome ≡ true → (is_waiting outcome || offset_reached outcome offset) ≡ true
+    reached Waiting offset done = refl
+    reached OnDisk offset done = refl
+    reached (Failed offsets) offset done = absurd (cc)

@@ -54,7 +54,7 @@ turn-same c d closed turn = record { closed = closed; turn = turn }
 -- Submissions.
 
 -- two ranges that have a block in common meet
-meeting : (a b : Write) (block : ℕ) → covers a block ≡ true → covers b block ≡ true → overlap a b ≡ true
+pub meeting : (a b : Write) (block : ℕ) → covers a block ≡ true → covers b block ≡ true → overlap a b ≡ true
 meeting a b block cova covb =
     let pa = and_parts (nat_le a.first block) (nat_lt block (a.first + length a.contents)) cova in
     let pb = and_parts (nat_le b.first block) (nat_lt block (b.first + length b.contents)) covb in
@@ -390,73 +390,3 @@ in-order-kept settings bound = record {
           closed = λ shut. shut;
           turn = turn-next (outward h) number size (not-refused h p.1.1.0.0 standing k there) (earlier-said settings.max_epoch (outward h) number (p.1.1.0.1.streams.lawful k (outward h) there) first);
         })
-
--- Every run of a primary keeps it.
-pub ordered-run : (settings : Settings) (disk : BlockMap) (tuple : Tuple) (marks : ℕ → Bool) (events : List PrimaryEvent) → IsInRange settings → ((block : ℕ) → block < settings.blocks → is_some (disk block) ≡ true)
-    → Ordered settings (primary_run events (primary_opening settings disk tuple marks))
-ordered-run settings disk tuple marks events range sized = keeps-run (Ordered settings) (OrderedAfter settings) (in-order-kept settings range.max_epoch.0) events (primary_opening settings disk tuple marks) (
-  known-opening settings disk tuple marks sized,
-  (
-    λ k c at less. absurd (cc),
-    (
-      (homes-opening settings disk tuple marks, lawful-opening settings disk tuple marks),
-      record {
-        settled_first = λ i j block a b less ata. absurd (cc);
-        rise = λ i j a b home other less ata. absurd (cc);
-        alone_later = λ i j a b home c less ata. absurd (cc);
-        acknowledged = λ k c at. absurd (cc);
-      },
-    ),
-  ),
-)
-
--- a later place is in no earlier epoch
-epoch-rises : (items : List Item) (place later : ℕ) → place < later → later ≤ length items → epoch_of items place ≤ epoch_of items later
-epoch-rises items place later less within =
-    let front : List Item = take later items in
-    let split = barriers-append (take place front) (drop place front) in
-    let all : barriers_in (take place front ++ drop place front) ≡ barriers_in front = ap barriers_in (take-append-drop place front) in
-    let same : epoch_of front place ≡ epoch_of items place = epoch-front items later place less within in
-    omega arith
-
--- Of two writes that share a block, where the later one is released the earlier one is.
-pub released-in-order : (settings : Settings) (h : PrimaryHistory) → Ordered settings h → (i j block : ℕ) (a b : Accepted) → i < j → slice_get h.writes i ≡ Some a → slice_get h.writes j ≡ Some b → covers a.write block ≡ true → covers b.write block ≡ true
-    → is_released h b ≡ true → is_released h a ≡ true
-released-in-order settings h p i j block a b less ata atb cova covb released =
-    and_from (not (is_waiting a.outcome)) (is_confirmed h a || is_alone h a) (not_from_false (is_waiting a.outcome) (order.settled_first i j block a b less ata atb cova covb)) (by-home a.home refl)
-  where
-    order : IsInOrder h
-    order = p.1.1.1
-
-    homes : HasHomes h
-    homes = p.1.1.0.0
-
-    said : (is_confirmed h b || is_alone h b) ≡ true
-    said = (and_parts (not (is_waiting b.outcome)) (is_confirmed h b || is_alone h b) released).1
-
-    by-other : (home : ℕ × ℕ) → a.home ≡ Some home → (v : Option (ℕ × ℕ)) → b.home ≡ v → (is_confirmed h a || is_alone h a) ≡ true
-    by-other home ha None hb =
-        let was = homes.housed i home.0 home.1 a ata ha in
-        or_right (is_confirmed h a) (is_alone h a) (alone-at h a home was.0 ha was.1 ∙ order.alone_later i j a b home was.0 less ata atb ha hb was.1)
-    by-other home ha (Some other) hb =
-        let was = homes.housed i home.0 home.1 a ata ha in
-        let its = homes.housed j other.0 other.1 b atb hb in
-        elim (order.rise i j a b home other less ata atb ha hb) [
-          | inl early ↦
-              let within = slice_get_within h.connections other.0 its.0 its.1 in
-              or_right (is_confirmed h a) (is_alone h a) (alone-at h a home was.0 ha was.1 ∙ p.1.0 home.0 was.0 was.1 (omega arith))
-          | inr here ↦
-              let end : its.0 ≡ was.0 = same-at h.connections home.0 its.0 was.0 (subst (λ (n : ℕ). slice_get h.connections n ≡ Some its.0) (sym here.0) its.1) was.1 in
-              elim (or_cases (is_confirmed h b) (is_alone h b) said) [
-                | inr alone ↦ or_right (is_confirmed h a) (is_alone h a) (alone-at h a home was.0 ha was.1 ∙ (ap (λ (c : Outward). c.closed) (sym end) ∙ (sym (alone-at h b other its.0 hb its.1) ∙ alone)))
-                | inl confirmed ↦
-                    let acknowledged : barrier_acknowledged was.0 (epoch_of was.0.stream other.1) ≡ true = subst (λ (c : Outward). barrier_acknowledged c (epoch_of c.stream other.1) ≡ true) end (sym (confirmed-at h b other its.0 hb its.1) ∙ confirmed) in
-                    let inside = slice_get_within was.0.stream other.1 (WriteItem b.write) (subst (λ (c : Outward). slice_get c.stream other.1 ≡ Some (WriteItem b.write)) end its.2) in
-                    let rising = epoch-rises was.0.stream home.1 other.1 here.1 (omega arith) in
-                    or_left (is_confirmed h a) (is_alone h a) (confirmed-at h a home was.0 ha was.1 ∙ order.acknowledged home.0 was.0 was.1 (epoch_of was.0.stream home.1) (epoch_of was.0.stream other.1) (omega arith) rising acknowledged)
-              ]
-        ]
-
-    by-home : (v : Option (ℕ × ℕ)) → a.home ≡ v → (is_confirmed h a || is_alone h a) ≡ true
-    by-home None is = or_right (is_confirmed h a) (is_alone h a) (ap (λ (v : Option (ℕ × ℕ)). elim v as (λ _. Bool) [ None ↦ true | Some home ↦ elim (slice_get h.connections home.0) as (λ _. Bool) [ None ↦ true | Some c ↦ c.closed ] ]) is)
-    by-home (Some home) is = by-other home is b.home refl
