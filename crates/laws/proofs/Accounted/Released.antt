@@ -1,5 +1,5 @@
 -- A step that clears marks as it releases writes keeps the account of unmarked blocks; so does every run of a primary.
-use Rattle.std.proofs.Common.{ℕ, ◌≡◌, ◌<◌, inl, inr, Bool, true, false, not, ◌&&◌, List, Option, None, Some, slice_get, refl, sym, ◌∙◌, ap, subst, arith}
+use Rattle.std.proofs.Common.{ℕ, ◌≡◌, ◌<◌, inl, inr, Bool, true, false, not, ◌&&◌, List, None, Some, slice_get, refl, sym, ◌∙◌, subst, arith}
 use Rattle.std.specs.Prelude.{is_some}
 use Rattle.std.proofs.lemmas.Bool.{cases_Bool, both_ways, cases_lt, and_cases, and_from, not-false, not_from_false}
 use Rattle.blocks.specs.declared.settings.Settings.{Settings}
@@ -9,7 +9,7 @@ use Rattle.model.specs.Contents.{BlockMap, covers}
 use Rattle.model.specs.Stream.{WriteItem}
 use Rattle.model.specs.LocalRuns.{PrimaryEvent, primary_run}
 use Rattle.model.specs.Marks.{is_cleared, releasing}
-use Rattle.model.specs.Primary.{OnDisk, Accepted, Outward, PrimaryHistory, primary_opening, outward, last_index, is_waiting, is_on_disk}
+use Rattle.model.specs.Primary.{OnDisk, Accepted, PrimaryHistory, primary_opening, outward, last_index, is_waiting}
 use Rattle.model.specs.PrimarySteps.{with_outcome}
 use Rattle.laws.specs.Reflections.{touches}
 use Rattle.laws.proofs.Lists.Beginnings.{begins-self}

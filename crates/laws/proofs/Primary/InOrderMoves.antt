@@ -1,20 +1,18 @@
 -- Every move of a primary keeps the order in which its writes stand.
-use Rattle.std.proofs.Common.{ℕ, zero, suc, ◌≡◌, ◌-◌, ◌+◌, ◌<◌, ◌≤◌, inl, inr, Bool, true, false, cond, not, ◌&&◌, ◌||◌, List, [], ◌∷◌, ◌++◌, length, take, map, filter, Option, Some, None, slice_get, Ok, refl, sym, ◌∙◌, ap, subst, arith, ◌==◌, nat_lt, nat_le, drop}
+use Rattle.std.proofs.Common.{ℕ, zero, suc, ◌≡◌, ◌-◌, ◌+◌, ◌<◌, inl, inr, Bool, true, false, cond, ◌&&◌, List, [], ◌∷◌, ◌++◌, length, take, map, filter, Option, Some, None, slice_get, Ok, refl, sym, ◌∙◌, ap, subst, arith, ◌==◌, nat_lt, nat_le}
 use Rattle.std.specs.Prelude.{if◌then◌else◌, is_some, find, unwrap_or}
 use Rattle.std.specs.List.{list_any, list_all}
-use Rattle.std.proofs.lemmas.Bool.{cases_Bool, cases_lt, and_parts, and_from, eqb-true, ltb-true, leb-true, lt-ltb, not-false, not_from_false, or_right, or_left, or_cases}
+use Rattle.std.proofs.lemmas.Bool.{cases_Bool, cases_lt, and_parts, and_from, eqb-true, ltb-true, leb-true, lt-ltb, not-false}
 use Rattle.std.proofs.lemmas.Option.{slice_get_within}
 use Rattle.blocks.specs.declared.settings.Settings.{Settings}
 use Rattle.blocks.specs.declared.tuple.Tuple.{Tuple}
 use Rattle.blocks.specs.declared.outcome.Decision.{Decision}
 use Rattle.blocks.specs.declared.outcome.Decision.TheVariants.{NoSync, BitmapSync, FullSync}
-use Rattle.blocks.specs.SettingsRange.{IsInRange}
-use Rattle.model.specs.Contents.{BlockMap, Write, covers, overlap}
-use Rattle.model.specs.Stream.{Item, WriteItem, ResyncItem, BarrierItem, SyncUuidItem, UuidsItem, IsLawful, barriers_in, epoch_of, last_epoch, within, epoch_size, items_of_epoch}
+use Rattle.model.specs.Contents.{Write, covers, overlap}
+use Rattle.model.specs.Stream.{Item, WriteItem, ResyncItem, BarrierItem, SyncUuidItem, UuidsItem, IsLawful, epoch_of, last_epoch, within, epoch_size, items_of_epoch}
 use Rattle.model.specs.Frames.{BarrierAckFrame, UuidsFrame, Received, RecvAckFrame, WriteAckFrame, RsWriteAckFrame}
-use Rattle.model.specs.LocalRuns.{PrimaryEvent, primary_run}
 use Rattle.model.specs.Marks.{marking}
-use Rattle.model.specs.Primary.{Waiting, OnDisk, Failed, Accepted, Outward, PrimaryHistory, primary_opening, outward, last_index, with_outward, stands, change_last, items_sent, barrier_acknowledged, is_waiting, is_open, open_writes, under_way, accepted_frames, is_barrier_ack, local_map, is_released, is_confirmed, is_alone}
+use Rattle.model.specs.Primary.{Waiting, OnDisk, Failed, Accepted, Outward, PrimaryHistory, outward, last_index, with_outward, stands, change_last, items_sent, barrier_acknowledged, is_waiting, is_open, open_writes, under_way, accepted_frames, is_barrier_ack, local_map}
 use Rattle.model.specs.PrimarySteps.{conflict, submission, submitted, opened, appending, with_outcome, accepted_at, faulted, with_completions, ending_resync, follows, closing}
 use Rattle.model.specs.Acknowledgements.{begun_with, is_unacknowledged, oldest_barrier, is_barrier_of, is_acknowledged, is_in_turn}
 use Rattle.laws.specs.Reflections.{IsLater}
@@ -24,20 +22,17 @@ use Rattle.laws.proofs.Lists.Last.{change-none, change-twice}
 use Rattle.laws.proofs.Lists.Picks.{filtered-pick, none-first}
 use Rattle.laws.proofs.Streams.Barriers.{barrier-of}
 use Rattle.laws.proofs.Joining.Receiving.{epoch-front}
-use Rattle.laws.proofs.Primary.Homes.{HasHomes, open-at, alone-at, confirmed-at}
-use Rattle.laws.proofs.Primary.HomesMoves.{homes-opening}
-use Rattle.laws.proofs.Primary.Moves.{IsKeptByMoves, IsGreeting, MaySubmit, following-from, keeps-run, with_frame, refusing, pushing}
+use Rattle.laws.proofs.Primary.Homes.{HasHomes, open-at, alone-at}
+use Rattle.laws.proofs.Primary.Moves.{IsKeptByMoves, IsGreeting, MaySubmit, following-from, with_frame, refusing, pushing}
 use Rattle.laws.proofs.Primary.Ends.{not-refused, frames-refusing, stands-parts}
 use Rattle.laws.proofs.Primary.LastOpen.{IsLastOpen, last-open-kept}
-use Rattle.laws.proofs.Primary.LawfulMoves.{Before, After, lawful-kept, lawful-opening}
+use Rattle.laws.proofs.Primary.LawfulMoves.{Before, After, lawful-kept}
 use Rattle.laws.proofs.Primary.InOrder.{AreInTurn, IsInOrder, KeepsTurn, order-change, order-same, order-added, turn-frames, turn-other, turn-next}
-use Rattle.laws.proofs.Tracked.Kept.{IsKnown, known-kept, known-opening}
+use Rattle.laws.proofs.Tracked.Kept.{IsKnown, known-kept}
 use Rattle.laws.proofs.Accounted.Kept.{waits-open}
 use Rattle.laws.proofs.Accounted.Reflected.{alone-at-rest}
 use Rattle.laws.proofs.Accounted.Steps.{keeps-writes, keeps-outcome, KeepsWrites}
 use Rattle.model.specs.Identifiers.{sync_end}
-use Rattle.laws.proofs.Streams.Places.{barriers-append}
-use Rattle.std.proofs.lemmas.List.{take-append-drop}
 
 -- Between steps: what is known of the blocks, that the last end alone may be open, lawful streams, and the order.
 abbrev pub Ordered : Settings → PrimaryHistory → Type 0

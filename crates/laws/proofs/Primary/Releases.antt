@@ -1,18 +1,17 @@
 -- What a step clears that releases writes: each of the blocks has been written last by a write that is released and on the local
 -- disk, whose epoch on the standing stream is acknowledged.
-use Rattle.std.proofs.Common.{ℕ, suc, ◌≡◌, ◌-◌, ◌+◌, ◌<◌, ◌≤◌, inl, inr, Bool, true, false, not, ◌&&◌, ◌||◌, List, ◌++◌, length, take, Option, Some, None, slice_get, Ok, refl, sym, ◌∙◌, ap, subst, arith, ◌==◌, nat_lt, drop}
+use Rattle.std.proofs.Common.{ℕ, suc, ◌≡◌, ◌<◌, ◌≤◌, inl, inr, Bool, true, false, not, ◌&&◌, ◌||◌, List, ◌++◌, length, take, Option, Some, None, slice_get, Ok, refl, sym, ◌∙◌, ap, subst, arith, ◌==◌, nat_lt, drop}
 use Rattle.std.specs.List.{list_any}
 use Rattle.std.proofs.lemmas.Bool.{cases_Bool, cases_lt, both_ways, and_parts, and_from, not_from_false, not-true, or_right, or_left, or_cases, eqb-true, lt-ltb}
 use Rattle.std.proofs.lemmas.List.{take-append-drop}
 use Rattle.std.proofs.lemmas.Option.{slice_get_within}
 use Rattle.blocks.specs.declared.settings.Settings.{Settings}
 use Rattle.model.specs.Contents.{Write, covers, overlap}
-use Rattle.model.specs.Stream.{Item, WriteItem, IsLawful, barriers_in, epoch_of, items_meet}
+use Rattle.model.specs.Stream.{Item, WriteItem, barriers_in, epoch_of}
 use Rattle.model.specs.Frames.{BarrierAckFrame}
 use Rattle.model.specs.Marks.{is_releasing, is_under_later, is_cleared}
-use Rattle.model.specs.Primary.{OnDisk, Accepted, Outward, PrimaryHistory, no_outward, last_of, outward, last_index, with_outward, stands, barrier_acknowledged, is_on_disk, is_waiting, is_alone, is_confirmed, is_released, unreleased}
-use Rattle.model.specs.PrimarySteps.{is_unfinished, set_outcome, with_outcome}
-use Rattle.model.specs.Acknowledgements.{is_in_turn}
+use Rattle.model.specs.Primary.{OnDisk, Accepted, Outward, PrimaryHistory, no_outward, outward, last_index, with_outward, stands, barrier_acknowledged, is_on_disk, is_waiting, is_alone, is_confirmed, is_released, unreleased}
+use Rattle.model.specs.PrimarySteps.{set_outcome, with_outcome}
 use Rattle.laws.proofs.Lists.Elements.{same-at}
 use Rattle.laws.proofs.Lists.Last.{get-change, last-at}
 use Rattle.laws.proofs.Lists.Picks.{pick-any, pick-filtered, pick-image, any-filtered}

@@ -2,7 +2,7 @@
 use Rattle.std.proofs.Common.{ℕ, zero, suc, ◌≡◌, ◌-◌, ◌<◌, inl, inr, Bool, true, false, not, ◌&&◌, ◌||◌, List, [], ◌∷◌, ◌++◌, length, map, Option, Some, None, slice_get, Ok, refl, sym, ◌∙◌, ap, subst, arith, ◌==◌, nat_lt}
 use Rattle.std.specs.Prelude.{if◌then◌else◌}
 use Rattle.std.specs.List.{list_any}
-use Rattle.std.proofs.lemmas.Bool.{cases_Bool, both_ways, not-true, not-false, and_parts, and_cases, and_from, not_from_false, or_parts, or_cases, eqb-true, lt-ltb}
+use Rattle.std.proofs.lemmas.Bool.{cases_Bool, both_ways, not-false, and_parts, and_cases, and_from, not_from_false, or_parts, or_cases, eqb-true, lt-ltb}
 use Rattle.std.proofs.lemmas.List.Folds.{list_any-append}
 use Rattle.blocks.specs.declared.tuple.Tuple.{Tuple}
 use Rattle.blocks.specs.declared.outcome.Decision.{Decision}
@@ -12,7 +12,7 @@ use Rattle.model.specs.Stream.{Item, WriteItem, ResyncItem, BarrierItem, SyncUui
 use Rattle.model.specs.Frames.{Received, UuidsFrame, RsWriteAckFrame, Acknowledged, naming}
 use Rattle.model.specs.Identifiers.{sync_start, sync_end, lost}
 use Rattle.model.specs.Marks.{Marks, clearing, marking_all, marking_unreleased}
-use Rattle.model.specs.Primary.{Accepted, Completion, Outward, PrimaryHistory, no_outward, last_of, outward, last_index, change_last, with_outward, stands, is_on_disk, is_failed, is_completed, is_open, is_answered, is_alone, completes, in_resync, resync_runs, under_way, marked_blocks, is_resync, was_resynced, same_naming, items_sent}
+use Rattle.model.specs.Primary.{Accepted, Completion, Outward, PrimaryHistory, no_outward, last_of, outward, last_index, change_last, with_outward, stands, is_on_disk, is_completed, is_open, is_answered, is_alone, completes, in_resync, resync_runs, under_way, marked_blocks, is_resync, was_resynced, same_naming, items_sent}
 use Rattle.model.specs.PrimarySteps.{newly_completed, completion_of, with_completions, epoch_is_over, appending, resync_is_over, ending_resync, opened, closing, receipted}
 use Rattle.model.specs.Acknowledgements.{begun_with}
 use Rattle.laws.specs.Reflections.{content_at}

@@ -1,6 +1,6 @@
 -- A block that a step clears as it releases writes: what was sent on it from the last write on is what the local disk comes to hold.
 -- So what is known of a primary's blocks, and the order of its writes, are kept by such steps, and by every run.
-use Rattle.std.proofs.Common.{ℕ, ◌≡◌, ◌-◌, ◌<◌, ◌≤◌, inl, inr, Bool, true, false, not, ◌&&◌, List, length, Option, Some, slice_get, refl, sym, ◌∙◌, ap, subst, arith}
+use Rattle.std.proofs.Common.{ℕ, ◌≡◌, ◌<◌, ◌≤◌, inl, inr, Bool, true, false, not, List, Some, slice_get, refl, sym, ◌∙◌, ap, subst, arith}
 use Rattle.std.specs.Prelude.{is_some}
 use Rattle.std.proofs.lemmas.Bool.{both_ways, and_cases, cases_lt, not-false}
 use Rattle.std.proofs.lemmas.Option.{slice_get_within}
