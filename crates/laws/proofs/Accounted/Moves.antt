@@ -1,5 +1,5 @@
 -- What accounts for an unmarked block, carried over the moves of a primary that close nothing and clear nothing.
-use Rattle.std.proofs.Common.{ℕ, ◌≡◌, ◌⊎◌, inl, inr, Bool, true, false, not, ◌&&◌, ◌||◌, List, ◌++◌, Option, Some, None, slice_get, Ok, refl, sym, ◌∙◌, ap, subst, arith}
+use Rattle.std.proofs.Common.{ℕ, ◌≡◌, ◌⊎◌, inl, inr, true, false, not, ◌&&◌, ◌||◌, List, ◌++◌, Option, Some, None, slice_get, Ok, refl, sym, ◌∙◌, subst, arith}
 use Rattle.std.proofs.lemmas.Bool.{cases_Bool, both_ways, or_cases, and_parts}
 use Rattle.std.proofs.lemmas.Option.{slice_get_within}
 use Rattle.blocks.specs.declared.tuple.Tuple.{Tuple}
@@ -10,7 +10,7 @@ use Rattle.model.specs.Frames.{Received, UuidsFrame}
 use Rattle.model.specs.Primary.{Accepted, Outward, PrimaryHistory, is_waiting, is_alone, is_confirmed, is_released}
 use Rattle.model.specs.Identifiers.{decision}
 use Rattle.laws.specs.Reflections.{touches, is_sure, NoneBegan, FirstBegan}
-use Rattle.laws.proofs.Primary.Homes.{HasHomes, AllGrow, alone-at, confirmed-at}
+use Rattle.laws.proofs.Primary.Homes.{alone-homeless, HasHomes, AllGrow, alone-at, confirmed-at}
 use Rattle.laws.proofs.Blocks.Latest.{Touch, latest}
 use Rattle.laws.proofs.Blocks.LatestPlaces.{latest-last}
 use Rattle.laws.proofs.Accounted.{IsSure, IsHeld, IsAccounted, Carries, KeepsBegun, sure-last, sure-grows}
@@ -50,7 +50,7 @@ pub alone-before : (h later : PrimaryHistory) (i : ℕ) (a b : Accepted) → Has
 alone-before h later i a b homes carries at same alone = go a.home refl
   where
     go : (v : Option (ℕ × ℕ)) → a.home ≡ v → is_alone h a ≡ true
-    go None is = ap (λ (v : Option (ℕ × ℕ)). elim v as (λ _. Bool) [ None ↦ true | Some home ↦ elim (slice_get h.connections home.0) as (λ _. Bool) [ None ↦ true | Some c ↦ c.closed ] ]) is
+    go None is = alone-homeless h a is
     go (Some home) is =
         let was = homes.housed i home.0 home.1 a at is in
         let new = carries.grow home.0 was.0 was.1 in

@@ -1,21 +1,19 @@
 -- A primary's half of the cover, of every run of it.
-use Rattle.std.proofs.Common.{ℕ, suc, ◌≡◌, ◌-◌, ◌<◌, ◌⊎◌, inl, inr, Bool, true, false, not, ◌&&◌, ◌||◌, [], length, Option, Some, None, slice_get, refl, sym, ◌∙◌, ap, subst, arith, nat_lt}
+use Rattle.std.proofs.Common.{ℕ, ◌≡◌, ◌<◌, ◌⊎◌, inl, inr, true, false, not, ◌&&◌, ◌||◌, [], Option, Some, None, slice_get, refl, sym, ◌∙◌, ap, subst, arith, nat_lt}
 use Rattle.std.specs.List.{list_any}
 use Rattle.std.proofs.lemmas.Bool.{cases_Bool, both_ways, or_parts, or_cases, or_right, and_from, not-true, lt-ltb, cases_lt, le-ltb}
-use Rattle.std.proofs.lemmas.Option.{slice_get_within}
 use Rattle.model.specs.Contents.{covers}
 use Rattle.model.specs.Stream.{Item, WriteItem}
-use Rattle.model.specs.Primary.{Accepted, Outward, PrimaryHistory, is_waiting, is_confirmed, is_alone, is_released, unreleased, local_map, no_outward, outward, stands}
+use Rattle.model.specs.Primary.{Accepted, Outward, PrimaryHistory, is_waiting, is_confirmed, is_alone, is_released, unreleased, local_map, outward, stands}
 use Rattle.model.specs.Headline.{is_marked, is_covered}
 use Rattle.laws.specs.Reflections.{touches, content_at, FromItem, FromOpening}
 use Rattle.laws.proofs.Blocks.Latest.{Touch, latest, sent_map, content_of}
 use Rattle.laws.proofs.Blocks.LatestPlaces.{latest-at, latest-none, latest-last}
 use Rattle.laws.proofs.Blocks.Overlays.{settled-is-local}
 use Rattle.laws.proofs.Tracked.Moves.{beyond-the-end}
-use Rattle.laws.proofs.Lists.Last.{last-at}
 use Rattle.laws.proofs.Lists.Picks.{pick-any, pick-filtered}
-use Rattle.laws.proofs.Primary.Homes.{HasHomes, alone-at}
-use Rattle.laws.proofs.Primary.LastOpen.{IsLastOpen}
+use Rattle.laws.proofs.Primary.Homes.{alone-homeless, HasHomes, alone-at}
+use Rattle.laws.proofs.Primary.LastOpen.{open-is-last, IsLastOpen}
 use Rattle.laws.proofs.Accounted.{IsAccounted, held-covers}
 use Rattle.laws.proofs.Accounted.Steps.{covered-inside}
 use Rattle.laws.proofs.Lists.Elements.{same-at}
@@ -88,30 +86,20 @@ pub alone-at-rest : (h : PrimaryHistory) → HasHomes h → IsLastOpen h → sta
 alone-at-rest h homes closed resting i w at = go w.home refl
   where
     go : (v : Option (ℕ × ℕ)) → w.home ≡ v → is_alone h w ≡ true
-    go None is = ap (λ (v : Option (ℕ × ℕ)). elim v as (λ _. Bool) [ None ↦ true | Some home ↦ elim (slice_get h.connections home.0) as (λ _. Bool) [ None ↦ true | Some c ↦ c.closed ] ]) is
+    go None is = alone-homeless h w is
     go (Some home) is =
         let was = homes.housed i home.0 home.1 w at is in
-        let within = slice_get_within h.connections home.0 was.0 was.1 in
-        alone-at h w home was.0 is was.1 ∙ elim (cases_lt (suc home.0) (length h.connections)) [
-          | inl early ↦ closed home.0 was.0 was.1 early
-          | inr last ↦
-              let index : home.0 ≡ length h.connections - 1 = omega arith in
-              elim (last-at (no_outward h.tuple) h.connections) [
-                | inl none ↦ absurd (let size : length h.connections ≡ 0 = ap length none in omega arith)
-                | inr there ↦
-                    let end : was.0 ≡ outward h = same-at h.connections (length h.connections - 1) was.0 (outward h) (subst (λ (n : ℕ). slice_get h.connections n ≡ Some was.0) index was.1) there in
-                    elim (cases_Bool was.0.closed) [
-                      | inl shut ↦ shut
-                      | inr unshut ↦ absurd (
-                          let fresh : was.0.begun ≡ false = elim (cases_Bool was.0.begun) [
-                            | inr new ↦ new
-                            | inl begun ↦ absurd (both_ways (stands (outward h)) resting (subst (λ (c : Outward). stands c ≡ true) end (and_from (not was.0.closed) was.0.begun (subst (λ b. not b ≡ true) (sym unshut) refl) begun)))
-                          ] in
-                          let empty : was.0.stream ≡ [] = homes.empty home.0 was.0 was.1 fresh in
-                          let item = was.2 in
-                          cc (empty, item))
-                    ]
-              ]
+        alone-at h w home was.0 is was.1 ∙ elim (cases_Bool was.0.closed) [
+          | inl shut ↦ shut
+          | inr unshut ↦ absurd (
+              let end : was.0 ≡ outward h = (open-is-last h home.0 was.0 closed was.1 unshut).1 in
+              let fresh : was.0.begun ≡ false = elim (cases_Bool was.0.begun) [
+                | inr new ↦ new
+                | inl begun ↦ absurd (both_ways (stands (outward h)) resting (subst (λ (c : Outward). stands c ≡ true) end (and_from (not was.0.closed) was.0.begun (subst (λ b. not b ≡ true) (sym unshut) refl) begun)))
+              ] in
+              let empty : was.0.stream ≡ [] = homes.empty home.0 was.0 was.1 fresh in
+              let item = was.2 in
+              cc (empty, item))
         ]
 
 -- Where no stream stands, an unreleased write waits without a connection, so its blocks are marked.

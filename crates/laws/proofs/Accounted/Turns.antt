@@ -16,7 +16,7 @@ use Rattle.laws.specs.Reflections.{touches}
 use Rattle.laws.proofs.Lists.Beginnings.{begins-self}
 use Rattle.laws.proofs.Lists.Last.{get-change, get-last-changed, change-twice, last-change}
 use Rattle.laws.proofs.Primary.Moves.{with_frame, refusing}
-use Rattle.laws.proofs.Primary.Homes.{HasHomes, Grows, grows-self, AllGrow, open-at, alone-at, confirmed-at}
+use Rattle.laws.proofs.Primary.Homes.{alone-homeless, told-at, HasHomes, Grows, grows-self, AllGrow, open-at, alone-at}
 use Rattle.laws.proofs.Blocks.Latest.{Touch, latest}
 use Rattle.laws.proofs.Blocks.LatestMoves.{latest-same-last, latest-appended}
 use Rattle.laws.proofs.Blocks.LatestPlaces.{latest-at}
@@ -102,9 +102,7 @@ same-released h later f homes connections stream frames closed i a at = go a.hom
 
     go : (v : Option (ℕ × ℕ)) → a.home ≡ v → is_released later a ≡ is_released h a
     go None is =
-        let test : PrimaryHistory → Option (ℕ × ℕ) → Bool = λ g v. elim v as (λ _. Bool) [ None ↦ true | Some home ↦ elim (slice_get g.connections home.0) as (λ _. Bool) [ None ↦ true | Some c ↦ c.closed ] ] in
-        let one : (g : PrimaryHistory) → is_released g a ≡ not (is_waiting a.outcome) = λ g.
-        ap (λ b. not (is_waiting a.outcome) && (is_confirmed g a || b)) (ap (test g) is) ∙ always (not (is_waiting a.outcome)) (is_confirmed g a) in
+        let one : (g : PrimaryHistory) → is_released g a ≡ not (is_waiting a.outcome) = λ g. ap (λ b. not (is_waiting a.outcome) && (is_confirmed g a || b)) (alone-homeless g a is) ∙ always (not (is_waiting a.outcome)) (is_confirmed g a) in
         one later ∙ sym (one h)
       where
         always : (x y : Bool) → (x && (y || true)) ≡ x
@@ -113,8 +111,8 @@ same-released h later f homes connections stream frames closed i a at = go a.hom
         always false y = refl
     go (Some home) is =
         let was = homes.housed i home.0 home.1 a at is in
-        let both : (g : PrimaryHistory) (c : Outward) → slice_get g.connections home.0 ≡ Some c → is_released g a ≡ (not (is_waiting a.outcome) && (barrier_acknowledged c (epoch_of c.stream home.1) || c.closed)) = λ g c there.
-        ap (λ b. not (is_waiting a.outcome) && (b || is_alone g a)) (confirmed-at g a home c is there) ∙ ap (λ b. not (is_waiting a.outcome) && (barrier_acknowledged c (epoch_of c.stream home.1) || b)) (alone-at g a home c is there) in
+        let both : (g : PrimaryHistory) (c : Outward) → slice_get g.connections home.0 ≡ Some c → is_released g a ≡ (not (is_waiting a.outcome) && (barrier_acknowledged c (epoch_of c.stream home.1) || c.closed)) =
+        λ g c there. ap (λ b. not (is_waiting a.outcome) && b) (told-at g a home c is there) in
         elim (get-change f (no_outward h.tuple) h.connections home.0 was.0 was.1) [
           | inl same ↦ both later was.0 (subst (λ (l : List Outward). slice_get l home.0 ≡ Some was.0) (sym connections) same) ∙ sym (both h was.0 was.1)
           | inr changed ↦

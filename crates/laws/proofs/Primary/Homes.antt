@@ -1,5 +1,5 @@
 -- Where the accepted writes stand, and what the journal of completions says: kept by every step of a primary.
-use Rattle.std.proofs.Common.{ℕ, suc, ◌≡◌, ◌-◌, ◌≤◌, ◌⊎◌, inl, inr, Bool, true, false, List, [], ◌++◌, length, Some, slice_get, refl, sym, ◌∙◌, ap, subst, arith, Option, None, ◌==◌}
+use Rattle.std.proofs.Common.{ℕ, suc, ◌≡◌, ◌-◌, ◌≤◌, ◌⊎◌, inl, inr, Bool, true, false, ◌||◌, List, [], ◌++◌, length, Some, slice_get, refl, sym, ◌∙◌, ap, subst, arith, Option, None, ◌==◌}
 use Rattle.std.proofs.lemmas.Bool.{both_ways, ltb-true, lt-ltb}
 use Rattle.blocks.specs.declared.settings.Protocol.{Protocol}
 use Rattle.blocks.specs.declared.settings.Protocol.TheVariants as protocol
@@ -158,6 +158,14 @@ pub confirmed-at : (h : PrimaryHistory) (a : Accepted) (home : ℕ × ℕ) (c : 
 confirmed-at h a home c is at =
     ap (λ (v : Option (ℕ × ℕ)). elim v as (λ _. Bool) [ None ↦ false | Some home ↦ elim (slice_get h.connections home.0) as (λ _. Bool) [ None ↦ false | Some c ↦ barrier_acknowledged c (epoch_of c.stream home.1) ] ]) is
     ∙ ap (λ (v : Option Outward). elim v as (λ _. Bool) [ None ↦ false | Some c ↦ barrier_acknowledged c (epoch_of c.stream home.1) ]) at
+
+-- a write without a home is alone
+pub alone-homeless : (h : PrimaryHistory) (a : Accepted) → a.home ≡ None → is_alone h a ≡ true
+alone-homeless h a is = ap (λ (v : Option (ℕ × ℕ)). elim v as (λ _. Bool) [ None ↦ true | Some home ↦ elim (slice_get h.connections home.0) as (λ _. Bool) [ None ↦ true | Some c ↦ c.closed ] ]) is
+
+-- a release wants one of the two
+pub told-at : (h : PrimaryHistory) (a : Accepted) (home : ℕ × ℕ) (c : Outward) → a.home ≡ Some home → slice_get h.connections home.0 ≡ Some c → (is_confirmed h a || is_alone h a) ≡ (barrier_acknowledged c (epoch_of c.stream home.1) || c.closed)
+told-at h a home c is at = ap (λ b. b || is_alone h a) (confirmed-at h a home c is at) ∙ ap (λ b. barrier_acknowledged c (epoch_of c.stream home.1) || b) (alone-at h a home c is at)
 
 -- the outcome of a write changes neither the write nor its home
 pub outcome-write : (number : ℕ) (outcome : LocalOutcome) (a : Accepted) → (set_outcome number outcome a).write ≡ a.write

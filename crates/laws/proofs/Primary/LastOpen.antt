@@ -1,6 +1,6 @@
 -- Of a primary's connections the last one alone may be open.
 use Rattle.std.proofs.Common.{ℕ, suc, ◌≡◌, ◌+◌, ◌-◌, ◌<◌, inl, inr, Bool, true, false, List, [], ◌∷◌, ◌++◌, length, Option, Some, None, slice_get, sym, ◌∙◌, ap, subst, arith, length-append}
-use Rattle.std.proofs.lemmas.Bool.{cases_lt}
+use Rattle.std.proofs.lemmas.Bool.{both_ways, cases_lt}
 use Rattle.std.proofs.lemmas.Option.{slice_get_within}
 use Rattle.blocks.specs.declared.outcome.Decision.{Decision}
 use Rattle.blocks.specs.declared.outcome.Decision.TheVariants.{NoSync, BitmapSync, FullSync}
@@ -11,11 +11,25 @@ use Rattle.model.specs.PrimarySteps.{appending, submission, submitted, opened, w
 use Rattle.model.specs.Acknowledgements.{begun_with}
 use Rattle.laws.proofs.Lists.Last.{get-change-back, last-at, length-change}
 use Rattle.laws.proofs.Primary.Moves.{following-from, IsKeptByMoves}
-use Rattle.laws.proofs.Lists.Elements.{get-more}
+use Rattle.laws.proofs.Lists.Elements.{get-more, same-at}
 
 -- every connection before the last one is closed
 abbrev pub IsLastOpen : PrimaryHistory → Type 0
 IsLastOpen h = (k : ℕ) (c : Outward) → slice_get h.connections k ≡ Some c → suc k < length h.connections → c.closed ≡ true
+
+-- so one that is open is the last
+pub open-is-last : (h : PrimaryHistory) (k : ℕ) (c : Outward) → IsLastOpen h → slice_get h.connections k ≡ Some c → c.closed ≡ false → (k ≡ last_index h.connections) × (c ≡ outward h)
+open-is-last h k c all at unshut =
+    let within = slice_get_within h.connections k c at in
+    elim (cases_lt (suc k) (length h.connections)) [
+      | inl early ↦ absurd (both_ways c.closed unshut (all k c at early))
+      | inr late ↦
+          let index : k ≡ last_index h.connections = omega arith in
+          elim (last-at (no_outward h.tuple) h.connections) [
+            | inl none ↦ absurd (let size : length h.connections ≡ 0 = ap length none in omega arith)
+            | inr ends ↦ (index, same-at h.connections (last_index h.connections) c (outward h) (subst (λ (n : ℕ). slice_get h.connections n ≡ Some c) index at) ends)
+          ]
+    ]
 
 -- a change of the last connection keeps it
 changes : (cs : List Outward) (f : Outward → Outward) → ((k : ℕ) (c : Outward) → slice_get cs k ≡ Some c → suc k < length cs → c.closed ≡ true)

@@ -2,7 +2,7 @@
 -- disk, whose epoch on the standing stream is acknowledged.
 use Rattle.std.proofs.Common.{ℕ, suc, ◌≡◌, ◌<◌, ◌≤◌, inl, inr, Bool, true, false, not, ◌&&◌, ◌||◌, List, ◌++◌, length, take, Option, Some, None, slice_get, Ok, refl, sym, ◌∙◌, ap, subst, arith, ◌==◌, nat_lt, drop}
 use Rattle.std.specs.List.{list_any}
-use Rattle.std.proofs.lemmas.Bool.{cases_Bool, cases_lt, both_ways, and_parts, and_from, not_from_false, not-true, or_right, or_left, or_cases, eqb-true, lt-ltb}
+use Rattle.std.proofs.lemmas.Bool.{cases_Bool, both_ways, and_parts, and_from, not_from_false, not-true, or_right, or_left, or_cases, eqb-true, lt-ltb}
 use Rattle.std.proofs.lemmas.List.{take-append-drop}
 use Rattle.std.proofs.lemmas.Option.{slice_get_within}
 use Rattle.blocks.specs.declared.settings.Settings.{Settings}
@@ -13,14 +13,14 @@ use Rattle.model.specs.Marks.{is_releasing, is_under_later, is_cleared}
 use Rattle.model.specs.Primary.{OnDisk, Accepted, Outward, PrimaryHistory, no_outward, outward, last_index, with_outward, stands, barrier_acknowledged, is_on_disk, is_waiting, is_alone, is_confirmed, is_released, unreleased}
 use Rattle.model.specs.PrimarySteps.{set_outcome, with_outcome}
 use Rattle.laws.proofs.Lists.Elements.{same-at}
-use Rattle.laws.proofs.Lists.Last.{get-change, last-at}
+use Rattle.laws.proofs.Lists.Last.{get-change}
 use Rattle.laws.proofs.Lists.Picks.{pick-any, pick-filtered, pick-image, any-filtered}
 use Rattle.laws.proofs.Streams.Places.{barriers-append}
 use Rattle.laws.proofs.Joining.Receiving.{epoch-front}
 use Rattle.laws.proofs.Primary.Moves.{with_frame}
-use Rattle.laws.proofs.Primary.Homes.{HasHomes, open-at, alone-at, confirmed-at}
+use Rattle.laws.proofs.Primary.Homes.{alone-homeless, told-at, HasHomes, open-at, alone-at, confirmed-at}
 use Rattle.laws.proofs.Primary.Ends.{not-refused}
-use Rattle.laws.proofs.Primary.LastOpen.{IsLastOpen}
+use Rattle.laws.proofs.Primary.LastOpen.{open-is-last, IsLastOpen}
 use Rattle.laws.proofs.Primary.InOrder.{IsInOrder, said-taking}
 use Rattle.laws.proofs.Primary.InOrderMoves.{Ordered, meeting}
 use Rattle.laws.proofs.Accounted.Steps.{KeepsWrites, keeps-writes, keeps-outcome}
@@ -74,7 +74,7 @@ released-in-order settings h p i j block a b less ata atb cova covb released =
         ]
 
     by-home : (v : Option (ℕ × ℕ)) → a.home ≡ v → (is_confirmed h a || is_alone h a) ≡ true
-    by-home None is = or_right (is_confirmed h a) (is_alone h a) (ap (λ (v : Option (ℕ × ℕ)). elim v as (λ _. Bool) [ None ↦ true | Some home ↦ elim (slice_get h.connections home.0) as (λ _. Bool) [ None ↦ true | Some c ↦ c.closed ] ]) is)
+    by-home None is = or_right (is_confirmed h a) (is_alone h a) (alone-homeless h a is)
     by-home (Some home) is = by-other home is b.home refl
 
 -- A step that releases writes.
@@ -133,10 +133,6 @@ confirmed-releases settings h number size standing p = record {
     later : PrimaryHistory
     later = with_outward (with_frame (Ok (BarrierAckFrame number size))) h
 
-    -- whether a write is acknowledged or without a connection, as its connection has it
-    told : (g : PrimaryHistory) (a : Accepted) (home : ℕ × ℕ) (c : Outward) → a.home ≡ Some home → slice_get g.connections home.0 ≡ Some c → (is_confirmed g a || is_alone g a) ≡ (barrier_acknowledged c (epoch_of c.stream home.1) || c.closed)
-    told g a home c is at = ap (λ b. b || is_alone g a) (confirmed-at g a home c is at) ∙ ap (λ b. barrier_acknowledged c (epoch_of c.stream home.1) || b) (alone-at g a home c is at)
-
     -- its home is on the last connection, in that epoch
     placed : (i : ℕ) (a : Accepted) → IsNew h (with_outward (with_frame (Ok (BarrierAckFrame number size))) h) i a
         → (place : ℕ) × (a.home ≡ Some (last_index h.connections, place)) × (slice_get (outward h).stream place ≡ Some (WriteItem a.write)) × (number ≡ epoch_of (outward h).stream place)
@@ -150,16 +146,16 @@ confirmed-releases settings h number size standing p = record {
         not-so said = both_ways (is_released h a) (new.before a new.at) (and_from (not (is_waiting a.outcome)) (is_confirmed h a || is_alone h a) parts.0 said)
 
         by-home : (v : Option (ℕ × ℕ)) → a.home ≡ v → (place : ℕ) × (a.home ≡ Some (last_index h.connections, place)) × (slice_get (outward h).stream place ≡ Some (WriteItem a.write)) × (number ≡ epoch_of (outward h).stream place)
-        by-home None is = absurd (not-so (or_right (is_confirmed h a) (is_alone h a) (ap (λ (v : Option (ℕ × ℕ)). elim v as (λ _. Bool) [ None ↦ true | Some home ↦ elim (slice_get h.connections home.0) as (λ _. Bool) [ None ↦ true | Some c ↦ c.closed ] ]) is)))
+        by-home None is = absurd (not-so (or_right (is_confirmed h a) (is_alone h a) (alone-homeless h a is)))
         by-home (Some home) is =
             let was = homes.housed i home.0 home.1 a new.at is in
             let epoch : ℕ = epoch_of was.0.stream home.1 in
-            let before : (is_confirmed h a || is_alone h a) ≡ (barrier_acknowledged was.0 epoch || was.0.closed) = told h a home was.0 is was.1 in
+            let before : (is_confirmed h a || is_alone h a) ≡ (barrier_acknowledged was.0 epoch || was.0.closed) = told-at h a home was.0 is was.1 in
             elim (get-change (with_frame (Ok (BarrierAckFrame number size))) (no_outward h.tuple) h.connections home.0 was.0 was.1) [
-              | inl same ↦ absurd (not-so (before ∙ (sym (told later a home was.0 is same) ∙ parts.1)))
+              | inl same ↦ absurd (not-so (before ∙ (sym (told-at later a home was.0 is same) ∙ parts.1)))
               | inr changed ↦
                   let plain : was.0.refused ≡ false = subst (λ (c : Outward). c.refused ≡ false) (sym changed.1) (not-refused h homes standing (last_index h.connections) (open-at h standing)) in
-                  let said : (barrier_acknowledged (with_frame (Ok (BarrierAckFrame number size)) was.0) epoch || was.0.closed) ≡ true = sym (told later a home (with_frame (Ok (BarrierAckFrame number size)) was.0) is changed.0) ∙ parts.1 in
+                  let said : (barrier_acknowledged (with_frame (Ok (BarrierAckFrame number size)) was.0) epoch || was.0.closed) ≡ true = sym (told-at later a home (with_frame (Ok (BarrierAckFrame number size)) was.0) is changed.0) ∙ parts.1 in
                   let index : home.0 ≡ last_index h.connections = let end = changed.2 in omega arith in
                   elim (or_cases (barrier_acknowledged (with_frame (Ok (BarrierAckFrame number size)) was.0) epoch) was.0.closed said) [
                     | inr shut ↦ absurd (not-so (before ∙ or_right (barrier_acknowledged was.0 epoch) was.0.closed shut))
@@ -208,29 +204,19 @@ at-home h i a homes last at released connected = by-home a.home refl
     confirmed = elim (or_cases (is_confirmed h a) (is_alone h a) (and_parts (not (is_waiting a.outcome)) (is_confirmed h a || is_alone h a) released).1) [ inl is ↦ is | inr alone ↦ absurd (both_ways (is_alone h a) connected alone) ]
 
     by-home : (v : Option (ℕ × ℕ)) → a.home ≡ v → IsAtHome h a
-    by-home None is = absurd (both_ways (is_alone h a) connected (ap (λ (v : Option (ℕ × ℕ)). elim v as (λ _. Bool) [ None ↦ true | Some home ↦ elim (slice_get h.connections home.0) as (λ _. Bool) [ None ↦ true | Some c ↦ c.closed ] ]) is))
+    by-home None is = absurd (both_ways (is_alone h a) connected (alone-homeless h a is))
     by-home (Some home) is =
         let was = homes.housed i home.0 home.1 a at is in
-        let within = slice_get_within h.connections home.0 was.0 was.1 in
-        let unshut : was.0.closed ≡ false = sym (alone-at h a home was.0 is was.1) ∙ connected in
-        elim (cases_lt (suc home.0) (length h.connections)) [
-          | inl early ↦ absurd (both_ways was.0.closed unshut (last home.0 was.0 was.1 early))
-          | inr late ↦ elim (last-at (no_outward h.tuple) h.connections) [
-            | inl none ↦ absurd (let size : length h.connections ≡ 0 = ap length none in omega arith)
-            | inr ends ↦
-                let index : home.0 ≡ last_index h.connections = omega arith in
-                let end : was.0 ≡ outward h = same-at h.connections (last_index h.connections) was.0 (outward h) (subst (λ (n : ℕ). slice_get h.connections n ≡ Some was.0) index was.1) ends in
-                let begun : was.0.begun ≡ true = elim (cases_Bool was.0.begun) [ inl so ↦ so | inr fresh ↦ absurd (let empty = homes.empty home.0 was.0 was.1 fresh in let item = was.2 in cc (empty, item)) ] in
-                record {
-                  place = home.1;
-                  home = is ∙ ap (λ (n : ℕ). Some (n, home.1)) index;
-                  connected = ends;
-                  standing = subst (λ (c : Outward). stands c ≡ true) end (and_from (not was.0.closed) was.0.begun (not_from_false was.0.closed unshut) begun);
-                  there = subst (λ (c : Outward). slice_get c.stream home.1 ≡ Some (WriteItem a.write)) end was.2;
-                  confirmed = subst (λ (c : Outward). barrier_acknowledged c (epoch_of c.stream home.1) ≡ true) end (sym (confirmed-at h a home was.0 is was.1) ∙ confirmed);
-                }
-          ]
-        ]
+        let ends = open-is-last h home.0 was.0 last was.1 (sym (alone-at h a home was.0 is was.1) ∙ connected) in
+        let begun : was.0.begun ≡ true = elim (cases_Bool was.0.begun) [ inl so ↦ so | inr fresh ↦ absurd (let empty = homes.empty home.0 was.0 was.1 fresh in let item = was.2 in cc (empty, item)) ] in
+        record {
+          place = home.1;
+          home = is ∙ ap (λ (n : ℕ). Some (n, home.1)) ends.0;
+          connected = subst (λ (n : ℕ). slice_get h.connections n ≡ Some (outward h)) ends.0 (was.1 ∙ ap (λ (c : Outward). Some c) ends.1);
+          standing = subst (λ (c : Outward). stands c ≡ true) ends.1 (and_from (not was.0.closed) was.0.begun (not_from_false was.0.closed (sym (alone-at h a home was.0 is was.1) ∙ connected)) begun);
+          there = subst (λ (c : Outward). slice_get c.stream home.1 ≡ Some (WriteItem a.write)) ends.1 was.2;
+          confirmed = subst (λ (c : Outward). barrier_acknowledged c (epoch_of c.stream home.1) ≡ true) ends.1 (sym (confirmed-at h a home was.0 is was.1) ∙ confirmed);
+        }
 
 -- What such a step clears is so.
 pub release-clears : (settings : Settings) (h later : PrimaryHistory) (block : ℕ) → Ordered settings h → HasHomes later → IsLastOpen later → IsRelease h later → is_cleared h later block ≡ true → IsCleared later block
