@@ -1,5 +1,5 @@
--- What a step clears that releases writes: each of the blocks has been written last by a write that is released and on the local
--- disk, whose epoch on the standing stream is acknowledged.
+-- Of two writes that share a block the earlier one is released first. So a block that a release clears was written last by a write
+-- that is on the local disk, and whose epoch on the standing stream is acknowledged.
 use Rattle.std.proofs.Common.{ℕ, suc, ◌≡◌, ◌<◌, ◌≤◌, inl, inr, Bool, true, false, not, ◌&&◌, ◌||◌, List, ◌++◌, length, take, Option, Some, None, slice_get, Ok, refl, sym, ◌∙◌, ap, subst, arith, ◌==◌, nat_lt, drop}
 use Rattle.std.specs.List.{list_any}
 use Rattle.std.proofs.lemmas.Bool.{cases_Bool, both_ways, and_parts, and_from, not_from_false, not-true, or_right, or_left, or_cases, eqb-true, lt-ltb}
