@@ -1,7 +1,7 @@
 -- Which histories leave a secondary's state.
 use Rattle.std.specs.Prelude.{ℕ, zero, suc, ◌-◌, ◌≡◌, ◌<◌, ◌≤◌, nat_le, ◌==◌, Bool, true, false, List, [], ◌∷◌, length, drop, map, min, max, Option, Some, None, slice_get}
 use Rattle.std.specs.List.{list_any}
-use Rattle.model.specs.Stream.{Item, has_blocks, epoch_of, last_epoch, epoch_size, items_of_epoch, barriers_in, number_of}
+use Rattle.model.specs.Stream.{Item, has_blocks, epoch_of, last_epoch, epoch_size, items_of_epoch, barriers_in, number_of, is_in}
 use Rattle.model.specs.Primary.{in_resync}
 use Rattle.model.specs.Secondary.{Inward, SecondaryHistory, inward, items_taken, is_pending, pending}
 use Rattle.model.specs.SecondarySteps.{is_barrier_answer}
@@ -69,13 +69,14 @@ abbrev pub FailedLeft : Option ℕ → Inward → Type 0
 FailedLeft None c = c.gone ≡ []
 FailedLeft (Some epoch) c = LeavesFailed epoch c
 
--- the state is what the history leaves
+-- The state is what the history leaves. The part applied names only places that were taken.
 pub record Leaves (s : SecondaryState) (h : SecondaryHistory) : Type 0 where
   pub settings : s.settings ≡ h.settings
   pub tuple : s.tuple ≡ h.tuple
   pub consistent : s.consistent ≡ h.consistent
   pub number : s.number ≡ (inward h).number
   pub intake : s.intake ≡ intake_of (items_taken (inward h))
+  pub named : (place offset : ℕ) → is_in (inward h).applied place offset ≡ true → place < length (items_taken (inward h))
   pub pending : s.pending ≡ map (pending_in (items_taken (inward h))) (pending (inward h))
   pub failed : FailedLeft s.failed (inward h)
   pub end : EndLeft s.end (inward h)

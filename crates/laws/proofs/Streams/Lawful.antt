@@ -13,13 +13,13 @@ use Rattle.laws.proofs.Lists.Elements.{get-more}
 -- The items of an epoch, as the stream grows.
 
 -- the placed items of a joined stream
-placed-append : (start : ℕ) (items more : List Item) → placed_from start (items ++ more) ≡ placed_from start items ++ placed_from (start + length items) more
+pub placed-append : (start : ℕ) (items more : List Item) → placed_from start (items ++ more) ≡ placed_from start items ++ placed_from (start + length items) more
 placed-append start [] more = ap (λ n. placed_from n more) (omega arith)
 placed-append start (item ∷ items) more =
     ap (λ (l : List (ℕ × Item)). (start, item) ∷ l) (placed-append (suc start) items more ∙ ap (λ n. placed_from (suc start) items ++ placed_from n more) (omega arith))
 
 -- two tests that agree on the places of a stream let the same items through
-filter-agree : (p q : ℕ × Item → Bool) (start : ℕ) (items : List Item) → ((place : ℕ) (item : Item) → place < start + length items → p (place, item) ≡ q (place, item))
+pub filter-agree : (p q : ℕ × Item → Bool) (start : ℕ) (items : List Item) → ((place : ℕ) (item : Item) → place < start + length items → p (place, item) ≡ q (place, item))
     → filter p (placed_from start items) ≡ filter q (placed_from start items)
 filter-agree p q start [] same = refl
 filter-agree p q start (x ∷ items) same =
