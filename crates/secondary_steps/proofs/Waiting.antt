@@ -1,8 +1,9 @@
 -- What waits for the disk, as items are taken, applied, and fail.
-use Rattle.std.proofs.Common.{ℕ, zero, suc, ◌≡◌, ◌<◌, ◌≤◌, ◌+◌, inl, inr, Bool, true, false, cond, not, ◌&&◌, ◌||◌, List, [], ◌∷◌, ◌++◌, length, map, filter, Option, Some, None, slice_get, Ok, Err, refl, sym, ◌∙◌, ap, subst, arith, ◌==◌, nat_lt, nat_le, nat_eq, Result}
+use Rattle.std.proofs.Common.{ℕ, zero, suc, ◌≡◌, ◌<◌, ◌≤◌, ◌+◌, ◌⊎◌, inl, inr, Bool, true, false, cond, not, ◌&&◌, ◌||◌, List, [], ◌∷◌, ◌++◌, length, map, filter, Option, Some, None, slice_get, Ok, Err, refl, sym, ◌∙◌, ap, subst, arith, ◌==◌, nat_lt, nat_le, nat_eq, Result}
 use Rattle.std.specs.Prelude.{find, is_some, option_map, unwrap_or, if◌then◌else◌}
 use Rattle.std.specs.List.{list_any, list_all}
 use Rattle.std.proofs.lemmas.Bool.{cases_Bool, both_ways, and_parts, and_from, or_parts, ltb-true, lt-ltb, eqb-true, eq-eqb, not-true, not-false, not_from_false, false_from_ne_true}
+use Rattle.std.proofs.lemmas.Bool.Decides.{nat_tests}
 use Rattle.std.proofs.lemmas.List.{map-append, append-nil}
 use Rattle.std.proofs.lemmas.List.Elements.{filter-append}
 use Rattle.model.specs.Stream.{Item, Part, is_in, is_whole, has_blocks, contents_of, epoch_of, last_epoch, placed, placed_from, below}
@@ -13,7 +14,9 @@ use Rattle.laws.proofs.Streams.Lawful.{placed-append, filter-agree, epoch-end}
 use Rattle.laws.proofs.Streams.Parts.{in-append, in-offsets, whole-has}
 use Rattle.peerdisk.specs.Pending.{Pending, without, after_fault, at_place, epoch_at, has_earlier}
 use Rattle.secondary_steps.specs.Leaves.{pending_in}
-use Rattle.secondary_steps.proofs.Apart.{same-truth}
+use Rattle.laws.proofs.Lists.Elements.{same-at}
+use Rattle.laws.proofs.Secondary.TrueBarriers.{applied-now}
+use Rattle.model.specs.Frames.{Packet}
 
 -- One item more.
 
@@ -62,3 +65,100 @@ new-waits d items item blocks none named =
 -- an item without blocks never waits
 pub bare-waits-not : (d : Inward) (place : ℕ) (item : Item) → has_blocks item ≡ false → is_pending d (place, item) ≡ false
 bare-waits-not d place item bare = ap (λ b. (b && not (is_whole d.applied place item)) && not (list_any (λ k. k == place) d.gone)) bare
+
+-- An item is applied, or fails.
+
+-- two tests that agree from a place on
+filter-from : (p q : ℕ × Item → Bool) (start : ℕ) (items : List Item) → ((place : ℕ) (item : Item) → start ≤ place → p (place, item) ≡ q (place, item)) → filter p (placed_from start items) ≡ filter q (placed_from start items)
+filter-from p q start [] same = refl
+filter-from p q start (x ∷ items) same =
+    ap (λ b. cond b ((start, x) ∷ filter p (placed_from (suc start) items)) (filter p (placed_from (suc start) items))) (same start x (omega arith))
+    ∙ ap (λ (l : List (ℕ × Item)). cond (q (start, x)) ((start, x) ∷ l) l) (filter-from p q (suc start) items (λ place item from. same place item (omega arith)))
+
+-- two tests that agree on the items at their places
+filter-at : (p q : ℕ × Item → Bool) (start : ℕ) (items : List Item) → ((n : ℕ) (item : Item) → slice_get items n ≡ Some item → p (start + n, item) ≡ q (start + n, item)) → filter p (placed_from start items) ≡ filter q (placed_from start items)
+filter-at p q start [] same = refl
+filter-at p q start (x ∷ items) same =
+    let here : start + 0 ≡ start = omega arith in
+    ap (λ b. cond b ((start, x) ∷ filter p (placed_from (suc start) items)) (filter p (placed_from (suc start) items))) (subst (λ (k : ℕ). p (k, x) ≡ q (k, x)) here (same 0 x refl))
+    ∙ ap (λ (l : List (ℕ × Item)). cond (q (start, x)) ((start, x) ∷ l) l) (filter-at p q (suc start) items (λ n item at. subst (λ (k : ℕ). p (k, item) ≡ q (k, item)) (omega arith) (same (suc n) item at)))
+
+eq-turned : (a b : ℕ) → nat_eq a b ≡ (b == a)
+eq-turned a b = grind (arith, nat_tests)
+
+and-true : (b : Bool) → (b && true) ≡ b
+and-true true = refl
+and-true false = refl
+
+and-false : (b : Bool) → (b && false) ≡ false
+and-false true = refl
+and-false false = refl
+
+-- what waits but for a place, as the disk's list has it
+without-placed : (all : List Item) (p : ℕ × Item → Bool) (place start : ℕ) (items : List Item)
+    → without place (map (pending_in all) (filter p (placed_from start items))) ≡ map (pending_in all) (filter (λ entry. p entry && not (entry.0 == place)) (placed_from start items))
+without-placed all p place start [] = refl
+without-placed all p place start (x ∷ items) = go (without-placed all p place (suc start) items) (p (start, x)) refl (start == place) refl
+  where
+    go : without place (map (pending_in all) (filter p (placed_from (suc start) items))) ≡ map (pending_in all) (filter (λ entry. p entry && not (entry.0 == place)) (placed_from (suc start) items)) → (b : Bool) → p (start, x) ≡ b → (same : Bool) → (start == place) ≡ same
+        → without place (map (pending_in all) (cond b ((start, x) ∷ filter p (placed_from (suc start) items)) (filter p (placed_from (suc start) items))))
+        ≡ map (pending_in all) (cond (p (start, x) && not (start == place)) ((start, x) ∷ filter (λ entry. p entry && not (entry.0 == place)) (placed_from (suc start) items)) (filter (λ entry. p entry && not (entry.0 == place)) (placed_from (suc start) items)))
+    go rest false is same equal = rw is rest
+    go rest true is true equal =
+        let here : nat_eq place start ≡ true = eq-turned place start ∙ equal in
+        let there : start ≡ place = eqb-true start place equal in
+        rw (is, here, equal)
+        (ap (map (pending_in all)) (filter-from p (λ entry. p entry && not (entry.0 == place)) (suc start) items (λ other item from.
+            sym (ap (λ b. p (other, item) && not b) (false_from_ne_true (other == place) (λ e. let is_it : other ≡ place = eqb-true other place e in omega arith)) ∙ and-true (p (other, item))))))
+    go rest true is false equal =
+        let here : nat_eq place start ≡ false = eq-turned place start ∙ equal in
+        rw (is, here, equal) (ap (λ l. pending_in all (start, x) ∷ l) rest)
+
+-- an element of placed items
+pub placed-back : (start : ℕ) (items : List Item) (n : ℕ) (entry : ℕ × Item) → slice_get (placed_from start items) n ≡ Some entry → (entry.0 ≡ start + n) × (slice_get items n ≡ Some entry.1)
+placed-back start [] n entry at = absurd (cc)
+placed-back start (x ∷ items) zero entry at = let same : (start, x) ≡ entry = cc in (ap (λ (e : ℕ × Item). e.0) (sym same) ∙ omega arith, ap (λ (e : ℕ × Item). Some e.1) same)
+placed-back start (x ∷ items) (suc n) entry at = let rest = placed-back (suc start) items n entry at in (rest.0 ∙ omega arith, rest.1)
+
+-- a part more at one place leaves the other items as they were
+whole-elsewhere : (part : Part) (place : ℕ) (offsets : List ℕ) (other : ℕ) (item : Item) → (other == place) ≡ false → is_whole (part ++ offsets_at place offsets) other item ≡ is_whole part other item
+whole-elsewhere part place offsets other item apart = go (below (length (contents_of item)))
+  where
+    same : (offset : ℕ) → is_in (part ++ offsets_at place offsets) other offset ≡ is_in part other offset
+    same offset = in-append part (offsets_at place offsets) other offset ∙ or-no (is_in part other offset) (is_in (offsets_at place offsets) other offset) (false_from_ne_true (is_in (offsets_at place offsets) other offset) (λ inside.
+        both_ways (other == place) apart (eq-eqb other place (sym (in-offsets place offsets other offset inside)))))
+      where
+        or-no : (a b : Bool) → b ≡ false → (a || b) ≡ a
+        or-no true b none = refl
+        or-no false b none = none
+
+    go : (ks : List ℕ) → list_all (λ offset. is_in (part ++ offsets_at place offsets) other offset) ks ≡ list_all (λ offset. is_in part other offset) ks
+    go [] = refl
+    go (x ∷ ks) = λ i. same x i && go ks i
+
+-- What waits once an item is applied: all but that one.
+pub waiting-applied : (d : Inward) (items : List Item) (place : ℕ) (item : Item) (due : List Packet) → slice_get items place ≡ Some item
+    → map (pending_in items) (filter (is_pending (record d { applied = d.applied ++ offsets_at place (below (length (contents_of item))); due = due })) (placed items)) ≡ without place (map (pending_in items) (filter (is_pending d) (placed items)))
+waiting-applied d items place item due at =
+    ap (map (pending_in items)) (filter-same (λ n one there. go n one there (cases_Bool (n == place)))) ∙ sym (without-placed items (is_pending d) place 0 items)
+  where
+    e : Inward
+    e = record d { applied = d.applied ++ offsets_at place (below (length (contents_of item))); due = due }
+
+    filter-same : ((n : ℕ) (one : Item) → slice_get items n ≡ Some one → is_pending (record d { applied = d.applied ++ offsets_at place (below (length (contents_of item))); due = due }) (n, one) ≡ (is_pending d (n, one) && not (n == place)))
+        → filter (is_pending (record d { applied = d.applied ++ offsets_at place (below (length (contents_of item))); due = due })) (placed items) ≡ filter (λ entry. is_pending d entry && not (entry.0 == place)) (placed items)
+    filter-same same = filter-at _ _ 0 items (λ n one there. subst (λ (k : ℕ). is_pending (record d { applied = d.applied ++ offsets_at place (below (length (contents_of item))); due = due }) (k, one) ≡ (is_pending d (k, one) && not (k == place))) (omega arith) (same n one there))
+
+    go : (n : ℕ) (one : Item) → slice_get items n ≡ Some one → ((n == place) ≡ true) ⊎ ((n == place) ≡ false)
+        → is_pending (record d { applied = d.applied ++ offsets_at place (below (length (contents_of item))); due = due }) (n, one) ≡ (is_pending d (n, one) && not (n == place))
+    go n one there (inl equal) =
+        let is_it : n ≡ place = eqb-true n place equal in
+        let is : one ≡ item = same-at items place one item (subst (λ k. slice_get items k ≡ Some one) is_it there) at in
+        let whole : is_whole (d.applied ++ offsets_at place (below (length (contents_of item)))) n one ≡ true = rw (is, is_it) (applied-now d.applied place item) in
+        rw (whole, equal) (gone (has_blocks one) (not (list_any (λ k. k == n) d.gone)) ∙ sym (and-false (is_pending d (n, one))))
+      where
+        gone : (a b : Bool) → ((a && false) && b) ≡ false
+        gone true b = refl
+        gone false b = refl
+    go n one there (inr other) =
+        rw (whole-elsewhere d.applied place (below (length (contents_of item))) n one other, other) (sym (and-true (is_pending d (n, one))))
