@@ -76,7 +76,7 @@ filter-from p q start (x ∷ items) same =
     ∙ ap (λ (l : List (ℕ × Item)). cond (q (start, x)) ((start, x) ∷ l) l) (filter-from p q (suc start) items (λ place item from. same place item (omega arith)))
 
 -- two tests that agree on the items at their places
-filter-at : (p q : ℕ × Item → Bool) (start : ℕ) (items : List Item) → ((n : ℕ) (item : Item) → slice_get items n ≡ Some item → p (start + n, item) ≡ q (start + n, item)) → filter p (placed_from start items) ≡ filter q (placed_from start items)
+pub filter-at : (p q : ℕ × Item → Bool) (start : ℕ) (items : List Item) → ((n : ℕ) (item : Item) → slice_get items n ≡ Some item → p (start + n, item) ≡ q (start + n, item)) → filter p (placed_from start items) ≡ filter q (placed_from start items)
 filter-at p q start [] same = refl
 filter-at p q start (x ∷ items) same =
     let here : start + 0 ≡ start = omega arith in
@@ -95,7 +95,7 @@ and-false true = refl
 and-false false = refl
 
 -- what waits but for a place, as the disk's list has it
-without-placed : (all : List Item) (p : ℕ × Item → Bool) (place start : ℕ) (items : List Item)
+pub without-placed : (all : List Item) (p : ℕ × Item → Bool) (place start : ℕ) (items : List Item)
     → without place (map (pending_in all) (filter p (placed_from start items))) ≡ map (pending_in all) (filter (λ entry. p entry && not (entry.0 == place)) (placed_from start items))
 without-placed all p place start [] = refl
 without-placed all p place start (x ∷ items) = go (without-placed all p place (suc start) items) (p (start, x)) refl (start == place) refl
@@ -121,7 +121,7 @@ placed-back start (x ∷ items) zero entry at = let same : (start, x) ≡ entry 
 placed-back start (x ∷ items) (suc n) entry at = let rest = placed-back (suc start) items n entry at in (rest.0 ∙ omega arith, rest.1)
 
 -- a part more at one place leaves the other items as they were
-whole-elsewhere : (part : Part) (place : ℕ) (offsets : List ℕ) (other : ℕ) (item : Item) → (other == place) ≡ false → is_whole (part ++ offsets_at place offsets) other item ≡ is_whole part other item
+pub whole-elsewhere : (part : Part) (place : ℕ) (offsets : List ℕ) (other : ℕ) (item : Item) → (other == place) ≡ false → is_whole (part ++ offsets_at place offsets) other item ≡ is_whole part other item
 whole-elsewhere part place offsets other item apart = go (below (length (contents_of item)))
   where
     same : (offset : ℕ) → is_in (part ++ offsets_at place offsets) other offset ≡ is_in part other offset
