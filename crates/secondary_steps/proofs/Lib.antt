@@ -1,4 +1,5 @@
 pub mod Apart
 pub mod Failing
 pub mod Intakes
+pub mod Starting
 pub mod Waiting
