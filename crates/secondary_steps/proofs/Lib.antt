@@ -1,3 +1,4 @@
+pub mod Answering
 pub mod Apart
 pub mod Failing
 pub mod Intakes

@@ -1,0 +1,193 @@
+-- The acknowledgements of epochs: those that become due are the same in the state and in the history.
+use Rattle.std.proofs.Common.{ℕ, zero, suc, ◌≡◌, ◌+◌, ◌-◌, ◌<◌, ◌≤◌, ◌⊎◌, inl, inr, Bool, true, false, cond, not, ◌&&◌, ◌||◌, List, [], ◌∷◌, ◌++◌, length, map, filter, take, drop, Some, None, slice_get, refl, sym, ◌∙◌, ap, subst, arith, ◌==◌, nat_lt, nat_le}
+use Rattle.std.specs.Prelude.{if◌then◌else◌}
+use Rattle.std.specs.List.{list_any, list_all}
+use Rattle.std.proofs.lemmas.Bool.{cases_Bool, both_ways, and_parts, ltb-true, leb-true, lt-ltb, le-leb, le-ltb, lt-leb, cases_lt, false_from_ne_true, eqb-true, eq-eqb}
+use Rattle.std.proofs.lemmas.List.{map-append, append-nil}
+use Rattle.std.proofs.lemmas.List.Elements.{filter-append}
+use Rattle.std.proofs.lemmas.List.Folds.{list_any-append}
+use Rattle.model.specs.Stream.{Item, is_barrier, barriers_in, has_blocks, is_whole, epoch_of, epoch_size, placed, placed_from, below}
+use Rattle.model.specs.Frames.{Packet, BarrierAckFrame}
+use Rattle.model.specs.Secondary.{Inward, items_taken, is_pending, pending}
+use Rattle.model.specs.Secondary as model
+use Rattle.model.specs.SecondarySteps.{is_barrier_answer, barriers_to_answer, barrier_answer}
+use Rattle.model.specs.SecondarySteps as step
+use Rattle.peerdisk.specs.Pending.{Pending}
+use Rattle.secondary_steps.specs.Core.{EndState, is_applied_to, answers, answering}
+use Rattle.secondary_steps.specs.Leaves.{LeavesEnd, numbers_after, pending_in}
+
+-- Epochs that are applied.
+
+-- a later place is in no earlier epoch
+epoch-rises : (items : List Item) (place later : ℕ) → place ≤ later → epoch_of items place ≤ epoch_of items later
+epoch-rises [] place later less = let here = none place in let there = none later in omega arith
+  where
+    none : (n : ℕ) → barriers_in (take {A = Item} n []) ≡ 0
+    none zero = refl
+    none (suc n) = refl
+epoch-rises (x ∷ items) zero later less = omega arith
+epoch-rises (x ∷ items) (suc place) zero less = absurd (omega arith)
+epoch-rises (x ∷ items) (suc place) (suc later) less = go (is_barrier x) (epoch-rises items place later (omega arith))
+  where
+    go : (b : Bool) → epoch_of items place ≤ epoch_of items later
+        → suc (length (cond b (x ∷ filter is_barrier (take place items)) (filter is_barrier (take place items)))) ≤ suc (length (cond b (x ∷ filter is_barrier (take later items)) (filter is_barrier (take later items))))
+    go true rest = omega arith
+    go false rest = rest
+
+-- none of some waiting items is of an epoch up to this one, where the place before them is of a later one
+none-soon : (all : List Item) (p : ℕ × Item → Bool) (first start epoch : ℕ) (items : List Item) → first ≤ start → epoch < epoch_of all first → list_any (λ entry. nat_le (epoch_of all entry.0) epoch) (filter p (placed_from start items)) ≡ false
+none-soon all p first start epoch [] from late = refl
+none-soon all p first start epoch (x ∷ items) from late = go (p (start, x)) (none-soon all p first (suc start) epoch items (omega arith) late)
+  where
+    go : (b : Bool) → list_any (λ entry. nat_le (epoch_of all entry.0) epoch) (filter p (placed_from (suc start) items)) ≡ false
+        → list_any (λ entry. nat_le (epoch_of all entry.0) epoch) (cond b ((start, x) ∷ filter p (placed_from (suc start) items)) (filter p (placed_from (suc start) items))) ≡ false
+    go true rest =
+        let rises = epoch-rises all first start from in
+        let late_too : nat_le (epoch_of all start) epoch ≡ false = lt-leb (epoch_of all start) epoch (omega arith) in
+        rw (late_too, rest) refl
+    go false rest = rest
+
+-- the first of the waiting items is of the first of their epochs
+first-epoch : (all : List Item) (p : ℕ × Item → Bool) (start epoch : ℕ) (items : List Item)
+    → list_any (λ entry. nat_le (epoch_of all entry.0) epoch) (filter p (placed_from start items)) ≡ not (is_applied_to (map (pending_in all) (filter p (placed_from start items))) epoch)
+first-epoch all p start epoch [] = refl
+first-epoch all p start epoch (x ∷ items) = go (p (start, x)) (first-epoch all p (suc start) epoch items)
+  where
+    by-first : (epoch < epoch_of all start) ⊎ (epoch_of all start ≤ epoch)
+        → (nat_le (epoch_of all start) epoch || list_any (λ entry. nat_le (epoch_of all entry.0) epoch) (filter p (placed_from (suc start) items))) ≡ not (nat_lt epoch (epoch_of all start))
+    by-first (inl late) = rw (lt-leb (epoch_of all start) epoch late, lt-ltb epoch (epoch_of all start) late) (none-soon all p start (suc start) epoch items (omega arith) late)
+    by-first (inr soon) = rw (le-leb (epoch_of all start) epoch soon, le-ltb epoch (epoch_of all start) soon) refl
+
+    go : (b : Bool) → list_any (λ entry. nat_le (epoch_of all entry.0) epoch) (filter p (placed_from (suc start) items)) ≡ not (is_applied_to (map (pending_in all) (filter p (placed_from (suc start) items))) epoch)
+        → list_any (λ entry. nat_le (epoch_of all entry.0) epoch) (cond b ((start, x) ∷ filter p (placed_from (suc start) items)) (filter p (placed_from (suc start) items)))
+        ≡ not (is_applied_to (map (pending_in all) (cond b ((start, x) ∷ filter p (placed_from (suc start) items)) (filter p (placed_from (suc start) items)))) epoch)
+    go true rest = by-first (cases_lt epoch (epoch_of all start))
+    go false rest = rest
+
+-- a test of all items is one of those that wait, where nothing is gone
+all-by-waiting : (d : Inward) (epoch : ℕ) (xs : List (ℕ × Item)) → d.gone ≡ []
+    → list_all (λ entry. not (nat_le (epoch_of (items_taken d) entry.0) epoch && has_blocks entry.1) || is_whole d.applied entry.0 entry.1) xs ≡ not (list_any (λ entry. nat_le (epoch_of (items_taken d) entry.0) epoch) (filter (is_pending d) xs))
+all-by-waiting d epoch [] none = refl
+all-by-waiting d epoch (x ∷ xs) none = go (nat_le (epoch_of (items_taken d) x.0) epoch) (has_blocks x.1) (is_whole d.applied x.0 x.1) (list_any (λ place. place == x.0) d.gone) (ap (list_any (λ place. place == x.0)) none) refl (all-by-waiting d epoch xs none)
+  where
+    soon : ℕ × Item → Bool
+    soon entry = nat_le (epoch_of (items_taken d) entry.0) epoch
+
+    go : (le blocks whole gone : Bool) → gone ≡ false → nat_le (epoch_of (items_taken d) x.0) epoch ≡ le
+        → list_all (λ entry. not (nat_le (epoch_of (items_taken d) entry.0) epoch && has_blocks entry.1) || is_whole d.applied entry.0 entry.1) xs ≡ not (list_any (λ entry. nat_le (epoch_of (items_taken d) entry.0) epoch) (filter (is_pending d) xs))
+        → ((not (le && blocks) || whole) && list_all (λ entry. not (nat_le (epoch_of (items_taken d) entry.0) epoch && has_blocks entry.1) || is_whole d.applied entry.0 entry.1) xs)
+        ≡ not (list_any (λ entry. nat_le (epoch_of (items_taken d) entry.0) epoch) (cond ((blocks && not whole) && not gone) (x ∷ filter (is_pending d) xs) (filter (is_pending d) xs)))
+    go le blocks whole true is same rest = absurd (cc)
+    go true true true false is same rest = rest
+    go true true false false is same rest = rw same refl
+    go true false true false is same rest = rest
+    go true false false false is same rest = rest
+    go false true true false is same rest = rest
+    go false true false false is same rest = rw same rest
+    go false false true false is same rest = rest
+    go false false false false is same rest = rest
+
+double : (b : Bool) → not (not b) ≡ b
+double true = refl
+double false = refl
+
+-- An epoch is applied for the one where it is for the other.
+pub applied-same : (d : Inward) (epoch : ℕ) → d.gone ≡ [] → model.is_applied_to d epoch ≡ is_applied_to (map (pending_in (items_taken d)) (pending d)) epoch
+applied-same d epoch none =
+    all-by-waiting d epoch (placed (items_taken d)) none
+    ∙ (ap not (first-epoch (items_taken d) (is_pending d) 0 epoch (items_taken d)) ∙ double (is_applied_to (map (pending_in (items_taken d)) (pending d)) epoch))
+
+-- Which epochs are answered.
+
+-- as long as they are applied, one after the other
+record Shape (ps : List (Pending Item)) (size : ℕ → ℕ) (n k : ℕ) : Type 0 where
+  count : ℕ
+  few : count ≤ k
+  answers_are : answers ps n (map size (numbers_after n k)) ≡ map (λ x. BarrierAckFrame x (size x)) (numbers_after n count)
+  passing : filter (is_applied_to ps) (numbers_after n k) ≡ numbers_after n count
+
+later-too : (ps : List (Pending Item)) (n m : ℕ) → n ≤ m → is_applied_to ps n ≡ false → is_applied_to ps m ≡ false
+later-too [] n m less not_yet = absurd (cc)
+later-too (p ∷ ps) n m less not_yet = elim (cases_lt m p.epoch) [
+  | inl early ↦ absurd (both_ways (nat_lt n p.epoch) not_yet (lt-ltb n p.epoch (omega arith)))
+  | inr late ↦ le-ltb m p.epoch late
+]
+
+none-later : (ps : List (Pending Item)) (n k : ℕ) → is_applied_to ps (suc n) ≡ false → filter (is_applied_to ps) (numbers_after n k) ≡ []
+none-later ps n zero not_yet = refl
+none-later ps n (suc k) not_yet = rw not_yet (none-later ps (suc n) k (later-too ps (suc n) (suc (suc n)) (omega arith) not_yet))
+
+shape : (ps : List (Pending Item)) (size : ℕ → ℕ) (n k : ℕ) → Shape ps size n k
+shape ps size n zero = record { count = 0; few = omega arith; answers_are = refl; passing = refl }
+shape ps size n (suc k) = go (is_applied_to ps (suc n)) refl (shape ps size (suc n) k)
+  where
+    go : (b : Bool) → is_applied_to ps (suc n) ≡ b → Shape ps size (suc n) k → Shape ps size n (suc k)
+    go true is rest = record {
+      count = suc rest.count;
+      few = let few = rest.few in omega arith;
+      answers_are = rw is (ap (λ l. BarrierAckFrame (suc n) (size (suc n)) ∷ l) rest.answers_are);
+      passing = rw is (ap (λ l. suc n ∷ l) rest.passing);
+    }
+    go false is rest = record { count = 0; few = omega arith; answers_are = rw is refl; passing = none-later ps n (suc k) is }
+
+-- Numbers.
+
+numbers-split : (n a k : ℕ) → numbers_after n (a + k) ≡ numbers_after n a ++ numbers_after (n + a) k
+numbers-split n zero k = let same : n + 0 ≡ n = omega arith in let none : 0 + k ≡ k = omega arith in rw (same, none) refl
+numbers-split n (suc a) k =
+    let step_on : suc n + a ≡ n + suc a = omega arith in
+    let count : suc a + k ≡ suc (a + k) = omega arith in
+    ap (numbers_after n) count ∙ ap (λ l. suc n ∷ l) (numbers-split (suc n) a k ∙ ap (λ m. numbers_after (suc n) a ++ numbers_after m k) step_on)
+
+numbers-end : (n k : ℕ) → numbers_after n (suc k) ≡ numbers_after n k ++ suc (n + k) ∷ []
+numbers-end n k =
+    let count : k + 1 ≡ suc k = omega arith in
+    ap (numbers_after n) (sym count) ∙ numbers-split n k 1
+
+-- the numbers from 1 on
+numbers-below : (n : ℕ) → map suc (below n) ≡ numbers_after 0 n
+numbers-below zero = refl
+numbers-below (suc n) = map-append suc (below n) (n ∷ []) ∙ (ap (λ l. l ++ suc n ∷ []) (numbers-below n) ∙ (ap (λ m. numbers_after 0 n ++ suc m ∷ []) (omega arith) ∙ sym (numbers-end 0 n)))
+
+filter-all : (p q : ℕ → Bool) (n k : ℕ) → ((x : ℕ) → n < x → x ≤ n + k → p x ≡ q x) → filter p (numbers_after n k) ≡ filter q (numbers_after n k)
+filter-all p q n zero same = refl
+filter-all p q n (suc k) same =
+    ap (λ b. cond b (suc n ∷ filter p (numbers_after (suc n) k)) (filter p (numbers_after (suc n) k))) (same (suc n) (omega arith) (omega arith))
+    ∙ ap (λ l. cond (q (suc n)) (suc n ∷ l) l) (filter-all p q (suc n) k (λ x from upto. same x (omega arith) (omega arith)))
+
+filter-no : (p : ℕ → Bool) (n k : ℕ) → ((x : ℕ) → n < x → x ≤ n + k → p x ≡ false) → filter p (numbers_after n k) ≡ []
+filter-no p n zero none = refl
+filter-no p n (suc k) none = rw (none (suc n) (omega arith) (omega arith)) (filter-no p (suc n) k (λ x from upto. none x (omega arith) (omega arith)))
+
+length-numbers : (n k : ℕ) → length (numbers_after n k) ≡ k
+length-numbers n zero = refl
+length-numbers n (suc k) = ap suc (length-numbers (suc n) k)
+
+drop-numbers : {X : Type 0} (f : ℕ → X) (n m k : ℕ) → m ≤ k → drop m (map f (numbers_after n k)) ≡ map f (numbers_after (n + m) (k - m))
+drop-numbers f n zero k less = let same : n + 0 ≡ n = omega arith in let all : k - 0 ≡ k = omega arith in rw (same, all) refl
+drop-numbers f n (suc m) zero less = absurd (omega arith)
+drop-numbers f n (suc m) (suc k) less =
+    let one : suc n + m ≡ n + suc m = omega arith in
+    let two : k - m ≡ suc k - suc m = omega arith in
+    drop-numbers f (suc n) m k (omega arith) ∙ ap (λ (x : ℕ × ℕ). map f (numbers_after x.0 x.1)) (λ i. (one i, two i))
+
+-- which of these acknowledgements is of an epoch
+listed : (size : ℕ → ℕ) (x n k : ℕ) → list_any (is_barrier_answer x) (map (λ y. BarrierAckFrame y (size y)) (numbers_after n k)) ≡ (nat_lt n x && nat_le x (n + k))
+listed size x n zero = elim (cases_lt n x) [
+  | inl less ↦ rw (lt-ltb n x less) (sym (lt-leb x (n + 0) (omega arith)))
+  | inr more ↦ rw (le-ltb n x more) refl
+]
+listed size x n (suc k) = rw (listed size x (suc n) k) (by-order (cases_Bool (suc n == x)))
+  where
+    by-order : ((suc n == x) ≡ true) ⊎ ((suc n == x) ≡ false) → ((suc n == x) || (nat_lt (suc n) x && nat_le x (suc n + k))) ≡ (nat_lt n x && nat_le x (n + suc k))
+    by-order (inl same) =
+        let is : suc n ≡ x = eqb-true (suc n) x same in
+        rw (same, lt-ltb n x (omega arith), le-leb x (n + suc k) (omega arith)) refl
+    by-order (inr other) = elim (cases_lt (suc n) x) [
+      | inl less ↦
+          let one : suc n + k ≡ n + suc k = omega arith in
+          rw (other, lt-ltb (suc n) x less, lt-ltb n x (omega arith), one) refl
+      | inr more ↦
+          let not_it : suc n ≡ x → ⊥ = λ e. both_ways (suc n == x) other (eq-eqb (suc n) x e) in
+          rw (other, le-ltb (suc n) x more, le-ltb n x (omega arith)) refl
+    ]
