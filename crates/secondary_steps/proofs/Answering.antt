@@ -3,7 +3,7 @@ use Rattle.std.proofs.Common.{ℕ, zero, suc, ◌≡◌, ◌+◌, ◌-◌, ◌<�
 use Rattle.std.specs.Prelude.{if◌then◌else◌}
 use Rattle.std.specs.List.{list_any, list_all}
 use Rattle.std.proofs.lemmas.Bool.{cases_Bool, both_ways, and_parts, ltb-true, leb-true, lt-ltb, le-leb, le-ltb, lt-leb, cases_lt, false_from_ne_true, eqb-true, eq-eqb}
-use Rattle.std.proofs.lemmas.List.{map-append, append-nil}
+use Rattle.std.proofs.lemmas.List.{map-append, append-nil, length-append, drop-append-le}
 use Rattle.std.proofs.lemmas.List.Elements.{filter-append}
 use Rattle.std.proofs.lemmas.List.Folds.{list_any-append}
 use Rattle.model.specs.Stream.{Item, is_barrier, barriers_in, has_blocks, is_whole, epoch_of, epoch_size, placed, placed_from, below}
@@ -190,4 +190,85 @@ listed size x n (suc k) = rw (listed size x (suc n) k) (by-order (cases_Bool (su
       | inr more ↦
           let not_it : suc n ≡ x → ⊥ = λ e. both_ways (suc n == x) other (eq-eqb (suc n) x e) in
           rw (other, le-ltb (suc n) x more, le-ltb n x (omega arith)) refl
+    ]
+
+-- The acknowledgements that become due.
+
+-- what the history acknowledges is what the state does
+answers-same : (e : EndState) (d : Inward) → d.gone ≡ [] → LeavesEnd e d → Shape (map (pending_in (items_taken d)) (pending d)) (epoch_size (items_taken d)) e.answered (barriers_in (items_taken d) - e.answered)
+    → map (barrier_answer d) (barriers_to_answer d) ≡ answers (map (pending_in (items_taken d)) (pending d)) e.answered e.sizes
+answers-same e d none left s =
+    let items : List Item = items_taken d in
+    let ps : List (Pending Item) = map (pending_in (items_taken d)) (pending d) in
+    let k : ℕ = barriers_in (items_taken d) - e.answered in
+    let p : ℕ → Bool = λ epoch. model.is_applied_to d epoch && not (list_any (is_barrier_answer epoch) d.due) in
+    let within = left.within in
+    let sum : barriers_in items ≡ e.answered + k = omega arith in
+    let zero_too : 0 + e.answered ≡ e.answered = omega arith in
+    let numbers : map suc (below (barriers_in items)) ≡ numbers_after 0 e.answered ++ numbers_after e.answered k =
+    numbers-below (barriers_in items) ∙ (ap (numbers_after 0) sum ∙ (numbers-split 0 e.answered k ∙ ap (λ m. numbers_after 0 e.answered ++ numbers_after m k) zero_too)) in
+    let before : filter p (numbers_after 0 e.answered) ≡ [] = filter-no p 0 e.answered (λ x from upto.
+        ap (λ b. model.is_applied_to d x && not b) (left.answered x from ∙ le-leb x e.answered (omega arith)) ∙ and-false (model.is_applied_to d x)) in
+    let behind : filter p (numbers_after e.answered k) ≡ filter (is_applied_to ps) (numbers_after e.answered k) = filter-all p (is_applied_to ps) e.answered k (λ x from upto.
+        ap (λ b. model.is_applied_to d x && not b) (left.answered x (omega arith) ∙ lt-leb x e.answered from) ∙ (and-true (model.is_applied_to d x) ∙ applied-same d x none)) in
+    let all : barriers_to_answer d ≡ numbers_after e.answered s.count =
+    ap (filter p) numbers ∙ (filter-append p (numbers_after 0 e.answered) (numbers_after e.answered k) ∙ (ap (λ l. l ++ filter p (numbers_after e.answered k)) before ∙ (behind ∙ s.passing))) in
+    ap (map (barrier_answer d)) all ∙ (sym s.answers_are ∙ ap (answers ps e.answered) (sym left.sizes))
+  where
+    and-false : (b : Bool) → (b && not true) ≡ false
+    and-false true = refl
+    and-false false = refl
+
+    and-true : (b : Bool) → (b && not false) ≡ b
+    and-true true = refl
+    and-true false = refl
+
+-- an open end acknowledges what it can
+answering-open : (d : Inward) → d.closed ≡ false → step.answering d ≡ record d { due = d.due ++ map (barrier_answer d) (barriers_to_answer d) }
+answering-open d stands = ap (λ b. elim b as (λ _. Inward) [ true ↦ d | false ↦ record d { due = d.due ++ map (barrier_answer d) (barriers_to_answer d) } ]) stands
+
+-- The end that has acknowledged what it can is what the history leaves.
+pub left-answering : (e : EndState) (d : Inward) (ps : List (Pending Item)) → d.gone ≡ [] → ps ≡ map (pending_in (items_taken d)) (pending d) → LeavesEnd e d → LeavesEnd (answering ps e) (step.answering d)
+left-answering e d ps none is left =
+    let items : List Item = items_taken d in
+    let listed_ps : List (Pending Item) = map (pending_in (items_taken d)) (pending d) in
+    let k : ℕ = barriers_in (items_taken d) - e.answered in
+    let s = shape listed_ps (epoch_size items) e.answered k in
+    let new : List Packet = answers ps e.answered e.sizes in
+    let same : map (barrier_answer d) (barriers_to_answer d) ≡ new = answers-same e d none left s ∙ ap (λ (l : List (Pending Item)). answers l e.answered e.sizes) (sym is) in
+    let shaped : new ≡ map (λ x. BarrierAckFrame x (epoch_size items x)) (numbers_after e.answered s.count) = ap (λ (l : List (Pending Item)). answers l e.answered e.sizes) is ∙ (ap (answers listed_ps e.answered) left.sizes ∙ s.answers_are) in
+    let count : length new ≡ s.count = ap length shaped ∙ (length-map (λ x. BarrierAckFrame x (epoch_size items x)) (numbers_after e.answered s.count) ∙ length-numbers e.answered s.count) in
+    let few = s.few in
+    let within = left.within in
+    let owed = left.owed in
+    let longer = length-append d.due new in
+    subst (LeavesEnd (answering ps e)) (sym (answering-open d left.stands ∙ ap (λ (l : List Packet). record d { due = d.due ++ l }) same)) (record {
+      stands = left.stands;
+      plain = left.plain;
+      hello = left.hello;
+      heard = left.heard;
+      said = left.said;
+      owed = omega arith;
+      due = ap (λ (l : List Packet). l ++ new) left.due ∙ sym (drop-append-le (d.pushed - 3) d.due new left.owed);
+      answered = λ epoch from.
+          list_any-append (is_barrier_answer epoch) d.due new
+          ∙ (ap (λ b. b || list_any (is_barrier_answer epoch) new) (left.answered epoch from)
+          ∙ (ap (λ (l : List Packet). nat_le epoch e.answered || list_any (is_barrier_answer epoch) l) shaped
+          ∙ (ap (λ b. nat_le epoch e.answered || b) (listed (epoch_size items) epoch e.answered s.count)
+          ∙ (either epoch e.answered s.count ∙ ap (λ m. nat_le epoch (e.answered + m)) (sym count)))));
+      within = omega arith;
+      sizes =
+          ap (drop (length new)) left.sizes
+          ∙ (drop-numbers (epoch_size items) e.answered (length new) k (omega arith)
+          ∙ ap (λ m. map (epoch_size items) (numbers_after (e.answered + length new) m)) (omega arith));
+    })
+  where
+    length-map : {X Y : Type 0} (f : X → Y) (xs : List X) → length (map f xs) ≡ length xs
+    length-map f [] = refl
+    length-map f (x ∷ xs) = ap suc (length-map f xs)
+
+    either : (x a m : ℕ) → (nat_le x a || (nat_lt a x && nat_le x (a + m))) ≡ nat_le x (a + m)
+    either x a m = elim (cases_lt a x) [
+      | inl less ↦ rw (lt-leb x a less, lt-ltb a x less) refl
+      | inr more ↦ rw (le-leb x a more) (sym (le-leb x (a + m) (omega arith)))
     ]

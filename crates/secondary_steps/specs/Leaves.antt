@@ -41,6 +41,7 @@ pub record LeavesEnd (e : EndState) (c : Inward) : Type 0 where
   pub hello : e.hello ≡ c.hello
   pub heard : e.heard ≡ min (length c.taken) 3
   pub said : e.said ≡ min c.pushed 3
+  pub owed : c.pushed - 3 ≤ length c.due
   pub due : e.due ≡ drop (c.pushed - 3) c.due
   pub answered : (epoch : ℕ) → 0 < epoch → list_any (is_barrier_answer epoch) c.due ≡ nat_le epoch e.answered
   pub within : e.answered ≤ barriers_in (items_taken c)
