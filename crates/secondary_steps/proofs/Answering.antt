@@ -139,7 +139,7 @@ numbers-split n (suc a) k =
     let count : suc a + k ≡ suc (a + k) = omega arith in
     ap (numbers_after n) count ∙ ap (λ l. suc n ∷ l) (numbers-split (suc n) a k ∙ ap (λ m. numbers_after (suc n) a ++ numbers_after m k) step_on)
 
-numbers-end : (n k : ℕ) → numbers_after n (suc k) ≡ numbers_after n k ++ suc (n + k) ∷ []
+pub numbers-end : (n k : ℕ) → numbers_after n (suc k) ≡ numbers_after n k ++ suc (n + k) ∷ []
 numbers-end n k =
     let count : k + 1 ≡ suc k = omega arith in
     ap (numbers_after n) (sym count) ∙ numbers-split n k 1

@@ -1,6 +1,9 @@
 pub mod Answering
 pub mod Apart
+pub mod Ends
 pub mod Failing
 pub mod Intakes
 pub mod Starting
+pub mod Steps
+pub mod Tested
 pub mod Waiting

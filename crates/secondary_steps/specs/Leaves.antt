@@ -70,14 +70,18 @@ abbrev pub FailedLeft : Option ℕ → Inward → Type 0
 FailedLeft None c = c.gone ≡ []
 FailedLeft (Some epoch) c = LeavesFailed epoch c
 
--- The state is what the history leaves. The part applied names only places that were taken.
+-- The state is what the last connection leaves. The part applied names only places that were taken.
+pub record LeavesLast (s : SecondaryState) (c : Inward) : Type 0 where
+  pub number : s.number ≡ c.number
+  pub intake : s.intake ≡ intake_of (items_taken c)
+  pub named : (place offset : ℕ) → is_in c.applied place offset ≡ true → place < length (items_taken c)
+  pub pending : s.pending ≡ map (pending_in (items_taken c)) (pending c)
+  pub failed : FailedLeft s.failed c
+  pub end : EndLeft s.end c
+
+-- the state is what the history leaves
 pub record Leaves (s : SecondaryState) (h : SecondaryHistory) : Type 0 where
   pub settings : s.settings ≡ h.settings
   pub tuple : s.tuple ≡ h.tuple
   pub consistent : s.consistent ≡ h.consistent
-  pub number : s.number ≡ (inward h).number
-  pub intake : s.intake ≡ intake_of (items_taken (inward h))
-  pub named : (place offset : ℕ) → is_in (inward h).applied place offset ≡ true → place < length (items_taken (inward h))
-  pub pending : s.pending ≡ map (pending_in (items_taken (inward h))) (pending (inward h))
-  pub failed : FailedLeft s.failed (inward h)
-  pub end : EndLeft s.end (inward h)
+  pub last : LeavesLast s (inward h)

@@ -1,0 +1,3 @@
+-- Each transition is its step of the model, by the rooms of a secondary.
+pub mod Opens
+pub mod Pushes
