@@ -13,7 +13,7 @@ use Rattle.model.specs.Secondary.{Inward, SecondaryHistory, no_inward, inward, w
 use Rattle.model.specs.SecondarySteps.{tested_secondary}
 use Rattle.laws.proofs.Lists.Last.{last-change}
 use Rattle.secondary_steps.specs.Core.{EndState, SecondaryState, tested}
-use Rattle.secondary_steps.specs.Leaves.{Leaves, EndLeft}
+use Rattle.secondary_steps.specs.Leaves.{Leaves, EndLeft, FailedLeft}
 use Rattle.secondary_steps.specs.Steps.{Agrees, replied}
 
 -- With the same tests they agree, where they agree when no test holds.
@@ -46,11 +46,14 @@ end-there None none = absurd (cc)
 end-there (Some e) none = (e, refl)
 
 -- The last connection is changed, where there is one.
-pub inward-with : (f : Inward → Inward) (h : SecondaryHistory) → (h.connections ≡ [] → ⊥) → inward (with_inward f h) ≡ f (inward h)
-inward-with f h some = elim (last-change f (no_inward h) (no_inward (with_inward f h)) h.connections) [
+pub inward-of : (f : Inward → Inward) (h later : SecondaryHistory) → later.connections ≡ change_last f h.connections → (h.connections ≡ [] → ⊥) → inward later ≡ f (inward h)
+inward-of f h later is some = ap (last_of (no_inward later)) is ∙ elim (last-change f (no_inward h) (no_inward later) h.connections) [
   | inl none ↦ absurd (some none)
-  | inr is ↦ is
+  | inr same ↦ same
 ]
+
+pub inward-with : (f : Inward → Inward) (h : SecondaryHistory) → (h.connections ≡ [] → ⊥) → inward (with_inward f h) ≡ f (inward h)
+inward-with f h some = inward-of f h (with_inward f h) refl some
 
 -- there is one where it is open
 pub open-some : (h : SecondaryHistory) → (inward h).closed ≡ false → h.connections ≡ [] → ⊥
@@ -63,3 +66,8 @@ length-map f (x ∷ xs) = ap suc (length-map f xs)
 -- some, or none
 pub some-or-none : (n : ℕ) → nat_lt 0 n ≡ not (n == 0)
 some-or-none n = grind (arith, nat_tests)
+
+-- at an open end nothing failed
+pub open-whole : (v : Option ℕ) (c : Inward) → FailedLeft v c → c.closed ≡ false → (v ≡ None) × (c.gone ≡ [])
+open-whole None c left stands = (refl, left)
+open-whole (Some epoch) c left stands = absurd (both_ways c.closed stands left.closed)

@@ -1,0 +1,117 @@
+-- A frame is judged alike in the state and in the history.
+use Rattle.std.proofs.Common.{ℕ, zero, suc, ◌≡◌, ◌+◌, ◌-◌, ◌<◌, ◌≤◌, inl, inr, Bool, true, false, cond, not, ◌&&◌, ◌||◌, List, [], ◌∷◌, ◌++◌, length, map, drop, take, filter, Option, Some, None, Result, Ok, Err, slice_get, refl, sym, ◌∙◌, ap, subst, arith, ◌==◌, nat_lt, min}
+use Rattle.std.specs.Prelude.{filter_map, if◌then◌else◌}
+use Rattle.std.specs.List.{list_any}
+use Rattle.std.proofs.lemmas.Bool.{cases_Bool, both_ways, and_parts, ltb-true}
+use Rattle.std.proofs.lemmas.List.{append-nil, length-append}
+use Rattle.blocks.specs.declared.tuple.Tuple.{Tuple}
+use Rattle.blocks.specs.declared.settings.Settings.{Settings}
+use Rattle.blocks.specs.declared.settings.Protocol.{Protocol}
+use Rattle.blocks.specs.declared.settings.Protocol.TheVariants as protocol
+use Rattle.blocks.specs.declared.refusal.Refusal.{Refusal}
+use Rattle.blocks.specs.declared.refusal.Refusal.TheVariants.{BadField, OtherProtocol, OtherSize}
+use Rattle.blocks.specs.declared.outcome.What.{What}
+use Rattle.blocks.specs.declared.outcome.What.TheVariants as what
+use Rattle.blocks.specs.declared.command.Command.TheVariants as command
+use Rattle.model.specs.Contents.{Write, is_range}
+use Rattle.model.specs.Stream.{Item, WriteItem, ResyncItem, BarrierItem, SyncUuidItem, UuidsItem, has_blocks, is_in, is_whole, barriers_in, last_epoch, placed}
+use Rattle.model.specs.Frames.{Packet, DataFrame, RsDataReplyFrame, BarrierFrame, ProtocolFrame, UuidsFrame, SizesFrame, SyncUuidFrame, RecvAckFrame, WriteAckFrame, RsWriteAckFrame, BarrierAckFrame, Received, naming}
+use Rattle.model.specs.Primary.{change_last}
+use Rattle.model.specs.Acknowledgements.{same_protocol}
+use Rattle.model.specs.Secondary.{Inward, SecondaryHistory, inward, items_taken, is_pending, pending, received_item, with_inward}
+use Rattle.model.specs.SecondarySteps.{Checked, has_place, is_barrier_answer}
+use Rattle.model.specs.SecondarySteps as step
+use Rattle.laws.proofs.Lists.Last.{change-twice}
+use Rattle.laws.proofs.Secondary.Moves.{framed}
+use Rattle.laws.proofs.Secondary.Tuples.{taken-item}
+use Rattle.secondary_steps.specs.Core.{Intake, EndState, SecondaryState, Judged, judged_if, judging, judging_hello, judging_item, hearing, owing, receipt, and_item, waiting, is_apart}
+use Rattle.secondary_steps.specs.Leaves.{Leaves, LeavesLast, LeavesEnd, EndLeft, FailedLeft, intake_of, pending_in}
+use Rattle.secondary_steps.proofs.Apart.{apart-by-blocks}
+use Rattle.secondary_steps.proofs.Ends.{end-takes, end-barrier, hello-goes-on}
+use Rattle.secondary_steps.proofs.Intakes.{above-highest, intake-write, intake-resync, intake-barrier, intake-start, intake-end}
+use Rattle.secondary_steps.proofs.Tested.{inward-of, inward-with, open-some, open-whole}
+use Rattle.secondary_steps.proofs.Waiting.{waiting-more, new-waits, bare-waits-not}
+
+-- Both accept, under one name, and what they leave belongs together; or both refuse, for the same.
+abbrev pub SameJudged : Judged → Checked → Type 0
+SameJudged (Ok a) (Ok b) = (a.0 ≡ b.0) × Leaves a.1 b.1
+SameJudged (Err r) (Err q) = r ≡ q
+SameJudged (Ok a) (Err q) = ⊥
+SameJudged (Err r) (Ok b) = ⊥
+
+-- The hello.
+
+chosen : (a b : Bool) → a ≡ b → (name : What) (t : SecondaryState) (h : SecondaryHistory) (refusal : Refusal) → Leaves t h → SameJudged (if a then Ok (name, t) else Err refusal) (if b then Ok (name, h) else Err refusal)
+chosen true true same name t h refusal left = (refl, left)
+chosen false false same name t h refusal left = refl
+chosen true false same name t h refusal left = absurd (cc)
+chosen false true same name t h refusal left = absurd (cc)
+
+-- a frame of the hello
+hello-same : (n : ℕ) (packet : Packet) (t : SecondaryState) (h : SecondaryHistory) → Leaves t h → SameJudged (judging_hello n packet t) (step.checking_hello n packet h)
+hello-same zero (DataFrame write at) t h left = refl
+hello-same zero (RsDataReplyFrame block contents at) t h left = refl
+hello-same zero (BarrierFrame number) t h left = refl
+hello-same zero (ProtocolFrame asked) t h left = chosen (same_protocol asked t.settings.protocol) (same_protocol asked h.settings.protocol) (ap (λ (x : Settings). same_protocol asked x.protocol) left.settings) (what.Frame command.Protocol None) t h OtherProtocol left
+hello-same zero (UuidsFrame tuple) t h left = refl
+hello-same zero (SizesFrame blocks) t h left = refl
+hello-same zero (SyncUuidFrame word) t h left = refl
+hello-same zero (RecvAckFrame ack) t h left = refl
+hello-same zero (WriteAckFrame ack) t h left = refl
+hello-same zero (RsWriteAckFrame ack) t h left = refl
+hello-same zero (BarrierAckFrame number size) t h left = refl
+hello-same (suc zero) (DataFrame write at) t h left = refl
+hello-same (suc zero) (RsDataReplyFrame block contents at) t h left = refl
+hello-same (suc zero) (BarrierFrame number) t h left = refl
+hello-same (suc zero) (ProtocolFrame asked) t h left = refl
+hello-same (suc zero) (UuidsFrame tuple) t h left = refl
+hello-same (suc zero) (SizesFrame blocks) t h left = chosen (blocks == t.settings.blocks) (blocks == h.settings.blocks) (ap (λ (x : Settings). blocks == x.blocks) left.settings) (what.Frame command.Sizes None) t h OtherSize left
+hello-same (suc zero) (SyncUuidFrame word) t h left = refl
+hello-same (suc zero) (RecvAckFrame ack) t h left = refl
+hello-same (suc zero) (WriteAckFrame ack) t h left = refl
+hello-same (suc zero) (RsWriteAckFrame ack) t h left = refl
+hello-same (suc zero) (BarrierAckFrame number size) t h left = refl
+hello-same (suc (suc n)) (DataFrame write at) t h left = refl
+hello-same (suc (suc n)) (RsDataReplyFrame block contents at) t h left = refl
+hello-same (suc (suc n)) (BarrierFrame number) t h left = refl
+hello-same (suc (suc n)) (ProtocolFrame asked) t h left = refl
+hello-same (suc (suc n)) (UuidsFrame tuple) t h left = (refl, left)
+hello-same (suc (suc n)) (SizesFrame blocks) t h left = refl
+hello-same (suc (suc n)) (SyncUuidFrame word) t h left = refl
+hello-same (suc (suc n)) (RecvAckFrame ack) t h left = refl
+hello-same (suc (suc n)) (WriteAckFrame ack) t h left = refl
+hello-same (suc (suc n)) (RsWriteAckFrame ack) t h left = refl
+hello-same (suc (suc n)) (BarrierAckFrame number size) t h left = refl
+
+-- Before the hello is over no item was taken.
+early-items : (frame : Received) (d : Inward) → d.refused ≡ false → length d.taken < 3 → items_taken (framed frame d) ≡ items_taken d
+early-items frame d plain early =
+    let old : items_taken d ≡ [] = ap (λ b. filter_map received_item (drop 3 (if b then take (length d.taken - 1) d.taken else d.taken))) plain ∙ ap (filter_map received_item) (drop-past 3 d.taken (omega arith)) in
+    let longer = length-append d.taken (frame ∷ []) in
+    let new : items_taken (framed frame d) ≡ [] = ap (λ b. filter_map received_item (drop 3 (if b then take (length (d.taken ++ frame ∷ []) - 1) (d.taken ++ frame ∷ []) else (d.taken ++ frame ∷ [])))) plain ∙ ap (filter_map received_item) (drop-past 3 (d.taken ++ frame ∷ []) (omega arith)) in
+    new ∙ sym old
+  where
+    drop-past : {X : Type 0} (n : ℕ) (xs : List X) → length xs ≤ n → drop n xs ≡ []
+    drop-past zero [] less = refl
+    drop-past zero (x ∷ xs) less = absurd (omega arith)
+    drop-past (suc n) [] less = refl
+    drop-past (suc n) (x ∷ xs) less = drop-past n xs (omega arith)
+
+-- what is left where the items stay
+pub last-same : (s t : SecondaryState) (e : EndState) (d c : Inward) → LeavesLast s d → items_taken c ≡ items_taken d → c.applied ≡ d.applied → c.gone ≡ [] → d.gone ≡ [] → c.number ≡ d.number → LeavesEnd e c
+    → t.number ≡ s.number → t.intake ≡ s.intake → t.pending ≡ s.pending → t.failed ≡ None → t.end ≡ Some e → LeavesLast t c
+last-same s t e d c left items applied none was_none number there is_number is_intake is_pending_same is_failed is_end = record {
+  number = is_number ∙ (left.number ∙ sym number);
+  intake = is_intake ∙ (left.intake ∙ ap intake_of (sym items));
+  named = λ place offset inside. subst (λ (l : List Item). place < length l) (sym items) (left.named place offset (ap (λ part. is_in part place offset) (sym applied) ∙ inside));
+  pending =
+      is_pending_same
+      ∙ (left.pending
+      ∙ (ap (λ (l : List Item). map (pending_in l) (filter (is_pending d) (placed l))) (sym items)
+      ∙ ap (λ (p : ℕ × Item → Bool). map (pending_in (items_taken c)) (filter p (placed (items_taken c)))) (λ i entry. alike entry i)));
+  failed = subst (λ (v : Option ℕ). FailedLeft v c) (sym is_failed) none;
+  end = subst (λ (v : Option EndState). EndLeft v c) (sym is_end) there;
+}
+  where
+    alike : (entry : ℕ × Item) → is_pending d entry ≡ is_pending c entry
+    alike entry = λ i. (has_blocks entry.1 && not (is_whole (sym applied i) entry.0 entry.1)) && not (list_any (λ place. place == entry.0) ((was_none ∙ sym none) i))
