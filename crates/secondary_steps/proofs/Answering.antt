@@ -224,7 +224,7 @@ answers-same e d none left s =
     and-true false = refl
 
 -- an open end acknowledges what it can
-answering-open : (d : Inward) → d.closed ≡ false → step.answering d ≡ record d { due = d.due ++ map (barrier_answer d) (barriers_to_answer d) }
+pub answering-open : (d : Inward) → d.closed ≡ false → step.answering d ≡ record d { due = d.due ++ map (barrier_answer d) (barriers_to_answer d) }
 answering-open d stands = ap (λ b. elim b as (λ _. Inward) [ true ↦ d | false ↦ record d { due = d.due ++ map (barrier_answer d) (barriers_to_answer d) } ]) stands
 
 -- The end that has acknowledged what it can is what the history leaves.

@@ -48,7 +48,7 @@ chosen true false same name t h refusal left = absurd (cc)
 chosen false true same name t h refusal left = absurd (cc)
 
 -- a frame of the hello
-hello-same : (n : ℕ) (packet : Packet) (t : SecondaryState) (h : SecondaryHistory) → Leaves t h → SameJudged (judging_hello n packet t) (step.checking_hello n packet h)
+pub hello-same : (n : ℕ) (packet : Packet) (t : SecondaryState) (h : SecondaryHistory) → Leaves t h → SameJudged (judging_hello n packet t) (step.checking_hello n packet h)
 hello-same zero (DataFrame write at) t h left = refl
 hello-same zero (RsDataReplyFrame block contents at) t h left = refl
 hello-same zero (BarrierFrame number) t h left = refl
@@ -84,7 +84,7 @@ hello-same (suc (suc n)) (RsWriteAckFrame ack) t h left = refl
 hello-same (suc (suc n)) (BarrierAckFrame number size) t h left = refl
 
 -- Before the hello is over no item was taken.
-early-items : (frame : Received) (d : Inward) → d.refused ≡ false → length d.taken < 3 → items_taken (framed frame d) ≡ items_taken d
+pub early-items : (frame : Received) (d : Inward) → d.refused ≡ false → length d.taken < 3 → items_taken (framed frame d) ≡ items_taken d
 early-items frame d plain early =
     let old : items_taken d ≡ [] = ap (λ b. filter_map received_item (drop 3 (if b then take (length d.taken - 1) d.taken else d.taken))) plain ∙ ap (filter_map received_item) (drop-past 3 d.taken (omega arith)) in
     let longer = length-append d.taken (frame ∷ []) in

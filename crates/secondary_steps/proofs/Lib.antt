@@ -3,6 +3,7 @@ pub mod Apart
 pub mod Ends
 pub mod Failing
 pub mod Intakes
+pub mod Items
 pub mod Judged
 pub mod Starting
 pub mod Steps

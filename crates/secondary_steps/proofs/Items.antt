@@ -1,0 +1,109 @@
+-- An item of the stream is judged alike in the state and in the history.
+use Rattle.std.proofs.Common.{ℕ, zero, suc, ◌≡◌, ◌+◌, ◌-◌, ◌<◌, ◌≤◌, inl, inr, Bool, true, false, cond, not, ◌&&◌, ◌||◌, List, [], ◌∷◌, ◌++◌, length, map, filter, Option, Some, None, Result, Ok, Err, refl, sym, ◌∙◌, ap, subst, arith, ◌==◌, nat_lt}
+use Rattle.std.specs.Prelude.{if◌then◌else◌}
+use Rattle.std.specs.List.{list_any}
+use Rattle.std.proofs.lemmas.Bool.{both_ways, and_parts}
+use Rattle.std.proofs.lemmas.List.{append-nil, length-append}
+use Rattle.blocks.specs.declared.tuple.Tuple.{Tuple}
+use Rattle.blocks.specs.declared.settings.Settings.{Settings}
+use Rattle.blocks.specs.declared.settings.Protocol.{Protocol}
+use Rattle.blocks.specs.declared.settings.Protocol.TheVariants as protocol
+use Rattle.blocks.specs.declared.refusal.Refusal.{Refusal}
+use Rattle.blocks.specs.declared.refusal.Refusal.TheVariants.{BadField}
+use Rattle.blocks.specs.declared.outcome.What.{What}
+use Rattle.blocks.specs.declared.outcome.What.TheVariants as what
+use Rattle.blocks.specs.declared.command.Command.TheVariants as command
+use Rattle.model.specs.Contents.{Write, is_range}
+use Rattle.model.specs.Stream.{Item, WriteItem, ResyncItem, BarrierItem, SyncUuidItem, UuidsItem, has_blocks, is_in, is_whole, is_barrier, barriers_in, last_epoch, placed, contents_of}
+use Rattle.model.specs.Frames.{Packet, DataFrame, RsDataReplyFrame, BarrierFrame, ProtocolFrame, UuidsFrame, SizesFrame, SyncUuidFrame, RecvAckFrame, WriteAckFrame, RsWriteAckFrame, BarrierAckFrame, Received, naming}
+use Rattle.model.specs.Primary.{change_last}
+use Rattle.model.specs.Secondary.{Inward, SecondaryHistory, inward, items_taken, is_pending, pending, received_item, with_inward}
+use Rattle.model.specs.SecondarySteps.{Checked, has_place, is_barrier_answer}
+use Rattle.model.specs.SecondarySteps as step
+use Rattle.laws.proofs.Lists.Last.{change-twice}
+use Rattle.laws.proofs.Secondary.Moves.{framed}
+use Rattle.laws.proofs.Secondary.Tuples.{taken-item}
+use Rattle.secondary_steps.specs.Core.{Intake, EndState, SecondaryState, Judged, judged_if, judging, judging_hello, judging_item, hearing, owing, receipt, and_item, waiting, is_apart}
+use Rattle.secondary_steps.specs.Leaves.{Leaves, LeavesLast, LeavesEnd, EndLeft, FailedLeft, intake_of, pending_in}
+use Rattle.secondary_steps.proofs.Apart.{apart-by-blocks}
+use Rattle.secondary_steps.proofs.Ends.{end-takes, end-barrier, hello-goes-on}
+use Rattle.secondary_steps.proofs.Intakes.{above-highest, intake-write, intake-resync, intake-barrier, intake-start, intake-end}
+use Rattle.secondary_steps.proofs.Judged.{SameJudged, hello-same, early-items, last-same}
+use Rattle.secondary_steps.proofs.Tested.{inward-of, inward-with, open-some, open-whole}
+use Rattle.secondary_steps.proofs.Waiting.{waiting-more, new-waits, bare-waits-not}
+
+-- both accept where the same tests hold
+pub same-if : (a b : Bool) → a ≡ b → (name other : What) → name ≡ other → (t : SecondaryState) (h : SecondaryHistory) → (b ≡ true → Leaves t h) → SameJudged (judged_if a name t) (step.checked_if b other h)
+same-if true true same name other names t h left = (names, left refl)
+same-if false false same name other names t h left = refl
+same-if true false same name other names t h left = absurd (cc)
+same-if false true same name other names t h left = absurd (cc)
+
+-- What an item leaves that was taken: `c` is the connection with its frame, and `waits` says whether it has blocks.
+pub last-item : (s t : SecondaryState) (e : EndState) (d c : Inward) (item : Item) (waits : Bool) → LeavesLast s d → d.closed ≡ false → items_taken c ≡ items_taken d ++ item ∷ [] → c.applied ≡ d.applied → c.gone ≡ d.gone → c.number ≡ d.number
+    → LeavesEnd e c → has_blocks item ≡ waits → t.number ≡ s.number → t.intake ≡ intake_of (items_taken d ++ item ∷ []) → t.pending ≡ s.pending ++ cond waits (record { place = length (items_taken d); epoch = last_epoch (items_taken d); item = item } ∷ []) []
+    → t.failed ≡ s.failed → t.end ≡ Some e → LeavesLast t c
+last-item s t e d c item waits left stands items applied gone number there blocks is_number is_intake is_waiting is_failed is_end =
+    let whole = open-whole s.failed d left.failed stands in
+    record {
+      number = is_number ∙ (left.number ∙ sym number);
+      intake = is_intake ∙ ap intake_of (sym items);
+      named = λ place offset inside.
+          let was = left.named place offset (ap (λ part. is_in part place offset) (sym applied) ∙ inside) in
+          let longer = ap length items ∙ length-append (items_taken d) (item ∷ []) in
+          omega arith;
+      pending =
+          is_waiting
+          ∙ (ap (λ l. l ++ cond waits (record { place = length (items_taken d); epoch = last_epoch (items_taken d); item = item } ∷ []) []) left.pending
+          ∙ (sym (waiting-more (is_pending d) (items_taken d) item waits (by-blocks whole.1 waits blocks))
+          ∙ (ap (λ (l : List Item). map (pending_in l) (filter (is_pending d) (placed l))) (sym items)
+          ∙ ap (λ (p : ℕ × Item → Bool). map (pending_in (items_taken c)) (filter p (placed (items_taken c)))) (λ i entry. alike entry i))));
+      failed = subst (λ (v : Option ℕ). FailedLeft v c) (sym (is_failed ∙ whole.0)) (gone ∙ whole.1);
+      end = subst (λ (v : Option EndState). EndLeft v c) (sym is_end) there;
+    }
+  where
+    alike : (entry : ℕ × Item) → is_pending d entry ≡ is_pending c entry
+    alike entry = λ i. (has_blocks entry.1 && not (is_whole (sym applied i) entry.0 entry.1)) && not (list_any (λ place. place == entry.0) (sym gone i))
+
+    by-blocks : d.gone ≡ [] → (b : Bool) → has_blocks item ≡ b → is_pending d (length (items_taken d), item) ≡ b
+    by-blocks none true some = new-waits d (items_taken d) item some none left.named
+    by-blocks none false bare = bare-waits-not d (length (items_taken d)) item bare
+
+-- what the protocol makes due when a write is taken is no epoch's
+pub receipt-other : (asked : Protocol) (place : ℕ) (item : Item) (epoch : ℕ) → list_any (is_barrier_answer epoch) (receipt asked place item) ≡ false
+receipt-other protocol.A place item epoch = refl
+receipt-other protocol.B place item epoch = refl
+receipt-other protocol.C place item epoch = refl
+
+-- the history after a write was taken, by its last connection
+pub receiving-is : (asked : Protocol) (place : ℕ) (item : Item) (h : SecondaryHistory) → h.settings.protocol ≡ asked → (h.connections ≡ [] → ⊥)
+    → inward (step.receiving place item h) ≡ record (inward h) { due = (inward h).due ++ receipt asked place item }
+receiving-is asked place item h is some = subst (λ (p : Protocol). inward (by p) ≡ record (inward h) { due = (inward h).due ++ receipt asked place item }) (sym is) (go asked)
+  where
+    by : Protocol → SecondaryHistory
+    by p = elim p as (λ _. SecondaryHistory) [
+      | protocol.A ↦ h
+      | protocol.B ↦ with_inward (λ c. record c { due = c.due ++ RecvAckFrame (naming place item) ∷ [] }) h
+      | protocol.C ↦ h
+    ]
+
+    go : (p : Protocol) → inward (by p) ≡ record (inward h) { due = (inward h).due ++ receipt p place item }
+    go protocol.A = ap (λ (l : List Packet). record (inward h) { due = l }) (sym (append-nil (inward h).due))
+    go protocol.B = inward-with (λ c. record c { due = c.due ++ RecvAckFrame (naming place item) ∷ [] }) h some
+    go protocol.C = ap (λ (l : List Packet). record (inward h) { due = l }) (sym (append-nil (inward h).due))
+
+-- and the rest of it
+pub receiving-rest : (place : ℕ) (item : Item) (h : SecondaryHistory) → ((step.receiving place item h).settings ≡ h.settings) × ((step.receiving place item h).tuple ≡ h.tuple) × ((step.receiving place item h).consistent ≡ h.consistent)
+receiving-rest place item h = go h.settings.protocol
+  where
+    by : Protocol → SecondaryHistory
+    by p = elim p as (λ _. SecondaryHistory) [
+      | protocol.A ↦ h
+      | protocol.B ↦ with_inward (λ c. record c { due = c.due ++ RecvAckFrame (naming place item) ∷ [] }) h
+      | protocol.C ↦ h
+    ]
+
+    go : (p : Protocol) → ((by p).settings ≡ h.settings) × ((by p).tuple ≡ h.tuple) × ((by p).consistent ≡ h.consistent)
+    go protocol.A = (refl, refl, refl)
+    go protocol.B = (refl, refl, refl)
+    go protocol.C = (refl, refl, refl)
