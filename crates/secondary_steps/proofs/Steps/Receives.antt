@@ -19,17 +19,17 @@ use Rattle.model.specs.Contents.{Write, is_range, extent_of}
 use Rattle.model.specs.Stream.{Item, WriteItem, ResyncItem, BarrierItem, SyncUuidItem, UuidsItem, contents_of, epoch_of, last_epoch, has_blocks, is_in, placed, barriers_in}
 use Rattle.model.specs.Frames.{Packet, DataFrame, RsDataReplyFrame, BarrierFrame, ProtocolFrame, UuidsFrame, SizesFrame, SyncUuidFrame, RecvAckFrame, WriteAckFrame, RsWriteAckFrame, BarrierAckFrame, Received}
 use Rattle.model.specs.Refusals.{Test, first_refusal, done_with}
-use Rattle.model.specs.Primary.{change_last}
-use Rattle.model.specs.Secondary.{Inward, SecondaryHistory, inward, items_taken, is_pending, pending, received_item, with_inward}
+use Rattle.model.specs.Primary.{last_of, change_last}
+use Rattle.model.specs.Secondary.{Inward, SecondaryHistory, no_inward, inward, items_taken, is_pending, pending, received_item, with_inward}
 use Rattle.model.specs.SecondarySteps.{Checked, has_place, is_above}
 use Rattle.model.specs.SecondarySteps as step
 use Rattle.laws.proofs.Lists.Elements.{get-left}
-use Rattle.laws.proofs.Lists.Last.{change-twice}
+use Rattle.laws.proofs.Lists.Last.{change-twice, last-change}
 use Rattle.laws.proofs.Secondary.Good.{items-refusing}
 use Rattle.laws.proofs.Secondary.Moves.{framed, refused_end}
 use Rattle.laws.proofs.Secondary.Tuples.{taken-item}
 use Rattle.peerdisk.specs.Pending.{Pending}
-use Rattle.secondary_steps.specs.Core.{Intake, EndState, SecondaryState, Judged, judging, judging_item, hearing, owing, receipt, and_item, waiting, is_apart, follows, answering, taking, take_frame, take_at, take_tests, receive}
+use Rattle.secondary_steps.specs.Core.{Intake, EndState, SecondaryState, Judged, judging, judging_hello, judging_item, hearing, owing, receipt, and_item, waiting, is_apart, follows, answering, taking, take_frame, take_at, take_tests, receive}
 use Rattle.secondary_steps.specs.Leaves.{Leaves, LeavesLast, LeavesEnd, LeavesFailed, EndLeft, FailedLeft, intake_of, pending_in}
 use Rattle.secondary_steps.specs.Steps.{ReceivesAgree, Agrees}
 use Rattle.secondary_steps.proofs.Answering.{answering-open, left-answering}
@@ -43,12 +43,20 @@ use Rattle.secondary_steps.proofs.Tested.{tested-agrees, passed, end-closed, end
 -- What follows.
 
 -- an open end acknowledges what it can, and a closed one nothing
-pub leaves-follows : (s : SecondaryState) (h : SecondaryHistory) → (h.connections ≡ [] → ⊥) → Leaves s h → Leaves (follows s) (with_inward step.answering h)
-leaves-follows s h some left = record {
+pub leaves-follows : (s : SecondaryState) (h : SecondaryHistory) → Leaves s h → Leaves (follows s) (with_inward step.answering h)
+leaves-follows s h left = record {
   settings = left.settings;
   tuple = left.tuple;
   consistent = left.consistent;
-  last = subst (LeavesLast (follows s)) (sym (inward-with step.answering h some)) (go s.end refl left.last.end);
+  last = elim (last-change step.answering (no_inward h) (no_inward (with_inward step.answering h)) h.connections) [
+    | inl none ↦
+        let same : inward (with_inward step.answering h) ≡ inward h =
+        ap (λ (l : List Inward). last_of (no_inward h) (change_last step.answering l)) none ∙ sym (ap (last_of (no_inward h)) none) in
+        let shut : (inward h).closed ≡ true = ap (λ (l : List Inward). (last_of (no_inward h) l).closed) none in
+        let still : step.answering (inward h) ≡ inward h = ap (λ b. elim b as (λ _. Inward) [ true ↦ d | false ↦ record d { due = d.due ++ map (step.barrier_answer d) (step.barriers_to_answer d) } ]) shut in
+        subst (LeavesLast (follows s)) (still ∙ sym same) (go s.end refl left.last.end)
+    | inr is ↦ subst (LeavesLast (follows s)) (sym is) (go s.end refl left.last.end)
+  ];
 }
   where
     d : Inward
@@ -193,3 +201,137 @@ module _ (frame : Received) (s : SecondaryState) (h : SecondaryHistory) (e : End
           let range = (and_parts ((at == length (items_taken (inward h))) && has_place (length (items_taken (inward h)))) (is_range h.settings write.first n)
               (and_parts (((at == length (items_taken (inward h))) && has_place (length (items_taken (inward h)))) && is_range h.settings write.first n) (is_above write.number (items_taken (inward h)) && step.is_apart (WriteItem write) (items_taken (inward h))) good).0).1 in
           (and_parts (nat_lt 0 n) (nat_le n 32) (and_parts (nat_lt 0 n && nat_le n 32) (nat_le (write.first + n) h.settings.blocks) (and_parts ((nat_lt 0 n && nat_le n 32) && nat_le (write.first + n) h.settings.blocks) (extent_of write.first == extent_of (write.first + n - 1)) range).0).0).0
+
+  -- an item that makes nothing due when it is taken
+  plain-left : (item : Item) (waits : Bool) (t : SecondaryState) (later : SecondaryHistory) → nat_lt (length (inward h).taken) 3 ≡ false → received_item frame ≡ Some item → has_blocks item ≡ waits → barriers_in (item ∷ []) ≡ 0
+      → later.connections ≡ change_last (framed frame) h.connections → t.settings ≡ later.settings → t.tuple ≡ later.tuple → t.consistent ≡ later.consistent → t.number ≡ s.number
+      → t.intake ≡ intake_of (items_taken (inward h) ++ item ∷ []) → t.pending ≡ s.pending ++ cond waits (record { place = length (items_taken (inward h)); epoch = last_epoch (items_taken (inward h)); item = item } ∷ []) []
+      → t.failed ≡ s.failed → t.end ≡ Some (hearing e) → Leaves t later
+  plain-left item waits t later late brings blocks plain connections settings tuple consistent number intake waiting_is failed end_is =
+      let none : (inward h).due ++ [] ≡ (inward h).due = append-nil (inward h).due in
+      let none_e : e.due ++ [] ≡ e.due = append-nil e.due in
+      let end : LeavesEnd (hearing e) (framed frame (inward h)) =
+      end-takes e (inward h) frame (item ∷ []) [] e.due (inward h).due there (taken-item frame item (inward h) there.plain late brings) plain (sym none_e) (sym none) (λ epoch. refl) in
+      item-left late item brings waits t later (inward h).due (hearing e) blocks (inward-of (framed frame) h later connections some) end settings tuple consistent number intake waiting_is failed end_is
+
+  -- A block of a resync.
+  resync-same : (block : ℕ) (contents : List ℕ) (at : ℕ) → nat_lt (length (inward h).taken) 3 ≡ false → received_item frame ≡ Some (ResyncItem block contents)
+      → SameJudged (judging_item (RsDataReplyFrame block contents at) (hearing e) (record s { end = Some (hearing e) })) (step.checking_item (RsDataReplyFrame block contents at) (length (items_taken (inward h))) (inward h) (with_inward (framed frame) h))
+  resync-same block contents at late brings =
+      let item : Item = ResyncItem block contents in
+      let all : List Item = items_taken (inward h) in
+      let i : Intake = intake_of all in
+      let tests : Settings → Intake → Bool = λ x j. ((((at == j.places) && has_place j.places) && is_range x block 1) && (j.resync && is_apart block 1 j)) in
+      let one : tests s.settings s.intake ≡ tests h.settings i = λ k. tests (left.settings k) (left.last.intake k) in
+      let front : Bool = ((at == length all) && has_place (length all)) && is_range h.settings block 1 in
+      let two = ap (λ b. front && (i.resync && b)) (sym (apart-by-blocks all item)) in
+      same-if _ _ (one ∙ two) _ _ (λ k. what.Frame command.RsDataReply (Some (left.last.intake k).places)) _ taken (λ good.
+          plain-left item true _ taken late brings refl refl refl left.settings left.tuple left.consistent refl (kept late item brings ∙ sym (intake-resync all block contents)) (waits-there late item brings) refl refl)
+
+  -- The end of an epoch.
+  barrier-same : (number : ℕ) → nat_lt (length (inward h).taken) 3 ≡ false → received_item frame ≡ Some (BarrierItem number)
+      → SameJudged (judging_item (BarrierFrame number) (hearing e) (record s { end = Some (hearing e) })) (step.checking_item (BarrierFrame number) (length (items_taken (inward h))) (inward h) (with_inward (framed frame) h))
+  barrier-same number late brings =
+      let item : Item = BarrierItem number in
+      let all : List Item = items_taken (inward h) in
+      let i : Intake = intake_of all in
+      let tests : Intake → Bool = λ j. has_place j.places && (number == suc j.barriers) in
+      let end : LeavesEnd (record (hearing e) { sizes = e.sizes ++ i.writes ∷ [] }) (framed frame (inward h)) = end-barrier e (inward h) frame number there (taken-item frame item (inward h) there.plain late brings) in
+      let end_is : Some (record (hearing e) { sizes = e.sizes ++ s.intake.writes ∷ [] }) ≡ Some (record (hearing e) { sizes = e.sizes ++ i.writes ∷ [] }) = λ k. Some (record (hearing e) { sizes = e.sizes ++ (left.last.intake k).writes ∷ [] }) in
+      same-if _ _ (λ k. tests (left.last.intake k)) _ _ (λ k. what.Frame command.Barrier (Some (left.last.intake k).places)) _ taken (λ good.
+          item-left late item brings false _ taken (inward h).due (record (hearing e) { sizes = e.sizes ++ i.writes ∷ [] }) refl framed-is end left.settings left.tuple left.consistent refl (kept late item brings ∙ sym (intake-barrier all number))
+          (sym (append-nil s.pending)) refl end_is)
+
+  -- A resync begins.
+  start-same : (word : ℕ) → nat_lt (length (inward h).taken) 3 ≡ false → received_item frame ≡ Some (SyncUuidItem word)
+      → SameJudged (judging_item (SyncUuidFrame word) (hearing e) (record s { end = Some (hearing e) })) (step.checking_item (SyncUuidFrame word) (length (items_taken (inward h))) (inward h) (with_inward (framed frame) h))
+  start-same word late brings =
+      let item : Item = SyncUuidItem word in
+      let all : List Item = items_taken (inward h) in
+      let i : Intake = intake_of all in
+      let tests : Intake → Bool = λ j. (has_place j.places && (j.places == 0)) && nat_lt 0 word in
+      same-if _ _ (λ k. tests (left.last.intake k)) _ _ (λ k. what.Frame command.SyncUuid (Some (left.last.intake k).places)) _ (step.adopting (record h.tuple { current = word }) false taken) (λ good.
+          let first = (and_parts (has_place (length all)) (length all == 0) (and_parts (has_place (length all) && (length all == 0)) (nat_lt 0 word) good).0).1 in
+          plain-left item false _ (step.adopting (record h.tuple { current = word }) false taken) late brings refl refl refl left.settings (ap (λ (x : Tuple). record x { current = word }) left.tuple) refl refl
+          (kept late item brings ∙ sym (intake-start all word first)) (sym (append-nil s.pending)) refl refl)
+
+  -- It ends.
+  end-same-too : (tuple : Tuple) → nat_lt (length (inward h).taken) 3 ≡ false → received_item frame ≡ Some (UuidsItem tuple)
+      → SameJudged (judging_item (UuidsFrame tuple) (hearing e) (record s { end = Some (hearing e) })) (step.checking_item (UuidsFrame tuple) (length (items_taken (inward h))) (inward h) (with_inward (framed frame) h))
+  end-same-too tuple late brings =
+      let item : Item = UuidsItem tuple in
+      let all : List Item = items_taken (inward h) in
+      let tests : Intake → Bool = λ j. has_place j.places && j.resync in
+      same-if _ _ (λ k. tests (left.last.intake k)) _ _ (λ k. what.Frame command.Uuids (Some (left.last.intake k).places)) _ (step.adopting tuple true taken) (λ good.
+          plain-left item false _ (step.adopting tuple true taken) late brings refl refl refl left.settings refl refl refl (kept late item brings ∙ sym (intake-end all tuple)) (sym (append-nil s.pending)) refl refl)
+
+  -- The hello is over, and a packet is judged as an item; one that is none is refused.
+  late-same : (packet : Packet) → frame ≡ Ok packet → nat_lt (length (inward h).taken) 3 ≡ false
+      → SameJudged (judging_item packet (hearing e) (record s { end = Some (hearing e) })) (step.checking_item packet (length (items_taken (inward h))) (inward h) (with_inward (framed frame) h))
+  late-same (DataFrame write at) is_frame late = data-same write at late (ap received_item is_frame)
+  late-same (RsDataReplyFrame block contents at) is_frame late = resync-same block contents at late (ap received_item is_frame)
+  late-same (BarrierFrame number) is_frame late = barrier-same number late (ap received_item is_frame)
+  late-same (ProtocolFrame asked) is_frame late = refl
+  late-same (UuidsFrame tuple) is_frame late = end-same-too tuple late (ap received_item is_frame)
+  late-same (SizesFrame blocks) is_frame late = refl
+  late-same (SyncUuidFrame word) is_frame late = start-same word late (ap received_item is_frame)
+  late-same (RecvAckFrame ack) is_frame late = refl
+  late-same (WriteAckFrame ack) is_frame late = refl
+  late-same (RsWriteAckFrame ack) is_frame late = refl
+  late-same (BarrierAckFrame number size) is_frame late = refl
+
+  -- a packet, or a fault in its place
+  judged-same : (r : Received) → frame ≡ r → SameJudged (judging r e s) (step.checking r (inward h) (with_inward (framed frame) h))
+  judged-same (Err fault) is_frame = refl
+  judged-same (Ok packet) is_frame = go (nat_lt (length (inward h).taken) 3) refl
+    where
+      go : (b : Bool) → nat_lt (length (inward h).taken) 3 ≡ b → SameJudged (judging (Ok packet) e s) (step.checking (Ok packet) (inward h) (with_inward (framed frame) h))
+      go true early =
+          let less : length (inward h).taken < 3 = ltb-true (length (inward h).taken) 3 early in
+          let goes_on : nat_lt e.heard 3 ≡ true = hello-goes-on e (inward h) there.heard ∙ early in
+          let count : length (inward h).taken ≡ e.heard = omega (arith, there.heard) in
+          subst (λ (b : Bool). SameJudged (if b then judging_hello e.heard packet heard else judging_item packet (hearing e) heard) (step.checking (Ok packet) (inward h) taken)) (sym goes_on)
+          (subst (λ (b : Bool). SameJudged (judging_hello e.heard packet heard) (elim b as (λ _. Checked) [ true ↦ step.checking_hello (length (inward h).taken) packet taken | false ↦ step.checking_item packet (length (items_taken (inward h))) (inward h) taken ])) (sym early)
+          (subst (λ (n : ℕ). SameJudged (judging_hello e.heard packet heard) (step.checking_hello n packet taken)) (sym count) (hello-same e.heard packet heard taken (hello-left less))))
+      go false late =
+          let over : nat_lt e.heard 3 ≡ false = hello-goes-on e (inward h) there.heard ∙ late in
+          subst (λ (b : Bool). SameJudged (if b then judging_hello e.heard packet heard else judging_item packet (hearing e) heard) (step.checking (Ok packet) (inward h) taken)) (sym over)
+          (subst (λ (b : Bool). SameJudged (judging_item packet (hearing e) heard) (elim b as (λ _. Checked) [ true ↦ step.checking_hello (length (inward h).taken) packet taken | false ↦ step.checking_item packet (length (items_taken (inward h))) (inward h) taken ])) (sym late)
+          (late-same packet is_frame late))
+
+  -- a protocol error closes the end
+  refused-left : Leaves (record s { end = None }) (with_inward refused_end (with_inward (framed frame) h))
+  refused-left =
+      let items : items_taken (refused_end (framed frame (inward h))) ≡ items_taken (inward h) = items-refusing frame (inward h) there.plain in
+      let form : inward (with_inward refused_end (with_inward (framed frame) h)) ≡ refused_end (framed frame (inward h)) =
+      inward-of (λ c. refused_end (framed frame c)) h (with_inward refused_end (with_inward (framed frame) h)) (change-twice (framed frame) refused_end h.connections) some in
+      record {
+        settings = left.settings;
+        tuple = left.tuple;
+        consistent = left.consistent;
+        last = subst (LeavesLast (record s { end = None })) (sym form) (record {
+          number = left.last.number;
+          intake = left.last.intake ∙ ap intake_of (sym items);
+          named = λ place offset inside. subst (λ (l : List Item). place < length l) (sym items) (left.last.named place offset inside);
+          pending = left.last.pending ∙ ap (λ (l : List Item). map (pending_in l) (filter (is_pending (inward h)) (placed l))) (sym items);
+          failed = subst (λ (v : Option ℕ). FailedLeft v (refused_end (framed frame (inward h)))) (sym whole.0) whole.1;
+          end = refl;
+        });
+      }
+
+-- A frame is taken at an open end.
+take-agrees : (frame : Received) (s : SecondaryState) (h : SecondaryHistory) (e : EndState) → s.end ≡ Some e → Leaves s h → LeavesEnd e (inward h) → Agrees (λ done. done) (take_frame frame e s) (step.take_item frame h)
+take-agrees frame s h e is left there = go (judging frame e s) (step.checking frame (inward h) (with_inward (framed frame) h)) (judged-same frame s h e is left there frame refl)
+  where
+    go : (j : Judged) (c : Checked) → SameJudged j c
+        → Agrees (λ done. done) (taking j s) (elim c as (λ _. Reply × SecondaryHistory) [
+          | Ok done ↦ step.succeeding_secondary done.0 done.1
+          | Err refusal ↦ (reply.Refused refusal, with_inward refused_end (with_inward (framed frame) h))
+        ])
+    go (Ok (name, t)) (Ok (other, later)) same = record {
+      reply = ap (λ n. reply.Ok (done_with n)) same.0;
+      leaves = leaves-follows t later same.1;
+    }
+    go (Err refusal) (Err other) same = record { reply = ap reply.Refused same; leaves = refused-left frame s h e is left there }
+    go (Ok a) (Err q) same = absurd same
+    go (Err r) (Ok b) same = absurd same
