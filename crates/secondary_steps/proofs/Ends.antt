@@ -5,7 +5,7 @@ use Rattle.std.specs.List.{list_any}
 use Rattle.std.proofs.lemmas.Bool.{cases_Bool, both_ways, ltb-true, ltb-false, lt-ltb, le-ltb, cases_lt}
 use Rattle.std.proofs.lemmas.List.{map-append, length-append, drop-append-le, append-nil}
 use Rattle.std.proofs.lemmas.List.Folds.{list_any-append}
-use Rattle.model.specs.Stream.{Item, BarrierItem, is_barrier, barriers_in, epoch_size, last_epoch}
+use Rattle.model.specs.Stream.{Item, Part, BarrierItem, is_barrier, barriers_in, epoch_size, last_epoch}
 use Rattle.model.specs.Frames.{Packet, Received}
 use Rattle.model.specs.Secondary.{Inward, items_taken, received_item}
 use Rattle.model.specs.SecondarySteps.{is_barrier_answer}
@@ -158,3 +158,25 @@ end-pushes e d left more = elim (cases_lt d.pushed 3) [
         sizes = left.sizes;
       })
 ]
+
+-- These acknowledgements become due, of which none is an epoch's; what is applied does not matter to the end.
+pub end-owes : (e : EndState) (d : Inward) (packets : List Packet) (part : Part) → LeavesEnd e d → ((epoch : ℕ) → list_any (is_barrier_answer epoch) packets ≡ false) → LeavesEnd (owing packets e) (record d { applied = part; due = d.due ++ packets })
+end-owes e d packets part left other =
+    let longer = length-append d.due packets in
+    let owed = left.owed in
+    record {
+      stands = left.stands;
+      plain = left.plain;
+      hello = left.hello;
+      heard = left.heard;
+      said = left.said;
+      owed = omega arith;
+      due = ap (λ (l : List Packet). l ++ packets) left.due ∙ sym (drop-append-le (d.pushed - 3) d.due packets left.owed);
+      answered = λ epoch from. list_any-append (is_barrier_answer epoch) d.due packets ∙ (ap (λ b. list_any (is_barrier_answer epoch) d.due || b) (other epoch) ∙ (or-none (list_any (is_barrier_answer epoch) d.due) ∙ left.answered epoch from));
+      within = left.within;
+      sizes = left.sizes;
+    }
+  where
+    or-none : (b : Bool) → (b || false) ≡ b
+    or-none true = refl
+    or-none false = refl

@@ -335,3 +335,25 @@ take-agrees frame s h e is left there = go (judging frame e s) (step.checking fr
     go (Err refusal) (Err other) same = record { reply = ap reply.Refused same; leaves = refused-left frame s h e is left there }
     go (Ok a) (Err q) same = absurd same
     go (Err r) (Ok b) same = absurd same
+
+-- The next frame is taken, whatever it is.
+pub receives-agree : ReceivesAgree
+receives-agree frame starved s h left =
+    tested-agrees (λ done. done) s h
+    ((is_none s.end, NotConnected) ∷ (nat_le s.settings.pending (length s.pending), PendingFull) ∷ (starved, NoMemory) ∷ (is_none frame, NothingThere) ∷ [])
+    (((inward h).closed, NotConnected) ∷ (nat_le h.settings.pending (length (pending (inward h))), PendingFull) ∷ (starved, NoMemory) ∷ (is_none frame, NothingThere) ∷ [])
+    (λ _. elim frame as (λ _. Result Done Refusal × SecondaryState) [ None ↦ (Err NothingThere, s) | Some taken ↦ take_at taken s.end s ])
+    (λ _. elim frame as (λ _. Reply × SecondaryHistory) [ None ↦ (reply.Refused NothingThere, h) | Some taken ↦ step.take_item taken h ])
+    (λ k. (end-closed s.end (inward h) left.last.end k, NotConnected) ∷ (nat_le (left.settings k).pending (count k), PendingFull) ∷ (starved, NoMemory) ∷ (is_none frame, NothingThere) ∷ [])
+    left (λ none.
+    let stands = (passed (inward h).closed NotConnected ((nat_le h.settings.pending (length (pending (inward h))), PendingFull) ∷ (starved, NoMemory) ∷ (is_none frame, NothingThere) ∷ []) none).0 in
+    go frame (end-there s.end (end-closed s.end (inward h) left.last.end ∙ stands)))
+  where
+    count : length s.pending ≡ length (pending (inward h))
+    count = ap length left.last.pending ∙ length-map (pending_in (items_taken (inward h))) (pending (inward h))
+
+    go : (f : Option Received) → ((e : EndState) × (s.end ≡ Some e))
+        → Agrees (λ done. done) (elim f as (λ _. Result Done Refusal × SecondaryState) [ None ↦ (Err NothingThere, s) | Some taken ↦ take_at taken s.end s ]) (elim f as (λ _. Reply × SecondaryHistory) [ None ↦ (reply.Refused NothingThere, h) | Some taken ↦ step.take_item taken h ])
+    go None e = record { reply = refl; leaves = left }
+    go (Some taken) e =
+        subst (λ (v : Option EndState). Agrees (λ done. done) (take_at taken v s) (step.take_item taken h)) (sym e.1) (take-agrees taken s h e.0 e.1 left (subst (λ (v : Option EndState). EndLeft v (inward h)) e.1 left.last.end))

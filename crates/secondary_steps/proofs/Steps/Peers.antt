@@ -1,0 +1,167 @@
+-- The disk does an item, or fails it.
+use Rattle.std.proofs.Common.{ℕ, zero, suc, ◌≡◌, ◌+◌, ◌-◌, ◌<◌, ◌≤◌, ◌⊎◌, inl, inr, Bool, true, false, not, ◌&&◌, ◌||◌, List, [], ◌∷◌, ◌++◌, length, map, filter, Option, Some, None, Result, Ok, Err, slice_get, refl, sym, ◌∙◌, ap, subst, arith, ◌==◌, nat_lt, nat_le}
+use Rattle.std.specs.Prelude.{option_map, if◌then◌else◌}
+use Rattle.std.specs.List.{list_any}
+use Rattle.std.proofs.lemmas.Bool.{cases_Bool, both_ways, or_cases, or_left, or_right, eqb-true, eq-eqb, leb-true, le-leb, false_from_ne_true, cases_lt, lt-ltb, and_parts}
+use Rattle.std.proofs.lemmas.List.{append-nil}
+use Rattle.std.proofs.lemmas.List.Folds.{list_any-append}
+use Rattle.std.proofs.lemmas.Option.{slice_get_within}
+use Rattle.blocks.specs.declared.settings.Settings.{Settings}
+use Rattle.blocks.specs.declared.settings.Protocol.{Protocol}
+use Rattle.blocks.specs.declared.settings.Protocol.TheVariants as protocol
+use Rattle.blocks.specs.declared.refusal.Refusal.{Refusal}
+use Rattle.blocks.specs.declared.refusal.Refusal.TheVariants.{UnknownJob, EpochOpen}
+use Rattle.blocks.specs.declared.outcome.Reply.{Reply}
+use Rattle.blocks.specs.declared.outcome.Reply.TheVariants as reply
+use Rattle.blocks.specs.declared.outcome.What.TheVariants as what
+use Rattle.model.specs.Stream.{Item, WriteItem, ResyncItem, BarrierItem, SyncUuidItem, UuidsItem, is_in, has_blocks, contents_of, epoch_of, placed, below, within, barriers_in}
+use Rattle.model.specs.Frames.{Packet}
+use Rattle.model.specs.Refusals.{Test, done_with}
+use Rattle.model.specs.Secondary.{Inward, SecondaryHistory, no_inward, inward, items_taken, is_pending, pending, with_inward}
+use Rattle.model.specs.SecondarySteps.{applied_answer, applying, failing, offsets_at, blocks_at, is_barrier_answer}
+use Rattle.model.specs.SecondarySteps as step
+use Rattle.model.specs.Primary.{last_of}
+use Rattle.laws.proofs.Secondary.Sound.{pending-before}
+use Rattle.laws.proofs.Streams.Parts.{in-append, in-offsets}
+use Rattle.laws.proofs.Lists.Picks.{pick-any, pick-image, pick-filtered}
+use Rattle.secondary_steps.specs.Core.{EndState, SecondaryState, applied, follows, owing, answers_of, peer, peer_fault}
+use Rattle.secondary_steps.specs.Leaves.{Leaves, LeavesLast, LeavesEnd, LeavesFailed, EndLeft, FailedLeft, intake_of, pending_in}
+use Rattle.secondary_steps.specs.Steps.{AppliesAgree, FaultsAgree, Agrees, plainly}
+use Rattle.peerdisk.specs.Pending.{Pending, start, without, item_at, epoch_at, after_fault}
+use Rattle.secondary_steps.proofs.Ends.{end-owes}
+use Rattle.secondary_steps.proofs.Failing.{failing-pending, waiting-failed}
+use Rattle.secondary_steps.proofs.Starting.{MayStart, MayNot, starting}
+use Rattle.secondary_steps.proofs.Steps.Receives.{leaves-follows}
+use Rattle.secondary_steps.proofs.Tested.{tested-agrees, inward-with, open-whole}
+use Rattle.secondary_steps.proofs.Waiting.{waiting-applied, placed-back}
+
+-- an item that was taken is on some connection
+taken-some : (h : SecondaryHistory) (place : ℕ) (item : Item) → slice_get (items_taken (inward h)) place ≡ Some item → h.connections ≡ [] → ⊥
+taken-some h place item at none =
+    let empty : slice_get (items_taken (no_inward h)) place ≡ Some item = ap (λ (l : List Inward). slice_get (items_taken (last_of (no_inward h) l)) place) (sym none) ∙ at in
+    let inside = slice_get_within (items_taken (no_inward h)) place item empty in omega arith
+
+-- what is applied is no epoch's acknowledgement
+applied-other : (asked : Protocol) (place : ℕ) (item : Item) (epoch : ℕ) → list_any (is_barrier_answer epoch) (applied_answer asked place item) ≡ false
+applied-other protocol.A place (WriteItem write) epoch = refl
+applied-other protocol.B place (WriteItem write) epoch = refl
+applied-other protocol.C place (WriteItem write) epoch = refl
+applied-other asked place (ResyncItem block contents) epoch = refl
+applied-other asked place (BarrierItem number) epoch = refl
+applied-other asked place (SyncUuidItem word) epoch = refl
+applied-other asked place (UuidsItem tuple) epoch = refl
+
+-- The tests of the disk's steps, where they do not hold, and where one does.
+tests-pass : (h : SecondaryHistory) (place : ℕ) (ps : List (Pending Item)) → MayStart (inward h) place ps → step.peer_tests h place ≡ (false, UnknownJob) ∷ (false, EpochOpen) ∷ []
+tests-pass h place ps may = λ i. (not (may.listed i), UnknownJob) ∷ (may.first i, EpochOpen) ∷ []
+
+refused-alike : (s : SecondaryState) (h : SecondaryHistory) (place : ℕ) (ps : List (Pending Item)) (done : Unit {0} → Reply × SecondaryHistory) (got : Result Item Refusal → Result (Unit {0}) Refusal × SecondaryState) → Leaves s h → (may_not : MayNot (inward h) place ps)
+    → ((refusal : Refusal) → got (Err refusal) ≡ (Err refusal, s)) → Agrees plainly (got (start place ps)) (step.tested_secondary h (step.peer_tests h place) done)
+refused-alike s h place ps done got left may_not form = subst (λ (r : Result Item Refusal). Agrees plainly (got r) (step.tested_secondary h (step.peer_tests h place) done)) (sym may_not.starts)
+    (subst (λ (x : Result (Unit {0}) Refusal × SecondaryState). Agrees plainly x (step.tested_secondary h (step.peer_tests h place) done)) (sym (form may_not.refusal)) (elim may_not.tested [
+      | inl none ↦
+          let same : step.peer_tests h place ≡ (true, UnknownJob) ∷ (step.has_earlier (inward h) place, EpochOpen) ∷ [] = λ i. (not (none.0 i), UnknownJob) ∷ (step.has_earlier (inward h) place, EpochOpen) ∷ [] in
+          subst (λ (ts : List Test). Agrees plainly (Err may_not.refusal, s) (step.tested_secondary h ts done)) (sym same) (record { reply = ap reply.Refused none.1; leaves = left })
+      | inr held ↦
+          let same : step.peer_tests h place ≡ (false, UnknownJob) ∷ (true, EpochOpen) ∷ [] = λ i. (not (held.0 i), UnknownJob) ∷ (held.1 i, EpochOpen) ∷ [] in
+          subst (λ (ts : List Test). Agrees plainly (Err may_not.refusal, s) (step.tested_secondary h ts done)) (sym same) (record { reply = ap reply.Refused held.2; leaves = left })
+    ]))
+
+-- The disk did an item.
+
+-- what the connection is then, where the item is this
+applying-is : (asked : Protocol) (place : ℕ) (d : Inward) (item : Item) → slice_get (items_taken d) place ≡ Some item
+    → applying asked place d ≡ record d { applied = d.applied ++ offsets_at place (below (length (contents_of item))); due = elim d.closed [ true ↦ d.due | false ↦ d.due ++ applied_answer asked place item ] }
+applying-is asked place d item at = ap (λ (v : Option Item). elim v as (λ _. Inward) [
+  | None ↦ d
+  | Some one ↦ record d { applied = d.applied ++ offsets_at place (below (length (contents_of one))); due = elim d.closed as (λ _. List Packet) [ true ↦ d.due | false ↦ d.due ++ applied_answer asked place one ] }
+]) at
+
+-- a part more at a taken place names only taken places
+named-more : (d : Inward) (place : ℕ) (item : Item) (offsets : List ℕ) → slice_get (items_taken d) place ≡ Some item → ((other offset : ℕ) → is_in d.applied other offset ≡ true → other < length (items_taken d))
+    → (other offset : ℕ) → is_in (d.applied ++ offsets_at place offsets) other offset ≡ true → other < length (items_taken d)
+named-more d place item offsets at named other offset inside = elim (or_cases (is_in d.applied other offset) (is_in (offsets_at place offsets) other offset) (sym (in-append d.applied (offsets_at place offsets) other offset) ∙ inside)) [
+  | inl before ↦ named other offset before
+  | inr new ↦ subst (λ (k : ℕ). k < length (items_taken d)) (in-offsets place offsets other offset new) (slice_get_within (items_taken d) place item at)
+]
+
+-- The state after an item was applied, before what follows.
+abbrev applied_first : ℕ → SecondaryState → SecondaryState
+applied_first place s = record s { pending = without place s.pending; end = option_map (owing (answers_of s.settings.protocol place (item_at place s.pending))) s.end }
+
+applied-left : (s : SecondaryState) (h : SecondaryHistory) (place : ℕ) → Leaves s h → MayStart (inward h) place (map (pending_in (items_taken (inward h))) (pending (inward h)))
+    → Leaves (applied_first place s) (with_inward (applying h.settings.protocol place) h)
+applied-left s h place left may = record {
+  settings = left.settings;
+  tuple = left.tuple;
+  consistent = left.consistent;
+  last = subst (LeavesLast (applied_first place s)) (sym (inward-with (applying h.settings.protocol place) h (taken-some h place may.item may.there) ∙ applying-is asked place d may.item may.there)) (by-end s.end refl left.last.end);
+}
+  where
+    d : Inward
+    d = inward h
+
+    asked : Protocol
+    asked = h.settings.protocol
+
+    after : List Packet → Inward
+    after due = record (inward h) { applied = (inward h).applied ++ offsets_at place (below (length (contents_of may.item))); due = due }
+
+    item_is : item_at place s.pending ≡ Some may.item
+    item_is = ap (item_at place) left.last.pending ∙ may.item_is
+
+    last-of : (due : List Packet) → EndLeft (applied_first place s).end (after due) → FailedLeft s.failed (after due) → LeavesLast (applied_first place s) (after due)
+    last-of due end failed = record {
+      number = left.last.number;
+      intake = left.last.intake;
+      named = named-more (inward h) place may.item (below (length (contents_of may.item))) may.there left.last.named;
+      pending = ap (without place) left.last.pending ∙ sym (waiting-applied (inward h) (items_taken (inward h)) place may.item due may.there);
+      failed = failed;
+      end = end;
+    }
+
+    -- what waits after more is applied waited before
+    failed-after : (due : List Packet) (v : Option ℕ) → FailedLeft v (inward h) → FailedLeft v (after due)
+    failed-after due None none = none
+    failed-after due (Some epoch) was = record {
+      place = was.place;
+      item = was.item;
+      at = was.at;
+      has_blocks = was.has_blocks;
+      gone = was.gone;
+      epoch_is = was.epoch_is;
+      later = was.later;
+      waiting = λ other one there waits. was.waiting other one there (pending-before (inward h) (after due) (offsets_at place (below (length (contents_of may.item)))) other one refl refl waits);
+      closed = was.closed;
+    }
+
+    by-end : (v : Option EndState) → s.end ≡ v → EndLeft v (inward h)
+        → LeavesLast (applied_first place s) (after (elim (inward h).closed as (λ _. List Packet) [ true ↦ (inward h).due | false ↦ (inward h).due ++ applied_answer h.settings.protocol place may.item ]))
+    by-end None is shut =
+        subst (λ (b : Bool). LeavesLast (applied_first place s) (after (elim b as (λ _. List Packet) [ true ↦ (inward h).due | false ↦ (inward h).due ++ applied_answer h.settings.protocol place may.item ]))) (sym shut)
+        (last-of (inward h).due (subst (λ (v : Option EndState). EndLeft (option_map (owing (answers_of s.settings.protocol place (item_at place s.pending))) v) (after (inward h).due)) (sym is) shut) (failed-after (inward h).due s.failed left.last.failed))
+    by-end (Some e) is there =
+        let packets : List Packet = applied_answer asked place may.item in
+        let owes : owing (answers_of s.settings.protocol place (item_at place s.pending)) e ≡ owing packets e = λ k. owing (answers_of (left.settings k).protocol place (item_is k)) e in
+        let end : LeavesEnd (owing packets e) (after ((inward h).due ++ packets)) =
+        end-owes e (inward h) packets ((inward h).applied ++ offsets_at place (below (length (contents_of may.item)))) there (applied-other asked place may.item) in
+        subst (λ (b : Bool). LeavesLast (applied_first place s) (after (elim b as (λ _. List Packet) [ true ↦ (inward h).due | false ↦ (inward h).due ++ applied_answer h.settings.protocol place may.item ]))) (sym there.stands)
+        (last-of ((inward h).due ++ packets)
+        (subst (λ (v : Option EndState). EndLeft (option_map (owing (answers_of s.settings.protocol place (item_at place s.pending))) v) (after ((inward h).due ++ packets))) (sym is) (subst (λ (x : EndState). LeavesEnd x (after ((inward h).due ++ packets))) (sym owes) end))
+        (failed-after ((inward h).due ++ packets) s.failed left.last.failed))
+
+-- the disk does an item
+pub applies-agree : AppliesAgree
+applies-agree place s h left = elim (starting (inward h) place) [
+  | inl may ↦
+      let starts : start place s.pending ≡ Ok may.item = ap (start place) left.last.pending ∙ may.starts in
+      subst (λ (r : Result Item Refusal). Agrees plainly (elim r as (λ _. Result (Unit {0}) Refusal × SecondaryState) [ Err refusal ↦ (Err refusal, s) | Ok item ↦ (Ok tt, applied place s) ]) (step.peer place h)) (sym starts)
+      (subst (λ (ts : List Test). Agrees plainly (Ok tt, applied place s) (step.tested_secondary h ts (λ _. step.succeeding_secondary what.Nothing (with_inward (applying h.settings.protocol place) h)))) (sym (tests-pass h place (map (pending_in (items_taken (inward h))) (pending (inward h))) may)) (record {
+        reply = refl;
+        leaves = leaves-follows (applied_first place s) (with_inward (applying h.settings.protocol place) h) (applied-left s h place left may);
+      }))
+  | inr may_not ↦
+      subst (λ (ps : List (Pending Item)). Agrees plainly (elim (start place ps) as (λ _. Result (Unit {0}) Refusal × SecondaryState) [ Err refusal ↦ (Err refusal, s) | Ok item ↦ (Ok tt, applied place s) ]) (step.peer place h)) (sym left.last.pending)
+      (refused-alike s h place (map (pending_in (items_taken (inward h))) (pending (inward h))) (λ _. step.succeeding_secondary what.Nothing (with_inward (applying h.settings.protocol place) h))
+          (λ r. elim r as (λ _. Result (Unit {0}) Refusal × SecondaryState) [ Err refusal ↦ (Err refusal, s) | Ok item ↦ (Ok tt, applied place s) ]) left may_not (λ refusal. refl))
+]
