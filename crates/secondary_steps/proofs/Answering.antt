@@ -1,9 +1,8 @@
 -- The acknowledgements of epochs: those that become due are the same in the state and in the history.
-use Rattle.std.proofs.Common.{ℕ, zero, suc, ◌≡◌, ◌+◌, ◌-◌, ◌<◌, ◌≤◌, ◌⊎◌, inl, inr, Bool, true, false, cond, not, ◌&&◌, ◌||◌, List, [], ◌∷◌, ◌++◌, length, map, filter, take, drop, Some, None, slice_get, refl, sym, ◌∙◌, ap, subst, arith, ◌==◌, nat_lt, nat_le}
-use Rattle.std.specs.Prelude.{if◌then◌else◌}
+use Rattle.std.proofs.Common.{ℕ, zero, suc, ◌≡◌, ◌+◌, ◌-◌, ◌<◌, ◌≤◌, ◌⊎◌, inl, inr, Bool, true, false, cond, not, ◌&&◌, ◌||◌, List, [], ◌∷◌, ◌++◌, length, map, filter, take, drop, refl, sym, ◌∙◌, ap, subst, arith, ◌==◌, nat_lt, nat_le}
 use Rattle.std.specs.List.{list_any, list_all}
-use Rattle.std.proofs.lemmas.Bool.{cases_Bool, both_ways, and_parts, ltb-true, leb-true, lt-ltb, le-leb, le-ltb, lt-leb, cases_lt, false_from_ne_true, eqb-true, eq-eqb}
-use Rattle.std.proofs.lemmas.List.{map-append, append-nil, length-append, drop-append-le}
+use Rattle.std.proofs.lemmas.Bool.{cases_Bool, both_ways, lt-ltb, le-leb, le-ltb, lt-leb, cases_lt, eqb-true, eq-eqb}
+use Rattle.std.proofs.lemmas.List.{map-append, length-append, drop-append-le}
 use Rattle.std.proofs.lemmas.List.Elements.{filter-append}
 use Rattle.std.proofs.lemmas.List.Folds.{list_any-append}
 use Rattle.model.specs.Stream.{Item, is_barrier, barriers_in, has_blocks, is_whole, epoch_of, epoch_size, placed, placed_from, below}
@@ -132,7 +131,7 @@ shape ps size n (suc k) = go (is_applied_to ps (suc n)) refl (shape ps size (suc
 
 -- Numbers.
 
-numbers-split : (n a k : ℕ) → numbers_after n (a + k) ≡ numbers_after n a ++ numbers_after (n + a) k
+pub numbers-split : (n a k : ℕ) → numbers_after n (a + k) ≡ numbers_after n a ++ numbers_after (n + a) k
 numbers-split n zero k = let same : n + 0 ≡ n = omega arith in let none : 0 + k ≡ k = omega arith in rw (same, none) refl
 numbers-split n (suc a) k =
     let step_on : suc n + a ≡ n + suc a = omega arith in
@@ -145,17 +144,17 @@ numbers-end n k =
     ap (numbers_after n) (sym count) ∙ numbers-split n k 1
 
 -- the numbers from 1 on
-numbers-below : (n : ℕ) → map suc (below n) ≡ numbers_after 0 n
+pub numbers-below : (n : ℕ) → map suc (below n) ≡ numbers_after 0 n
 numbers-below zero = refl
 numbers-below (suc n) = map-append suc (below n) (n ∷ []) ∙ (ap (λ l. l ++ suc n ∷ []) (numbers-below n) ∙ (ap (λ m. numbers_after 0 n ++ suc m ∷ []) (omega arith) ∙ sym (numbers-end 0 n)))
 
-filter-all : (p q : ℕ → Bool) (n k : ℕ) → ((x : ℕ) → n < x → x ≤ n + k → p x ≡ q x) → filter p (numbers_after n k) ≡ filter q (numbers_after n k)
+pub filter-all : (p q : ℕ → Bool) (n k : ℕ) → ((x : ℕ) → n < x → x ≤ n + k → p x ≡ q x) → filter p (numbers_after n k) ≡ filter q (numbers_after n k)
 filter-all p q n zero same = refl
 filter-all p q n (suc k) same =
     ap (λ b. cond b (suc n ∷ filter p (numbers_after (suc n) k)) (filter p (numbers_after (suc n) k))) (same (suc n) (omega arith) (omega arith))
     ∙ ap (λ l. cond (q (suc n)) (suc n ∷ l) l) (filter-all p q (suc n) k (λ x from upto. same x (omega arith) (omega arith)))
 
-filter-no : (p : ℕ → Bool) (n k : ℕ) → ((x : ℕ) → n < x → x ≤ n + k → p x ≡ false) → filter p (numbers_after n k) ≡ []
+pub filter-no : (p : ℕ → Bool) (n k : ℕ) → ((x : ℕ) → n < x → x ≤ n + k → p x ≡ false) → filter p (numbers_after n k) ≡ []
 filter-no p n zero none = refl
 filter-no p n (suc k) none = rw (none (suc n) (omega arith) (omega arith)) (filter-no p (suc n) k (λ x from upto. none x (omega arith) (omega arith)))
 
@@ -208,9 +207,9 @@ answers-same e d none left s =
     let numbers : map suc (below (barriers_in items)) ≡ numbers_after 0 e.answered ++ numbers_after e.answered k =
     numbers-below (barriers_in items) ∙ (ap (numbers_after 0) sum ∙ (numbers-split 0 e.answered k ∙ ap (λ m. numbers_after 0 e.answered ++ numbers_after m k) zero_too)) in
     let before : filter p (numbers_after 0 e.answered) ≡ [] = filter-no p 0 e.answered (λ x from upto.
-        ap (λ b. model.is_applied_to d x && not b) (left.answered x from ∙ le-leb x e.answered (omega arith)) ∙ and-false (model.is_applied_to d x)) in
+    ap (λ b. model.is_applied_to d x && not b) (left.answered x from ∙ le-leb x e.answered (omega arith)) ∙ and-false (model.is_applied_to d x)) in
     let behind : filter p (numbers_after e.answered k) ≡ filter (is_applied_to ps) (numbers_after e.answered k) = filter-all p (is_applied_to ps) e.answered k (λ x from upto.
-        ap (λ b. model.is_applied_to d x && not b) (left.answered x (omega arith) ∙ lt-leb x e.answered from) ∙ (and-true (model.is_applied_to d x) ∙ applied-same d x none)) in
+    ap (λ b. model.is_applied_to d x && not b) (left.answered x (omega arith) ∙ lt-leb x e.answered from) ∙ (and-true (model.is_applied_to d x) ∙ applied-same d x none)) in
     let all : barriers_to_answer d ≡ numbers_after e.answered s.count =
     ap (filter p) numbers ∙ (filter-append p (numbers_after 0 e.answered) (numbers_after e.answered k) ∙ (ap (λ l. l ++ filter p (numbers_after e.answered k)) before ∙ (behind ∙ s.passing))) in
     ap (map (barrier_answer d)) all ∙ (sym s.answers_are ∙ ap (answers ps e.answered) (sym left.sizes))

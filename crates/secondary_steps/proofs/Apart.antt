@@ -1,7 +1,7 @@
 -- Whether an item is apart from those of the last epoch: by the blocks that they have.
-use Rattle.std.proofs.Common.{ℕ, zero, suc, ◌≡◌, ◌<◌, ◌≤◌, ◌+◌, ◌-◌, inl, inr, Bool, true, false, not, ◌&&◌, List, [], ◌∷◌, length, Some, slice_get, refl, sym, ◌∙◌, ap, subst, arith, nat_lt, nat_le}
+use Rattle.std.proofs.Common.{ℕ, zero, suc, ◌≡◌, ◌<◌, ◌≤◌, ◌+◌, ◌-◌, inl, inr, Bool, true, false, not, ◌&&◌, List, [], ◌∷◌, length, Some, slice_get, refl, sym, ◌∙◌, ap, arith, nat_lt, nat_le}
 use Rattle.std.specs.List.{list_any}
-use Rattle.std.proofs.lemmas.Bool.{cases_Bool, both_ways, and_parts, and_from, ltb-true, lt-ltb, leb-true, le-leb, cases_lt}
+use Rattle.std.proofs.lemmas.Bool.{and_parts, and_from, ltb-true, lt-ltb, le-leb, cases_lt}
 use Rattle.model.specs.Contents.{is_between, ranges_meet}
 use Rattle.model.specs.Stream.{Item, first_of, contents_of, items_meet, items_of_epoch, last_epoch, below}
 use Rattle.model.specs.SecondarySteps as step
@@ -35,8 +35,7 @@ meet-there first count other size meets =
     let one : first < other + size = ltb-true first (other + size) ends.0 in
     let two : other < first + count = ltb-true other (first + count) ends.1 in
     let three : 0 < count = ltb-true 0 count some.0 in
-    let four : 0 < size = ltb-true 0 size some.1 in
-    (
+    let four : 0 < size = ltb-true 0 size some.1 in (
       first - other,
       omega arith,
       and_from (nat_le first (other + (first - other))) (nat_lt (other + (first - other)) (first + count)) (le-leb first (other + (first - other)) (omega arith)) (lt-ltb (other + (first - other)) (first + count) (omega arith)),

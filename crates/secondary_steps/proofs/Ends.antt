@@ -1,18 +1,16 @@
 -- An open end as it takes, owes and pushes frames.
-use Rattle.std.proofs.Common.{ℕ, zero, suc, ◌≡◌, ◌+◌, ◌-◌, ◌<◌, ◌≤◌, inl, inr, Bool, true, false, ◌||◌, List, [], ◌∷◌, ◌++◌, length, map, drop, Option, Some, None, slice_get, Ok, refl, sym, ◌∙◌, ap, subst, arith, nat_lt, nat_le, min}
+use Rattle.std.proofs.Common.{ℕ, zero, suc, ◌≡◌, ◌+◌, ◌-◌, ◌<◌, ◌≤◌, inl, inr, Bool, true, false, ◌||◌, List, [], ◌∷◌, ◌++◌, length, map, drop, refl, sym, ◌∙◌, ap, subst, arith, nat_lt, min}
 use Rattle.std.specs.Prelude.{if◌then◌else◌}
 use Rattle.std.specs.List.{list_any}
-use Rattle.std.proofs.lemmas.Bool.{cases_Bool, both_ways, ltb-true, ltb-false, lt-ltb, le-ltb, cases_lt}
-use Rattle.std.proofs.lemmas.List.{map-append, length-append, drop-append-le, append-nil}
+use Rattle.std.proofs.lemmas.Bool.{lt-ltb, le-ltb, cases_lt}
+use Rattle.std.proofs.lemmas.List.{map-append, length-append, drop-append-le}
 use Rattle.std.proofs.lemmas.List.Folds.{list_any-append}
-use Rattle.model.specs.Stream.{Item, Part, BarrierItem, is_barrier, barriers_in, epoch_size, last_epoch}
+use Rattle.model.specs.Stream.{Item, Part, BarrierItem, barriers_in, epoch_size, last_epoch}
 use Rattle.model.specs.Frames.{Packet, Received}
-use Rattle.model.specs.Secondary.{Inward, items_taken, received_item}
+use Rattle.model.specs.Secondary.{Inward, items_taken}
 use Rattle.model.specs.SecondarySteps.{is_barrier_answer}
 use Rattle.laws.proofs.Secondary.Fits.{size-stays}
-use Rattle.laws.proofs.Secondary.Good.{taking-more}
 use Rattle.laws.proofs.Secondary.Moves.{framed, pushed_one}
-use Rattle.laws.proofs.Secondary.Tuples.{taken-item}
 use Rattle.laws.proofs.Streams.Places.{barriers-append}
 use Rattle.laws.proofs.Streams.Lawful.{size-grow}
 use Rattle.secondary_steps.specs.Core.{EndState, hearing, pushing, owing}

@@ -1,7 +1,7 @@
 -- What waits for the disk once it failed an item.
-use Rattle.std.proofs.Common.{ℕ, zero, suc, ◌≡◌, ◌<◌, ◌≤◌, ◌+◌, ◌⊎◌, inl, inr, Bool, true, false, cond, not, ◌&&◌, ◌||◌, List, [], ◌∷◌, ◌++◌, length, map, filter, Option, Some, None, slice_get, refl, sym, ◌∙◌, ap, subst, arith, ◌==◌, nat_lt, nat_le}
+use Rattle.std.proofs.Common.{ℕ, ◌≡◌, ◌+◌, inl, inr, Bool, true, false, cond, not, ◌&&◌, ◌||◌, List, [], ◌∷◌, ◌++◌, map, filter, Some, slice_get, refl, sym, ◌∙◌, ap, subst, arith, ◌==◌, nat_lt, nat_le}
 use Rattle.std.specs.List.{list_any}
-use Rattle.std.proofs.lemmas.Bool.{cases_Bool, both_ways, eqb-true, eq-eqb, or_left, or_right, le-leb, lt-leb, ltb-true, leb-true, le-ltb, lt-ltb, cases_lt, false_from_ne_true}
+use Rattle.std.proofs.lemmas.Bool.{cases_Bool, both_ways, eqb-true, eq-eqb, or_left, le-leb, lt-leb, le-ltb, lt-ltb, cases_lt, false_from_ne_true}
 use Rattle.std.proofs.lemmas.List.Folds.{list_any-append}
 use Rattle.model.specs.Stream.{Item, is_whole, has_blocks, epoch_of, placed, within}
 use Rattle.model.specs.Secondary.{Inward, items_taken, is_pending, pending}
@@ -93,7 +93,7 @@ failing-pending d place offsets n one at = elim (cases_Bool (n == place)) [
       let listed : list_any (λ k. k == n) (d.gone ++ place ∷ dropped) ≡ (list_any (λ k. k == n) d.gone || ((place == n) || list_any (λ k. k == n) dropped)) = list_any-append (λ k. k == n) d.gone (place ∷ dropped) in
       rw (listed, other, turned_other, whole-elsewhere d.applied place (within (blocks_at (items_taken d) place) offsets) n one other)
       (waits-still (has_blocks one && not (is_whole d.applied n one)) (list_any (λ k. k == n) d.gone) (list_any (λ k. k == n) dropped) (nat_le (epoch_of (items_taken d) n) (epoch_of (items_taken d) place))
-          (λ waits. later-listed d place n one at waits ∙ turned (epoch_of (items_taken d) place) (epoch_of (items_taken d) n))
+      (λ waits. later-listed d place n one at waits ∙ turned (epoch_of (items_taken d) place) (epoch_of (items_taken d) n))
       ∙ sym (plain (is_pending d (n, one)) (nat_le (epoch_of (items_taken d) n) (epoch_of (items_taken d) place))))
 ]
   where

@@ -1,7 +1,7 @@
 -- What is kept of a stream, with one item more.
-use Rattle.std.proofs.Common.{ℕ, zero, suc, ◌≡◌, ◌<◌, ◌≤◌, ◌+◌, inl, inr, Bool, true, false, cond, not, ◌&&◌, ◌||◌, List, [], ◌∷◌, ◌++◌, length, filter, Some, refl, sym, ◌∙◌, ap, subst, arith, ◌==◌, nat_lt, nat_le, max}
-use Rattle.std.specs.List.{list_any, list_all}
-use Rattle.std.proofs.lemmas.Bool.{cases_Bool, both_ways, and_parts, or_right, eqb-true, eq-eqb, ltb-true, lt-ltb, le-ltb, cases_lt, not-true, not-false}
+use Rattle.std.proofs.Common.{ℕ, suc, ◌≡◌, ◌<◌, ◌+◌, Bool, true, false, cond, not, ◌&&◌, ◌||◌, List, [], ◌∷◌, ◌++◌, length, filter, refl, sym, ◌∙◌, ap, arith, ◌==◌, nat_lt, max}
+use Rattle.std.specs.List.{list_any}
+use Rattle.std.proofs.lemmas.Bool.{both_ways, eq-eqb, ltb-true}
 use Rattle.std.proofs.lemmas.Bool.Decides.{nat_tests}
 use Rattle.std.proofs.lemmas.List.{length-append, append-nil}
 use Rattle.std.proofs.lemmas.List.Elements.{filter-append}
@@ -9,14 +9,14 @@ use Rattle.std.proofs.lemmas.List.Folds.{list_any-append}
 use Rattle.std.proofs.Math.Nat.{max-zero}
 use Rattle.blocks.specs.declared.tuple.Tuple.{Tuple}
 use Rattle.model.specs.Contents.{Write}
-use Rattle.model.specs.Stream.{Item, WriteItem, ResyncItem, BarrierItem, SyncUuidItem, UuidsItem, is_write, is_barrier, number_of, last_epoch, epoch_size, items_of_epoch, barriers_in}
+use Rattle.model.specs.Stream.{Item, WriteItem, ResyncItem, BarrierItem, SyncUuidItem, UuidsItem, is_write, is_barrier, number_of, last_epoch, items_of_epoch, barriers_in}
 use Rattle.model.specs.Primary.{in_resync, is_sync_start, is_sync_end}
 use Rattle.model.specs.SecondarySteps.{is_above}
 use Rattle.laws.specs.Reflections.{touches}
 use Rattle.laws.proofs.Blocks.Ranges.{touches-nothing}
 use Rattle.laws.proofs.Streams.Places.{barriers-append}
-use Rattle.laws.proofs.Streams.Lawful.{epoch-items-grow, epoch-empty, size-grow}
-use Rattle.secondary_steps.specs.Core.{Intake, with_blocks, and_item}
+use Rattle.laws.proofs.Streams.Lawful.{epoch-items-grow, epoch-empty}
+use Rattle.secondary_steps.specs.Core.{Intake, and_item}
 use Rattle.secondary_steps.specs.Leaves.{highest_in, intake_of}
 
 -- Numbers.
@@ -172,4 +172,3 @@ intake-end items tuple = intake-is _ _ (places-more items (UuidsItem tuple)) (hi
         ended true true = refl
         ended true false = refl
         ended false b = refl
-

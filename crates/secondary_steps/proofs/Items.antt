@@ -1,35 +1,19 @@
 -- An item of the stream is judged alike in the state and in the history.
-use Rattle.std.proofs.Common.{ℕ, zero, suc, ◌≡◌, ◌+◌, ◌-◌, ◌<◌, ◌≤◌, inl, inr, Bool, true, false, cond, not, ◌&&◌, ◌||◌, List, [], ◌∷◌, ◌++◌, length, map, filter, Option, Some, None, Result, Ok, Err, refl, sym, ◌∙◌, ap, subst, arith, ◌==◌, nat_lt}
-use Rattle.std.specs.Prelude.{if◌then◌else◌}
+use Rattle.std.proofs.Common.{ℕ, ◌≡◌, Bool, true, false, cond, not, ◌&&◌, List, [], ◌∷◌, ◌++◌, length, map, filter, Option, Some, refl, sym, ◌∙◌, ap, subst, arith, ◌==◌}
 use Rattle.std.specs.List.{list_any}
-use Rattle.std.proofs.lemmas.Bool.{both_ways, and_parts}
 use Rattle.std.proofs.lemmas.List.{append-nil, length-append}
-use Rattle.blocks.specs.declared.tuple.Tuple.{Tuple}
-use Rattle.blocks.specs.declared.settings.Settings.{Settings}
 use Rattle.blocks.specs.declared.settings.Protocol.{Protocol}
 use Rattle.blocks.specs.declared.settings.Protocol.TheVariants as protocol
-use Rattle.blocks.specs.declared.refusal.Refusal.{Refusal}
-use Rattle.blocks.specs.declared.refusal.Refusal.TheVariants.{BadField}
 use Rattle.blocks.specs.declared.outcome.What.{What}
-use Rattle.blocks.specs.declared.outcome.What.TheVariants as what
-use Rattle.blocks.specs.declared.command.Command.TheVariants as command
-use Rattle.model.specs.Contents.{Write, is_range}
-use Rattle.model.specs.Stream.{Item, WriteItem, ResyncItem, BarrierItem, SyncUuidItem, UuidsItem, has_blocks, is_in, is_whole, is_barrier, barriers_in, last_epoch, placed, contents_of}
-use Rattle.model.specs.Frames.{Packet, DataFrame, RsDataReplyFrame, BarrierFrame, ProtocolFrame, UuidsFrame, SizesFrame, SyncUuidFrame, RecvAckFrame, WriteAckFrame, RsWriteAckFrame, BarrierAckFrame, Received, naming}
-use Rattle.model.specs.Primary.{change_last}
-use Rattle.model.specs.Secondary.{Inward, SecondaryHistory, inward, items_taken, is_pending, pending, received_item, with_inward}
+use Rattle.model.specs.Stream.{Item, has_blocks, is_in, is_whole, last_epoch, placed}
+use Rattle.model.specs.Frames.{Packet, RecvAckFrame, naming}
+use Rattle.model.specs.Secondary.{Inward, SecondaryHistory, inward, items_taken, is_pending, with_inward}
 use Rattle.model.specs.SecondarySteps.{Checked, has_place, is_barrier_answer}
 use Rattle.model.specs.SecondarySteps as step
-use Rattle.laws.proofs.Lists.Last.{change-twice}
-use Rattle.laws.proofs.Secondary.Moves.{framed}
-use Rattle.laws.proofs.Secondary.Tuples.{taken-item}
-use Rattle.secondary_steps.specs.Core.{Intake, EndState, SecondaryState, Judged, judged_if, judging, judging_hello, judging_item, hearing, owing, receipt, and_item, waiting, is_apart}
+use Rattle.secondary_steps.specs.Core.{EndState, SecondaryState, judged_if, receipt}
 use Rattle.secondary_steps.specs.Leaves.{Leaves, LeavesLast, LeavesEnd, EndLeft, FailedLeft, intake_of, pending_in}
-use Rattle.secondary_steps.proofs.Apart.{apart-by-blocks}
-use Rattle.secondary_steps.proofs.Ends.{end-takes, end-barrier, hello-goes-on}
-use Rattle.secondary_steps.proofs.Intakes.{above-highest, intake-write, intake-resync, intake-barrier, intake-start, intake-end}
-use Rattle.secondary_steps.proofs.Judged.{SameJudged, hello-same, early-items, last-same}
-use Rattle.secondary_steps.proofs.Tested.{inward-of, inward-with, open-some, open-whole}
+use Rattle.secondary_steps.proofs.Judged.{SameJudged}
+use Rattle.secondary_steps.proofs.Tested.{inward-with, open-whole}
 use Rattle.secondary_steps.proofs.Waiting.{waiting-more, new-waits, bare-waits-not}
 
 -- both accept where the same tests hold

@@ -1,36 +1,23 @@
 -- A frame is judged alike in the state and in the history.
-use Rattle.std.proofs.Common.{ℕ, zero, suc, ◌≡◌, ◌+◌, ◌-◌, ◌<◌, ◌≤◌, inl, inr, Bool, true, false, cond, not, ◌&&◌, ◌||◌, List, [], ◌∷◌, ◌++◌, length, map, drop, take, filter, Option, Some, None, Result, Ok, Err, slice_get, refl, sym, ◌∙◌, ap, subst, arith, ◌==◌, nat_lt, min}
+use Rattle.std.proofs.Common.{ℕ, zero, suc, ◌≡◌, ◌-◌, ◌<◌, ◌≤◌, Bool, true, false, not, ◌&&◌, List, [], ◌∷◌, ◌++◌, length, map, drop, take, filter, Option, Some, None, Ok, Err, refl, sym, ◌∙◌, ap, subst, arith, ◌==◌}
 use Rattle.std.specs.Prelude.{filter_map, if◌then◌else◌}
 use Rattle.std.specs.List.{list_any}
-use Rattle.std.proofs.lemmas.Bool.{cases_Bool, both_ways, and_parts, ltb-true}
-use Rattle.std.proofs.lemmas.List.{append-nil, length-append}
-use Rattle.blocks.specs.declared.tuple.Tuple.{Tuple}
+use Rattle.std.proofs.lemmas.List.{length-append}
 use Rattle.blocks.specs.declared.settings.Settings.{Settings}
-use Rattle.blocks.specs.declared.settings.Protocol.{Protocol}
-use Rattle.blocks.specs.declared.settings.Protocol.TheVariants as protocol
 use Rattle.blocks.specs.declared.refusal.Refusal.{Refusal}
-use Rattle.blocks.specs.declared.refusal.Refusal.TheVariants.{BadField, OtherProtocol, OtherSize}
+use Rattle.blocks.specs.declared.refusal.Refusal.TheVariants.{OtherProtocol, OtherSize}
 use Rattle.blocks.specs.declared.outcome.What.{What}
 use Rattle.blocks.specs.declared.outcome.What.TheVariants as what
 use Rattle.blocks.specs.declared.command.Command.TheVariants as command
-use Rattle.model.specs.Contents.{Write, is_range}
-use Rattle.model.specs.Stream.{Item, WriteItem, ResyncItem, BarrierItem, SyncUuidItem, UuidsItem, has_blocks, is_in, is_whole, barriers_in, last_epoch, placed}
-use Rattle.model.specs.Frames.{Packet, DataFrame, RsDataReplyFrame, BarrierFrame, ProtocolFrame, UuidsFrame, SizesFrame, SyncUuidFrame, RecvAckFrame, WriteAckFrame, RsWriteAckFrame, BarrierAckFrame, Received, naming}
-use Rattle.model.specs.Primary.{change_last}
+use Rattle.model.specs.Stream.{Item, has_blocks, is_in, is_whole, placed}
+use Rattle.model.specs.Frames.{Packet, DataFrame, RsDataReplyFrame, BarrierFrame, ProtocolFrame, UuidsFrame, SizesFrame, SyncUuidFrame, RecvAckFrame, WriteAckFrame, RsWriteAckFrame, BarrierAckFrame, Received}
 use Rattle.model.specs.Acknowledgements.{same_protocol}
-use Rattle.model.specs.Secondary.{Inward, SecondaryHistory, inward, items_taken, is_pending, pending, received_item, with_inward}
+use Rattle.model.specs.Secondary.{Inward, SecondaryHistory, items_taken, is_pending, received_item}
 use Rattle.model.specs.SecondarySteps.{Checked, has_place, is_barrier_answer}
 use Rattle.model.specs.SecondarySteps as step
-use Rattle.laws.proofs.Lists.Last.{change-twice}
 use Rattle.laws.proofs.Secondary.Moves.{framed}
-use Rattle.laws.proofs.Secondary.Tuples.{taken-item}
-use Rattle.secondary_steps.specs.Core.{Intake, EndState, SecondaryState, Judged, judged_if, judging, judging_hello, judging_item, hearing, owing, receipt, and_item, waiting, is_apart}
+use Rattle.secondary_steps.specs.Core.{EndState, SecondaryState, Judged, judging_hello}
 use Rattle.secondary_steps.specs.Leaves.{Leaves, LeavesLast, LeavesEnd, EndLeft, FailedLeft, intake_of, pending_in}
-use Rattle.secondary_steps.proofs.Apart.{apart-by-blocks}
-use Rattle.secondary_steps.proofs.Ends.{end-takes, end-barrier, hello-goes-on}
-use Rattle.secondary_steps.proofs.Intakes.{above-highest, intake-write, intake-resync, intake-barrier, intake-start, intake-end}
-use Rattle.secondary_steps.proofs.Tested.{inward-of, inward-with, open-some, open-whole}
-use Rattle.secondary_steps.proofs.Waiting.{waiting-more, new-waits, bare-waits-not}
 
 -- Both accept, under one name, and what they leave belongs together; or both refuse, for the same.
 abbrev pub SameJudged : Judged → Checked → Type 0

@@ -1,7 +1,7 @@
 -- Steps by their tests, and the last connection after a change.
-use Rattle.std.proofs.Common.{ℕ, suc, ◌≡◌, ◌<◌, inl, inr, Bool, true, false, not, ◌&&◌, ◌||◌, List, [], ◌∷◌, ◌++◌, length, map, Option, Some, None, Result, Ok, Err, refl, sym, ◌∙◌, ap, subst, arith, ◌==◌, nat_lt, nat_le}
-use Rattle.std.specs.Prelude.{is_some, is_none, if◌then◌else◌}
-use Rattle.std.proofs.lemmas.Bool.{cases_Bool, both_ways}
+use Rattle.std.proofs.Common.{ℕ, suc, ◌≡◌, inl, inr, Bool, true, false, not, List, [], ◌∷◌, length, map, Option, Some, None, Result, Err, refl, sym, ◌∙◌, ap, subst, arith, ◌==◌, nat_lt}
+use Rattle.std.specs.Prelude.{is_some, is_none}
+use Rattle.std.proofs.lemmas.Bool.{both_ways}
 use Rattle.std.proofs.lemmas.Bool.Decides.{nat_tests}
 use Rattle.blocks.specs.declared.refusal.Refusal.{Refusal}
 use Rattle.blocks.specs.declared.outcome.Done.{Done}
@@ -14,7 +14,7 @@ use Rattle.model.specs.SecondarySteps.{tested_secondary}
 use Rattle.laws.proofs.Lists.Last.{last-change}
 use Rattle.secondary_steps.specs.Core.{EndState, SecondaryState, tested}
 use Rattle.secondary_steps.specs.Leaves.{Leaves, EndLeft, FailedLeft}
-use Rattle.secondary_steps.specs.Steps.{Agrees, replied}
+use Rattle.secondary_steps.specs.Steps.{Agrees}
 
 -- With the same tests they agree, where they agree when no test holds.
 pub tested-agrees : {R : Type 0} (tell : R → Done) (s : SecondaryState) (h : SecondaryHistory) (tests same : List Test) (got : Unit {0} → Result R Refusal × SecondaryState) (step : Unit {0} → Reply × SecondaryHistory)

@@ -1,18 +1,17 @@
 -- What waits for the disk, as items are taken, applied, and fail.
-use Rattle.std.proofs.Common.{ℕ, zero, suc, ◌≡◌, ◌<◌, ◌≤◌, ◌+◌, ◌⊎◌, inl, inr, Bool, true, false, cond, not, ◌&&◌, ◌||◌, List, [], ◌∷◌, ◌++◌, length, map, filter, Option, Some, None, slice_get, Ok, Err, refl, sym, ◌∙◌, ap, subst, arith, ◌==◌, nat_lt, nat_le, nat_eq, Result}
-use Rattle.std.specs.Prelude.{find, is_some, option_map, unwrap_or, if◌then◌else◌}
+use Rattle.std.proofs.Common.{ℕ, zero, suc, ◌≡◌, ◌<◌, ◌≤◌, ◌+◌, ◌⊎◌, inl, inr, Bool, true, false, cond, not, ◌&&◌, ◌||◌, List, [], ◌∷◌, ◌++◌, length, map, filter, Some, slice_get, refl, sym, ◌∙◌, ap, subst, arith, ◌==◌, nat_eq}
 use Rattle.std.specs.List.{list_any, list_all}
-use Rattle.std.proofs.lemmas.Bool.{cases_Bool, both_ways, and_parts, and_from, or_parts, ltb-true, lt-ltb, eqb-true, eq-eqb, not-true, not-false, not_from_false, false_from_ne_true}
+use Rattle.std.proofs.lemmas.Bool.{cases_Bool, both_ways, and_from, ltb-true, eqb-true, eq-eqb, not_from_false, false_from_ne_true}
 use Rattle.std.proofs.lemmas.Bool.Decides.{nat_tests}
-use Rattle.std.proofs.lemmas.List.{map-append, append-nil}
+use Rattle.std.proofs.lemmas.List.{map-append}
 use Rattle.std.proofs.lemmas.List.Elements.{filter-append}
-use Rattle.model.specs.Stream.{Item, Part, is_in, is_whole, has_blocks, contents_of, epoch_of, last_epoch, placed, placed_from, below}
-use Rattle.model.specs.Secondary.{Inward, items_taken, is_pending, pending}
+use Rattle.model.specs.Stream.{Item, Part, is_in, is_whole, has_blocks, contents_of, last_epoch, placed, placed_from, below}
+use Rattle.model.specs.Secondary.{Inward, is_pending}
 use Rattle.model.specs.SecondarySteps.{offsets_at}
 use Rattle.laws.proofs.Streams.Places.{epoch-grows}
-use Rattle.laws.proofs.Streams.Lawful.{placed-append, filter-agree, epoch-end}
+use Rattle.laws.proofs.Streams.Lawful.{placed-append, epoch-end}
 use Rattle.laws.proofs.Streams.Parts.{in-append, in-offsets, whole-has}
-use Rattle.peerdisk.specs.Pending.{Pending, without, after_fault, at_place, epoch_at, has_earlier}
+use Rattle.peerdisk.specs.Pending.{without}
 use Rattle.secondary_steps.specs.Leaves.{pending_in}
 use Rattle.laws.proofs.Lists.Elements.{same-at}
 use Rattle.laws.proofs.Secondary.TrueBarriers.{applied-now}
@@ -45,7 +44,7 @@ waiting-more test items item waits is =
     ap (map (pending_in (items ++ item ∷ []))) all
     ∙ (map-append (pending_in (items ++ item ∷ [])) (filter test (placed items)) (cond waits ((length items, item) ∷ []) [])
     ∙ (ap (λ l. l ++ map (pending_in (items ++ item ∷ [])) (cond waits ((length items, item) ∷ []) []))
-        (map-agree (pending_in (items ++ item ∷ [])) (pending_in items) test 0 items (λ place one within. ap (λ n. record { place = place; epoch = n; item = one }) (epoch-grows items (item ∷ []) place (omega arith))))
+    (map-agree (pending_in (items ++ item ∷ [])) (pending_in items) test 0 items (λ place one within. ap (λ n. record { place = place; epoch = n; item = one }) (epoch-grows items (item ∷ []) place (omega arith))))
     ∙ ap (λ l. map (pending_in items) (filter test (placed items)) ++ l) (last waits)))
   where
     last : (b : Bool) → map (pending_in (items ++ item ∷ [])) (cond b ((length items, item) ∷ []) []) ≡ cond b (record { place = length items; epoch = last_epoch items; item = item } ∷ []) []
@@ -57,7 +56,7 @@ pub new-waits : (d : Inward) (items : List Item) (item : Item) → has_blocks it
 new-waits d items item blocks none named =
     let some : 0 < length (contents_of item) = ltb-true 0 (length (contents_of item)) blocks in
     let part : is_whole d.applied (length items) item ≡ false = false_from_ne_true (is_whole d.applied (length items) item) (λ whole.
-        let inside = named (length items) 0 (whole-has d.applied (length items) 0 item whole some) in omega arith) in
+    let inside = named (length items) 0 (whole-has d.applied (length items) 0 item whole some) in omega arith) in
     and_from (has_blocks item && not (is_whole d.applied (length items) item)) (not (list_any (λ place. place == length items) d.gone))
     (and_from (has_blocks item) (not (is_whole d.applied (length items) item)) blocks (not_from_false (is_whole d.applied (length items) item) part))
     (not_from_false (list_any (λ place. place == length items) d.gone) (ap (list_any (λ place. place == length items)) none))
@@ -109,7 +108,7 @@ without-placed all p place start (x ∷ items) = go (without-placed all p place 
         let there : start ≡ place = eqb-true start place equal in
         rw (is, here, equal)
         (ap (map (pending_in all)) (filter-from p (λ entry. p entry && not (entry.0 == place)) (suc start) items (λ other item from.
-            sym (ap (λ b. p (other, item) && not b) (false_from_ne_true (other == place) (λ e. let is_it : other ≡ place = eqb-true other place e in omega arith)) ∙ and-true (p (other, item))))))
+        sym (ap (λ b. p (other, item) && not b) (false_from_ne_true (other == place) (λ e. let is_it : other ≡ place = eqb-true other place e in omega arith)) ∙ and-true (p (other, item))))))
     go rest true is false equal =
         let here : nat_eq place start ≡ false = eq-turned place start ∙ equal in
         rw (is, here, equal) (ap (λ l. pending_in all (start, x) ∷ l) rest)

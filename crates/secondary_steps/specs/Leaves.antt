@@ -1,5 +1,5 @@
 -- Which histories leave a secondary's state.
-use Rattle.std.specs.Prelude.{ℕ, zero, suc, ◌-◌, ◌≡◌, ◌<◌, ◌≤◌, nat_le, ◌==◌, Bool, true, false, List, [], ◌∷◌, length, drop, map, min, max, Option, Some, None, slice_get}
+use Rattle.std.specs.Prelude.{ℕ, zero, suc, ◌-◌, ◌≡◌, ◌<◌, ◌≤◌, nat_le, ◌==◌, true, false, List, [], ◌∷◌, length, drop, map, min, max, Option, Some, None, slice_get}
 use Rattle.std.specs.List.{list_any}
 use Rattle.model.specs.Stream.{Item, has_blocks, epoch_of, last_epoch, epoch_size, items_of_epoch, barriers_in, number_of, is_in}
 use Rattle.model.specs.Primary.{in_resync}

@@ -1,19 +1,18 @@
 -- A new secondary, opening and closing.
-use Rattle.std.proofs.Common.{ℕ, ◌≡◌, ◌<◌, nat_le, arith, Option, Bool, true, false, not, ◌&&◌, ◌||◌, List, [], ◌∷◌, length, Some, None, Ok, refl, sym, ◌∙◌, ap, subst, ◌==◌, nat_lt}
+use Rattle.std.proofs.Common.{ℕ, ◌≡◌, ◌<◌, nat_le, arith, Option, Bool, true, false, not, ◌&&◌, ◌||◌, List, [], ◌∷◌, length, Some, None, Ok, refl, sym, ◌∙◌, ap, subst, nat_lt}
 use Rattle.std.specs.Prelude.{is_some, is_none}
 use Rattle.std.proofs.lemmas.Bool.{lt-leb, lt-ltb, both_ways}
 use Rattle.blocks.specs.declared.refusal.Refusal.TheVariants.{NotDrained, NotConnected}
 use Rattle.blocks.specs.declared.outcome.What.TheVariants as what
 use Rattle.blocks.specs.declared.outcome.Reply.TheVariants as reply
 use Rattle.model.specs.Refusals.{first_refusal, done_with}
-use Rattle.model.specs.Stream.{epoch_size}
 use Rattle.model.specs.Secondary.{Inward, SecondaryHistory, inward, no_inward, items_taken, pending, is_drained, with_inward, secondary_map}
 use Rattle.model.specs.SecondarySteps as step
 use Rattle.laws.proofs.Lists.Elements.{append-one}
 use Rattle.laws.proofs.Lists.Last.{last-more}
 use Rattle.laws.proofs.Secondary.Moves.{closed_end}
-use Rattle.secondary_steps.specs.Core.{SecondaryState, fresh, opened, open_tests, open_end, close_end}
-use Rattle.secondary_steps.specs.Leaves.{Leaves, LeavesLast, FailedLeft, LeavesFailed, pending_in}
+use Rattle.secondary_steps.specs.Core.{SecondaryState, opened, open_tests}
+use Rattle.secondary_steps.specs.Leaves.{Leaves, LeavesLast, FailedLeft, pending_in}
 use Rattle.secondary_steps.specs.Steps.{FreshIsOpening, OpensAgree, ClosesAgree, plainly}
 use Rattle.secondary_steps.proofs.Tested.{tested-agrees, passed, end-closed, end-open, inward-with, open-some, length-map, some-or-none}
 
@@ -42,21 +41,21 @@ open-same s h left =
 pub opens-agree : OpensAgree
 opens-agree unseen s h left = tested-agrees plainly s h (open_tests s) (step.open_secondary_tests h)
     (λ _. (Ok tt, opened (step.next_number unseen h) s)) (λ _. step.succeeding_secondary what.Nothing (step.opened_secondary unseen h)) (open-same s h left) left (λ none. record {
-  reply = refl;
-  leaves = record {
-    settings = left.settings;
-    tuple = left.tuple;
-    consistent = left.consistent;
-    last = subst (LeavesLast (opened (step.next_number unseen h) s)) (sym ends) (record {
-      number = refl;
-      intake = refl;
-      named = λ place offset inside. absurd (cc);
-      pending = empty none;
-      failed = refl;
-      end = record { stands = refl; plain = refl; hello = left.tuple; heard = refl; said = refl; owed = omega arith; due = refl; answered = λ epoch from. sym (none-below epoch from); within = omega arith; sizes = refl };
-    });
-  };
-})
+      reply = refl;
+      leaves = record {
+        settings = left.settings;
+        tuple = left.tuple;
+        consistent = left.consistent;
+        last = subst (LeavesLast (opened (step.next_number unseen h) s)) (sym ends) (record {
+          number = refl;
+          intake = refl;
+          named = λ place offset inside. absurd (cc);
+          pending = empty none;
+          failed = refl;
+          end = record { stands = refl; plain = refl; hello = left.tuple; heard = refl; said = refl; owed = omega arith; due = refl; answered = λ epoch from. sym (none-below epoch from); within = omega arith; sizes = refl };
+        });
+      };
+    })
   where
     new : Inward
     new = record { number = step.next_number unseen h; base = secondary_map h; hello = h.tuple; taken = []; refused = false; applied = []; gone = []; due = []; pushed = 0; closed = false }

@@ -1,12 +1,10 @@
 -- The disk does an item, or fails it.
-use Rattle.std.proofs.Common.{ℕ, zero, suc, ◌≡◌, ◌+◌, ◌-◌, ◌<◌, ◌≤◌, ◌⊎◌, inl, inr, Bool, true, false, not, ◌&&◌, ◌||◌, List, [], ◌∷◌, ◌++◌, length, map, filter, Option, Some, None, Result, Ok, Err, slice_get, refl, sym, ◌∙◌, ap, subst, arith, ◌==◌, nat_lt, nat_le}
-use Rattle.std.specs.Prelude.{option_map, if◌then◌else◌}
+use Rattle.std.proofs.Common.{ℕ, ◌≡◌, ◌+◌, ◌<◌, ◌≤◌, inl, inr, Bool, true, false, not, ◌&&◌, ◌||◌, List, [], ◌∷◌, ◌++◌, length, map, filter, Option, Some, None, Result, Ok, Err, slice_get, refl, sym, ◌∙◌, ap, subst, arith, ◌==◌, nat_lt, nat_le}
+use Rattle.std.specs.Prelude.{option_map}
 use Rattle.std.specs.List.{list_any}
-use Rattle.std.proofs.lemmas.Bool.{cases_Bool, both_ways, or_cases, or_left, or_right, eqb-true, eq-eqb, leb-true, le-leb, false_from_ne_true, cases_lt, lt-ltb, and_parts}
-use Rattle.std.proofs.lemmas.List.{append-nil}
+use Rattle.std.proofs.lemmas.Bool.{both_ways, or_cases, or_left, or_right, eqb-true, eq-eqb, leb-true, cases_lt, lt-ltb, ltb-true, and_parts}
 use Rattle.std.proofs.lemmas.List.Folds.{list_any-append}
 use Rattle.std.proofs.lemmas.Option.{slice_get_within}
-use Rattle.blocks.specs.declared.settings.Settings.{Settings}
 use Rattle.blocks.specs.declared.settings.Protocol.{Protocol}
 use Rattle.blocks.specs.declared.settings.Protocol.TheVariants as protocol
 use Rattle.blocks.specs.declared.refusal.Refusal.{Refusal}
@@ -14,7 +12,7 @@ use Rattle.blocks.specs.declared.refusal.Refusal.TheVariants.{UnknownJob, EpochO
 use Rattle.blocks.specs.declared.outcome.Reply.{Reply}
 use Rattle.blocks.specs.declared.outcome.Reply.TheVariants as reply
 use Rattle.blocks.specs.declared.outcome.What.TheVariants as what
-use Rattle.model.specs.Stream.{Item, WriteItem, ResyncItem, BarrierItem, SyncUuidItem, UuidsItem, is_in, has_blocks, contents_of, epoch_of, placed, below, within, barriers_in}
+use Rattle.model.specs.Stream.{Item, WriteItem, ResyncItem, BarrierItem, SyncUuidItem, UuidsItem, is_in, is_whole, has_blocks, contents_of, epoch_of, placed, below, within}
 use Rattle.model.specs.Frames.{Packet}
 use Rattle.model.specs.Refusals.{Test, done_with}
 use Rattle.model.specs.Secondary.{Inward, SecondaryHistory, no_inward, inward, items_taken, is_pending, pending, with_inward}
@@ -23,17 +21,19 @@ use Rattle.model.specs.SecondarySteps as step
 use Rattle.model.specs.Primary.{last_of}
 use Rattle.laws.proofs.Secondary.Sound.{pending-before}
 use Rattle.laws.proofs.Streams.Parts.{in-append, in-offsets}
-use Rattle.laws.proofs.Lists.Picks.{pick-any, pick-image, pick-filtered}
+use Rattle.laws.proofs.Streams.Places.{placed-at}
+use Rattle.laws.proofs.Lists.Picks.{pick-any, pick-image, pick-filtered, any-filtered}
+use Rattle.secondary_steps.specs.Core as core
 use Rattle.secondary_steps.specs.Core.{EndState, SecondaryState, applied, follows, owing, answers_of, peer, peer_fault}
-use Rattle.secondary_steps.specs.Leaves.{Leaves, LeavesLast, LeavesEnd, LeavesFailed, EndLeft, FailedLeft, intake_of, pending_in}
+use Rattle.secondary_steps.specs.Leaves.{Leaves, LeavesLast, LeavesEnd, LeavesFailed, EndLeft, FailedLeft, pending_in}
 use Rattle.secondary_steps.specs.Steps.{AppliesAgree, FaultsAgree, Agrees, plainly}
 use Rattle.peerdisk.specs.Pending.{Pending, start, without, item_at, epoch_at, after_fault}
 use Rattle.secondary_steps.proofs.Ends.{end-owes}
 use Rattle.secondary_steps.proofs.Failing.{failing-pending, waiting-failed}
 use Rattle.secondary_steps.proofs.Starting.{MayStart, MayNot, starting}
 use Rattle.secondary_steps.proofs.Steps.Receives.{leaves-follows}
-use Rattle.secondary_steps.proofs.Tested.{tested-agrees, inward-with, open-whole}
-use Rattle.secondary_steps.proofs.Waiting.{waiting-applied, placed-back}
+use Rattle.secondary_steps.proofs.Tested.{inward-with}
+use Rattle.secondary_steps.proofs.Waiting.{waiting-applied}
 
 -- an item that was taken is on some connection
 taken-some : (h : SecondaryHistory) (place : ℕ) (item : Item) → slice_get (items_taken (inward h)) place ≡ Some item → h.connections ≡ [] → ⊥
@@ -163,5 +163,95 @@ applies-agree place s h left = elim (starting (inward h) place) [
   | inr may_not ↦
       subst (λ (ps : List (Pending Item)). Agrees plainly (elim (start place ps) as (λ _. Result (Unit {0}) Refusal × SecondaryState) [ Err refusal ↦ (Err refusal, s) | Ok item ↦ (Ok tt, applied place s) ]) (step.peer place h)) (sym left.last.pending)
       (refused-alike s h place (map (pending_in (items_taken (inward h))) (pending (inward h))) (λ _. step.succeeding_secondary what.Nothing (with_inward (applying h.settings.protocol place) h))
-          (λ r. elim r as (λ _. Result (Unit {0}) Refusal × SecondaryState) [ Err refusal ↦ (Err refusal, s) | Ok item ↦ (Ok tt, applied place s) ]) left may_not (λ refusal. refl))
+      (λ r. elim r as (λ _. Result (Unit {0}) Refusal × SecondaryState) [ Err refusal ↦ (Err refusal, s) | Ok item ↦ (Ok tt, applied place s) ]) left may_not (λ refusal. refl))
+]
+
+-- The disk failed an item.
+
+-- none that waits is of an earlier epoch
+none-earlier : (d : Inward) (place other : ℕ) (one : Item) → step.has_earlier d place ≡ false → slice_get (items_taken d) other ≡ Some one → is_pending d (other, one) ≡ true → epoch_of (items_taken d) place ≤ epoch_of (items_taken d) other
+none-earlier d place other one first at waits = elim (cases_lt (epoch_of (items_taken d) other) (epoch_of (items_taken d) place)) [
+  | inr later ↦ later
+  | inl earlier ↦
+      let index : 0 + other ≡ other = omega arith in
+      let there : slice_get (placed (items_taken d)) other ≡ Some (other, one) = placed-at 0 (items_taken d) other one at ∙ ap (λ (k : ℕ). Some (k, one)) index in
+      absurd (both_ways (step.has_earlier d place) first (any-filtered (λ (entry : ℕ × Item). nat_lt (epoch_of (items_taken d) entry.0) (epoch_of (items_taken d) place)) (is_pending d) (placed (items_taken d)) other (other, one) there waits
+      (lt-ltb (epoch_of (items_taken d) other) (epoch_of (items_taken d) place) earlier)))
+]
+
+-- what failed before is of the same epoch, and nothing that is gone is of an earlier one
+gone-later : (v : Option ℕ) (d : Inward) (place : ℕ) (item : Item) → FailedLeft v d → slice_get (items_taken d) place ≡ Some item → is_pending d (place, item) ≡ true
+    → (other : ℕ) → list_any (λ k. k == other) d.gone ≡ true → epoch_of (items_taken d) place ≤ epoch_of (items_taken d) other
+gone-later None d place item none at waits other gone = absurd (both_ways (list_any (λ k. k == other) d.gone) (ap (list_any (λ k. k == other)) none) gone)
+gone-later (Some epoch) d place item was at waits other gone = let same = was.waiting place item at waits in let later = was.later other gone in omega arith
+
+failed-left : (s : SecondaryState) (h : SecondaryHistory) (place : ℕ) (offsets : List ℕ) → Leaves s h → (may : MayStart (inward h) place (map (pending_in (items_taken (inward h))) (pending (inward h))))
+    → LeavesFailed (epoch_of (items_taken (inward h)) place) (failing place offsets (inward h))
+failed-left s h place offsets left may = record {
+  place = place;
+  item = may.item;
+  at = may.there;
+  has_blocks = (and_parts (has_blocks may.item) (not (is_whole d.applied place may.item)) (and_parts (has_blocks may.item && not (is_whole d.applied place may.item)) (not (list_any (λ k. k == place) d.gone)) may.waits).0).0;
+  gone =
+      list_any-append (λ k. k == place) d.gone (place ∷ dropped)
+      ∙ or_right (list_any (λ k. k == place) d.gone) (list_any (λ k. k == place) (place ∷ dropped)) (or_left (place == place) (list_any (λ k. k == place) dropped) (eq-eqb place place refl));
+  epoch_is = refl;
+  later = λ other listed. elim (or_cases (list_any (λ k. k == other) d.gone) ((place == other) || list_any (λ k. k == other) dropped) (sym (list_any-append (λ k. k == other) d.gone (place ∷ dropped)) ∙ listed)) [
+    | inl before ↦ gone-later s.failed d place may.item left.last.failed may.there may.waits other before
+    | inr now ↦ elim (or_cases (place == other) (list_any (λ k. k == other) dropped) now) [
+      | inl same ↦ let is : place ≡ other = eqb-true place other same in subst (λ (k : ℕ). epoch_of items place ≤ epoch_of items k) is (omega arith)
+      | inr listed_later ↦
+          let found = pick-any (λ k. k == other) dropped listed_later in
+          let entry = pick-image (λ (e : ℕ × Item). e.0) (filter (λ (e : ℕ × Item). nat_lt (epoch_of items place) (epoch_of items e.0)) (pending d)) found.0 found.1 found.2 in
+          let passes = pick-filtered (λ (e : ℕ × Item). nat_lt (epoch_of items place) (epoch_of items e.0)) (pending d) found.0 entry.0 entry.1 in
+          let is : entry.0.0 ≡ other = entry.2 ∙ eqb-true found.1 other found.3 in
+          let less : epoch_of items place < epoch_of items entry.0.0 = ltb-true (epoch_of items place) (epoch_of items entry.0.0) passes.2 in
+          subst (λ (k : ℕ). epoch_of items place ≤ epoch_of items k) is (omega arith)
+    ]
+  ];
+  waiting = λ other one at waits.
+      let parts = and_parts (is_pending d (other, one) && not (other == place)) (nat_le (epoch_of items other) (epoch_of items place)) (sym (failing-pending d place offsets other one at) ∙ waits) in
+      let was = (and_parts (is_pending d (other, one)) (not (other == place)) parts.0).0 in
+      let not_later : epoch_of items other ≤ epoch_of items place = leb-true (epoch_of items other) (epoch_of items place) parts.1 in
+      let not_earlier = none-earlier d place other one may.first at was in
+      omega arith;
+  closed = refl;
+}
+  where
+    d : Inward
+    d = inward h
+
+    items : List Item
+    items = items_taken (inward h)
+
+    dropped : List ℕ
+    dropped = map (λ (entry : ℕ × Item). entry.0) (filter (λ (entry : ℕ × Item). nat_lt (epoch_of (items_taken (inward h)) place) (epoch_of (items_taken (inward h)) entry.0)) (pending (inward h)))
+
+-- the disk fails an item
+pub faults-agree : FaultsAgree
+faults-agree place offsets s h left = elim (starting (inward h) place) [
+  | inl may ↦
+      let starts : start place s.pending ≡ Ok may.item = ap (start place) left.last.pending ∙ may.starts in
+      let epoch : epoch_at place s.pending ≡ epoch_of (items_taken (inward h)) place = ap (epoch_at place) left.last.pending ∙ may.epoch_is in
+      subst (λ (r : Result Item Refusal). Agrees plainly (elim r as (λ _. Result (Unit {0}) Refusal × SecondaryState) [ Err refusal ↦ (Err refusal, s) | Ok item ↦ (Ok tt, core.failing place s) ]) (step.peer_fault place offsets h)) (sym starts)
+      (subst (λ (ts : List Test). Agrees plainly (Ok tt, core.failing place s) (step.tested_secondary h ts (λ _. (reply.Ok (done_with what.Nothing), with_inward (failing place offsets) h)))) (sym (tests-pass h place (map (pending_in (items_taken (inward h))) (pending (inward h))) may)) (record {
+        reply = refl;
+        leaves = record {
+          settings = left.settings;
+          tuple = left.tuple;
+          consistent = left.consistent;
+          last = subst (LeavesLast (core.failing place s)) (sym (inward-with (failing place offsets) h (taken-some h place may.item may.there))) (record {
+            number = left.last.number;
+            intake = left.last.intake;
+            named = named-more (inward h) place may.item (within (blocks_at (items_taken (inward h)) place) offsets) may.there left.last.named;
+            pending = ap (after_fault place) left.last.pending ∙ sym (waiting-failed (inward h) place offsets may.epoch_is);
+            failed = subst (λ (n : ℕ). LeavesFailed n (failing place offsets (inward h))) (sym epoch) (failed-left s h place offsets left may);
+            end = refl;
+          });
+        };
+      }))
+  | inr may_not ↦
+      subst (λ (ps : List (Pending Item)). Agrees plainly (elim (start place ps) as (λ _. Result (Unit {0}) Refusal × SecondaryState) [ Err refusal ↦ (Err refusal, s) | Ok item ↦ (Ok tt, core.failing place s) ]) (step.peer_fault place offsets h)) (sym left.last.pending)
+      (refused-alike s h place (map (pending_in (items_taken (inward h))) (pending (inward h))) (λ _. (reply.Ok (done_with what.Nothing), with_inward (failing place offsets) h))
+      (λ r. elim r as (λ _. Result (Unit {0}) Refusal × SecondaryState) [ Err refusal ↦ (Err refusal, s) | Ok item ↦ (Ok tt, core.failing place s) ]) left may_not (λ refusal. refl))
 ]

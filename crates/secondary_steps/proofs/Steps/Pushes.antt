@@ -1,27 +1,26 @@
 -- Pushing the frames that are due.
-use Rattle.std.proofs.Common.{ℕ, zero, suc, ◌≡◌, ◌+◌, ◌-◌, ◌<◌, ◌≤◌, ◌⊎◌, inl, inr, Bool, true, false, not, List, [], ◌∷◌, ◌++◌, length, drop, Option, Some, None, Result, Ok, Err, slice_get, refl, sym, ◌∙◌, ap, subst, arith, nat_lt, nat_le}
+use Rattle.std.proofs.Common.{ℕ, zero, suc, ◌≡◌, ◌+◌, ◌-◌, ◌<◌, inl, inr, true, false, not, List, [], ◌∷◌, ◌++◌, length, drop, Option, Some, None, Result, Ok, Err, slice_get, refl, sym, ◌∙◌, ap, subst, arith, nat_lt, nat_le}
 use Rattle.std.specs.Prelude.{is_none, ok_or, option_map, if◌then◌else◌}
-use Rattle.std.proofs.lemmas.Bool.{both_ways, lt-ltb, le-ltb, le-leb, lt-leb, ltb-true, leb-true, cases_lt, cases_Bool}
+use Rattle.std.proofs.lemmas.Bool.{lt-ltb, le-ltb, le-leb, lt-leb, cases_lt}
 use Rattle.std.proofs.lemmas.List.{length-append}
 use Rattle.std.proofs.lemmas.Option.{slice_get_within}
 use Rattle.blocks.specs.declared.settings.Settings.{Settings}
 use Rattle.blocks.specs.declared.refusal.Refusal.{Refusal}
 use Rattle.blocks.specs.declared.refusal.Refusal.TheVariants.{NotConnected, NothingThere, NoMemory, LinkFull}
-use Rattle.blocks.specs.declared.outcome.Reply.{Reply}
 use Rattle.blocks.specs.declared.outcome.Reply.TheVariants as reply
 use Rattle.blocks.specs.declared.outcome.What.{What}
 use Rattle.blocks.specs.declared.outcome.What.TheVariants as what
 use Rattle.blocks.specs.declared.outcome.Done.{Done}
 use Rattle.model.specs.Frames.{Packet, command_of, hello_of}
-use Rattle.model.specs.Refusals.{Test, first_refusal, done_with}
+use Rattle.model.specs.Refusals.{Test, done_with}
 use Rattle.model.specs.Secondary.{Inward, SecondaryHistory, inward, answers_due, with_inward}
 use Rattle.model.specs.SecondarySteps as step
 use Rattle.laws.proofs.Secondary.Moves.{pushed_one}
-use Rattle.secondary_steps.specs.Core.{EndState, SecondaryState, owed, due, sent, pushing, ack_out, tested}
+use Rattle.secondary_steps.specs.Core.{EndState, SecondaryState, owed, due, sent, pushing, tested}
 use Rattle.secondary_steps.specs.Leaves.{Leaves, LeavesLast, LeavesEnd, EndLeft, FailedLeft}
 use Rattle.secondary_steps.specs.Steps.{PushesAgree, Agrees}
 use Rattle.secondary_steps.proofs.Ends.{pushing-goes-on, end-pushes}
-use Rattle.secondary_steps.proofs.Tested.{tested-agrees, passed, inward-with, open-some}
+use Rattle.secondary_steps.proofs.Tested.{tested-agrees, inward-with, open-some}
 
 -- What is owed.
 
@@ -113,7 +112,7 @@ pushes-agree room starved s h left = go s.end refl left.last.end
         let same : step.ack_out_tests h room starved ≡ (false, NotConnected) ∷ (false, NothingThere) ∷ (starved, NoMemory) ∷ (not room, LinkFull) ∷ [] =
         λ i. (there.stands i, NotConnected) ∷ (more i, NothingThere) ∷ (starved, NoMemory) ∷ (not room, LinkFull) ∷ [] in
         subst (λ (ts : List Test). Agrees (λ done. done) (tested s ((starved, NoMemory) ∷ (not room, LinkFull) ∷ []) (λ _. (Ok (done_with (what.Frame (command_of packet) None)), sent s)))
-            (step.tested_secondary h ts (λ _. (reply.Ok (done_with (step.answering_with h)), with_inward pushed_one h)))) (sym same)
+        (step.tested_secondary h ts (λ _. (reply.Ok (done_with (step.answering_with h)), with_inward pushed_one h)))) (sym same)
         (tested-agrees (λ done. done) s h ((starved, NoMemory) ∷ (not room, LinkFull) ∷ []) ((starved, NoMemory) ∷ (not room, LinkFull) ∷ [])
         (λ _. (Ok (done_with (what.Frame (command_of packet) None)), sent s)) (λ _. (reply.Ok (done_with (step.answering_with h)), with_inward pushed_one h)) refl left (λ pass. record {
           reply = ap (λ n. reply.Ok (done_with n)) (sym name);

@@ -1,9 +1,9 @@
 -- Taking a frame, whatever frame it is.
-use Rattle.std.proofs.Common.{ℕ, zero, suc, ◌≡◌, ◌+◌, ◌-◌, ◌<◌, ◌≤◌, inl, inr, Bool, true, false, cond, not, ◌&&◌, ◌||◌, List, [], ◌∷◌, ◌++◌, length, map, filter, Option, Some, None, Result, Ok, Err, refl, sym, ◌∙◌, ap, subst, arith, ◌==◌, nat_lt, nat_le, min}
+use Rattle.std.proofs.Common.{ℕ, suc, ◌≡◌, ◌+◌, ◌-◌, ◌<◌, inl, inr, Bool, true, false, cond, ◌&&◌, ◌||◌, List, [], ◌∷◌, ◌++◌, length, map, filter, Option, Some, None, Result, Ok, Err, refl, sym, ◌∙◌, ap, subst, arith, ◌==◌, nat_lt, nat_le}
 use Rattle.std.specs.Prelude.{is_none, option_map, if◌then◌else◌}
 use Rattle.std.specs.List.{list_any}
-use Rattle.std.proofs.lemmas.Bool.{both_ways, and_parts, cases_Bool, ltb-true, cases_lt, lt-ltb}
-use Rattle.std.proofs.lemmas.List.{append-nil, length-append}
+use Rattle.std.proofs.lemmas.Bool.{and_parts, ltb-true}
+use Rattle.std.proofs.lemmas.List.{append-nil}
 use Rattle.blocks.specs.declared.tuple.Tuple.{Tuple}
 use Rattle.blocks.specs.declared.settings.Settings.{Settings}
 use Rattle.blocks.specs.declared.settings.Protocol.{Protocol}
@@ -12,25 +12,23 @@ use Rattle.blocks.specs.declared.refusal.Refusal.TheVariants.{NotConnected, Pend
 use Rattle.blocks.specs.declared.outcome.Done.{Done}
 use Rattle.blocks.specs.declared.outcome.Reply.{Reply}
 use Rattle.blocks.specs.declared.outcome.Reply.TheVariants as reply
-use Rattle.blocks.specs.declared.outcome.What.{What}
 use Rattle.blocks.specs.declared.outcome.What.TheVariants as what
 use Rattle.blocks.specs.declared.command.Command.TheVariants as command
 use Rattle.model.specs.Contents.{Write, is_range, extent_of}
-use Rattle.model.specs.Stream.{Item, WriteItem, ResyncItem, BarrierItem, SyncUuidItem, UuidsItem, contents_of, epoch_of, last_epoch, has_blocks, is_in, placed, barriers_in}
+use Rattle.model.specs.Stream.{Item, WriteItem, ResyncItem, BarrierItem, SyncUuidItem, UuidsItem, last_epoch, has_blocks, placed, barriers_in}
 use Rattle.model.specs.Frames.{Packet, DataFrame, RsDataReplyFrame, BarrierFrame, ProtocolFrame, UuidsFrame, SizesFrame, SyncUuidFrame, RecvAckFrame, WriteAckFrame, RsWriteAckFrame, BarrierAckFrame, Received}
-use Rattle.model.specs.Refusals.{Test, first_refusal, done_with}
+use Rattle.model.specs.Refusals.{done_with}
 use Rattle.model.specs.Primary.{last_of, change_last}
 use Rattle.model.specs.Secondary.{Inward, SecondaryHistory, no_inward, inward, items_taken, is_pending, pending, received_item, with_inward}
 use Rattle.model.specs.SecondarySteps.{Checked, has_place, is_above}
 use Rattle.model.specs.SecondarySteps as step
-use Rattle.laws.proofs.Lists.Elements.{get-left}
 use Rattle.laws.proofs.Lists.Last.{change-twice, last-change}
 use Rattle.laws.proofs.Secondary.Good.{items-refusing}
 use Rattle.laws.proofs.Secondary.Moves.{framed, refused_end}
 use Rattle.laws.proofs.Secondary.Tuples.{taken-item}
 use Rattle.peerdisk.specs.Pending.{Pending}
-use Rattle.secondary_steps.specs.Core.{Intake, EndState, SecondaryState, Judged, judging, judging_hello, judging_item, hearing, owing, receipt, and_item, waiting, is_apart, follows, answering, taking, take_frame, take_at, take_tests, receive}
-use Rattle.secondary_steps.specs.Leaves.{Leaves, LeavesLast, LeavesEnd, LeavesFailed, EndLeft, FailedLeft, intake_of, pending_in}
+use Rattle.secondary_steps.specs.Core.{Intake, EndState, SecondaryState, Judged, judging, judging_hello, judging_item, hearing, owing, receipt, and_item, waiting, is_apart, follows, answering, taking, take_frame, take_at}
+use Rattle.secondary_steps.specs.Leaves.{Leaves, LeavesLast, LeavesEnd, EndLeft, FailedLeft, intake_of, pending_in}
 use Rattle.secondary_steps.specs.Steps.{ReceivesAgree, Agrees}
 use Rattle.secondary_steps.proofs.Answering.{answering-open, left-answering}
 use Rattle.secondary_steps.proofs.Apart.{apart-by-blocks}
@@ -178,16 +176,16 @@ module _ (frame : Received) (s : SecondaryState) (h : SecondaryHistory) (e : End
       let two = ap (λ b. front && (b && is_apart write.first count i)) (sym (above-highest write.number all)) in
       let three = ap (λ b. front && (is_above write.number all && b)) (sym (apart-by-blocks all item)) in
       same-if _ _ (one ∙ (two ∙ three)) _ _ (λ k. what.Frame command.Data (Some (left.last.intake k).places)) _ (step.receiving (length all) item taken) (λ good.
-          let above = (and_parts (is_above write.number all) (step.is_apart item all) (and_parts front (is_above write.number all && step.is_apart item all) good).1).0 in
-          let packets : List Packet = receipt asked (length all) item in
-          let rest = receiving-rest (length all) item taken in
-          let form : inward (step.receiving (length all) item taken) ≡ record (framed frame (inward h)) { due = (inward h).due ++ packets } =
-          receiving-is asked (length all) item taken refl (λ none. some (unchanged h.connections none)) ∙ ap (λ (c : Inward). record c { due = c.due ++ packets }) framed-is in
-          let end_is : Some (owing (receipt s.settings.protocol s.intake.places item) (hearing e)) ≡ Some (record (hearing e) { due = e.due ++ packets }) =
-          λ k. Some (record (hearing e) { due = e.due ++ receipt (left.settings k).protocol (left.last.intake k).places item }) in
-          item-left late item brings true _ (step.receiving (length all) item taken) ((inward h).due ++ packets) (record (hearing e) { due = e.due ++ packets }) (blocks-of good) form
-          (end-there-with late item brings packets refl (receipt-other asked (length all) item)) (left.settings ∙ sym rest.0) (left.tuple ∙ sym rest.1) (left.consistent ∙ sym rest.2) refl
-          (kept late item brings ∙ sym (intake-write all write above)) (waits-there late item brings) refl end_is)
+      let above = (and_parts (is_above write.number all) (step.is_apart item all) (and_parts front (is_above write.number all && step.is_apart item all) good).1).0 in
+      let packets : List Packet = receipt asked (length all) item in
+      let rest = receiving-rest (length all) item taken in
+      let form : inward (step.receiving (length all) item taken) ≡ record (framed frame (inward h)) { due = (inward h).due ++ packets } =
+      receiving-is asked (length all) item taken refl (λ none. some (unchanged h.connections none)) ∙ ap (λ (c : Inward). record c { due = c.due ++ packets }) framed-is in
+      let end_is : Some (owing (receipt s.settings.protocol s.intake.places item) (hearing e)) ≡ Some (record (hearing e) { due = e.due ++ packets }) =
+      λ k. Some (record (hearing e) { due = e.due ++ receipt (left.settings k).protocol (left.last.intake k).places item }) in
+      item-left late item brings true _ (step.receiving (length all) item taken) ((inward h).due ++ packets) (record (hearing e) { due = e.due ++ packets }) (blocks-of good) form
+      (end-there-with late item brings packets refl (receipt-other asked (length all) item)) (left.settings ∙ sym rest.0) (left.tuple ∙ sym rest.1) (left.consistent ∙ sym rest.2) refl
+      (kept late item brings ∙ sym (intake-write all write above)) (waits-there late item brings) refl end_is)
     where
       unchanged : (l : List Inward) → change_last (framed frame) l ≡ [] → l ≡ []
       unchanged [] none = refl
@@ -199,7 +197,7 @@ module _ (frame : Received) (s : SecondaryState) (h : SecondaryHistory) (e : End
       blocks-of good =
           let n : ℕ = length write.contents in
           let range = (and_parts ((at == length (items_taken (inward h))) && has_place (length (items_taken (inward h)))) (is_range h.settings write.first n)
-              (and_parts (((at == length (items_taken (inward h))) && has_place (length (items_taken (inward h)))) && is_range h.settings write.first n) (is_above write.number (items_taken (inward h)) && step.is_apart (WriteItem write) (items_taken (inward h))) good).0).1 in
+          (and_parts (((at == length (items_taken (inward h))) && has_place (length (items_taken (inward h)))) && is_range h.settings write.first n) (is_above write.number (items_taken (inward h)) && step.is_apart (WriteItem write) (items_taken (inward h))) good).0).1 in
           (and_parts (nat_lt 0 n) (nat_le n 32) (and_parts (nat_lt 0 n && nat_le n 32) (nat_le (write.first + n) h.settings.blocks) (and_parts ((nat_lt 0 n && nat_le n 32) && nat_le (write.first + n) h.settings.blocks) (extent_of write.first == extent_of (write.first + n - 1)) range).0).0).0
 
   -- an item that makes nothing due when it is taken
@@ -226,7 +224,7 @@ module _ (frame : Received) (s : SecondaryState) (h : SecondaryHistory) (e : End
       let front : Bool = ((at == length all) && has_place (length all)) && is_range h.settings block 1 in
       let two = ap (λ b. front && (i.resync && b)) (sym (apart-by-blocks all item)) in
       same-if _ _ (one ∙ two) _ _ (λ k. what.Frame command.RsDataReply (Some (left.last.intake k).places)) _ taken (λ good.
-          plain-left item true _ taken late brings refl refl refl left.settings left.tuple left.consistent refl (kept late item brings ∙ sym (intake-resync all block contents)) (waits-there late item brings) refl refl)
+      plain-left item true _ taken late brings refl refl refl left.settings left.tuple left.consistent refl (kept late item brings ∙ sym (intake-resync all block contents)) (waits-there late item brings) refl refl)
 
   -- The end of an epoch.
   barrier-same : (number : ℕ) → nat_lt (length (inward h).taken) 3 ≡ false → received_item frame ≡ Some (BarrierItem number)
@@ -239,8 +237,8 @@ module _ (frame : Received) (s : SecondaryState) (h : SecondaryHistory) (e : End
       let end : LeavesEnd (record (hearing e) { sizes = e.sizes ++ i.writes ∷ [] }) (framed frame (inward h)) = end-barrier e (inward h) frame number there (taken-item frame item (inward h) there.plain late brings) in
       let end_is : Some (record (hearing e) { sizes = e.sizes ++ s.intake.writes ∷ [] }) ≡ Some (record (hearing e) { sizes = e.sizes ++ i.writes ∷ [] }) = λ k. Some (record (hearing e) { sizes = e.sizes ++ (left.last.intake k).writes ∷ [] }) in
       same-if _ _ (λ k. tests (left.last.intake k)) _ _ (λ k. what.Frame command.Barrier (Some (left.last.intake k).places)) _ taken (λ good.
-          item-left late item brings false _ taken (inward h).due (record (hearing e) { sizes = e.sizes ++ i.writes ∷ [] }) refl framed-is end left.settings left.tuple left.consistent refl (kept late item brings ∙ sym (intake-barrier all number))
-          (sym (append-nil s.pending)) refl end_is)
+      item-left late item brings false _ taken (inward h).due (record (hearing e) { sizes = e.sizes ++ i.writes ∷ [] }) refl framed-is end left.settings left.tuple left.consistent refl (kept late item brings ∙ sym (intake-barrier all number))
+      (sym (append-nil s.pending)) refl end_is)
 
   -- A resync begins.
   start-same : (word : ℕ) → nat_lt (length (inward h).taken) 3 ≡ false → received_item frame ≡ Some (SyncUuidItem word)
@@ -251,9 +249,9 @@ module _ (frame : Received) (s : SecondaryState) (h : SecondaryHistory) (e : End
       let i : Intake = intake_of all in
       let tests : Intake → Bool = λ j. (has_place j.places && (j.places == 0)) && nat_lt 0 word in
       same-if _ _ (λ k. tests (left.last.intake k)) _ _ (λ k. what.Frame command.SyncUuid (Some (left.last.intake k).places)) _ (step.adopting (record h.tuple { current = word }) false taken) (λ good.
-          let first = (and_parts (has_place (length all)) (length all == 0) (and_parts (has_place (length all) && (length all == 0)) (nat_lt 0 word) good).0).1 in
-          plain-left item false _ (step.adopting (record h.tuple { current = word }) false taken) late brings refl refl refl left.settings (ap (λ (x : Tuple). record x { current = word }) left.tuple) refl refl
-          (kept late item brings ∙ sym (intake-start all word first)) (sym (append-nil s.pending)) refl refl)
+      let first = (and_parts (has_place (length all)) (length all == 0) (and_parts (has_place (length all) && (length all == 0)) (nat_lt 0 word) good).0).1 in
+      plain-left item false _ (step.adopting (record h.tuple { current = word }) false taken) late brings refl refl refl left.settings (ap (λ (x : Tuple). record x { current = word }) left.tuple) refl refl
+      (kept late item brings ∙ sym (intake-start all word first)) (sym (append-nil s.pending)) refl refl)
 
   -- It ends.
   end-same-too : (tuple : Tuple) → nat_lt (length (inward h).taken) 3 ≡ false → received_item frame ≡ Some (UuidsItem tuple)
@@ -263,7 +261,7 @@ module _ (frame : Received) (s : SecondaryState) (h : SecondaryHistory) (e : End
       let all : List Item = items_taken (inward h) in
       let tests : Intake → Bool = λ j. has_place j.places && j.resync in
       same-if _ _ (λ k. tests (left.last.intake k)) _ _ (λ k. what.Frame command.Uuids (Some (left.last.intake k).places)) _ (step.adopting tuple true taken) (λ good.
-          plain-left item false _ (step.adopting tuple true taken) late brings refl refl refl left.settings refl refl refl (kept late item brings ∙ sym (intake-end all tuple)) (sym (append-nil s.pending)) refl refl)
+      plain-left item false _ (step.adopting tuple true taken) late brings refl refl refl left.settings refl refl refl (kept late item brings ∙ sym (intake-end all tuple)) (sym (append-nil s.pending)) refl refl)
 
   -- The hello is over, and a packet is judged as an item; one that is none is refused.
   late-same : (packet : Packet) → frame ≡ Ok packet → nat_lt (length (inward h).taken) 3 ≡ false
