@@ -1,2 +1,3 @@
+pub mod Blocks
 pub mod Pending
 pub mod Entries

@@ -9,8 +9,6 @@ use Rattle.laws.specs.Reflections.{touches}
 use Rattle.laws.proofs.Blocks.Ranges.{between-parts}
 use Rattle.laws.proofs.Lists.Elements.{get-left, get-end}
 use Rattle.laws.proofs.Lists.Picks.{pick-any, any-pick, pick-below}
-use Rattle.secondary_steps.specs.Core.{is_apart}
-use Rattle.secondary_steps.specs.Leaves.{intake_of}
 
 -- two truth values of which each follows from the other
 pub same-truth : (a b : Bool) → (a ≡ true → b ≡ true) → (b ≡ true → a ≡ true) → a ≡ b
@@ -50,9 +48,9 @@ meet-back first count other size o less between =
     (and_from (nat_lt first (other + size)) (nat_lt other (first + count)) (lt-ltb first (other + size) (omega arith)) (lt-ltb other (first + count) (omega arith)))
     (and_from (nat_lt 0 count) (nat_lt 0 size) (lt-ltb 0 count (omega arith)) (lt-ltb 0 size (omega arith)))
 
--- An item is apart from those of the last epoch exactly where none of its blocks is one of theirs.
-pub apart-by-blocks : (items : List Item) (item : Item) → step.is_apart item items ≡ is_apart (first_of item) (length (contents_of item)) (intake_of items)
-apart-by-blocks items item = ap not (same-truth (list_any (λ (entry : ℕ × Item). items_meet entry.1 item) last) (list_any (λ offset. has (first_of item + offset)) (below (length (contents_of item)))) there back)
+-- An item of the device is apart from those of the last epoch exactly where none of its blocks is one of theirs.
+pub blocks-meet : (items : List Item) (item : Item) → step.is_apart item items ≡ not (list_any (λ offset. list_any (λ (entry : ℕ × Item). touches entry.1 (first_of item + offset)) (items_of_epoch items (last_epoch items))) (below (length (contents_of item))))
+blocks-meet items item = ap not (same-truth (list_any (λ (entry : ℕ × Item). items_meet entry.1 item) last) (list_any (λ offset. has (first_of item + offset)) (below (length (contents_of item)))) there back)
   where
     last : List (ℕ × Item)
     last = items_of_epoch items (last_epoch items)

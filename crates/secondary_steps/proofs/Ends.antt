@@ -14,7 +14,7 @@ use Rattle.laws.proofs.Secondary.Moves.{framed, pushed_one}
 use Rattle.laws.proofs.Streams.Places.{barriers-append}
 use Rattle.laws.proofs.Streams.Lawful.{size-grow}
 use Rattle.secondary_steps.specs.Core.{EndState, hearing, pushing, owing}
-use Rattle.secondary_steps.specs.Leaves.{LeavesEnd, numbers_after, intake_of}
+use Rattle.secondary_steps.specs.Leaves.{LeavesEnd, numbers_after}
 use Rattle.secondary_steps.proofs.Answering.{numbers-end}
 
 -- Frames of the hello are counted up to the third.
@@ -79,7 +79,7 @@ last-size items number = elim (size-grow items (BarrierItem number) (last_epoch 
 
 -- A barrier is taken: the epoch that it ends waits to be acknowledged.
 pub end-barrier : (e : EndState) (d : Inward) (frame : Received) (number : ℕ) → LeavesEnd e d → items_taken (framed frame d) ≡ items_taken d ++ BarrierItem number ∷ []
-    → LeavesEnd (record (hearing e) { sizes = e.sizes ++ (intake_of (items_taken d)).writes ∷ [] }) (framed frame d)
+    → LeavesEnd (record (hearing e) { sizes = e.sizes ++ epoch_size (items_taken d) (last_epoch (items_taken d)) ∷ [] }) (framed frame d)
 end-barrier e d frame number left items =
     let old : List Item = items_taken d in
     let k : ℕ = barriers_in (items_taken d) - e.answered in

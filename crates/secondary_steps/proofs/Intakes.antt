@@ -1,22 +1,26 @@
 -- What is kept of a stream, with one item more.
-use Rattle.std.proofs.Common.{ℕ, suc, ◌≡◌, ◌<◌, ◌+◌, Bool, true, false, cond, not, ◌&&◌, ◌||◌, List, [], ◌∷◌, ◌++◌, length, filter, refl, sym, ◌∙◌, ap, arith, ◌==◌, nat_lt, max}
+use Rattle.std.proofs.Common.{ℕ, suc, ◌≡◌, ◌<◌, ◌+◌, Bool, true, false, cond, not, ◌&&◌, ◌||◌, List, [], ◌∷◌, ◌++◌, length, filter, refl, sym, ◌∙◌, ap, arith, ◌==◌, nat_lt, max, zero, slice_get, map, Some, inl, inr, subst, ◌≤◌}
 use Rattle.std.specs.List.{list_any}
 use Rattle.std.proofs.lemmas.Bool.{both_ways, eq-eqb, ltb-true}
 use Rattle.std.proofs.lemmas.Bool.Decides.{nat_tests}
-use Rattle.std.proofs.lemmas.List.{length-append, append-nil}
+use Rattle.std.proofs.lemmas.List.{map-append, length-append, append-nil}
 use Rattle.std.proofs.lemmas.List.Elements.{filter-append}
 use Rattle.std.proofs.lemmas.List.Folds.{list_any-append}
 use Rattle.std.proofs.Math.Nat.{max-zero}
 use Rattle.blocks.specs.declared.tuple.Tuple.{Tuple}
 use Rattle.model.specs.Contents.{Write}
-use Rattle.model.specs.Stream.{Item, WriteItem, ResyncItem, BarrierItem, SyncUuidItem, UuidsItem, is_write, is_barrier, number_of, last_epoch, items_of_epoch, barriers_in}
+use Rattle.model.specs.Stream.{Item, WriteItem, ResyncItem, BarrierItem, SyncUuidItem, UuidsItem, is_write, is_barrier, number_of, first_of, contents_of, below, last_epoch, items_of_epoch, barriers_in}
 use Rattle.model.specs.Primary.{in_resync, is_sync_start, is_sync_end}
 use Rattle.model.specs.SecondarySteps.{is_above}
+use Rattle.model.specs.SecondarySteps as step
 use Rattle.laws.specs.Reflections.{touches}
 use Rattle.laws.proofs.Blocks.Ranges.{touches-nothing}
 use Rattle.laws.proofs.Streams.Places.{barriers-append}
 use Rattle.laws.proofs.Streams.Lawful.{epoch-items-grow, epoch-empty}
-use Rattle.secondary_steps.specs.Core.{Intake, and_item}
+use Rattle.laws.proofs.Lists.Elements.{get-more}
+use Rattle.peerdisk.specs.Blocks.{flags, has, is_set, none_of, adding}
+use Rattle.secondary_steps.proofs.Apart.{below-has, blocks-meet}
+use Rattle.secondary_steps.specs.Core.{is_apart, nothing_taken, Intake, and_item}
 use Rattle.secondary_steps.specs.Leaves.{highest_in, intake_of}
 
 -- Numbers.
@@ -79,32 +83,78 @@ abbrev writes_among : List (ℕ × Item) → ℕ
 writes_among entries = length (filter (λ entry. is_write entry.1) entries)
 
 -- an equation for each field
-intake-is : (a b : Intake) → a.places ≡ b.places → a.highest ≡ b.highest → a.barriers ≡ b.barriers → a.writes ≡ b.writes → ((block : ℕ) → a.blocks block ≡ b.blocks block) → a.resync ≡ b.resync → a ≡ b
+intake-is : (a b : Intake) → a.places ≡ b.places → a.highest ≡ b.highest → a.barriers ≡ b.barriers → a.writes ≡ b.writes → a.blocks ≡ b.blocks → a.resync ≡ b.resync → a ≡ b
 intake-is a b places highest barriers writes blocks resync =
-    λ i. record { places = places i; highest = highest i; barriers = barriers i; writes = writes i; blocks = λ block. blocks block i; resync = resync i }
+    λ i. record { places = places i; highest = highest i; barriers = barriers i; writes = writes i; blocks = blocks i; resync = resync i }
 
 -- One item more.
 
+-- which blocks the items of the last epoch have
+abbrev last-has : List Item → ℕ → Bool
+last-has items block = list_any (λ entry. touches entry.1 block) (items_of_epoch items (last_epoch items))
+
+-- the flags of two tests that agree
+flags-same : (size : ℕ) (f g : ℕ → Bool) → ((block : ℕ) → block < size → f block ≡ g block) → flags size f ≡ flags size g
+flags-same zero f g same = refl
+flags-same (suc n) f g same =
+    map-append f (below n) (n ∷ []) ∙ ((λ i. flags-same n f g (λ block less. same block (omega arith)) i ++ same n (omega arith) i ∷ []) ∙ sym (map-append g (below n) (n ∷ [])))
+
+-- so many flags
+flags-length : (size : ℕ) (f : ℕ → Bool) → length (flags size f) ≡ size
+flags-length zero f = refl
+flags-length (suc n) f = ap length (map-append f (below n) (n ∷ [])) ∙ (length-append (flags n f) (f n ∷ []) ∙ (ap (λ k. k + 1) (flags-length n f) ∙ omega arith))
+
+-- the flag of a block
+pub flags-has : (size : ℕ) (f : ℕ → Bool) (block : ℕ) → block < size → has (flags size f) block ≡ f block
+flags-has size f block less =
+    let there = below-has size block less in
+    ap is_set (get-map f (below size) there.0 block there.1 (index-is size there.0 block there.1))
+  where
+    index-is : (size n block : ℕ) → slice_get (below size) n ≡ Some block → n ≡ block
+    index-is zero n block at = absurd (cc)
+    index-is (suc size) n block at = elim (get-more (below size) size n block at) [
+      | inl old ↦ index-is size n block old
+      | inr new ↦ new.0 ∙ (below-length size ∙ sym new.1)
+    ]
+      where
+        below-length : (n : ℕ) → length (below n) ≡ n
+        below-length zero = refl
+        below-length (suc n) = length-append (below n) (n ∷ []) ∙ (ap (λ k. k + 1) (below-length n) ∙ omega arith)
+
+    get-map : (f : ℕ → Bool) (xs : List ℕ) (n block : ℕ) → slice_get xs n ≡ Some block → n ≡ block → slice_get (map f xs) block ≡ Some (f block)
+    get-map f xs n block at same = subst (λ (k : ℕ). slice_get (map f xs) k ≡ Some (f block)) same (go xs n at)
+      where
+        go : (xs : List ℕ) (n : ℕ) → slice_get xs n ≡ Some block → slice_get (map f xs) n ≡ Some (f block)
+        go [] n at = absurd (cc)
+        go (x ∷ xs) zero at = let is : x ≡ block = cc in ap (λ (k : ℕ). Some (f k)) is
+        go (x ∷ xs) (suc n) at = go xs n at
+
 -- the blocks of the last epoch's items, with one more
-blocks-more : (items : List Item) (item : Item) (block : ℕ) → is_barrier item ≡ false → (intake_of (items ++ item ∷ [])).blocks block ≡ ((intake_of items).blocks block || touches item block)
-blocks-more items item block plain =
+blocks-more : (size : ℕ) (items : List Item) (item : Item) → is_barrier item ≡ false → (intake_of size (items ++ item ∷ [])).blocks ≡ adding (first_of item) (length (contents_of item)) (intake_of size items).blocks
+blocks-more size items item plain =
+    flags-same size (last-has (items ++ item ∷ [])) (λ block. has (flags size (last-has items)) block || touches item block) (λ block less.
     ap (list_any (λ (entry : ℕ × Item). touches entry.1 block)) (items-more items item plain)
-    ∙ (list_any-append (λ (entry : ℕ × Item). touches entry.1 block) (items_of_epoch items (last_epoch items)) ((length items, item) ∷ []) ∙ ap (λ b. (intake_of items).blocks block || b) (or-none (touches item block)))
+    ∙ (list_any-append (λ (entry : ℕ × Item). touches entry.1 block) (items_of_epoch items (last_epoch items)) ((length items, item) ∷ [])
+    ∙ (ap (λ b. last-has items block || b) (or-none (touches item block)) ∙ ap (λ b. b || touches item block) (sym (flags-has size (last-has items) block less)))))
+    ∙ ap (λ n. flags n (λ block. has (flags size (last-has items)) block || touches item block)) (sym (flags-length size (last-has items)))
   where
     or-none : (b : Bool) → (b || false) ≡ b
     or-none true = refl
     or-none false = refl
 
 -- and without one that touches nothing
-blocks-same : (items : List Item) (item : Item) (block : ℕ) → is_barrier item ≡ false → touches item block ≡ false → (intake_of (items ++ item ∷ [])).blocks block ≡ (intake_of items).blocks block
-blocks-same items item block plain none = blocks-more items item block plain ∙ (ap (λ b. (intake_of items).blocks block || b) none ∙ or-none ((intake_of items).blocks block))
+blocks-same : (size : ℕ) (items : List Item) (item : Item) → is_barrier item ≡ false → ((block : ℕ) → touches item block ≡ false) → (intake_of size (items ++ item ∷ [])).blocks ≡ (intake_of size items).blocks
+blocks-same size items item plain none = flags-same size (last-has (items ++ item ∷ [])) (last-has items) (λ block less.
+    ap (list_any (λ (entry : ℕ × Item). touches entry.1 block)) (items-more items item plain)
+    ∙ (list_any-append (λ (entry : ℕ × Item). touches entry.1 block) (items_of_epoch items (last_epoch items)) ((length items, item) ∷ [])
+    ∙ (ap (λ b. last-has items block || (b || false)) (none block) ∙ or-none (last-has items block))))
   where
-    or-none : (b : Bool) → (b || false) ≡ b
+    or-none : (b : Bool) → (b || (false || false)) ≡ b
     or-none true = refl
     or-none false = refl
 
 -- the writes of the last epoch
-writes-more : (items : List Item) (item : Item) → is_barrier item ≡ false → (intake_of (items ++ item ∷ [])).writes ≡ (intake_of items).writes + writes_among ((length items, item) ∷ [])
+writes-more : (items : List Item) (item : Item) → is_barrier item ≡ false → (intake_of 0 (items ++ item ∷ [])).writes ≡ (intake_of 0 items).writes + writes_among ((length items, item) ∷ [])
 writes-more items item plain =
     ap writes_among (items-more items item plain)
     ∙ (ap length (filter-append (λ (entry : ℕ × Item). is_write entry.1) (items_of_epoch items (last_epoch items)) ((length items, item) ∷ []))
@@ -132,9 +182,9 @@ resync-same items item start end =
     same false b = refl
 
 -- a write, whose number is above those before
-pub intake-write : (items : List Item) (write : Write) → is_above write.number items ≡ true → intake_of (items ++ WriteItem write ∷ []) ≡ and_item (WriteItem write) (intake_of items)
-intake-write items write above = intake-is _ _ (places-more items (WriteItem write)) (highest-more items (WriteItem write) ∙ top items above) (barriers-more items (WriteItem write) refl)
-    (writes-more items (WriteItem write) refl ∙ omega arith) (λ block. blocks-more items (WriteItem write) block refl) (resync-same items (WriteItem write) refl refl)
+pub intake-write : (size : ℕ) (items : List Item) (write : Write) → is_above write.number items ≡ true → intake_of size (items ++ WriteItem write ∷ []) ≡ and_item (WriteItem write) (intake_of size items)
+intake-write size items write above = intake-is _ _ (places-more items (WriteItem write)) (highest-more items (WriteItem write) ∙ top items above) (barriers-more items (WriteItem write) refl)
+    (writes-more items (WriteItem write) refl ∙ omega arith) (blocks-more size items (WriteItem write) refl) (resync-same items (WriteItem write) refl refl)
   where
     top : (items : List Item) → is_above write.number items ≡ true → max (highest_in items) write.number ≡ write.number
     top [] none = omega arith
@@ -144,24 +194,24 @@ intake-write items write above = intake-is _ _ (places-more items (WriteItem wri
         omega arith
 
 -- a block of a resync
-pub intake-resync : (items : List Item) (block : ℕ) (contents : List ℕ) → intake_of (items ++ ResyncItem block contents ∷ []) ≡ and_item (ResyncItem block contents) (intake_of items)
-intake-resync items block contents = intake-is _ _ (places-more items (ResyncItem block contents)) (highest-more items (ResyncItem block contents) ∙ max-zero (highest_in items)) (barriers-more items (ResyncItem block contents) refl)
-    (writes-more items (ResyncItem block contents) refl ∙ omega arith) (λ other. blocks-more items (ResyncItem block contents) other refl) (resync-same items (ResyncItem block contents) refl refl)
+pub intake-resync : (size : ℕ) (items : List Item) (block : ℕ) (contents : List ℕ) → intake_of size (items ++ ResyncItem block contents ∷ []) ≡ and_item (ResyncItem block contents) (intake_of size items)
+intake-resync size items block contents = intake-is _ _ (places-more items (ResyncItem block contents)) (highest-more items (ResyncItem block contents) ∙ max-zero (highest_in items)) (barriers-more items (ResyncItem block contents) refl)
+    (writes-more items (ResyncItem block contents) refl ∙ omega arith) (blocks-more size items (ResyncItem block contents) refl) (resync-same items (ResyncItem block contents) refl refl)
 
 -- the end of an epoch
-pub intake-barrier : (items : List Item) (epoch : ℕ) → intake_of (items ++ BarrierItem epoch ∷ []) ≡ and_item (BarrierItem epoch) (intake_of items)
-intake-barrier items epoch = intake-is _ _ (places-more items (BarrierItem epoch)) (highest-more items (BarrierItem epoch) ∙ max-zero (highest_in items)) (let all = barriers-append items (BarrierItem epoch ∷ []) in omega arith)
-    (ap writes_among (items-barrier items epoch)) (λ block. ap (list_any (λ (entry : ℕ × Item). touches entry.1 block)) (items-barrier items epoch)) (resync-same items (BarrierItem epoch) refl refl)
+pub intake-barrier : (size : ℕ) (items : List Item) (epoch : ℕ) → intake_of size (items ++ BarrierItem epoch ∷ []) ≡ and_item (BarrierItem epoch) (intake_of size items)
+intake-barrier size items epoch = intake-is _ _ (places-more items (BarrierItem epoch)) (highest-more items (BarrierItem epoch) ∙ max-zero (highest_in items)) (let all = barriers-append items (BarrierItem epoch ∷ []) in omega arith)
+    (ap writes_among (items-barrier items epoch)) (flags-same size (last-has (items ++ BarrierItem epoch ∷ [])) (λ block. false) (λ block less. ap (list_any (λ (entry : ℕ × Item). touches entry.1 block)) (items-barrier items epoch)) ∙ ap none_of (sym (flags-length size (last-has items)))) (resync-same items (BarrierItem epoch) refl refl)
 
 -- the first item of a resync, at the first place
-pub intake-start : (items : List Item) (word : ℕ) → (length items == 0) ≡ true → intake_of (items ++ SyncUuidItem word ∷ []) ≡ and_item (SyncUuidItem word) (intake_of items)
-intake-start [] word none = intake-is _ _ refl refl refl refl (λ block. ap (λ b. b || false) (touches-nothing 0 block)) refl
-intake-start (x ∷ items) word none = absurd (both_ways (suc (length items) == 0) (some-not-none (length items)) none)
+pub intake-start : (size : ℕ) (items : List Item) (word : ℕ) → (length items == 0) ≡ true → intake_of size (items ++ SyncUuidItem word ∷ []) ≡ and_item (SyncUuidItem word) (intake_of size items)
+intake-start size [] word none = intake-is _ _ refl refl refl refl (blocks-same size [] (SyncUuidItem word) refl (touches-nothing 0)) refl
+intake-start size (x ∷ items) word none = absurd (both_ways (suc (length items) == 0) (some-not-none (length items)) none)
 
 -- the end of a resync
-pub intake-end : (items : List Item) (tuple : Tuple) → intake_of (items ++ UuidsItem tuple ∷ []) ≡ and_item (UuidsItem tuple) (intake_of items)
-intake-end items tuple = intake-is _ _ (places-more items (UuidsItem tuple)) (highest-more items (UuidsItem tuple) ∙ max-zero (highest_in items)) (barriers-more items (UuidsItem tuple) refl)
-    (writes-more items (UuidsItem tuple) refl ∙ omega arith) (λ block. blocks-same items (UuidsItem tuple) block refl (touches-nothing 0 block)) over
+pub intake-end : (size : ℕ) (items : List Item) (tuple : Tuple) → intake_of size (items ++ UuidsItem tuple ∷ []) ≡ and_item (UuidsItem tuple) (intake_of size items)
+intake-end size items tuple = intake-is _ _ (places-more items (UuidsItem tuple)) (highest-more items (UuidsItem tuple) ∙ max-zero (highest_in items)) (barriers-more items (UuidsItem tuple) refl)
+    (writes-more items (UuidsItem tuple) refl ∙ omega arith) (blocks-same size items (UuidsItem tuple) refl (touches-nothing 0)) over
   where
     over : in_resync (items ++ UuidsItem tuple ∷ []) ≡ false
     over =
@@ -172,3 +222,16 @@ intake-end items tuple = intake-is _ _ (places-more items (UuidsItem tuple)) (hi
         ended true true = refl
         ended true false = refl
         ended false b = refl
+
+-- An item of the device is apart from those of the last epoch exactly where none of its blocks is one of theirs.
+pub apart-by-blocks : (size : ℕ) (items : List Item) (item : Item) → first_of item + length (contents_of item) ≤ size → step.is_apart item items ≡ is_apart (first_of item) (length (contents_of item)) (intake_of size items)
+apart-by-blocks size items item inside = blocks-meet items item ∙ ap not (any-below (length (contents_of item)) (λ offset less. sym (flags-has size (last-has items) (first_of item + offset) (omega arith))))
+  where
+    any-below : {p q : ℕ → Bool} (n : ℕ) → ((offset : ℕ) → offset < n → p offset ≡ q offset) → list_any p (below n) ≡ list_any q (below n)
+    any-below zero same = refl
+    any-below {p} {q} (suc n) same =
+        list_any-append p (below n) (n ∷ []) ∙ ((λ i. any-below n (λ offset less. same offset (omega arith)) i || (same n (omega arith) i || false)) ∙ sym (list_any-append q (below n) (n ∷ [])))
+
+-- what is kept where nothing was taken
+pub intake-none : (size : ℕ) → nothing_taken size ≡ intake_of size []
+intake-none size = intake-is _ _ refl refl refl refl (flags-same size (λ block. false) (last-has []) (λ block less. refl)) refl

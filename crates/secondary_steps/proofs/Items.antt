@@ -24,14 +24,14 @@ same-if true false same name other names t h left = absurd (cc)
 same-if false true same name other names t h left = absurd (cc)
 
 -- What an item leaves that was taken: `c` is the connection with its frame, and `waits` says whether it has blocks.
-pub last-item : (s t : SecondaryState) (e : EndState) (d c : Inward) (item : Item) (waits : Bool) → LeavesLast s d → d.closed ≡ false → items_taken c ≡ items_taken d ++ item ∷ [] → c.applied ≡ d.applied → c.gone ≡ d.gone → c.number ≡ d.number
-    → LeavesEnd e c → has_blocks item ≡ waits → t.number ≡ s.number → t.intake ≡ intake_of (items_taken d ++ item ∷ []) → t.pending ≡ s.pending ++ cond waits (record { place = length (items_taken d); epoch = last_epoch (items_taken d); item = item } ∷ []) []
-    → t.failed ≡ s.failed → t.end ≡ Some e → LeavesLast t c
-last-item s t e d c item waits left stands items applied gone number there blocks is_number is_intake is_waiting is_failed is_end =
+pub last-item : (size : ℕ) (s t : SecondaryState) (e : EndState) (d c : Inward) (item : Item) (waits : Bool) → LeavesLast size s d → d.closed ≡ false → items_taken c ≡ items_taken d ++ item ∷ [] → c.applied ≡ d.applied → c.gone ≡ d.gone → c.number ≡ d.number
+    → LeavesEnd e c → has_blocks item ≡ waits → t.number ≡ s.number → t.intake ≡ intake_of size (items_taken d ++ item ∷ []) → t.pending ≡ s.pending ++ cond waits (record { place = length (items_taken d); epoch = last_epoch (items_taken d); item = item } ∷ []) []
+    → t.failed ≡ s.failed → t.end ≡ Some e → LeavesLast size t c
+last-item size s t e d c item waits left stands items applied gone number there blocks is_number is_intake is_waiting is_failed is_end =
     let whole = open-whole s.failed d left.failed stands in
     record {
       number = is_number ∙ (left.number ∙ sym number);
-      intake = is_intake ∙ ap intake_of (sym items);
+      intake = is_intake ∙ ap (intake_of size) (sym items);
       named = λ place offset inside.
           let was = left.named place offset (ap (λ part. is_in part place offset) (sym applied) ∙ inside) in
           let longer = ap length items ∙ length-append (items_taken d) (item ∷ []) in

@@ -85,11 +85,11 @@ early-items frame d plain early =
     drop-past (suc n) (x ∷ xs) less = drop-past n xs (omega arith)
 
 -- what is left where the items stay
-pub last-same : (s t : SecondaryState) (e : EndState) (d c : Inward) → LeavesLast s d → items_taken c ≡ items_taken d → c.applied ≡ d.applied → c.gone ≡ [] → d.gone ≡ [] → c.number ≡ d.number → LeavesEnd e c
-    → t.number ≡ s.number → t.intake ≡ s.intake → t.pending ≡ s.pending → t.failed ≡ None → t.end ≡ Some e → LeavesLast t c
-last-same s t e d c left items applied none was_none number there is_number is_intake is_pending_same is_failed is_end = record {
+pub last-same : (size : ℕ) (s t : SecondaryState) (e : EndState) (d c : Inward) → LeavesLast size s d → items_taken c ≡ items_taken d → c.applied ≡ d.applied → c.gone ≡ [] → d.gone ≡ [] → c.number ≡ d.number → LeavesEnd e c
+    → t.number ≡ s.number → t.intake ≡ s.intake → t.pending ≡ s.pending → t.failed ≡ None → t.end ≡ Some e → LeavesLast size t c
+last-same size s t e d c left items applied none was_none number there is_number is_intake is_pending_same is_failed is_end = record {
   number = is_number ∙ (left.number ∙ sym number);
-  intake = is_intake ∙ (left.intake ∙ ap intake_of (sym items));
+  intake = is_intake ∙ (left.intake ∙ ap (intake_of size) (sym items));
   named = λ place offset inside. subst (λ (l : List Item). place < length l) (sym items) (left.named place offset (ap (λ part. is_in part place offset) (sym applied) ∙ inside));
   pending =
       is_pending_same

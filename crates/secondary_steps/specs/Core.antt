@@ -1,6 +1,5 @@
 -- The state of a secondary in plain values, and its transitions.
 use Rattle.std.specs.Prelude.{ℕ, zero, suc, ◌+◌, ◌-◌, nat_lt, nat_le, ◌==◌, Bool, true, false, ◌&&◌, ◌||◌, not, if◌then◌else◌, List, [], ◌∷◌, ◌++◌, length, drop, Option, Some, None, is_some, is_none, option_map, slice_get, ok_or, Result, Ok, Err}
-use Rattle.std.specs.List.{list_any}
 use Rattle.blocks.specs.declared.tuple.Tuple.{Tuple}
 use Rattle.blocks.specs.declared.settings.Settings.{Settings}
 use Rattle.blocks.specs.declared.settings.Protocol.{Protocol}
@@ -12,14 +11,14 @@ use Rattle.blocks.specs.declared.outcome.What.{What}
 use Rattle.blocks.specs.declared.outcome.What.TheVariants as what
 use Rattle.blocks.specs.declared.command.Command.TheVariants as command
 use Rattle.model.specs.Contents.{is_range}
-use Rattle.model.specs.Stream.{Item, WriteItem, ResyncItem, BarrierItem, SyncUuidItem, UuidsItem, below}
+use Rattle.model.specs.Stream.{Item, WriteItem, ResyncItem, BarrierItem, SyncUuidItem, UuidsItem, first_of, contents_of}
 use Rattle.model.specs.Frames.{Packet, DataFrame, RsDataReplyFrame, BarrierFrame, ProtocolFrame, UuidsFrame, SizesFrame, SyncUuidFrame, RecvAckFrame, BarrierAckFrame, Received, command_of, hello_of, naming}
 use Rattle.model.specs.Refusals.{Test, first_refusal, done_with}
 use Rattle.model.specs.Acknowledgements.{same_protocol}
 use Rattle.model.specs.SecondarySteps.{applied_answer, has_place}
-use Rattle.laws.specs.Reflections.{touches}
 use Rattle.peerdisk.specs.Pending.{Pending, without, after_fault, epoch_at, item_at}
 use Rattle.peerdisk.specs.Pending as peerdisk
+use Rattle.peerdisk.specs.Blocks.{none_of, adding, has_any}
 
 -- What is kept of the stream that was taken: how many items, the highest number of a write, the barriers, and of the last
 -- epoch how many writes it has and which blocks its items have; and whether a resync goes on.
@@ -28,7 +27,7 @@ pub record Intake : Type 0 where
   pub highest : ℕ
   pub barriers : ℕ
   pub writes : ℕ
-  pub blocks : ℕ → Bool
+  pub blocks : List Bool
   pub resync : Bool
 
 -- An open end: the tuple that its hello names, how many frames of the peer's hello were taken and of its own pushed (3 at
@@ -54,9 +53,9 @@ pub record SecondaryState : Type 0 where
   pub failed : Option ℕ
   pub end : Option EndState
 
--- a stream of which nothing was taken
-abbrev pub nothing_taken : Intake
-nothing_taken = record { places = 0; highest = 0; barriers = 0; writes = 0; blocks = λ block. false; resync = false }
+-- a stream of which nothing was taken, for a device of so many blocks
+abbrev pub nothing_taken : ℕ → Intake
+nothing_taken size = record { places = 0; highest = 0; barriers = 0; writes = 0; blocks = none_of size; resync = false }
 
 -- a secondary that was never opened
 abbrev pub fresh : Settings → Tuple → SecondaryState
@@ -65,7 +64,7 @@ fresh settings tuple = record {
   tuple = tuple;
   consistent = not (tuple.current == 0);
   number = 0;
-  intake = nothing_taken;
+  intake = nothing_taken settings.blocks;
   pending = [];
   failed = None;
   end = None;
@@ -83,7 +82,7 @@ opened_end tuple = record { hello = tuple; heard = 0; said = 0; due = []; answer
 
 -- a connection of this number begins
 abbrev pub opened : ℕ → SecondaryState → SecondaryState
-opened number s = record s { number = number; intake = nothing_taken; failed = None; end = Some (opened_end s.tuple) }
+opened number s = record s { number = number; intake = nothing_taken s.settings.blocks; failed = None; end = Some (opened_end s.tuple) }
 
 -- when an opening is refused: the end is open, or items are pending
 abbrev pub open_tests : SecondaryState → List Test
@@ -127,13 +126,13 @@ may_take s = elim (first_refusal (take_tests s)) [ Some refusal ↦ Err refusal 
 
 -- a write, with its blocks among those of the last epoch
 abbrev pub with_blocks : Item → Intake → Intake
-with_blocks item i = record i { places = suc i.places; blocks = λ block. i.blocks block || touches item block }
+with_blocks item i = record i { places = suc i.places; blocks = adding (first_of item) (length (contents_of item)) i.blocks }
 
 -- one item more
 abbrev pub and_item : Item → Intake → Intake
 and_item (WriteItem write) i = record (with_blocks (WriteItem write) i) { highest = write.number; writes = suc i.writes }
 and_item (ResyncItem block contents) i = with_blocks (ResyncItem block contents) i
-and_item (BarrierItem epoch) i = record i { places = suc i.places; barriers = suc i.barriers; writes = 0; blocks = λ block. false }
+and_item (BarrierItem epoch) i = record i { places = suc i.places; barriers = suc i.barriers; writes = 0; blocks = none_of (length i.blocks) }
 and_item (SyncUuidItem word) i = record i { places = suc i.places; resync = true }
 and_item (UuidsItem tuple) i = record i { places = suc i.places; resync = false }
 
@@ -153,7 +152,7 @@ owing packets e = record e { due = e.due ++ packets }
 
 -- none of these blocks is one of the last epoch's
 abbrev pub is_apart : ℕ → ℕ → Intake → Bool
-is_apart first count i = not (list_any (λ offset. i.blocks (first + offset)) (below count))
+is_apart first count i = not (has_any first count i.blocks)
 
 -- What a frame that is accepted is called, and what the secondary is then, before what follows.
 abbrev pub Judged : Type 0

@@ -7,6 +7,7 @@ use Rattle.model.specs.Secondary.{Inward, SecondaryHistory, inward, items_taken,
 use Rattle.model.specs.SecondarySteps.{is_barrier_answer}
 use Rattle.laws.specs.Reflections.{touches}
 use Rattle.peerdisk.specs.Pending.{Pending}
+use Rattle.peerdisk.specs.Blocks.{flags}
 use Rattle.secondary_steps.specs.Core.{Intake, EndState, SecondaryState}
 
 -- the highest number of a write, 0 where there is none
@@ -14,14 +15,14 @@ abbrev pub highest_in : List Item → ℕ
 highest_in [] = 0
 highest_in (item ∷ items) = max (number_of item) (highest_in items)
 
--- what is kept of these items
-abbrev pub intake_of : List Item → Intake
-intake_of items = record {
+-- what is kept of these items, for a device of so many blocks
+abbrev pub intake_of : ℕ → List Item → Intake
+intake_of size items = record {
   places = length items;
   highest = highest_in items;
   barriers = barriers_in items;
   writes = epoch_size items (last_epoch items);
-  blocks = λ block. list_any (λ entry. touches entry.1 block) (items_of_epoch items (last_epoch items));
+  blocks = flags size (λ block. list_any (λ entry. touches entry.1 block) (items_of_epoch items (last_epoch items)));
   resync = in_resync items;
 }
 
@@ -70,10 +71,10 @@ abbrev pub FailedLeft : Option ℕ → Inward → Type 0
 FailedLeft None c = c.gone ≡ []
 FailedLeft (Some epoch) c = LeavesFailed epoch c
 
--- The state is what the last connection leaves. The part applied names only places that were taken.
-pub record LeavesLast (s : SecondaryState) (c : Inward) : Type 0 where
+-- The state is what the last connection leaves, at a device of so many blocks. The part applied names only places that were taken.
+pub record LeavesLast (size : ℕ) (s : SecondaryState) (c : Inward) : Type 0 where
   pub number : s.number ≡ c.number
-  pub intake : s.intake ≡ intake_of (items_taken c)
+  pub intake : s.intake ≡ intake_of size (items_taken c)
   pub named : (place offset : ℕ) → is_in c.applied place offset ≡ true → place < length (items_taken c)
   pub pending : s.pending ≡ map (pending_in (items_taken c)) (pending c)
   pub failed : FailedLeft s.failed c
@@ -84,4 +85,4 @@ pub record Leaves (s : SecondaryState) (h : SecondaryHistory) : Type 0 where
   pub settings : s.settings ≡ h.settings
   pub tuple : s.tuple ≡ h.tuple
   pub consistent : s.consistent ≡ h.consistent
-  pub last : LeavesLast s (inward h)
+  pub last : LeavesLast h.settings.blocks s (inward h)

@@ -2,6 +2,7 @@
 use Rattle.std.proofs.Common.{ℕ, ◌≡◌, ◌<◌, nat_le, arith, Option, Bool, true, false, not, ◌&&◌, ◌||◌, List, [], ◌∷◌, length, Some, None, Ok, refl, sym, ◌∙◌, ap, subst, nat_lt}
 use Rattle.std.specs.Prelude.{is_some, is_none}
 use Rattle.std.proofs.lemmas.Bool.{lt-leb, lt-ltb, both_ways}
+use Rattle.blocks.specs.declared.settings.Settings.{Settings}
 use Rattle.blocks.specs.declared.refusal.Refusal.TheVariants.{NotDrained, NotConnected}
 use Rattle.blocks.specs.declared.outcome.What.TheVariants as what
 use Rattle.blocks.specs.declared.outcome.Reply.TheVariants as reply
@@ -11,9 +12,10 @@ use Rattle.model.specs.SecondarySteps as step
 use Rattle.laws.proofs.Lists.Elements.{append-one}
 use Rattle.laws.proofs.Lists.Last.{last-more}
 use Rattle.laws.proofs.Secondary.Moves.{closed_end}
-use Rattle.secondary_steps.specs.Core.{SecondaryState, opened, open_tests}
+use Rattle.secondary_steps.specs.Core.{nothing_taken, SecondaryState, opened, open_tests}
 use Rattle.secondary_steps.specs.Leaves.{Leaves, LeavesLast, FailedLeft, pending_in}
 use Rattle.secondary_steps.specs.Steps.{FreshIsOpening, OpensAgree, ClosesAgree, plainly}
+use Rattle.secondary_steps.proofs.Intakes.{intake-none}
 use Rattle.secondary_steps.proofs.Tested.{tested-agrees, passed, end-closed, end-open, inward-with, open-some, length-map, some-or-none}
 
 -- a new secondary has the opening
@@ -22,7 +24,7 @@ fresh-is settings disk tuple = record {
   settings = refl;
   tuple = refl;
   consistent = refl;
-  last = record { number = refl; intake = refl; named = λ place offset inside. absurd (cc); pending = refl; failed = refl; end = refl };
+  last = record { number = refl; intake = intake-none settings.blocks; named = λ place offset inside. absurd (cc); pending = refl; failed = refl; end = refl };
 }
 
 -- the tests of an opening are the same
@@ -46,9 +48,9 @@ opens-agree unseen s h left = tested-agrees plainly s h (open_tests s) (step.ope
         settings = left.settings;
         tuple = left.tuple;
         consistent = left.consistent;
-        last = subst (LeavesLast (opened (step.next_number unseen h) s)) (sym ends) (record {
+        last = subst (LeavesLast h.settings.blocks (opened (step.next_number unseen h) s)) (sym ends) (record {
           number = refl;
-          intake = refl;
+          intake = ap (λ (x : Settings). nothing_taken x.blocks) left.settings ∙ intake-none h.settings.blocks;
           named = λ place offset inside. absurd (cc);
           pending = empty none;
           failed = refl;
@@ -93,7 +95,7 @@ closes-agree s h left = tested-agrees plainly s h ((is_none s.end, NotConnected)
         settings = left.settings;
         tuple = left.tuple;
         consistent = left.consistent;
-        last = subst (LeavesLast (record s { end = None })) (sym (inward-with closed_end h (open-some h stands))) (record {
+        last = subst (LeavesLast h.settings.blocks (record s { end = None })) (sym (inward-with closed_end h (open-some h stands))) (record {
           number = left.last.number;
           intake = left.last.intake;
           named = left.last.named;

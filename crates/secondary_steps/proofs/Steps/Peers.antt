@@ -95,7 +95,7 @@ applied-left s h place left may = record {
   settings = left.settings;
   tuple = left.tuple;
   consistent = left.consistent;
-  last = subst (LeavesLast (applied_first place s)) (sym (inward-with (applying h.settings.protocol place) h (taken-some h place may.item may.there) ∙ applying-is asked place d may.item may.there)) (by-end s.end refl left.last.end);
+  last = subst (LeavesLast h.settings.blocks (applied_first place s)) (sym (inward-with (applying h.settings.protocol place) h (taken-some h place may.item may.there) ∙ applying-is asked place d may.item may.there)) (by-end s.end refl left.last.end);
 }
   where
     d : Inward
@@ -110,7 +110,7 @@ applied-left s h place left may = record {
     item_is : item_at place s.pending ≡ Some may.item
     item_is = ap (item_at place) left.last.pending ∙ may.item_is
 
-    last-of : (due : List Packet) → EndLeft (applied_first place s).end (after due) → FailedLeft s.failed (after due) → LeavesLast (applied_first place s) (after due)
+    last-of : (due : List Packet) → EndLeft (applied_first place s).end (after due) → FailedLeft s.failed (after due) → LeavesLast h.settings.blocks (applied_first place s) (after due)
     last-of due end failed = record {
       number = left.last.number;
       intake = left.last.intake;
@@ -136,16 +136,16 @@ applied-left s h place left may = record {
     }
 
     by-end : (v : Option EndState) → s.end ≡ v → EndLeft v (inward h)
-        → LeavesLast (applied_first place s) (after (elim (inward h).closed as (λ _. List Packet) [ true ↦ (inward h).due | false ↦ (inward h).due ++ applied_answer h.settings.protocol place may.item ]))
+        → LeavesLast h.settings.blocks (applied_first place s) (after (elim (inward h).closed as (λ _. List Packet) [ true ↦ (inward h).due | false ↦ (inward h).due ++ applied_answer h.settings.protocol place may.item ]))
     by-end None is shut =
-        subst (λ (b : Bool). LeavesLast (applied_first place s) (after (elim b as (λ _. List Packet) [ true ↦ (inward h).due | false ↦ (inward h).due ++ applied_answer h.settings.protocol place may.item ]))) (sym shut)
+        subst (λ (b : Bool). LeavesLast h.settings.blocks (applied_first place s) (after (elim b as (λ _. List Packet) [ true ↦ (inward h).due | false ↦ (inward h).due ++ applied_answer h.settings.protocol place may.item ]))) (sym shut)
         (last-of (inward h).due (subst (λ (v : Option EndState). EndLeft (option_map (owing (answers_of s.settings.protocol place (item_at place s.pending))) v) (after (inward h).due)) (sym is) shut) (failed-after (inward h).due s.failed left.last.failed))
     by-end (Some e) is there =
         let packets : List Packet = applied_answer asked place may.item in
         let owes : owing (answers_of s.settings.protocol place (item_at place s.pending)) e ≡ owing packets e = λ k. owing (answers_of (left.settings k).protocol place (item_is k)) e in
         let end : LeavesEnd (owing packets e) (after ((inward h).due ++ packets)) =
         end-owes e (inward h) packets ((inward h).applied ++ offsets_at place (below (length (contents_of may.item)))) there (applied-other asked place may.item) in
-        subst (λ (b : Bool). LeavesLast (applied_first place s) (after (elim b as (λ _. List Packet) [ true ↦ (inward h).due | false ↦ (inward h).due ++ applied_answer h.settings.protocol place may.item ]))) (sym there.stands)
+        subst (λ (b : Bool). LeavesLast h.settings.blocks (applied_first place s) (after (elim b as (λ _. List Packet) [ true ↦ (inward h).due | false ↦ (inward h).due ++ applied_answer h.settings.protocol place may.item ]))) (sym there.stands)
         (last-of ((inward h).due ++ packets)
         (subst (λ (v : Option EndState). EndLeft (option_map (owing (answers_of s.settings.protocol place (item_at place s.pending))) v) (after ((inward h).due ++ packets))) (sym is) (subst (λ (x : EndState). LeavesEnd x (after ((inward h).due ++ packets))) (sym owes) end))
         (failed-after ((inward h).due ++ packets) s.failed left.last.failed))
@@ -240,7 +240,7 @@ faults-agree place offsets s h left = elim (starting (inward h) place) [
           settings = left.settings;
           tuple = left.tuple;
           consistent = left.consistent;
-          last = subst (LeavesLast (core.failing place s)) (sym (inward-with (failing place offsets) h (taken-some h place may.item may.there))) (record {
+          last = subst (LeavesLast h.settings.blocks (core.failing place s)) (sym (inward-with (failing place offsets) h (taken-some h place may.item may.there))) (record {
             number = left.last.number;
             intake = left.last.intake;
             named = named-more (inward h) place may.item (within (blocks_at (items_taken (inward h)) place) offsets) may.there left.last.named;

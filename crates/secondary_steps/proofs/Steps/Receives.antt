@@ -1,8 +1,8 @@
 -- Taking a frame, whatever frame it is.
-use Rattle.std.proofs.Common.{ℕ, suc, ◌≡◌, ◌+◌, ◌-◌, ◌<◌, inl, inr, Bool, true, false, cond, ◌&&◌, ◌||◌, List, [], ◌∷◌, ◌++◌, length, map, filter, Option, Some, None, Result, Ok, Err, refl, sym, ◌∙◌, ap, subst, arith, ◌==◌, nat_lt, nat_le}
+use Rattle.std.proofs.Common.{ℕ, suc, ◌≡◌, ◌+◌, ◌-◌, ◌<◌, inl, inr, Bool, true, false, cond, ◌&&◌, ◌||◌, List, [], ◌∷◌, ◌++◌, length, map, filter, Option, Some, None, Result, Ok, Err, refl, sym, ◌∙◌, ap, subst, arith, ◌==◌, nat_lt, nat_le, ◌≤◌}
 use Rattle.std.specs.Prelude.{is_none, option_map, if◌then◌else◌}
 use Rattle.std.specs.List.{list_any}
-use Rattle.std.proofs.lemmas.Bool.{and_parts, ltb-true}
+use Rattle.std.proofs.lemmas.Bool.{and_parts, ltb-true, leb-true}
 use Rattle.std.proofs.lemmas.List.{append-nil}
 use Rattle.blocks.specs.declared.tuple.Tuple.{Tuple}
 use Rattle.blocks.specs.declared.settings.Settings.{Settings}
@@ -31,9 +31,8 @@ use Rattle.secondary_steps.specs.Core.{Intake, EndState, SecondaryState, Judged,
 use Rattle.secondary_steps.specs.Leaves.{Leaves, LeavesLast, LeavesEnd, EndLeft, FailedLeft, intake_of, pending_in}
 use Rattle.secondary_steps.specs.Steps.{ReceivesAgree, Agrees}
 use Rattle.secondary_steps.proofs.Answering.{answering-open, left-answering}
-use Rattle.secondary_steps.proofs.Apart.{apart-by-blocks}
 use Rattle.secondary_steps.proofs.Ends.{end-takes, end-barrier, hello-goes-on}
-use Rattle.secondary_steps.proofs.Intakes.{above-highest, intake-write, intake-resync, intake-barrier, intake-start, intake-end}
+use Rattle.secondary_steps.proofs.Intakes.{apart-by-blocks, above-highest, intake-write, intake-resync, intake-barrier, intake-start, intake-end}
 use Rattle.secondary_steps.proofs.Items.{same-if, last-item, receipt-other, receiving-is, receiving-rest}
 use Rattle.secondary_steps.proofs.Judged.{SameJudged, hello-same, early-items, last-same}
 use Rattle.secondary_steps.proofs.Tested.{tested-agrees, passed, end-closed, end-there, inward-of, inward-with, open-some, open-whole, length-map}
@@ -52,16 +51,16 @@ leaves-follows s h left = record {
         ap (λ (l : List Inward). last_of (no_inward h) (change_last step.answering l)) none ∙ sym (ap (last_of (no_inward h)) none) in
         let shut : (inward h).closed ≡ true = ap (λ (l : List Inward). (last_of (no_inward h) l).closed) none in
         let still : step.answering (inward h) ≡ inward h = ap (λ b. elim b as (λ _. Inward) [ true ↦ d | false ↦ record d { due = d.due ++ map (step.barrier_answer d) (step.barriers_to_answer d) } ]) shut in
-        subst (LeavesLast (follows s)) (still ∙ sym same) (go s.end refl left.last.end)
-    | inr is ↦ subst (LeavesLast (follows s)) (sym is) (go s.end refl left.last.end)
+        subst (LeavesLast h.settings.blocks (follows s)) (still ∙ sym same) (go s.end refl left.last.end)
+    | inr is ↦ subst (LeavesLast h.settings.blocks (follows s)) (sym is) (go s.end refl left.last.end)
   ];
 }
   where
     d : Inward
     d = inward h
 
-    go : (v : Option EndState) → s.end ≡ v → EndLeft v (inward h) → LeavesLast (follows s) (step.answering (inward h))
-    go None is shut = subst (LeavesLast (follows s)) (sym (ap (λ b. elim b as (λ _. Inward) [ true ↦ d | false ↦ record d { due = d.due ++ map (step.barrier_answer d) (step.barriers_to_answer d) } ]) shut)) (record {
+    go : (v : Option EndState) → s.end ≡ v → EndLeft v (inward h) → LeavesLast h.settings.blocks (follows s) (step.answering (inward h))
+    go None is shut = subst (LeavesLast h.settings.blocks (follows s)) (sym (ap (λ b. elim b as (λ _. Inward) [ true ↦ d | false ↦ record d { due = d.due ++ map (step.barrier_answer d) (step.barriers_to_answer d) } ]) shut)) (record {
       number = left.last.number;
       intake = left.last.intake;
       named = left.last.named;
@@ -74,7 +73,7 @@ leaves-follows s h left = record {
         let there_after : LeavesEnd (answering s.pending e) (step.answering (inward h)) = left-answering e (inward h) s.pending whole.1 left.last.pending there in
         let opens = answering-open (inward h) there.stands in
         let after : LeavesEnd (answering s.pending e) (record d { due = d.due ++ map (step.barrier_answer d) (step.barriers_to_answer d) }) = subst (LeavesEnd (answering s.pending e)) opens there_after in
-        subst (LeavesLast (follows s)) (sym opens) (record {
+        subst (LeavesLast h.settings.blocks (follows s)) (sym opens) (record {
           number = left.last.number;
           intake = left.last.intake;
           named = left.last.named;
@@ -119,7 +118,7 @@ module _ (frame : Received) (s : SecondaryState) (h : SecondaryHistory) (e : End
         settings = left.settings;
         tuple = left.tuple;
         consistent = left.consistent;
-        last = subst (LeavesLast (record s { end = Some (hearing e) })) (sym framed-is) (last-same s heard (hearing e) d (framed frame d) left.last items refl whole.1 whole.1 refl end refl refl refl whole.0 refl);
+        last = subst (LeavesLast h.settings.blocks (record s { end = Some (hearing e) })) (sym framed-is) (last-same h.settings.blocks s heard (hearing e) d (framed frame d) left.last items refl whole.1 whole.1 refl end refl refl refl whole.0 refl);
       }
 
   -- An item of the stream, whose frame brings it, and these acknowledgements due.
@@ -138,18 +137,18 @@ module _ (frame : Received) (s : SecondaryState) (h : SecondaryHistory) (e : End
     item-there = taken-item frame item (inward h) there.plain late brings
 
     -- what an item leaves
-    item-left : (waits : Bool) (t : SecondaryState) (later : SecondaryHistory) (due : List Packet) (end : EndState) → has_blocks item ≡ waits → inward later ≡ with_due due → LeavesEnd end (with_due due)
-        → t.settings ≡ later.settings → t.tuple ≡ later.tuple → t.consistent ≡ later.consistent → t.number ≡ s.number → t.intake ≡ intake_of (items_taken (inward h) ++ item ∷ [])
+    item-left : (waits : Bool) (t : SecondaryState) (later : SecondaryHistory) (due : List Packet) (end : EndState) → later.settings ≡ h.settings → has_blocks item ≡ waits → inward later ≡ with_due due → LeavesEnd end (with_due due)
+        → t.settings ≡ later.settings → t.tuple ≡ later.tuple → t.consistent ≡ later.consistent → t.number ≡ s.number → t.intake ≡ intake_of h.settings.blocks (items_taken (inward h) ++ item ∷ [])
         → t.pending ≡ s.pending ++ cond waits (place_of ∷ []) [] → t.failed ≡ s.failed → t.end ≡ Some end → Leaves t later
-    item-left waits t later due end blocks form left_end settings tuple consistent number intake waiting_is failed end_is = record {
+    item-left waits t later due end same_settings blocks form left_end settings tuple consistent number intake waiting_is failed end_is = record {
       settings = settings;
       tuple = tuple;
       consistent = consistent;
-      last = subst (LeavesLast t) (sym form) (last-item s t end d (with_due due) item waits left.last there.stands item-there refl refl refl left_end blocks number intake waiting_is failed end_is);
+      last = subst (λ (x : Settings). LeavesLast x.blocks t (inward later)) (sym same_settings) (subst (LeavesLast h.settings.blocks t) (sym form) (last-item h.settings.blocks s t end d (with_due due) item waits left.last there.stands item-there refl refl refl left_end blocks number intake waiting_is failed end_is));
     }
 
     -- what is kept, by what the items are
-    kept : and_item item s.intake ≡ and_item item (intake_of (items_taken (inward h)))
+    kept : and_item item s.intake ≡ and_item item (intake_of h.settings.blocks (items_taken (inward h)))
     kept = ap (and_item item) left.last.intake
 
     -- what waits, with the item
@@ -161,6 +160,18 @@ module _ (frame : Received) (s : SecondaryState) (h : SecondaryHistory) (e : End
         → LeavesEnd (record (hearing e) { due = e.due ++ packets }) (with_due ((inward h).due ++ packets))
     end-there-with packets plain other = end-takes e (inward h) frame (item ∷ []) packets (e.due ++ packets) ((inward h).due ++ packets) there item-there plain refl refl other
 
+  -- what is tested behind a test matters only where that holds
+  if-front : (front x y : Bool) → (front ≡ true → x ≡ y) → (front && x) ≡ (front && y)
+  if-front true x y same = same refl
+  if-front false x y same = refl
+
+  -- a range lies inside the device
+  inside : (before : Bool) (first count : ℕ) → (before && is_range h.settings first count) ≡ true → first + count ≤ h.settings.blocks
+  inside before first count holds =
+      let range = (and_parts before (is_range h.settings first count) holds).1 in
+      let fits = (and_parts ((nat_lt 0 count && nat_le count 32) && nat_le (first + count) h.settings.blocks) (extent_of first == extent_of (first + count - 1)) range).0 in
+      leb-true (first + count) h.settings.blocks (and_parts (nat_lt 0 count && nat_le count 32) (nat_le (first + count) h.settings.blocks) fits).1
+
   -- A write.
   data-same : (write : Write) (at : ℕ) → nat_lt (length (inward h).taken) 3 ≡ false → received_item frame ≡ Some (WriteItem write)
       → SameJudged (judging_item (DataFrame write at) (hearing e) (record s { end = Some (hearing e) })) (step.checking_item (DataFrame write at) (length (items_taken (inward h))) (inward h) (with_inward (framed frame) h))
@@ -169,12 +180,12 @@ module _ (frame : Received) (s : SecondaryState) (h : SecondaryHistory) (e : End
       let all : List Item = items_taken (inward h) in
       let count : ℕ = length write.contents in
       let asked : Protocol = h.settings.protocol in
-      let i : Intake = intake_of all in
+      let i : Intake = intake_of h.settings.blocks all in
       let tests : Settings → Intake → Bool = λ x j. ((((at == j.places) && has_place j.places) && is_range x write.first count) && (((j.places == 0) || nat_lt j.highest write.number) && is_apart write.first count j)) in
       let one : tests s.settings s.intake ≡ tests h.settings i = λ k. tests (left.settings k) (left.last.intake k) in
       let front : Bool = ((at == length all) && has_place (length all)) && is_range h.settings write.first count in
       let two = ap (λ b. front && (b && is_apart write.first count i)) (sym (above-highest write.number all)) in
-      let three = ap (λ b. front && (is_above write.number all && b)) (sym (apart-by-blocks all item)) in
+      let three = if-front front _ _ (λ holds. ap (λ b. is_above write.number all && b) (sym (apart-by-blocks h.settings.blocks all item (inside ((at == length all) && has_place (length all)) write.first count holds)))) in
       same-if _ _ (one ∙ (two ∙ three)) _ _ (λ k. what.Frame command.Data (Some (left.last.intake k).places)) _ (step.receiving (length all) item taken) (λ good.
       let above = (and_parts (is_above write.number all) (step.is_apart item all) (and_parts front (is_above write.number all && step.is_apart item all) good).1).0 in
       let packets : List Packet = receipt asked (length all) item in
@@ -183,9 +194,9 @@ module _ (frame : Received) (s : SecondaryState) (h : SecondaryHistory) (e : End
       receiving-is asked (length all) item taken refl (λ none. some (unchanged h.connections none)) ∙ ap (λ (c : Inward). record c { due = c.due ++ packets }) framed-is in
       let end_is : Some (owing (receipt s.settings.protocol s.intake.places item) (hearing e)) ≡ Some (record (hearing e) { due = e.due ++ packets }) =
       λ k. Some (record (hearing e) { due = e.due ++ receipt (left.settings k).protocol (left.last.intake k).places item }) in
-      item-left late item brings true _ (step.receiving (length all) item taken) ((inward h).due ++ packets) (record (hearing e) { due = e.due ++ packets }) (blocks-of good) form
+      item-left late item brings true _ (step.receiving (length all) item taken) ((inward h).due ++ packets) (record (hearing e) { due = e.due ++ packets }) rest.0 (blocks-of good) form
       (end-there-with late item brings packets refl (receipt-other asked (length all) item)) (left.settings ∙ sym rest.0) (left.tuple ∙ sym rest.1) (left.consistent ∙ sym rest.2) refl
-      (kept late item brings ∙ sym (intake-write all write above)) (waits-there late item brings) refl end_is)
+      (kept late item brings ∙ sym (intake-write h.settings.blocks all write above)) (waits-there late item brings) refl end_is)
     where
       unchanged : (l : List Inward) → change_last (framed frame) l ≡ [] → l ≡ []
       unchanged [] none = refl
@@ -202,15 +213,15 @@ module _ (frame : Received) (s : SecondaryState) (h : SecondaryHistory) (e : End
 
   -- an item that makes nothing due when it is taken
   plain-left : (item : Item) (waits : Bool) (t : SecondaryState) (later : SecondaryHistory) → nat_lt (length (inward h).taken) 3 ≡ false → received_item frame ≡ Some item → has_blocks item ≡ waits → barriers_in (item ∷ []) ≡ 0
-      → later.connections ≡ change_last (framed frame) h.connections → t.settings ≡ later.settings → t.tuple ≡ later.tuple → t.consistent ≡ later.consistent → t.number ≡ s.number
-      → t.intake ≡ intake_of (items_taken (inward h) ++ item ∷ []) → t.pending ≡ s.pending ++ cond waits (record { place = length (items_taken (inward h)); epoch = last_epoch (items_taken (inward h)); item = item } ∷ []) []
+      → later.connections ≡ change_last (framed frame) h.connections → later.settings ≡ h.settings → t.settings ≡ later.settings → t.tuple ≡ later.tuple → t.consistent ≡ later.consistent → t.number ≡ s.number
+      → t.intake ≡ intake_of h.settings.blocks (items_taken (inward h) ++ item ∷ []) → t.pending ≡ s.pending ++ cond waits (record { place = length (items_taken (inward h)); epoch = last_epoch (items_taken (inward h)); item = item } ∷ []) []
       → t.failed ≡ s.failed → t.end ≡ Some (hearing e) → Leaves t later
-  plain-left item waits t later late brings blocks plain connections settings tuple consistent number intake waiting_is failed end_is =
+  plain-left item waits t later late brings blocks plain connections same_settings settings tuple consistent number intake waiting_is failed end_is =
       let none : (inward h).due ++ [] ≡ (inward h).due = append-nil (inward h).due in
       let none_e : e.due ++ [] ≡ e.due = append-nil e.due in
       let end : LeavesEnd (hearing e) (framed frame (inward h)) =
       end-takes e (inward h) frame (item ∷ []) [] e.due (inward h).due there (taken-item frame item (inward h) there.plain late brings) plain (sym none_e) (sym none) (λ epoch. refl) in
-      item-left late item brings waits t later (inward h).due (hearing e) blocks (inward-of (framed frame) h later connections some) end settings tuple consistent number intake waiting_is failed end_is
+      item-left late item brings waits t later (inward h).due (hearing e) same_settings blocks (inward-of (framed frame) h later connections some) end settings tuple consistent number intake waiting_is failed end_is
 
   -- A block of a resync.
   resync-same : (block : ℕ) (contents : List ℕ) (at : ℕ) → nat_lt (length (inward h).taken) 3 ≡ false → received_item frame ≡ Some (ResyncItem block contents)
@@ -218,13 +229,13 @@ module _ (frame : Received) (s : SecondaryState) (h : SecondaryHistory) (e : End
   resync-same block contents at late brings =
       let item : Item = ResyncItem block contents in
       let all : List Item = items_taken (inward h) in
-      let i : Intake = intake_of all in
+      let i : Intake = intake_of h.settings.blocks all in
       let tests : Settings → Intake → Bool = λ x j. ((((at == j.places) && has_place j.places) && is_range x block 1) && (j.resync && is_apart block 1 j)) in
       let one : tests s.settings s.intake ≡ tests h.settings i = λ k. tests (left.settings k) (left.last.intake k) in
       let front : Bool = ((at == length all) && has_place (length all)) && is_range h.settings block 1 in
-      let two = ap (λ b. front && (i.resync && b)) (sym (apart-by-blocks all item)) in
+      let two = if-front front _ _ (λ holds. ap (λ b. i.resync && b) (sym (apart-by-blocks h.settings.blocks all item (inside ((at == length all) && has_place (length all)) block 1 holds)))) in
       same-if _ _ (one ∙ two) _ _ (λ k. what.Frame command.RsDataReply (Some (left.last.intake k).places)) _ taken (λ good.
-      plain-left item true _ taken late brings refl refl refl left.settings left.tuple left.consistent refl (kept late item brings ∙ sym (intake-resync all block contents)) (waits-there late item brings) refl refl)
+      plain-left item true _ taken late brings refl refl refl refl left.settings left.tuple left.consistent refl (kept late item brings ∙ sym (intake-resync h.settings.blocks all block contents)) (waits-there late item brings) refl refl)
 
   -- The end of an epoch.
   barrier-same : (number : ℕ) → nat_lt (length (inward h).taken) 3 ≡ false → received_item frame ≡ Some (BarrierItem number)
@@ -232,12 +243,12 @@ module _ (frame : Received) (s : SecondaryState) (h : SecondaryHistory) (e : End
   barrier-same number late brings =
       let item : Item = BarrierItem number in
       let all : List Item = items_taken (inward h) in
-      let i : Intake = intake_of all in
+      let i : Intake = intake_of h.settings.blocks all in
       let tests : Intake → Bool = λ j. has_place j.places && (number == suc j.barriers) in
       let end : LeavesEnd (record (hearing e) { sizes = e.sizes ++ i.writes ∷ [] }) (framed frame (inward h)) = end-barrier e (inward h) frame number there (taken-item frame item (inward h) there.plain late brings) in
       let end_is : Some (record (hearing e) { sizes = e.sizes ++ s.intake.writes ∷ [] }) ≡ Some (record (hearing e) { sizes = e.sizes ++ i.writes ∷ [] }) = λ k. Some (record (hearing e) { sizes = e.sizes ++ (left.last.intake k).writes ∷ [] }) in
       same-if _ _ (λ k. tests (left.last.intake k)) _ _ (λ k. what.Frame command.Barrier (Some (left.last.intake k).places)) _ taken (λ good.
-      item-left late item brings false _ taken (inward h).due (record (hearing e) { sizes = e.sizes ++ i.writes ∷ [] }) refl framed-is end left.settings left.tuple left.consistent refl (kept late item brings ∙ sym (intake-barrier all number))
+      item-left late item brings false _ taken (inward h).due (record (hearing e) { sizes = e.sizes ++ i.writes ∷ [] }) refl refl framed-is end left.settings left.tuple left.consistent refl (kept late item brings ∙ sym (intake-barrier h.settings.blocks all number))
       (sym (append-nil s.pending)) refl end_is)
 
   -- A resync begins.
@@ -246,12 +257,12 @@ module _ (frame : Received) (s : SecondaryState) (h : SecondaryHistory) (e : End
   start-same word late brings =
       let item : Item = SyncUuidItem word in
       let all : List Item = items_taken (inward h) in
-      let i : Intake = intake_of all in
+      let i : Intake = intake_of h.settings.blocks all in
       let tests : Intake → Bool = λ j. (has_place j.places && (j.places == 0)) && nat_lt 0 word in
       same-if _ _ (λ k. tests (left.last.intake k)) _ _ (λ k. what.Frame command.SyncUuid (Some (left.last.intake k).places)) _ (step.adopting (record h.tuple { current = word }) false taken) (λ good.
       let first = (and_parts (has_place (length all)) (length all == 0) (and_parts (has_place (length all) && (length all == 0)) (nat_lt 0 word) good).0).1 in
-      plain-left item false _ (step.adopting (record h.tuple { current = word }) false taken) late brings refl refl refl left.settings (ap (λ (x : Tuple). record x { current = word }) left.tuple) refl refl
-      (kept late item brings ∙ sym (intake-start all word first)) (sym (append-nil s.pending)) refl refl)
+      plain-left item false _ (step.adopting (record h.tuple { current = word }) false taken) late brings refl refl refl refl left.settings (ap (λ (x : Tuple). record x { current = word }) left.tuple) refl refl
+      (kept late item brings ∙ sym (intake-start h.settings.blocks all word first)) (sym (append-nil s.pending)) refl refl)
 
   -- It ends.
   end-same-too : (tuple : Tuple) → nat_lt (length (inward h).taken) 3 ≡ false → received_item frame ≡ Some (UuidsItem tuple)
@@ -261,7 +272,7 @@ module _ (frame : Received) (s : SecondaryState) (h : SecondaryHistory) (e : End
       let all : List Item = items_taken (inward h) in
       let tests : Intake → Bool = λ j. has_place j.places && j.resync in
       same-if _ _ (λ k. tests (left.last.intake k)) _ _ (λ k. what.Frame command.Uuids (Some (left.last.intake k).places)) _ (step.adopting tuple true taken) (λ good.
-      plain-left item false _ (step.adopting tuple true taken) late brings refl refl refl left.settings refl refl refl (kept late item brings ∙ sym (intake-end all tuple)) (sym (append-nil s.pending)) refl refl)
+      plain-left item false _ (step.adopting tuple true taken) late brings refl refl refl refl left.settings refl refl refl (kept late item brings ∙ sym (intake-end h.settings.blocks all tuple)) (sym (append-nil s.pending)) refl refl)
 
   -- The hello is over, and a packet is judged as an item; one that is none is refused.
   late-same : (packet : Packet) → frame ≡ Ok packet → nat_lt (length (inward h).taken) 3 ≡ false
@@ -307,9 +318,9 @@ module _ (frame : Received) (s : SecondaryState) (h : SecondaryHistory) (e : End
         settings = left.settings;
         tuple = left.tuple;
         consistent = left.consistent;
-        last = subst (LeavesLast (record s { end = None })) (sym form) (record {
+        last = subst (LeavesLast h.settings.blocks (record s { end = None })) (sym form) (record {
           number = left.last.number;
-          intake = left.last.intake ∙ ap intake_of (sym items);
+          intake = left.last.intake ∙ ap (intake_of h.settings.blocks) (sym items);
           named = λ place offset inside. subst (λ (l : List Item). place < length l) (sym items) (left.last.named place offset inside);
           pending = left.last.pending ∙ ap (λ (l : List Item). map (pending_in l) (filter (is_pending (inward h)) (placed l))) (sym items);
           failed = subst (λ (v : Option ℕ). FailedLeft v (refused_end (framed frame (inward h)))) (sym whole.0) whole.1;
