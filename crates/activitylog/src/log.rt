@@ -102,6 +102,13 @@ impl ActivityLog {
         }
     }
 
+    /// How many unreleased writes the extent has. It takes constant time.
+    pub fn writes(&self, extent: Extent) -> u32
+        ensures { result ≡ writes_of extent.0 self.now.active }
+    {
+        self.active.peek(&extent.0).copied().unwrap_or(0)
+    }
+
     /// How many extents are active: no more than there are slots.
     pub fn active(&self) -> usize
         ensures count { result ≡ length self.now.active }

@@ -303,6 +303,20 @@ impl TransferLog {
         self.accepted
     }
 
+    /// How many items the connection's stream has.
+    pub fn places(&self) -> u32
+        ensures { result ≡ self.now.epochs.places }
+    {
+        self.epochs.places()
+    }
+
+    /// How many blocks the device has.
+    pub fn blocks(&self) -> usize
+        ensures { result ≡ length self.now.latest }
+    {
+        self.latest.len()
+    }
+
     /// The lowest number of a write that the local disk has to do. It takes time for each unreleased write
     /// below it.
     pub fn next_local(&self) -> Option<u64>

@@ -97,6 +97,20 @@ impl Write {
         self.home
     }
 
+    /// Whether it has a connection, and that stands.
+    pub fn is_linked(&self) -> bool
+        ensures { result ≡ self.now.linked }
+    {
+        self.linked
+    }
+
+    /// What the local disk did with it.
+    pub fn local(&self) -> Local
+        ensures { result ≡ self.now.local }
+    {
+        self.local
+    }
+
     /// Whether it was sent.
     pub fn is_sent(&self) -> bool
         ensures { result ≡ self.now.sent }
