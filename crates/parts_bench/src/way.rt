@@ -4,9 +4,8 @@ ghost use Rattle.transferlog.specs.Ring.{write_at};
 ghost use Rattle.transferlog.specs.declared.local.Local.TheVariants.{Waiting};
 
 use activitylog::ActivityLog;
-use anyhow::anyhow;
 use bitmap::Bitmap;
-use blocks::{Block, EXTENT_BLOCKS, Extent, Protocol, Range};
+use blocks::{Block, EXTENT_BLOCKS, Extent, Protocol, Range, Refusal};
 use bytes::Bytes;
 use overlap::Held;
 use std::alloc::Global;
@@ -43,21 +42,21 @@ pub(crate) struct Way {
     bitmap: Bitmap,
     contents: Bytes,
     first_open: u64,
-    in_ended_epochs: u64,
+    in_last_epoch: u32,
     // The barriers that are not acknowledged, with their epochs' sizes.
     barriers: VecDeque<(u32, u32)>,
     counts: Counts,
     ghost some_blocks: { 0 < blocks },
 }
 
-/// Ends the run unless what a part asks of its caller holds.
-fn owed(holds: bool) -> anyhow::Result<()>
+/// `UnknownJob` (16) unless what a part asks of its caller holds.
+fn owed(holds: bool) -> Result<(), Refusal>
     ensures { OnOk result (holds ≡ true) }
 {
     if holds {
         Ok(())
     } else {
-        Err(anyhow!("a part asks for what does not hold"))
+        Err(Refusal::UnknownJob)
     }
 }
 
@@ -83,7 +82,7 @@ fn is_waiting(log: &TransferLog, number: u64) -> bool
 
 impl Way {
     /// No write yet, to a device of so many blocks.
-    pub(crate) fn new(alloc: Global, in_flight: u32, blocks: u32) -> anyhow::Result<Way>
+    pub(crate) fn new(alloc: Global, in_flight: u32, blocks: u32) -> Result<Way, Refusal>
         requires some_in_flight { 0 < in_flight }
         requires some_blocks { 0 < blocks }
         requires few_blocks { blocks ≤ 262144 }
@@ -101,7 +100,7 @@ impl Way {
             bitmap: Bitmap::from_marks(alloc, &marks)?,
             contents: Bytes::copy_from_slice(alloc, b"contents of a write")?,
             first_open: 1,
-            in_ended_epochs: 0,
+            in_last_epoch: 0,
             barriers: VecDeque::new(alloc),
             counts: Counts {
                 completed: 0,
@@ -118,7 +117,7 @@ impl Way {
     }
 
     /// One more write; where there are as many as may be, the oldest ones go on first.
-    pub(crate) fn write(&mut self) -> anyhow::Result<()> {
+    pub(crate) fn write(&mut self) -> Result<(), Refusal> {
         if self
             .log
             .accepted()
@@ -134,11 +133,13 @@ impl Way {
         self.submit()
     }
 
-    fn submit(&mut self) -> anyhow::Result<()> {
+    fn submit(&mut self) -> Result<(), Refusal> {
         let number = self.log.accepted().saturating_add(1);
         let first = number.wrapping_mul(STRIDE) % u64::from(self.blocks);
         let range = Range::new(first, 1, self.blocks)?;
-        owed(self.held.conflict(range).is_none())?;
+        if let Some(holder) = self.held.conflict(range) {
+            return Err(Refusal::Conflict(holder));
+        }
         owed(!self.held.is_held(number))?;
         self.held.hold(number, range)?;
         let extent = Extent(first / EXTENT_BLOCKS);
@@ -147,6 +148,7 @@ impl Way {
         owed(self.log.accepted() < 1_048_576 && self.log.places() < 4_294_967_290)?;
         owed((first as usize) < self.log.blocks())?;
         let accepted = self.log.accept(range, self.contents.clone()?)?;
+        self.in_last_epoch = self.in_last_epoch.saturating_add(1);
         self.note_barrier(accepted.barrier)?;
         owed(first < self.bitmap.len())?;
         self.bitmap.mark(range);
@@ -156,7 +158,7 @@ impl Way {
     }
 
     // The local disk and the peer's have the oldest open write.
-    fn complete(&mut self) -> anyhow::Result<()> {
+    fn complete(&mut self) -> Result<(), Refusal> {
         let number = self.first_open;
         owed(is_waiting(&self.log, number))?;
         let barrier = self.log.local_done(number);
@@ -173,12 +175,12 @@ impl Way {
     }
 
     // How the peer names the write.
-    fn named(&self, number: u64) -> anyhow::Result<Named> {
+    fn named(&self, number: u64) -> Result<Named, Refusal> {
         let Some(write) = self.log.get(number) else {
-            return Err(anyhow!("write {number} is released"));
+            return Err(Refusal::UnknownJob);
         };
         let Some((_, place)) = write.home() else {
-            return Err(anyhow!("write {number} has no connection"));
+            return Err(Refusal::NotConnected);
         };
         let range = write.range();
         Ok(Named {
@@ -189,21 +191,20 @@ impl Way {
         })
     }
 
-    // A barrier ends the epoch of every write that was accepted and is in no ended one.
-    fn note_barrier(&mut self, barrier: Option<u32>) -> anyhow::Result<()> {
+    // A barrier ends the last epoch.
+    fn note_barrier(&mut self, barrier: Option<u32>) -> Result<(), Refusal> {
         let Some(number) = barrier else {
             return Ok(());
         };
-        let size = self.log.accepted().saturating_sub(self.in_ended_epochs);
-        self.in_ended_epochs = self.log.accepted();
-        self.barriers.push_back((number, u32::try_from(size)?))?;
+        self.barriers.push_back((number, self.in_last_epoch))?;
+        self.in_last_epoch = 0;
         Ok(())
     }
 
     // The peer acknowledges the oldest barrier, and what is released leaves the other parts too.
-    fn acknowledge(&mut self) -> anyhow::Result<()> {
+    fn acknowledge(&mut self) -> Result<(), Refusal> {
         let Some((number, size)) = self.barriers.pop_front() else {
-            return Err(anyhow!("no epoch has ended"));
+            return Err(Refusal::NothingThere);
         };
         self.log.barrier_acked(number, size)?;
         self.counts.epochs = self.counts.epochs.saturating_add(1);
