@@ -6,3 +6,4 @@ pub mod Moves
 pub mod Sweep
 pub mod Turned
 pub mod Unlinking
+pub mod Waiting

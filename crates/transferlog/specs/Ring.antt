@@ -1,6 +1,6 @@
 -- A row of writes by rising number, and what happens to one of them.
 use Rattle.std.specs.Prelude.{ℕ, ◌≡◌, ◌<◌, true, suc, ◌≤◌, ◌==◌, Bool, not, if◌then◌else◌, List, [], ◌∷◌, filter, find, map, Option, Some, None, false}
-use Rattle.transferlog.specs.Writes.{LogWrite, is_released, sending, answering, storing, failing, unlinking}
+use Rattle.transferlog.specs.Writes.{LogWrite, is_released, is_waiting, sending, answering, storing, failing, unlinking}
 use Rattle.transferlog.specs.declared.write.Change.{Change}
 use Rattle.transferlog.specs.declared.write.Change.TheVariants as change
 
@@ -60,3 +60,12 @@ ReleasedBelow confirmed number w = is_released confirmed w ≡ true → w.number
 abbrev pub is_unanswered : Option LogWrite → Bool
 is_unanswered None = false
 is_unanswered (Some w) = not w.answered
+
+-- whether there is a write, and the local disk has it to do
+abbrev pub is_waiting_at : Option LogWrite → Bool
+is_waiting_at None = false
+is_waiting_at (Some w) = is_waiting w
+
+-- the local disk has no write below this number to do
+abbrev pub WaitsFrom : ℕ → LogWrite → Type 0
+WaitsFrom number w = is_waiting w ≡ true → number ≤ w.number

@@ -2,7 +2,7 @@
 use Rattle.std.specs.Prelude.{ℕ, suc, ◌≡◌, ◌+◌, ◌-◌, ◌^◌, ◌<◌, ◌≤◌, List, [], ◌∷◌, length, Option, None, Some}
 use Rattle.std.specs.VecDeque.{deque_len, deque_capacity}
 use Rattle.transferlog.specs.Writes.{LogWrite}
-use Rattle.transferlog.specs.Ring.{RingState}
+use Rattle.transferlog.specs.Ring.{RingState, Each, WaitsFrom}
 use Rattle.transferlog.specs.declared.ring.Ring.TheInside.{Inside}
 
 -- the writes among these slots
@@ -25,9 +25,11 @@ ring_of r = record {
   spare = deque_capacity r.slots - deque_len r.slots;
 }
 
--- each write is in the slot of its number, and they are counted
+-- each write is in the slot of its number, they are counted, and none below `waiting` waits for the local disk
 pub record IsRing (r : Inside) : Type 0 where
   pub numbered : AreNumbered r.first r.slots.items
   pub counted : r.count ≡ length (writes_in r.slots.items)
   pub first : 0 < r.first
   pub small : r.first + deque_len r.slots ≤ 2 ^ 32
+  pub waiting : Each (WaitsFrom r.waiting) (writes_in r.slots.items)
+  pub waiting_within : r.waiting ≤ r.first + deque_len r.slots

@@ -4,7 +4,7 @@ ghost use Rattle.std.specs.List.{list_any};
 ghost use Rattle.blocks.specs.Ranges.{is_between};
 ghost use Rattle.std.specs.Option.{option_copied, option_map, option_and_then};
 ghost use Rattle.transferlog.specs.Writes.{completed_of, is_completed, is_open, is_released, is_waiting, release_of, released_of, turn_of, unlinking};
-ghost use Rattle.transferlog.specs.Ring.{Each, ReleasedBelow, ReleasedFrom, Rises, changed, is_unanswered, with_change, without, write_at};
+ghost use Rattle.transferlog.specs.Ring.{Each, ReleasedBelow, ReleasedFrom, Rises, WaitsFrom, changed, is_unanswered, is_waiting_at, with_change, without, write_at};
 
 use crate::report::{Completed, Released, Turn, note};
 use crate::write::{Change, Write};
@@ -13,13 +13,16 @@ use std::collections::VecDeque;
 use std::marker::Model;
 
 /// Writes by rising number. Numbers are consecutive, so a write is found by subtraction; a write that is
-/// gone leaves a hole until all before it are gone too. Each call takes constant time, but for a removal,
-/// which takes constant time for each number that was accepted.
+/// gone leaves a hole until all before it are gone too. No write below `waiting` waits for the local disk,
+/// and that number only rises, since a write that the disk was done with never waits again. Each call takes
+/// constant time, but for a removal and for the end of a write on the local disk, which both take constant
+/// time for each number that was accepted.
 #[derive(Drop)]
 pub(crate) struct Ring {
     first: u64,
     slots: VecDeque<Option<Write>>,
     count: u32,
+    waiting: u64,
 }
 
 impl Model for Ring {
@@ -44,6 +47,7 @@ impl Ring {
             first: 1,
             slots: VecDeque::new(alloc),
             count: 0,
+            waiting: 1,
         }
     }
 
@@ -91,14 +95,38 @@ impl Ring {
     pub(crate) fn first_waiting(&self) -> Option<&Write>
         ensures { option_copied result ≡ find is_waiting self.now.writes }
     {
-        for index in 0..self.slots.len() {
-            if let Some(write) = self.slots[index].as_ref() {
-                if !write.is_settled() {
-                    return Some(write);
-                }
+        self.get(self.lowest_waiting())
+    }
+
+    /// The number of the first write that the local disk has to do, or the next number. Each change leaves
+    /// `waiting` there, so this takes constant time elsewhere.
+    fn lowest_waiting(&self) -> u64
+        ensures lowest { write_at result self.now.writes ≡ find is_waiting self.now.writes }
+        ensures from { Each (WaitsFrom result) self.now.writes }
+        ensures within { result ≤ self.now.next }
+    {
+        for number in self.waiting..self.end() {
+            if self.is_waiting(number) {
+                return number;
             }
         }
-        None
+        self.end()
+    }
+
+    /// The next write's number.
+    fn end(&self) -> u64
+        ensures { result ≡ self.now.next }
+    {
+        self.first + self.slots.len() as u64
+    }
+
+    fn is_waiting(&self, number: u64) -> bool
+        ensures { result ≡ is_waiting_at (write_at number self.now.writes) }
+    {
+        match self.get(number) {
+            Some(write) => !write.is_settled(),
+            None => false,
+        }
     }
 
     /// The write that has so many below it.
@@ -133,7 +161,9 @@ impl Ring {
         let Some(write) = &mut self.slots[index] else {
             return None;
         };
-        Some(write.apply(change))
+        let turn = write.apply(change);
+        self.waiting = self.lowest_waiting();
+        Some(turn)
     }
 
     /// Takes out the write with this number, if it is released where all up to `confirmed` have the

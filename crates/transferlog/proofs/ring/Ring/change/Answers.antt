@@ -1,9 +1,10 @@
 use Rattle.std.proofs.Common.{◌≡◌, ◌+◌, ◌-◌, ◌<◌, length, refl, sym, ◌∙◌, arith, None, Some}
 use Rattle.std.proofs.lemmas.List.{get_or_read}
-use Rattle.transferlog.specs.Ring.{changed}
+use Rattle.transferlog.specs.Ring.{changed, WaitsFrom}
 use Rattle.transferlog.specs.Slots.{writes_in}
 use Rattle.transferlog.proofs.Numbers.{with_change-none, write_at-none}
 use Rattle.transferlog.proofs.InSlots.{rises_in, write_at-slot, none_before, none_in_hole, with_change-slot, numbered-set, numbered_at, length-changed, set_same, found, number-changed, past_the_end}
+use Rattle.transferlog.proofs.Waiting.{each_changed, waits_changed}
 use Rattle.transferlog.proofs.ring.Ring.change.Goals as goal
 
 pub returns-then-number-self-clause-next : goal.returns-then-number-self-clause-next
@@ -38,10 +39,12 @@ invariant_of-self-2 c =
     let is = found s.slots.items i c.index_mut.result.now c.in-Some.write inside c.index_mut.ensures.value c.in-Some.is in
     let number = numbered_at c.args.number s.first i c.in-Some.write s.slots.items at c.self.invariant.numbered is in
     record {
-      numbered = numbered-set c.args.number s.first i (Some c.apply.new.self) s.slots.items at (rw c.apply.ensures.next (number-changed c.args.change c.in-Some.write ∙ number)) c.self.invariant.numbered;
-      counted = c.self.invariant.counted ∙ sym (length-changed i c.in-Some.write c.apply.new.self s.slots.items is);
+      numbered = numbered-set c.args.number s.first i (Some c.apply-turn.new.self) s.slots.items at (rw c.apply-turn.ensures.next (number-changed c.args.change c.in-Some.write ∙ number)) c.self.invariant.numbered;
+      counted = c.self.invariant.counted ∙ sym (length-changed i c.in-Some.write c.apply-turn.new.self s.slots.items is);
       first = c.self.invariant.first;
       small = c.self.invariant.small;
+      waiting = each_changed (WaitsFrom s.waiting) i c.in-Some.write c.apply-turn.new.self s.slots.items is (λ from. rw c.apply-turn.ensures.next (waits_changed s.waiting c.args.change c.in-Some.write from)) c.self.invariant.waiting;
+      waiting_within = c.self.invariant.waiting_within;
     }
 
 pub returns-clause-next : goal.returns-clause-next
@@ -51,7 +54,7 @@ returns-clause-next c =
     let inside : i < length s.slots.items = omega (arith, s.slots.ok.0) in
     let at : c.args.number ≡ s.first + i = omega arith in
     let is = found s.slots.items i c.index_mut.result.now c.in-Some.write inside c.index_mut.ensures.value c.in-Some.is in
-    rw (← c.self.view_is) (rw (c.apply.ensures.next, with_change-slot c.args.number s.first i (changed c.args.change) c.in-Some.write s.slots.items at c.self.invariant.numbered is) refl)
+    rw (← c.self.view_is) (rw (c.apply-turn.ensures.next, with_change-slot c.args.number s.first i (changed c.args.change) c.in-Some.write s.slots.items at c.self.invariant.numbered is) refl)
 
 pub returns-then-number-self-clause-rises : goal.returns-then-number-self-clause-rises
 returns-then-number-self-clause-rises c =
@@ -99,4 +102,21 @@ returns-clause-turn c =
     let inside : i < length s.slots.items = omega (arith, s.slots.ok.0) in
     let at : c.args.number ≡ s.first + i = omega arith in
     let is = found s.slots.items i c.index_mut.result.now c.in-Some.write inside c.index_mut.ensures.value c.in-Some.is in
-    rw (← c.self.view_is) (rw (write_at-slot c.args.number s.first i s.slots.items at c.self.invariant.numbered, is) (rw c.apply.ensures.turn refl))
+    rw (← c.self.view_is) (rw (write_at-slot c.args.number s.first i s.slots.items at c.self.invariant.numbered, is) (rw c.apply-turn.ensures.turn refl))
+
+pub invariant_of-self-3 : goal.invariant_of-self-3
+invariant_of-self-3 c =
+    let s = c.self.inside in
+    let i = c.args.number - s.first in
+    let inside : i < length s.slots.items = omega (arith, s.slots.ok.0) in
+    let at : c.args.number ≡ s.first + i = omega arith in
+    let is = found s.slots.items i c.index_mut.result.now c.in-Some.write inside c.index_mut.ensures.value c.in-Some.is in
+    let number = numbered_at c.args.number s.first i c.in-Some.write s.slots.items at c.self.invariant.numbered is in
+    record {
+      numbered = numbered-set c.args.number s.first i (Some c.apply-turn.new.self) s.slots.items at (rw c.apply-turn.ensures.next (number-changed c.args.change c.in-Some.write ∙ number)) c.self.invariant.numbered;
+      counted = c.self.invariant.counted ∙ sym (length-changed i c.in-Some.write c.apply-turn.new.self s.slots.items is);
+      first = c.self.invariant.first;
+      small = c.self.invariant.small;
+      waiting = c.lowest_waiting-self-inside.ensures.from;
+      waiting_within = c.lowest_waiting-self-inside.ensures.within;
+    }

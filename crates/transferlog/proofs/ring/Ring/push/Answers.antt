@@ -1,5 +1,8 @@
 use Rattle.std.proofs.Common.{◌≡◌, ◌+◌, length, refl, ap, arith, length-append, deque_len}
+use Rattle.transferlog.specs.Ring.{WaitsFrom}
+use Rattle.transferlog.specs.Slots.{writes_in}
 use Rattle.transferlog.proofs.InSlots.{writes_in-push, numbered-push, few_writes}
+use Rattle.transferlog.proofs.Waiting.{each_pushed}
 use Rattle.transferlog.proofs.ring.Ring.push.Goals as goal
 
 pub overflow_add-self : goal.overflow_add-self
@@ -18,6 +21,8 @@ invariant_of-self c =
       counted = rw c.push_back_reserved.ensures.items (rw (writes_in-push s.slots.items c.args.write) (simp length-append (omega (arith, c.self.invariant.counted))));
       first = c.self.invariant.first;
       small = omega (arith, c.push_back_reserved.ensures.len, next, c.requires.small);
+      waiting = rw c.push_back_reserved.ensures.items (rw (writes_in-push s.slots.items c.args.write) (each_pushed (WaitsFrom s.waiting) (writes_in s.slots.items) c.args.write c.self.invariant.waiting (λ is. omega (arith, number, c.self.invariant.waiting_within, s.slots.ok.0))));
+      waiting_within = omega (arith, c.push_back_reserved.ensures.len, c.self.invariant.waiting_within);
     }
 
 pub returns : goal.returns

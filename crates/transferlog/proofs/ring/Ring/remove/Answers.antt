@@ -1,8 +1,10 @@
 use Rattle.std.proofs.Common.{◌≡◌, ◌+◌, ◌-◌, ◌<◌, length, refl, sym, ◌∙◌, arith, None}
 use Rattle.std.proofs.lemmas.List.{get_or_read}
+use Rattle.transferlog.specs.Ring.{WaitsFrom}
 use Rattle.transferlog.specs.Slots.{writes_in}
 use Rattle.transferlog.proofs.Numbers.{without-none}
 use Rattle.transferlog.proofs.InSlots.{none_before, none_in_hole, without-slot, numbered-set, length-removed, set_same, past_the_end, found}
+use Rattle.transferlog.proofs.Waiting.{each_removed}
 use Rattle.transferlog.proofs.ring.Ring.remove.Goals as goal
 
 pub returns-then-number-self : goal.returns-then-number-self
@@ -48,6 +50,8 @@ invariant_of-self-2 c =
       counted = omega (arith, length-removed i c.in-Some.field-0 s.slots.items is, c.self.invariant.counted);
       first = c.self.invariant.first;
       small = c.self.invariant.small;
+      waiting = each_removed (WaitsFrom s.waiting) i s.slots.items c.self.invariant.waiting;
+      waiting_within = c.self.invariant.waiting_within;
     })
 
 pub returns : goal.returns

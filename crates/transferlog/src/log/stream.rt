@@ -1,0 +1,104 @@
+//! The connection's stream in the transfer log: its items, its epochs, and its end.
+ghost use Rattle.std.specs.Prelude.{◌≡◌, ◌<◌, OnErr, IfOk, IfErr, None};
+ghost use Rattle.transferlog.specs.Log.{barrier_acked, connecting, drained, may_confirm, resync_acked, resync_placed, uuids_placed};
+ghost use Rattle.blocks.specs.declared.refusal.Refusal.TheVariants.{NoMemory};
+
+use super::TransferLog;
+use crate::protocol::asks_answers;
+use blocks::Refusal;
+
+impl TransferLog {
+    /// A stream begins, on the connection with this number. It takes no memory.
+    pub fn connect(&mut self, connection: u32)
+        requires { self.old.connection ≡ None }
+        ensures { self.new ≡ connecting connection self.old }
+    {
+        self.released.clear();
+        self.completed.clear();
+        self.connection = Some(connection);
+        self.confirmed = self.accepted;
+        self.epochs.restart();
+    }
+
+    /// Puts a resync item into the stream. Answers its place. `NoMemory` (7) where there is no room for its
+    /// epoch.
+    pub fn place_resync(&mut self) -> Result<u32, Refusal>
+        requires { self.old.epochs.places < 4294967290 }
+        ensures placed { IfOk result (λ place. (place, self.new) ≡ resync_placed self.old) }
+        ensures refused { IfErr result (λ e. e ≡ NoMemory) }
+        ensures unchanged { OnErr result (self.new ≡ self.old) }
+    {
+        let (place, _) = self.epochs.place(0)?;
+        self.released.clear();
+        self.completed.clear();
+        Ok(place)
+    }
+
+    /// The peer has applied the resync item under way. Answers the barrier that is appended, where it is in
+    /// the last epoch. It takes no memory.
+    pub fn resync_acked(&mut self) -> Option<u32>
+        ensures { (result, self.new) ≡ resync_acked self.old }
+    {
+        self.released.clear();
+        self.completed.clear();
+        self.epochs.completed(0)
+    }
+
+    /// Puts a SYNC_UUID or UUIDS item into the stream. Answers its place. It takes no memory.
+    pub fn uuids(&mut self) -> u32
+        requires { self.old.epochs.places < 4294967290 }
+        ensures { (result, self.new) ≡ uuids_placed self.old }
+    {
+        self.released.clear();
+        self.completed.clear();
+        self.epochs.uuids()
+    }
+
+    /// The peer acknowledges an epoch. What is settled of it is released.
+    ///
+    /// `BadBarrierAck` (24) unless the number is that of the oldest barrier that is not acknowledged, the
+    /// size is its epoch's, and, under protocols B and C, each write of the epoch is answered. It takes no
+    /// memory, and time for each write of the epoch.
+    pub fn barrier_acked(&mut self, number: u32, size: u32) -> Result<(), Refusal>
+        ensures { (result, self.new) ≡ barrier_acked number size self.old }
+    {
+        if !self.may_confirm(number, size) {
+            return Err(Refusal::BadBarrierAck);
+        }
+        let first = self.confirmed + 1;
+        let _ = self.epochs.acknowledge(number, size);
+        self.released.clear();
+        self.completed.clear();
+        self.confirmed += u64::from(size);
+        self.ring.release_all(
+            first,
+            self.confirmed + 1,
+            self.confirmed,
+            &mut self.released,
+        );
+        Ok(())
+    }
+
+    fn may_confirm(&self, number: u32, size: u32) -> bool
+        ensures { result ≡ may_confirm number size self.now }
+    {
+        let lacks = asks_answers(self.protocol)
+            && self.ring.lacks_answer(self.confirmed + 1, u64::from(size));
+        self.epochs.is_awaited(number, size) && !lacks
+    }
+
+    /// The connection is closed: no stream stands any more, and no write has a connection. What is on the
+    /// local disk and was not completed is completed by that; what is settled is released, and clears
+    /// nothing. Answers how many writes it completed. It takes no memory, and time for each unreleased write.
+    pub fn drain(&mut self) -> u32
+        ensures { (result, self.new) ≡ drained self.old }
+    {
+        self.released.clear();
+        self.completed.clear();
+        self.ring.unlink_all(&mut self.completed);
+        self.ring.release_rest(self.confirmed, &mut self.released);
+        self.connection = None;
+        self.epochs.restart();
+        self.completed.len() as u32
+    }
+}

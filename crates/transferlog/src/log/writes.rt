@@ -1,0 +1,152 @@
+//! The life of a write in the transfer log, from its acceptance to its completion.
+ghost use Rattle.std.specs.Prelude.{◌≡◌, ◌+◌, ◌<◌, ◌≤◌, ◌++◌, ◌⊎◌, ◌↔◌, length, take, drop, replicate, OnErr, IsErrOf, IfOk, IfErr, IsSomeAnd, true, false};
+ghost use Rattle.std.specs.Option.{option_map};
+ghost use Rattle.transferlog.specs.Log.{accepting, acked, changing, home_in, local_done, local_failed, sent};
+ghost use Rattle.transferlog.specs.Ring.{changed, write_at};
+ghost use Rattle.transferlog.specs.declared.local.Local.TheVariants.{Waiting};
+ghost use Rattle.blocks.specs.declared.refusal.Refusal.TheVariants.{LogFull, NoMemory};
+
+use super::TransferLog;
+use crate::protocol::{answers_sent, is_asked};
+use crate::report::{Accepted, Answer, Named, note};
+use crate::write::{Change, Write};
+use blocks::{Range, Refusal};
+use bytes::Bytes;
+use epochs::Epochs;
+
+impl TransferLog {
+    /// Accepts a write. Where a stream stands, it takes the next place there.
+    ///
+    /// `LogFull` (3) where `backlog` writes are unreleased; `NoMemory` (7) where there is no room for the
+    /// write or for its epoch.
+    pub fn accept(&mut self, range: Range, contents: Bytes) -> Result<Accepted, Refusal>
+        requires inside { range.first.0 + range.count ≤ length self.old.latest }
+        requires few { self.old.accepted < 1048576 }
+        requires places { self.old.epochs.places < 4294967290 }
+        ensures accepted { IfOk result (λ accepted. (accepted, self.new) ≡ accepting range.first.0 range.count contents self.old) }
+        ensures full { IsErrOf result LogFull ↔ (self.old.backlog ≤ length self.old.writes) }
+        ensures refused { IfErr result (λ e. (e ≡ LogFull) ⊎ (e ≡ NoMemory)) }
+        ensures unchanged { OnErr result (self.new ≡ self.old) }
+    {
+        if self.ring.len() >= self.backlog {
+            return Err(Refusal::LogFull);
+        }
+        self.ring.reserve()?;
+        let number = self.accepted + 1;
+        let (home, barrier) = home_in(self.connection, number, &mut self.epochs)?;
+        self.released.clear();
+        self.completed.clear();
+        self.accepted = number;
+        put(
+            &mut self.latest,
+            range.first.0 as usize,
+            range.count as usize,
+            number as u32,
+        );
+        self.ring.push(Write::new(number, range, contents, home));
+        Ok(Accepted {
+            number,
+            place: place_in(home),
+            barrier,
+        })
+    }
+
+    /// The write's frame stands in the link's queue. Under protocol A it is answered by that. Answers the
+    /// barrier that is appended, where that completes the write and it is in the last epoch. It takes no
+    /// memory.
+    pub fn sent(&mut self, number: u64) -> Option<u32>
+        requires { IsSomeAnd (write_at number self.old.writes) (λ w. (w.linked ≡ true) × (w.sent ≡ false)) }
+        ensures { (result, self.new) ≡ sent number self.old }
+    {
+        let answers = answers_sent(self.protocol);
+        self.change(number, Change::Sent(answers))
+    }
+
+    /// The local disk has the write. Answers the barrier that is appended, where that completes the write
+    /// and it is in the last epoch. It takes no memory.
+    pub fn local_done(&mut self, number: u64) -> Option<u32>
+        requires { IsSomeAnd (write_at number self.old.writes) (λ w. w.local ≡ Waiting) }
+        ensures { (result, self.new) ≡ local_done number self.old }
+    {
+        self.change(number, Change::OnDisk)
+    }
+
+    /// The local disk failed the write, which is never completed then. Answers the barrier that is
+    /// appended, where it is in the last epoch. It takes no memory.
+    pub fn local_failed(&mut self, number: u64) -> Option<u32>
+        requires { IsSomeAnd (write_at number self.old.writes) (λ w. w.local ≡ Waiting) }
+        ensures { (result, self.new) ≡ local_failed number self.old }
+    {
+        self.change(number, Change::Failed)
+    }
+
+    /// The peer answers a write. Answers the barrier that is appended, where that completes the write and it
+    /// is in the last epoch.
+    ///
+    /// `UnknownAck` (25) unless the protocol asks for this kind, and the write was sent on the connection
+    /// that stands, is not answered, and has exactly this number, place, first block and count. It takes no
+    /// memory.
+    pub fn acked(&mut self, kind: Answer, of: Named) -> Result<Option<u32>, Refusal>
+        ensures { (result, self.new) ≡ acked kind of self.old }
+    {
+        let Some(write) = self.ring.get(of.number) else {
+            return Err(Refusal::UnknownAck);
+        };
+        if !is_asked(self.protocol, kind) || !write.awaits(of) {
+            return Err(Refusal::UnknownAck);
+        }
+        Ok(self.change(of.number, Change::Answered))
+    }
+
+    fn change(&mut self, number: u64, change: Change) -> Option<u32>
+        ensures { (result, self.new) ≡ changing number (changed change) self.old }
+    {
+        self.released.clear();
+        self.completed.clear();
+        let turn = self.ring.change(number, change)?;
+        note(&mut self.completed, turn.completion);
+        note(
+            &mut self.released,
+            self.ring.release(number, self.confirmed),
+        );
+        if !turn.closes {
+            return None;
+        }
+        self.epochs.completed(number)
+    }
+}
+
+// The home of the next write, and the barrier that follows it.
+fn home_in(
+    connection: Option<u32>,
+    number: u64,
+    epochs: &mut Epochs,
+) -> Result<(Option<(u32, u32)>, Option<u32>), Refusal>
+    requires room { epochs.old.places < 4294967290 }
+    requires rising { 0 < epochs.old.size → epochs.old.first + epochs.old.size ≤ number }
+    ensures home { IfOk result (λ home. (home.0, (home.1, epochs.new)) ≡ home_in connection number epochs.old) }
+    ensures refused { IfErr result (λ e. e ≡ NoMemory) }
+    ensures unchanged { OnErr result (epochs.new ≡ epochs.old) }
+{
+    let Some(connection) = connection else {
+        return Ok((None, None));
+    };
+    let (place, barrier) = epochs.place(number)?;
+    Ok((Some((connection, place)), barrier))
+}
+
+// The place of a home.
+fn place_in(home: Option<(u32, u32)>) -> Option<u32>
+    ensures { result ≡ option_map (λ h. h.1) home }
+{
+    let (_, place) = home?;
+    Some(place)
+}
+
+// Writes the number over so many others, from `at` on.
+fn put(numbers: &mut [u32], at: usize, count: usize, number: u32)
+    requires { at + count ≤ length numbers.old }
+    ensures { numbers.new ≡ take at numbers.old ++ replicate count number ++ drop (at + count) numbers.old }
+{
+    numbers[at..at + count].fill(number);
+}
