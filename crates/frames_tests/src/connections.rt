@@ -1,0 +1,60 @@
+ghost use Rattle.link.specs.Directions.{IsDirection};
+
+use crate::vectors::{BARRIER, BARRIER_ACK, PROTOCOL_C};
+use blocks::Refusal;
+use link::connected::{FrameIn, FrameOut};
+use link::{PlainIn, PlainLink, PlainOut};
+use packets::Frame;
+use std::test::Fail;
+
+// Lends the direction's queue to the taking end for one take.
+fn carry(sender: &mut PlainOut, taker: &mut PlainIn) -> Result<Frame, Refusal>
+    requires { IsDirection sender.old taker.old }
+    ensures { IsDirection sender.new taker.new }
+{
+    taker.ready()?;
+    let Some(queue) = sender.give_queue() else {
+        return Err(Refusal::NothingThere);
+    };
+    taker.lay_queue(queue);
+    let taken = taker.take();
+    if let Some(queue) = taker.give_queue() {
+        sender.lay_queue(queue);
+    }
+    taken
+}
+
+#[test]
+fn a_connection_drops_what_is_on_its_way_of_the_one_before(rt: HostRuntime) -> Result<(), Fail> {
+    let PlainLink { primary, secondary } = PlainLink::new(rt.alloc(), 2)?;
+    let mut sender = primary.outward;
+    let mut taker = secondary.inward;
+    assert!(rt; sender.offer(Frame::inline(&PROTOCOL_C)).is_ok());
+    assert!(rt; sender.offer(Frame::inline(&BARRIER)).is_ok());
+    assert!(rt; sender.offer(Frame::inline(&BARRIER_ACK)).is_err());
+    assert_eq!(rt;
+        carry(&mut sender, &mut taker)?.as_slice(),
+        PROTOCOL_C.as_slice()
+    );
+    sender.restart(2);
+    taker.restart(2);
+    assert_eq!(rt;
+        carry(&mut sender, &mut taker).err(),
+        Some(Refusal::NothingThere)
+    );
+    assert!(rt; sender.offer(Frame::inline(&BARRIER_ACK)).is_ok());
+    assert!(rt; sender.offer(Frame::inline(&BARRIER)).is_ok());
+    assert!(rt; sender.offer(Frame::inline(&BARRIER)).is_err());
+    assert_eq!(rt;
+        carry(&mut sender, &mut taker)?.as_slice(),
+        BARRIER_ACK.as_slice()
+    );
+    sender.restart(5);
+    taker.restart(5);
+    assert!(rt; sender.offer(Frame::inline(&PROTOCOL_C)).is_ok());
+    assert_eq!(rt;
+        carry(&mut sender, &mut taker)?.as_slice(),
+        PROTOCOL_C.as_slice()
+    );
+    Ok(())
+}

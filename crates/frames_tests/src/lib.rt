@@ -1,0 +1,17 @@
+//! Tests of frames, disks, links and the endpoint, by calls.
+#![tactic(auto)]
+
+#[cfg(test)]
+mod connections;
+#[cfg(test)]
+mod endpoints;
+#[cfg(test)]
+mod faults;
+#[cfg(test)]
+mod links;
+#[cfg(test)]
+mod spelled;
+#[cfg(test)]
+mod stores;
+#[cfg(test)]
+mod vectors;

@@ -1,0 +1,96 @@
+//! The frames of the packets, byte by byte, as the format's vectors have them.
+ghost use Rattle.std.specs.Prelude.{IfOk};
+ghost use Rattle.packets.specs.Spelling.{IsSpellable};
+
+use blocks::Block;
+use bytes::Bytes;
+use packets::{Frame, Packet};
+use std::alloc::Global;
+use std::process::Abort;
+use std::test::Fail;
+
+/// A header and the numbers of a DATA frame: block 2, write 1, place 0.
+pub(crate) const WRITE: [u8; 32] = [
+    0x83, 0x5A, 0, 0, 0, 0, 0x10, 0x18, 0, 0, 0, 0, 0, 0, 0, 0x10, 0, 0, 0, 0, 0, 0, 0, 1, 0, 0, 0,
+    0, 0, 0, 0, 0,
+];
+
+/// The same of 32 blocks.
+pub(crate) const LARGEST_WRITE: [u8; 32] = [
+    0x83, 0x5A, 0, 0, 0, 2, 0, 0x18, 0, 0, 0, 0, 0, 0, 0, 0x10, 0, 0, 0, 0, 0, 0, 0, 1, 0, 0, 0, 0,
+    0, 0, 0, 0,
+];
+
+pub(crate) const BARRIER: [u8; 16] = [0x83, 0x5A, 0, 3, 0, 0, 0, 8, 0, 0, 0, 1, 0, 0, 0, 0];
+
+pub(crate) const WRITE_ACK: [u8; 32] = [
+    0x83, 0x5A, 0, 0x16, 0, 0, 0, 0x18, 0, 0, 0, 0, 0, 0, 0, 0x10, 0, 0, 0, 0, 0, 0, 0, 1, 0, 0,
+    0x10, 0, 0, 0, 0, 0,
+];
+
+pub(crate) const BARRIER_ACK: [u8; 16] = [0x83, 0x5A, 0, 0x1C, 0, 0, 0, 8, 0, 0, 0, 1, 0, 0, 0, 1];
+
+pub(crate) const TWO_WRITES_ACK: [u8; 16] = [
+    0x83, 0x5A, 0, 0x1C, 0, 0, 0, 8, 0, 0, 0, 1, 0, 0, 0, 2,
+];
+
+pub(crate) const PROTOCOL_C: [u8; 12] = [0x83, 0x5A, 0, 0x0B, 0, 0, 0, 4, 0, 0, 0, 3];
+
+pub(crate) const SIZES: [u8; 16] = [0x83, 0x5A, 0, 0x0D, 0, 0, 0, 8, 0, 0, 0, 0, 0, 0, 0, 8];
+
+pub(crate) const UUIDS: [u8; 40] = [
+    0x83, 0x5A, 0, 0x0C, 0, 0, 0, 0x20, 0, 0, 0, 0, 0, 0, 0, 7, 0, 0, 0, 0, 0, 0, 0, 0, 0, 0, 0, 0,
+    0, 0, 0, 9, 0, 0, 0, 0, 0, 0, 0, 1,
+];
+
+pub(crate) const SYNC_UUID: [u8; 16] = [0x83, 0x5A, 0, 0x0F, 0, 0, 0, 8, 0, 0, 0, 0, 0, 0, 0, 9];
+
+/// A header and the numbers of an RS_DATA_REPLY frame: block 3, place 1.
+pub(crate) const RESYNC: [u8; 32] = [
+    0x83, 0x5A, 0, 2, 0, 0, 0x10, 0x18, 0, 0, 0, 0, 0, 0, 0, 0x18, 0, 0, 0, 0, 0, 0, 0, 0, 0, 0, 0,
+    1, 0, 0, 0, 0,
+];
+
+pub(crate) const RS_WRITE_ACK: [u8; 32] = [
+    0x83, 0x5A, 0, 0x17, 0, 0, 0, 0x18, 0, 0, 0, 0, 0, 0, 0, 0x18, 0, 0, 0, 0, 0, 0, 0, 0, 0, 0,
+    0x10, 0, 0, 0, 0, 1,
+];
+
+pub(crate) const OTHER_MAGIC: [u8; 8] = [0x83, 0x5B, 0, 3, 0, 0, 0, 8];
+
+/// The front of a DATA frame of one block, and then a block of bytes AA.
+pub(crate) fn with_block(alloc: Global, front: &[u8]) -> Result<Vec<u8>, Fail> {
+    let mut frame = Vec::from_slice(alloc, front)?;
+    frame.extend_from_slice(&[0xAA; 4096])?;
+    Ok(frame)
+}
+
+/// The write of a block of bytes AA.
+pub(crate) fn one_block(alloc: Global) -> Result<Packet, Fail>
+    ensures { IfOk result (λ p. IsSpellable p) }
+{
+    Ok(Packet::Data {
+        first: Block(2),
+        number: 1,
+        place: 0,
+        contents: Bytes::copy_from_slice(alloc, &[0xAA; 4096])?,
+    })
+}
+
+pub(crate) fn frame_of(alloc: Global, bytes: &[u8]) -> Result<Frame, Fail> {
+    Ok(Frame::new(Bytes::copy_from_slice(alloc, bytes)?))
+}
+
+/// The frame, with one byte in place of another.
+pub(crate) fn with_byte(
+    rt: &impl Abort,
+    alloc: Global,
+    frame: &[u8],
+    at: usize,
+    byte: u8,
+) -> Result<Vec<u8>, Fail> {
+    assert!(rt; at < frame.len());
+    let mut changed = Vec::from_slice(alloc, frame)?;
+    changed[at] = byte;
+    Ok(changed)
+}
