@@ -12,8 +12,6 @@ mod refusal;
 mod settings;
 mod store;
 mod tally;
-#[cfg(test)]
-mod tests;
 mod tuple;
 
 pub use block::{BLOCK_BYTES, Block, EXTENT_BLOCKS, Extent, MAX_BLOCKS};

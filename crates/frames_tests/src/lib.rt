@@ -8,6 +8,8 @@ mod endpoints;
 #[cfg(test)]
 mod faults;
 #[cfg(test)]
+mod hellos;
+#[cfg(test)]
 mod links;
 #[cfg(test)]
 mod spelled;

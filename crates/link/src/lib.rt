@@ -8,8 +8,6 @@ mod inward;
 mod outward;
 mod plain;
 mod queue;
-#[cfg(test)]
-mod tests;
 mod trail;
 
 pub use ends::{FrameIn, FrameOut, Offered};

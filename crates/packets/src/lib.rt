@@ -11,8 +11,6 @@ mod packet;
 mod reading;
 mod short;
 mod stream;
-#[cfg(test)]
-mod tests;
 mod writing;
 
 pub use blocks::{Command, Protocol, Tuple};
