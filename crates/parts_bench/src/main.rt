@@ -53,7 +53,6 @@ fn measure(
 ) -> anyhow::Result<()>
     requires source { length source.now ≡ 65536 * 4096 }
     requires some_in_flight { 0 < in_flight }
-    requires some_blocks { 0 < blocks }
     requires few_blocks { blocks ≤ 262144 }
 {
     let mut block = Vec::from_elem(rt.alloc(), 0u8, BLOCK_BYTES)?;

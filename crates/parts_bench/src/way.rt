@@ -10,9 +10,9 @@ use bytes::Bytes;
 use overlap::Held;
 use std::alloc::Global;
 use std::collections::VecDeque;
-use transferlog::{Answer, Local, Named, TransferLog};
+use transferlog::{Accepted, Answer, Local, Named, Released, TransferLog};
 
-/// From one write's block to the next one's: odd, so that each block of a device of a power of 2 has its turn.
+/// From one write's block to the next one's: odd, so that each block of the device has its turn.
 const STRIDE: u64 = 100_003;
 
 /// What became of the writes.
@@ -34,6 +34,7 @@ pub(crate) struct Counts {
 #[derive(Drop)]
 pub(crate) struct Way {
     blocks: u32,
+    last_block: u64,
     in_flight: u32,
     most_open: u64,
     held: Held,
@@ -46,7 +47,6 @@ pub(crate) struct Way {
     // The barriers that are not acknowledged, with their epochs' sizes.
     barriers: VecDeque<(u32, u32)>,
     counts: Counts,
-    ghost some_blocks: { 0 < blocks },
 }
 
 /// `UnknownJob` (16) unless what a part asks of its caller holds.
@@ -80,11 +80,99 @@ fn is_waiting(log: &TransferLog, number: u64) -> bool
     }
 }
 
+/// The local disk has the write. `UnknownJob` (16) where it has not that to do.
+fn store(log: &mut TransferLog, number: u64) -> Result<Option<u32>, Refusal> {
+    owed(is_waiting(log, number))?;
+    Ok(log.local_done(number))
+}
+
+/// The peer's disk has the write. `UnknownJob` (16) where it was not sent.
+fn answer(log: &mut TransferLog, number: u64) -> Result<Option<u32>, Refusal> {
+    let named = named(log, number).ok_or(Refusal::UnknownJob)?;
+    log.acked(Answer::Written, named)
+}
+
+/// How the peer names the write.
+fn named(log: &TransferLog, number: u64) -> Option<Named> {
+    let write = log.get(number)?;
+    let (_, place) = write.home()?;
+    let range = write.range();
+    Some(Named {
+        number,
+        place,
+        first: range.first.0,
+        count: range.count,
+    })
+}
+
+/// The write's frame stands in the link's queue. `UnknownJob` (16) where it stood there before.
+fn send(log: &mut TransferLog, number: u64) -> Result<Option<u32>, Refusal> {
+    owed(may_be_sent(log, number))?;
+    Ok(log.sent(number))
+}
+
+/// A write is accepted. `JournalFull` (5) and `StreamFull` (6) where there were too many, else what the log
+/// answers.
+fn accept(log: &mut TransferLog, range: Range, contents: Bytes) -> Result<Accepted, Refusal>
+    requires { range.count ≡ 1 }
+{
+    if log.accepted() >= 1_048_576 {
+        return Err(Refusal::JournalFull);
+    }
+    if log.places() >= 4_294_967_290 {
+        return Err(Refusal::StreamFull);
+    }
+    owed((range.first.0 as usize) < log.blocks())?;
+    log.accept(range, contents)
+}
+
+/// A write begins in its extent. `UnknownJob` (16) where the extent has too many.
+fn begin(activity: &mut ActivityLog, extent: Extent) -> Result<(), Refusal> {
+    owed(activity.writes(extent) < 1_048_576)?;
+    activity.begin(extent)
+}
+
+/// A write of the extent is released. `UnknownJob` (16) where it has none.
+fn end(activity: &mut ActivityLog, extent: Extent) -> Result<(), Refusal> {
+    owed(activity.writes(extent) > 0)?;
+    activity.end(extent);
+    Ok(())
+}
+
+/// The write's block is marked. `BadRange` (1) where the device has no such block.
+fn mark(bitmap: &mut Bitmap, range: Range) -> Result<(), Refusal>
+    requires { range.count ≡ 1 }
+{
+    if range.first.0 >= bitmap.len() {
+        return Err(Refusal::BadRange);
+    }
+    bitmap.mark(range);
+    Ok(())
+}
+
+/// A released write's block is marked no more, where the release clears it.
+fn clear(log: &TransferLog, bitmap: &mut Bitmap, released: &Released) -> bool {
+    let block = Block(released.first);
+    let clears = log.clears(released, block) && block.0 < bitmap.len();
+    if clears {
+        bitmap.clear(block);
+    }
+    clears
+}
+
+/// A write holds its range. `Conflict` (2) where another one holds a block of it.
+fn hold(held: &mut Held, number: u64, range: Range) -> Result<(), Refusal> {
+    if let Some(holder) = held.conflict(range) {
+        return Err(Refusal::Conflict(holder));
+    }
+    owed(!held.is_held(number))?;
+    held.hold(number, range)
+}
+
 impl Way {
-    /// No write yet, to a device of so many blocks.
+    /// No write yet, to a device of so many blocks, which are a power of 2.
     pub(crate) fn new(alloc: Global, in_flight: u32, blocks: u32) -> Result<Way, Refusal>
         requires some_in_flight { 0 < in_flight }
-        requires some_blocks { 0 < blocks }
         requires few_blocks { blocks ≤ 262144 }
     {
         let mut log = TransferLog::new(alloc, Protocol::C, blocks, 20_000, in_flight)?;
@@ -92,6 +180,7 @@ impl Way {
         let marks = Vec::from_elem(alloc, false, blocks as usize)?;
         Ok(Way {
             blocks,
+            last_block: u64::from(blocks).saturating_sub(1),
             in_flight,
             most_open: u64::from((in_flight / 2).min(blocks)),
             held: Held::new(alloc),
@@ -135,60 +224,29 @@ impl Way {
 
     fn submit(&mut self) -> Result<(), Refusal> {
         let number = self.log.accepted().saturating_add(1);
-        let first = number.wrapping_mul(STRIDE) % u64::from(self.blocks);
+        let first = number.wrapping_mul(STRIDE) & self.last_block;
         let range = Range::new(first, 1, self.blocks)?;
-        if let Some(holder) = self.held.conflict(range) {
-            return Err(Refusal::Conflict(holder));
-        }
-        owed(!self.held.is_held(number))?;
-        self.held.hold(number, range)?;
-        let extent = Extent(first / EXTENT_BLOCKS);
-        owed(self.activity.writes(extent) < 1_048_576)?;
-        self.activity.begin(extent)?;
-        owed(self.log.accepted() < 1_048_576 && self.log.places() < 4_294_967_290)?;
-        owed((first as usize) < self.log.blocks())?;
-        let accepted = self.log.accept(range, self.contents.clone()?)?;
+        hold(&mut self.held, number, range)?;
+        begin(&mut self.activity, Extent(first / EXTENT_BLOCKS))?;
+        let accepted = accept(&mut self.log, range, self.contents.clone()?)?;
         self.in_last_epoch = self.in_last_epoch.saturating_add(1);
         self.note_barrier(accepted.barrier)?;
-        owed(first < self.bitmap.len())?;
-        self.bitmap.mark(range);
-        owed(may_be_sent(&self.log, number))?;
-        let barrier = self.log.sent(number);
+        mark(&mut self.bitmap, range)?;
+        let barrier = send(&mut self.log, number)?;
         self.note_barrier(barrier)
     }
 
-    // The local disk and the peer's have the oldest open write.
+    // The local disk and the peer's have the oldest open write, which completes it.
     fn complete(&mut self) -> Result<(), Refusal> {
         let number = self.first_open;
-        owed(is_waiting(&self.log, number))?;
-        let barrier = self.log.local_done(number);
+        let barrier = store(&mut self.log, number)?;
         self.note_barrier(barrier)?;
-        let named = self.named(number)?;
-        let barrier = self.log.acked(Answer::Written, named)?;
+        let barrier = answer(&mut self.log, number)?;
         self.note_barrier(barrier)?;
-        for completed in self.log.completed() {
-            self.held.release(completed.number);
-            self.counts.completed = self.counts.completed.saturating_add(1);
-        }
+        self.held.release(number);
+        self.counts.completed = self.counts.completed.saturating_add(1);
         self.first_open = number.saturating_add(1);
         Ok(())
-    }
-
-    // How the peer names the write.
-    fn named(&self, number: u64) -> Result<Named, Refusal> {
-        let Some(write) = self.log.get(number) else {
-            return Err(Refusal::UnknownJob);
-        };
-        let Some((_, place)) = write.home() else {
-            return Err(Refusal::NotConnected);
-        };
-        let range = write.range();
-        Ok(Named {
-            number,
-            place,
-            first: range.first.0,
-            count: range.count,
-        })
     }
 
     // A barrier ends the last epoch.
@@ -209,15 +267,10 @@ impl Way {
         self.log.barrier_acked(number, size)?;
         self.counts.epochs = self.counts.epochs.saturating_add(1);
         for released in self.log.released() {
-            let block = Block(released.first);
-            if self.log.clears(released, block) {
-                owed(block.0 < self.bitmap.len())?;
-                self.bitmap.clear(block);
+            if clear(&self.log, &mut self.bitmap, released) {
                 self.counts.cleared = self.counts.cleared.saturating_add(1);
             }
-            let extent = Extent(block.0 / EXTENT_BLOCKS);
-            owed(self.activity.writes(extent) > 0)?;
-            self.activity.end(extent);
+            end(&mut self.activity, Extent(released.first / EXTENT_BLOCKS))?;
             self.counts.released = self.counts.released.saturating_add(1);
         }
         Ok(())
