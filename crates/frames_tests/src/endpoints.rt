@@ -1,4 +1,4 @@
-ghost use Rattle.std.specs.Prelude.{◌≡◌, ◌-◌, length, take, unwrap_or, None};
+ghost use Rattle.std.specs.Prelude.{◌≡◌, ◌-◌, length, take, unwrap_or, None, IfOk, OnOk};
 ghost use Rattle.packets.specs.Spelling.{IsSpellable};
 
 use crate::vectors::one_block;
@@ -15,14 +15,15 @@ struct Packets {
     sender: Outgoing<PlainOut>,
     taker: Incoming<PlainIn>,
     connection: u32,
-    ghost whole: { sender.partly ≡ None },
     ghost sending: { sender.number ≡ connection },
     ghost taking: { taker.number ≡ connection },
     ghost lends: { taker.frames ≡ take (length sender.frames - unwrap_or sender.waiting 0) sender.frames },
 }
 
 impl Packets {
-    fn new(alloc: Global) -> Result<Packets, Fail> {
+    fn new(alloc: Global) -> Result<Packets, Fail>
+        ensures { IfOk result (λ packets. packets.sender.partly ≡ None) }
+    {
         let PlainLink { primary, secondary } = PlainLink::new(alloc, 1)?;
         Ok(Packets {
             sender: Outgoing::new(primary.outward),
@@ -32,7 +33,9 @@ impl Packets {
     }
 
     /// Begins the next connection at both sides.
-    fn restart(&mut self) -> Result<(), Fail> {
+    fn restart(&mut self) -> Result<(), Fail>
+        ensures { OnOk result (self.new.sender.partly ≡ None) }
+    {
         let next = self.connection.saturating_add(1);
         if next == self.connection {
             return Err(Fail::from("no connection is left"));
@@ -43,19 +46,20 @@ impl Packets {
         Ok(())
     }
 
-    /// Sends a packet. One that is refused is given up with its connection.
+    /// Sends a packet.
     fn push(&mut self, alloc: Global, packet: Packet) -> Result<(), Fail>
-        requires { IsSpellable packet }
+        requires spellable { IsSpellable packet }
+        requires whole { self.old.sender.partly ≡ None }
+        ensures { OnOk result (self.new.sender.partly ≡ None) }
     {
-        if let Err(refusal) = self.sender.push(alloc, packet) {
-            self.restart()?;
-            return Err(Fail::from(refusal));
-        }
+        self.sender.push(alloc, packet)?;
         Ok(())
     }
 
     /// Lends the direction's queue to the taking side for one take.
-    fn take(&mut self) -> Result<Result<Packet, Refusal>, Refusal> {
+    fn take(&mut self) -> Result<Result<Packet, Refusal>, Refusal>
+        ensures { self.new.sender.partly ≡ self.old.sender.partly }
+    {
         joined(&self.sender, &self.taker);
         self.taker.ready()?;
         let Some(queue) = self.sender.give_queue() else {
@@ -121,5 +125,18 @@ fn a_side_without_its_queue_is_full_or_empty(rt: HostRuntime) -> Result<(), Fail
     assert!(rt; sender.give_queue().is_none());
     let refused = sender.push(alloc, Packet::Sizes { blocks: 8 });
     assert_eq!(rt; refused, Err(Refusal::LinkFull));
+    Ok(())
+}
+
+// Run with each request for memory refused in turn, this fails only where the link is made.
+#[test]
+fn short_frames_take_no_memory(rt: HostRuntime) -> Result<(), Fail> {
+    let alloc = rt.alloc();
+    let mut packets = Packets::new(alloc)?;
+    packets.push(alloc, Packet::Barrier { number: 1 })?;
+    assert_eq!(rt; packets.take()?, Ok(Packet::Barrier { number: 1 }));
+    let ack = Packet::BarrierAck { number: 1, size: 1 };
+    packets.push(alloc, ack)?;
+    assert!(rt; packets.take()?.is_ok());
     Ok(())
 }
