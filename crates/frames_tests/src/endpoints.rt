@@ -1,4 +1,4 @@
-ghost use Rattle.std.specs.Prelude.{◌≡◌, ◌-◌, length, take, unwrap_or, None, IfOk, OnOk};
+ghost use Rattle.std.specs.Prelude.{ℕ, ◌≡◌, ◌-◌, length, take, Some, None, IfOk, OnOk};
 ghost use Rattle.packets.specs.Spelling.{IsSpellable};
 
 use crate::vectors::one_block;
@@ -17,7 +17,8 @@ struct Packets {
     connection: u32,
     ghost sending: { sender.number ≡ connection },
     ghost taking: { taker.number ≡ connection },
-    ghost lends: { taker.frames ≡ take (length sender.frames - unwrap_or sender.waiting 0) sender.frames },
+    // What was taken is what was pushed but for what waits in the queue.
+    ghost lends: { (n : ℕ) → sender.waiting ≡ Some n → taker.frames ≡ take (length sender.frames - n) sender.frames },
 }
 
 impl Packets {
