@@ -1,0 +1,2 @@
+//! A primary's state in plain values, and its transitions.
+#![tactic(auto)]
