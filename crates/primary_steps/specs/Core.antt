@@ -1,5 +1,5 @@
 -- The state of a primary in plain values.
-use Rattle.std.specs.Prelude.{ℕ, suc, ◌+◌, ◌-◌, nat_lt, nat_le, ◌==◌, Bool, true, false, ◌&&◌, ◌||◌, not, if◌then◌else◌, List, [], ◌∷◌, ◌++◌, length, map, filter, drop, Option, Some, None, is_some, is_none, unwrap_or, option_map, slice_get, ok_or, Result, Ok, Err}
+use Rattle.std.specs.Prelude.{ℕ, ◌-◌, ◌==◌, Bool, true, false, ◌&&◌, not, if◌then◌else◌, List, [], ◌∷◌, ◌++◌, length, map, Option, Some, None, is_some, is_none, option_map, slice_get, Result, Err}
 use Rattle.std.specs.List.{list_any}
 use Rattle.blocks.specs.declared.tuple.Tuple.{Tuple}
 use Rattle.blocks.specs.declared.settings.Settings.{Settings}
@@ -7,7 +7,7 @@ use Rattle.blocks.specs.declared.refusal.Refusal.{Refusal}
 use Rattle.blocks.specs.declared.outcome.Done.{Done}
 use Rattle.blocks.specs.declared.outcome.What.{What}
 use Rattle.blocks.specs.Identifiers.{sync_end}
-use Rattle.blocks.specs.Ranges.{is_between, below}
+use Rattle.blocks.specs.Ranges.{below}
 use Rattle.model.specs.Contents.{extent_of}
 use Rattle.model.specs.Stream.{Item, BarrierItem, UuidsItem}
 use Rattle.model.specs.Refusals.{Test, first_refusal}
@@ -18,7 +18,7 @@ use Rattle.transferlog.specs.declared.report.Released.{Released}
 use Rattle.overlap.specs.Holdings as overlap
 use Rattle.overlap.specs.Holdings.{Holding}
 use Rattle.activitylog.specs.Activity.{ActivityState, ended}
-use Rattle.bitmap.specs.Marks.{marked, marking}
+use Rattle.bitmap.specs.Marks.{marked}
 
 -- What became of an accepted write: it is open, the local disk failed it, or it was completed, over the link or without it.
 pub data Fate : Type 0 where

@@ -1,3 +1,4 @@
 pub mod Core
+pub mod Rows
 pub mod Taking
 pub mod Transitions

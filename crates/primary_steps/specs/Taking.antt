@@ -1,5 +1,5 @@
 -- A primary takes a frame: the peer's hello with the decision, and then its acknowledgements.
-use Rattle.std.specs.Prelude.{ℕ, zero, suc, ◌+◌, ◌-◌, nat_lt, ◌==◌, Bool, true, false, ◌&&◌, ◌||◌, not, if◌then◌else◌, List, [], ◌∷◌, ◌++◌, length, Option, Some, None, is_some, is_none, option_map, set, Result, Ok, Err}
+use Rattle.std.specs.Prelude.{ℕ, zero, suc, ◌-◌, nat_lt, ◌==◌, Bool, true, false, ◌&&◌, ◌||◌, not, if◌then◌else◌, List, [], ◌∷◌, Option, Some, None, is_none, set, Result, Ok, Err}
 use Rattle.std.specs.List.{list_any}
 use Rattle.blocks.specs.declared.tuple.Tuple.{Tuple}
 use Rattle.blocks.specs.declared.refusal.Refusal.{Refusal}
@@ -11,7 +11,7 @@ use Rattle.blocks.specs.declared.outcome.What.{What}
 use Rattle.blocks.specs.declared.outcome.What.TheVariants as what
 use Rattle.blocks.specs.declared.command.Command.TheVariants as command
 use Rattle.blocks.specs.Identifiers.{stands_in, decision, sync_start}
-use Rattle.model.specs.Stream.{Item, WriteItem, ResyncItem, BarrierItem, SyncUuidItem, UuidsItem}
+use Rattle.model.specs.Stream.{Item, BarrierItem, SyncUuidItem}
 use Rattle.model.specs.Frames.{Packet, ProtocolFrame, SizesFrame, UuidsFrame, RecvAckFrame, WriteAckFrame, RsWriteAckFrame, BarrierAckFrame, Acknowledged, Received}
 use Rattle.model.specs.Refusals.{done_with}
 use Rattle.model.specs.Acknowledgements.{same_protocol}
@@ -21,7 +21,7 @@ use Rattle.transferlog.specs.declared.report.Answer.{Answer}
 use Rattle.transferlog.specs.declared.report.Answer.TheVariants as answer
 use Rattle.transferlog.specs.declared.report.Named.{Named}
 use Rattle.overlap.specs.Holdings as overlap
-use Rattle.bitmap.specs.Marks.{marked, marking}
+use Rattle.bitmap.specs.Marks.{marking}
 use Rattle.primary_steps.specs.Core.{UnderWay, EndState, PrimaryState, tested, stands, following}
 use Rattle.primary_steps.specs.Transitions.{next_place, closing, logged}
 

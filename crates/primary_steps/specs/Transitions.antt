@@ -1,36 +1,29 @@
 -- The transitions of a primary: for each event its tests in order, its effect, and what follows.
-use Rattle.std.specs.Prelude.{ℕ, zero, suc, ◌+◌, ◌-◌, nat_lt, nat_le, ◌==◌, Bool, true, false, ◌&&◌, ◌||◌, not, if◌then◌else◌, List, [], ◌∷◌, ◌++◌, length, map, filter, find, drop, Option, Some, None, is_some, is_none, unwrap_or, option_map, slice_get, ok_or, Result, Ok, Err}
+use Rattle.std.specs.Prelude.{ℕ, zero, suc, ◌-◌, nat_lt, nat_le, ◌==◌, Bool, true, false, ◌&&◌, ◌||◌, not, if◌then◌else◌, List, [], ◌∷◌, ◌++◌, length, drop, Option, Some, None, is_some, is_none, unwrap_or, option_map, slice_get, ok_or, Result, Ok, Err}
 use Rattle.std.specs.List.{list_any}
 use Rattle.blocks.specs.declared.tuple.Tuple.{Tuple}
-use Rattle.blocks.specs.declared.settings.Settings.{Settings}
 use Rattle.blocks.specs.declared.refusal.Refusal.{Refusal}
-use Rattle.blocks.specs.declared.refusal.Refusal.TheVariants.{BadRange, Conflict, LogFull, ActivityFull, JournalFull, StreamFull, NoMemory, LocalFault, NotCompleted, NothingToDo, LinkFull, NotConnected, NothingThere, ReadFault, UnknownJob, BadCommand, BadBarrierAck, UnknownAck, UsedIdentifier, OtherProtocol, OtherSize, NotDrained}
+use Rattle.blocks.specs.declared.refusal.Refusal.TheVariants.{BadRange, Conflict, LogFull, ActivityFull, JournalFull, StreamFull, NoMemory, LocalFault, NotCompleted, NothingToDo, LinkFull, NotConnected, NothingThere, UnknownJob, UsedIdentifier, NotDrained}
 use Rattle.blocks.specs.declared.outcome.Done.{Done}
-use Rattle.blocks.specs.declared.outcome.Decision.{Decision}
-use Rattle.blocks.specs.declared.outcome.Decision.TheVariants.{NoSync, BitmapSync, FullSync}
 use Rattle.blocks.specs.declared.outcome.What.{What}
 use Rattle.blocks.specs.declared.outcome.What.TheVariants as what
-use Rattle.blocks.specs.declared.command.Command.TheVariants as command
 use Rattle.blocks.specs.Contents.{blocks_of}
-use Rattle.blocks.specs.Identifiers.{are_fresh, stands_in, decision, lost, sync_start}
+use Rattle.blocks.specs.Identifiers.{are_fresh, lost}
 use Rattle.blocks.specs.Ranges.{is_between}
-use Rattle.model.specs.Contents.{Write, is_range, extent_of}
-use Rattle.model.specs.Stream.{Item, WriteItem, ResyncItem, BarrierItem, SyncUuidItem, UuidsItem, number_of, is_write}
-use Rattle.model.specs.Frames.{Packet, ProtocolFrame, SizesFrame, UuidsFrame, RecvAckFrame, WriteAckFrame, RsWriteAckFrame, BarrierAckFrame, Acknowledged, Received, command_of, frame_of, hello_of}
-use Rattle.model.specs.Refusals.{Test, first_refusal, done_with}
-use Rattle.model.specs.Acknowledgements.{same_protocol}
+use Rattle.model.specs.Contents.{is_range, extent_of}
+use Rattle.model.specs.Stream.{Item, WriteItem, ResyncItem, number_of, is_write}
+use Rattle.model.specs.Frames.{Packet, command_of, frame_of, hello_of}
+use Rattle.model.specs.Refusals.{Test, done_with}
 use Rattle.transferlog.specs.Log as log
 use Rattle.transferlog.specs.Log.{LogState, connecting}
 use Rattle.transferlog.specs.Ring.{write_at}
-use Rattle.transferlog.specs.Writes.{LogWrite, is_waiting, is_settled}
-use Rattle.transferlog.specs.declared.report.Answer.TheVariants as answer
-use Rattle.transferlog.specs.declared.report.Named.{Named}
+use Rattle.transferlog.specs.Writes.{LogWrite, is_waiting}
 use Rattle.overlap.specs.Holdings as overlap
 use Rattle.overlap.specs.Holdings.{Holding, holding, holding_too}
 use Rattle.activitylog.specs.Activity.{begun, can_begin}
-use Rattle.bitmap.specs.Marks.{marked, marking}
+use Rattle.bitmap.specs.Marks.{marking}
 use Rattle.resync.specs.Next.{next_block}
-use Rattle.primary_steps.specs.Core.{Fate, Open, Failed, Completed, Entry, UnderWay, EndState, PrimaryState, tested, stands, with_end, appending, with_entry, entering, freeing, leaving, reporting, barrier_item, following}
+use Rattle.primary_steps.specs.Core.{Fate, Open, Failed, Completed, Entry, EndState, PrimaryState, tested, stands, appending, with_entry, reporting, following}
 
 -- Open.
 
