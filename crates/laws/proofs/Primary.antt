@@ -7,6 +7,7 @@ pub mod HomesFollowing
 pub mod HomesMoves
 pub mod InOrder
 pub mod InOrderMoves
+pub mod Journal
 pub mod LastEpoch
 pub mod LastOpen
 pub mod LawfulMoves

@@ -1,4 +1,6 @@
 pub mod Core
+pub mod Leaves
 pub mod Rows
+pub mod Steps
 pub mod Taking
 pub mod Transitions

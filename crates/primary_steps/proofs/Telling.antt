@@ -1,0 +1,281 @@
+-- A receipt is told as the journal has it.
+use Rattle.std.proofs.Common.{ℕ, zero, suc, ◌≡◌, ◌+◌, ◌-◌, ◌<◌, Bool, true, false, cond, not, ◌&&◌, ◌||◌, List, [], ◌∷◌, ◌++◌, length, map, Option, Some, None, slice_get, Result, Ok, Err, refl, sym, ◌∙◌, ap, subst, arith, ◌==◌}
+use Rattle.std.specs.Prelude.{find, is_some, is_none, option_map, if◌then◌else◌}
+use Rattle.std.specs.List.{list_any}
+use Rattle.std.proofs.lemmas.Bool.{both_ways, eqb-true, eq-eqb, or_right, false_from_ne_true}
+use Rattle.std.proofs.lemmas.Bool.Decides.{nat_tests}
+use Rattle.std.proofs.lemmas.List.Folds.{list_any-append}
+use Rattle.blocks.specs.declared.refusal.Refusal.{Refusal}
+use Rattle.blocks.specs.declared.refusal.Refusal.TheVariants.{LocalFault, NotCompleted, UnknownJob}
+use Rattle.model.specs.Primary.{LocalOutcome, Waiting, OnDisk, Accepted, Completion, PrimaryHistory, is_failed, is_on_disk, is_open, is_completed}
+use Rattle.model.specs.Refusals.{Test, first_refusal}
+use Rattle.model.specs.PrimarySteps as model
+use Rattle.model.specs.PrimarySteps.{accepted_at, receipted}
+use Rattle.laws.proofs.Lists.Picks.{pick-found}
+use Rattle.laws.proofs.Lists.Elements.{same-at}
+use Rattle.laws.proofs.Primary.Journal.{JournalIsAccepted}
+use Rattle.model.specs.Contents.{Write}
+use Rattle.model.specs.Primary as history
+use Rattle.primary_steps.specs.Core.{Fate, Failed, Entry, PrimaryState, with_entry}
+use Rattle.primary_steps.specs.Transitions.{entry_at, told, is_given, take_completed}
+use Rattle.primary_steps.specs.Transitions as core
+use Rattle.primary_steps.specs.Leaves.{fate_in, fate_of, entry_of, LeavesEntries}
+use Rattle.primary_steps.specs.Steps.{SameAnswer, TellsReceipt}
+
+-- What is known of a history: writes are numbered by their places, a completed write is on the local disk, and the journal
+-- has accepted writes.
+pub record IsNumbered (h : PrimaryHistory) : Type 0 where
+  pub numbered : (i : ℕ) (accepted : Accepted) → slice_get h.writes i ≡ Some accepted → accepted.write.number ≡ suc i
+  pub on_disk : (i : ℕ) (accepted : Accepted) → slice_get h.writes i ≡ Some accepted → is_completed h accepted.write.number ≡ true → is_on_disk accepted.outcome ≡ true
+  pub journal : JournalIsAccepted h
+
+-- Numbers.
+
+same-number : (n : ℕ) → (n == n) ≡ true
+same-number n = eq-eqb n n refl
+
+other-number : (a b : ℕ) → a < b → (a == b) ≡ false
+other-number a b less = false_from_ne_true (a == b) (λ e. let is : a ≡ b = eqb-true a b e in omega arith)
+
+-- writes numbered from a number on
+abbrev AreNumberedFrom : ℕ → List Accepted → Type 0
+AreNumberedFrom n xs = (i : ℕ) (accepted : Accepted) → slice_get xs i ≡ Some accepted → accepted.write.number ≡ n + i
+
+numbered-rest : (n : ℕ) (x : Accepted) (xs : List Accepted) → AreNumberedFrom n (x ∷ xs) → AreNumberedFrom (suc n) xs
+numbered-rest n x xs all i accepted at = all (suc i) accepted at ∙ omega arith
+
+numbered-first : (n : ℕ) (x : Accepted) (xs : List Accepted) → AreNumberedFrom n (x ∷ xs) → x.write.number ≡ n
+numbered-first n x xs all = all 0 x refl ∙ omega arith
+
+-- the write of a number stands at its place
+find-number : (n k : ℕ) (xs : List Accepted) → AreNumberedFrom n xs → find (λ (a : Accepted). a.write.number == (n + k)) xs ≡ slice_get xs k
+find-number n k [] all = refl
+find-number n zero (x ∷ xs) all =
+    let first = numbered-first n x xs all in
+    let same : (x.write.number == (n + 0)) ≡ true = eq-eqb x.write.number (n + 0) (omega arith) in
+    rw same refl
+find-number n (suc k) (x ∷ xs) all =
+    let first = numbered-first n x xs all in
+    let other : (x.write.number == (n + suc k)) ≡ false = other-number x.write.number (n + suc k) (omega arith) in
+    let on : suc n + k ≡ n + suc k = omega arith in
+    rw other (ap (λ (m : ℕ). find (λ (a : Accepted). a.write.number == m) xs) (sym on) ∙ find-number (suc n) k xs (numbered-rest n x xs all))
+
+find-none : (m n : ℕ) (xs : List Accepted) → AreNumberedFrom n xs → m < n → find (λ (a : Accepted). a.write.number == m) xs ≡ None
+find-none m n [] all less = refl
+find-none m n (x ∷ xs) all less =
+    let first = numbered-first n x xs all in
+    let other : (x.write.number == m) ≡ false = false_from_ne_true (x.write.number == m) (λ e. let is : x.write.number ≡ m = eqb-true x.write.number m e in omega arith) in
+    rw other (find-none m (suc n) xs (numbered-rest n x xs all) (omega arith))
+
+-- a test of the write of a number is that of the write at its place
+any-number : (n k : ℕ) (p : Accepted → Bool) (xs : List Accepted) → AreNumberedFrom n xs
+    → list_any (λ (a : Accepted). (a.write.number == (n + k)) && p a) xs ≡ elim (slice_get xs k) as (λ _. Bool) [ None ↦ false | Some a ↦ p a ]
+any-number n k p [] all = refl
+any-number n zero p (x ∷ xs) all =
+    let first = numbered-first n x xs all in
+    let same : (x.write.number == (n + 0)) ≡ true = eq-eqb x.write.number (n + 0) (omega arith) in
+    let none : list_any (λ (a : Accepted). (a.write.number == (n + 0)) && p a) xs ≡ false = none-behind (n + 0) (suc n) p xs (numbered-rest n x xs all) (omega arith) in
+    rw (same, none) (or-none (p x))
+  where
+    none-behind : (m n : ℕ) (p : Accepted → Bool) (xs : List Accepted) → AreNumberedFrom n xs → m < n → list_any (λ (a : Accepted). (a.write.number == m) && p a) xs ≡ false
+    none-behind m n p [] all less = refl
+    none-behind m n p (x ∷ xs) all less =
+        let first = numbered-first n x xs all in
+        let other : (x.write.number == m) ≡ false = false_from_ne_true (x.write.number == m) (λ e. let is : x.write.number ≡ m = eqb-true x.write.number m e in omega arith) in
+        rw other (none-behind m (suc n) p xs (numbered-rest n x xs all) (omega arith))
+
+    or-none : (b : Bool) → (b || false) ≡ b
+    or-none true = refl
+    or-none false = refl
+any-number n (suc k) p (x ∷ xs) all =
+    let first = numbered-first n x xs all in
+    let other : (x.write.number == (n + suc k)) ≡ false = other-number x.write.number (n + suc k) (omega arith) in
+    let on : suc n + k ≡ n + suc k = omega arith in
+    rw other (ap (λ (m : ℕ). list_any (λ (a : Accepted). (a.write.number == m) && p a) xs) (sym on) ∙ any-number (suc n) k p xs (numbered-rest n x xs all))
+
+-- Entries.
+
+-- the entry at a place is that of the write there
+get-map : {X Y : Type 0} (f : X → Y) (xs : List X) (n : ℕ) → slice_get (map f xs) n ≡ option_map f (slice_get xs n)
+get-map f [] n = refl
+get-map f (x ∷ xs) zero = refl
+get-map f (x ∷ xs) (suc n) = get-map f xs n
+
+-- a change of the entry of one number, where a function of the writes changes so
+with-entry-map : (f g : Accepted → Entry) (change : Entry → Entry) (n k : ℕ) (xs : List Accepted) → AreNumberedFrom n xs → ((a : Accepted) → a.write.number ≡ n + k → change (f a) ≡ g a) → ((a : Accepted) → (a.write.number == (n + k)) ≡ false → f a ≡ g a)
+    → with_entry (suc k) change (map f xs) ≡ map g xs
+with-entry-map f g change n k [] all same others = refl
+with-entry-map f g change n zero (x ∷ xs) all same others =
+    let first = numbered-first n x xs all in
+    (λ i. same x (omega arith) i ∷ rest i)
+  where
+    rest : map f xs ≡ map g xs
+    rest = map-same xs (suc n) (numbered-rest n x xs all) (omega arith)
+      where
+        map-same : (ys : List Accepted) (m : ℕ) → AreNumberedFrom m ys → n < m → map f ys ≡ map g ys
+        map-same [] m all less = refl
+        map-same (y ∷ ys) m all less =
+            let first = numbered-first m y ys all in
+            let other : (y.write.number == (n + 0)) ≡ false = false_from_ne_true (y.write.number == (n + 0)) (λ e. let is : y.write.number ≡ n + 0 = eqb-true y.write.number (n + 0) e in omega arith) in
+            λ i. others y other i ∷ map-same ys (suc m) (numbered-rest m y ys all) (omega arith) i
+with-entry-map f g change n (suc k) (x ∷ xs) all same others =
+    let first = numbered-first n x xs all in
+    let other : (x.write.number == (n + suc k)) ≡ false = other-number x.write.number (n + suc k) (omega arith) in
+    let not_first : (suc (suc k) == 1) ≡ false = grind (arith, nat_tests) in
+    let on : suc n + k ≡ n + suc k = omega arith in
+    let one_less : suc (suc k) - 1 ≡ suc k = omega arith in
+    rw (not_first, one_less) (λ i. others x other i ∷ with-entry-map f g change (suc n) k xs (numbered-rest n x xs all) (λ a is. same a (is ∙ on)) (λ a no_number. others a (subst (λ (m : ℕ). (a.write.number == m) ≡ false) on no_number)) i)
+
+-- Receipts.
+
+-- a failed write is not completed
+failed-open : (h : PrimaryHistory) → IsNumbered h → (i : ℕ) (a : Accepted) → slice_get h.writes i ≡ Some a → is_failed a.outcome ≡ true → is_completed h a.write.number ≡ false
+failed-open h known i a at failed = false_from_ne_true (is_completed h a.write.number) (λ completed. both a.outcome failed (known.on_disk i a at completed))
+  where
+    both : (o : LocalOutcome) → is_failed o ≡ true → is_on_disk o ≡ true → ⊥
+    both Waiting f d = absurd (cc)
+    both OnDisk f d = absurd (cc)
+    both (history.Failed offsets) f d = absurd (cc)
+
+-- a test of a list finds something exactly where one passes
+any-some : {X : Type 0} (p : X → Bool) (xs : List X) → list_any p xs ≡ is_some (find p xs)
+any-some p [] = refl
+any-some {X} p (x ∷ xs) = go (any-some p xs) (p x)
+  where
+    go : list_any p xs ≡ is_some (find p xs) → (b : Bool) → (b || list_any p xs) ≡ is_some (cond b (Some x) (find p xs))
+    go rest true = refl
+    go rest false = rest
+
+-- what the model answers of a write that is there
+module _ (h : PrimaryHistory) (known : IsNumbered h) (n : ℕ) (a : Accepted) (at : slice_get h.writes n ≡ Some a) (s : PrimaryState) (left : LeavesEntries s h) where
+  number-is : a.write.number ≡ suc n
+  number-is = known.numbered n a at
+
+  from-one : AreNumberedFrom 1 h.writes
+  from-one i accepted there = known.numbered i accepted there ∙ omega arith
+
+  there-is : accepted_at h (suc n) ≡ Some a
+  there-is = ap (λ (m : ℕ). find (λ (x : Accepted). x.write.number == m) h.writes) (omega arith) ∙ (find-number 1 n h.writes from-one ∙ at)
+
+  open-is : list_any (λ (x : Accepted). (x.write.number == suc n) && is_open h x) h.writes ≡ is_open h a
+  open-is =
+      let index : 1 + n ≡ suc n = omega arith in
+      ap (λ (m : ℕ). list_any (λ (x : Accepted). (x.write.number == m) && is_open h x) h.writes) (sym index)
+      ∙ (any-number 1 n (is_open h) h.writes from-one ∙ ap (λ (v : Option Accepted). elim v as (λ _. Bool) [ None ↦ false | Some x ↦ is_open h x ]) at)
+
+  entry-is : entry_at (suc n) s ≡ Some (entry_of h a)
+  entry-is = ap (λ (l : List Entry). slice_get l n) left.entries ∙ (get-map (entry_of h) h.writes n ∙ ap (option_map (entry_of h)) at)
+
+  -- the entry that the journal has of it is of this write
+  write-is : (c : Completion) → find (λ (entry : Completion). entry.write.number == a.write.number) h.journal ≡ Some c → c.write ≡ a.write
+  write-is c found =
+      let place = pick-found (λ (entry : Completion). entry.write.number == a.write.number) h.journal c found in
+      let of = known.journal place.0 c place.1 in
+      let number : c.write.number ≡ a.write.number = eqb-true c.write.number a.write.number place.2 in
+      let there = known.numbered of.0 of.1 of.2 in
+      let index : of.0 ≡ n = omega (arith, there, number-is, number, ap (λ (w : Write). w.number) of.3) in
+      of.3 ∙ ap (λ (x : Accepted). x.write) (same-at h.writes n of.1 a (subst (λ (k : ℕ). slice_get h.writes k ≡ Some of.1) index of.2) at)
+
+  -- the entries once the receipt is taken
+  receipted-left : LeavesEntries (core.receipted (suc n) s) (receipted (suc n) h)
+  receipted-left = record {
+    entries =
+        ap (with_entry (suc n) (λ entry. record entry { taken = true })) left.entries
+        ∙ with-entry-map (entry_of h) (entry_of (receipted (suc n) h)) (λ entry. record entry { taken = true }) 1 n h.writes from-one
+        (λ x is. λ i. record { first = x.write.first; count = length x.write.contents; fate = fate_of h x; taken = now x (is ∙ omega arith) i })
+        (λ x other. λ i. record { first = x.write.first; count = length x.write.contents; fate = fate_of h x; taken = still x other i });
+  }
+    where
+      now : (x : Accepted) → x.write.number ≡ suc n → true ≡ list_any (λ number. number == x.write.number) (h.receipts ++ suc n ∷ [])
+      now x is =
+          let same : (suc n == x.write.number) ≡ true = eq-eqb (suc n) x.write.number (sym is) in
+          sym (list_any-append (λ number. number == x.write.number) h.receipts (suc n ∷ []) ∙ or_right (list_any (λ number. number == x.write.number) h.receipts) ((suc n == x.write.number) || false) (rw same refl))
+
+      still : (x : Accepted) → (x.write.number == (1 + n)) ≡ false → list_any (λ number. number == x.write.number) h.receipts ≡ list_any (λ number. number == x.write.number) (h.receipts ++ suc n ∷ [])
+      still x other =
+          let none : (suc n == x.write.number) ≡ false = false_from_ne_true (suc n == x.write.number) (λ e. both_ways (x.write.number == (1 + n)) other (eq-eqb x.write.number (1 + n) (sym (eqb-true (suc n) x.write.number e) ∙ omega arith))) in
+          sym (list_any-append (λ number. number == x.write.number) h.receipts (suc n ∷ []) ∙ (ap (λ b. list_any (λ number. number == x.write.number) h.receipts || (b || false)) none ∙ or-none (list_any (λ number. number == x.write.number) h.receipts)))
+        where
+          or-none : (b : Bool) → (b || (false || false)) ≡ b
+          or-none true = refl
+          or-none false = refl
+
+  -- the tests of the model, by what the history has of the write
+  tests-are : (given done : Bool) → list_any (λ taken. taken == suc n) h.receipts ≡ given → is_open h a ≡ done → model.take_completed_tests h (suc n) ≡ (given, UnknownJob) ∷ (done, NotCompleted) ∷ []
+  tests-are given done is_given_so is_open_so = λ i. (none i, UnknownJob) ∷ ((open-is ∙ is_open_so) i, NotCompleted) ∷ []
+    where
+      none : (is_none (accepted_at h (suc n)) || list_any (λ taken. taken == suc n) h.receipts) ≡ given
+      none = ap (λ (v : Option Accepted). is_none v || list_any (λ taken. taken == suc n) h.receipts) there-is ∙ is_given_so
+
+  -- what the model's step is then
+  abbrev model-by : List Test → Option Completion → Result Completion Refusal × PrimaryHistory
+  model-by tests found = elim (first_refusal tests) [
+    | Some refusal ↦ (Err refusal, h)
+    | None ↦ elim found [ None ↦ (Err LocalFault, receipted (suc n) h) | Some entry ↦ (Ok entry, receipted (suc n) h) ]
+  ]
+
+  -- what the transition is then
+  abbrev core-by : Option Entry → Result Entry Refusal × PrimaryState
+  core-by v = (told v, if is_given (told v) then core.receipted (suc n) s else s)
+
+  -- both alike
+  abbrev Alike : Result Entry Refusal × PrimaryState → Result Completion Refusal × PrimaryHistory → Type 0
+  Alike got step = SameAnswer (suc n) got.0 step.0 × LeavesEntries got.1 step.1
+
+  -- by whether the receipt was taken, whether the local disk failed the write, and what the journal has of it
+  by-fate : (given failed : Bool) → list_any (λ taken. taken == suc n) h.receipts ≡ given → is_failed a.outcome ≡ failed → (found : Option Completion) → find (λ (entry : Completion). entry.write.number == a.write.number) h.journal ≡ found
+      → Alike (core-by (Some (record { first = a.write.first; count = length a.write.contents; fate = elim failed as (λ _. Fate) [ true ↦ Failed | false ↦ fate_in found ]; taken = given })))
+      (model-by ((given, UnknownJob) ∷ (not (is_some found) && not failed, NotCompleted) ∷ []) found)
+  by-fate true failed is_given_so is_failed_so found is = (refl, left)
+  by-fate false true is_given_so is_failed_so None is = (refl, receipted-left)
+  by-fate false true is_given_so is_failed_so (Some c) is =
+      absurd (both_ways (is_completed h a.write.number) (failed-open h known n a at is_failed_so) (any-some (λ (entry : Completion). entry.write.number == a.write.number) h.journal ∙ ap is_some is))
+  by-fate false false is_given_so is_failed_so None is = (refl, left)
+  by-fate false false is_given_so is_failed_so (Some c) is =
+      let same = write-is c is in
+      ((ap (λ (w : Write). w.number) same ∙ number-is, ap (λ (w : Write). w.first) (sym same), ap (λ (w : Write). length w.contents) (sym same), refl), receipted-left)
+
+  -- the receipt of a write that is there
+  tells-there : TellsReceipt (suc n) s h
+  tells-there =
+      let given : Bool = list_any (λ taken. taken == suc n) h.receipts in
+      let found : Option Completion = find (λ (entry : Completion). entry.write.number == a.write.number) h.journal in
+      let open_so : is_open h a ≡ (not (is_some found) && not (is_failed a.outcome)) = ap (λ b. not b && not (is_failed a.outcome)) (any-some (λ (entry : Completion). entry.write.number == a.write.number) h.journal) in
+      let numbers : found ≡ find (λ (entry : Completion). entry.write.number == suc n) h.journal = ap (λ (m : ℕ). find (λ (entry : Completion). entry.write.number == m) h.journal) number-is in
+      let taken_is : list_any (λ number. number == a.write.number) h.receipts ≡ given = ap (λ (m : ℕ). list_any (λ number. number == m) h.receipts) number-is in
+      let alike = by-fate given (is_failed a.outcome) refl refl found refl in
+      let got : core-by (Some (record { first = a.write.first; count = length a.write.contents; fate = fate_of h a; taken = given })) ≡ take_completed (suc n) s =
+      ap core-by (sym (entry-is ∙ λ i. Some (record { first = a.write.first; count = length a.write.contents; fate = fate_of h a; taken = taken_is i }))) in
+      let step : model-by ((given, UnknownJob) ∷ (not (is_some found) && not (is_failed a.outcome), NotCompleted) ∷ []) found ≡ model.take_completed (suc n) h =
+      λ i. model-by (sym (tests-are given (not (is_some found) && not (is_failed a.outcome)) refl open_so) i) (numbers i) in
+      let both = subst (λ x. Alike x (model.take_completed (suc n) h)) got (subst (Alike (core-by (Some (record { first = a.write.first; count = length a.write.contents; fate = fate_of h a; taken = given })))) step alike) in
+      record { answer = both.0; leaves = both.1 }
+
+-- a number that no write has is refused
+tells-none : (h : PrimaryHistory) (number : ℕ) (s : PrimaryState) → LeavesEntries s h → accepted_at h number ≡ None → entry_at number s ≡ None → TellsReceipt number s h
+tells-none h number s left none nothing =
+    let tests : model.take_completed_tests h number ≡ (true, UnknownJob) ∷ (list_any (λ (x : Accepted). (x.write.number == number) && is_open h x) h.writes, NotCompleted) ∷ [] =
+    ap (λ (v : Option Accepted). (is_none v || list_any (λ taken. taken == number) h.receipts, UnknownJob) ∷ (list_any (λ (x : Accepted). (x.write.number == number) && is_open h x) h.writes, NotCompleted) ∷ []) none in
+    let step : model.take_completed number h ≡ (Err UnknownJob, h) = ap (λ (ts : List Test). elim (first_refusal ts) as (λ _. Result Completion Refusal × PrimaryHistory) [
+      | Some refusal ↦ (Err refusal, h)
+      | None ↦ elim (find (λ (entry : Completion). entry.write.number == number) h.journal) [ None ↦ (Err LocalFault, receipted number h) | Some entry ↦ (Ok entry, receipted number h) ]
+    ]) tests in
+    let got : take_completed number s ≡ (Err UnknownJob, s) = ap (λ (v : Option Entry). (told v, if is_given (told v) then core.receipted number s else s)) nothing in
+    record {
+      answer = subst (λ x. SameAnswer number x (model.take_completed number h).0) (sym (ap (λ x. x.0) got)) (subst (SameAnswer number (Err UnknownJob)) (sym (ap (λ x. x.0) step)) refl);
+      leaves = subst (λ x. LeavesEntries x (model.take_completed number h).1) (sym (ap (λ x. x.1) got)) (subst (LeavesEntries s) (sym (ap (λ x. x.1) step)) left);
+    }
+
+-- a receipt is told as the journal has it
+pub tells : (h : PrimaryHistory) → IsNumbered h → (number : ℕ) (s : PrimaryState) → LeavesEntries s h → TellsReceipt number s h
+tells h known zero s left = tells-none h 0 s left (find-none 0 1 h.writes (λ i accepted there. known.numbered i accepted there ∙ omega arith) (omega arith)) refl
+tells h known (suc n) s left = by-place (slice_get h.writes n) refl
+  where
+    from-first : AreNumberedFrom 1 h.writes
+    from-first i accepted there = known.numbered i accepted there ∙ omega arith
+
+    by-place : (v : Option Accepted) → slice_get h.writes n ≡ v → TellsReceipt (suc n) s h
+    by-place (Some a) at = tells-there h known n a at s left
+    by-place None none = tells-none h (suc n) s left
+        (ap (λ (m : ℕ). find (λ (x : Accepted). x.write.number == m) h.writes) (omega arith) ∙ (find-number 1 n h.writes from-first ∙ none))
+        (ap (λ (l : List Entry). slice_get l n) left.entries ∙ (get-map (entry_of h) h.writes n ∙ ap (option_map (entry_of h)) none))
