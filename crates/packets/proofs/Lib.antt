@@ -1,4 +1,5 @@
 pub mod Again
+pub mod Cuts
 pub mod Digits
 pub mod Frames
 pub mod Hellos

@@ -1,3 +1,4 @@
+pub mod Cutting
 pub mod Frames
 pub mod Held
 pub mod Numbers

@@ -6,6 +6,7 @@ ghost use Rattle.std.specs.List.{flat_map};
 ghost use Rattle.blocks.specs.declared.refusal.Refusal.{Refusal};
 ghost use Rattle.packets.specs.declared.packet.Packet.{Packet};
 ghost use Rattle.packets.specs.Spelling.{spelling, IsSpellable, Spells};
+ghost use Rattle.packets.specs.Cutting.{IsCut};
 ghost use Rattle.packets.specs.Frames.{Answers};
 ghost use Rattle.packets.specs.Stream.{Decodes, Gives, IsWritten, Reads};
 
@@ -46,4 +47,14 @@ pub fn one_piece_after_another()
     ensures { (bytes piece left rest : List ℕ) (old given new : List Packet)
         → Gives bytes old given left → Gives (left ++ piece) given new rest
         → Gives (bytes ++ piece) old new rest }
+{}
+
+/// A reader cuts a spelling off as one frame.
+pub fn spelling_is_cut()
+    ensures { (p : Packet) (frame : List ℕ) → IsSpellable p → Spells p frame → IsCut frame }
+{}
+
+/// What is cut off a row is settled by the row: of two cuts that begin it each is the other.
+pub fn one_cut()
+    ensures { (f g x y : List ℕ) → IsCut f → IsCut g → f ++ x ≡ g ++ y → (f ≡ g) × (x ≡ y) }
 {}

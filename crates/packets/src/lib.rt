@@ -2,6 +2,7 @@
 //! or a stream in any pieces.
 #![tactic(auto)]
 
+mod cutting;
 mod decoder;
 mod frame;
 mod header;
@@ -14,11 +15,12 @@ mod stream;
 mod writing;
 
 pub use blocks::{Command, Protocol, Tuple};
+pub use cutting::cut_length;
 pub use decoder::Decoder;
 pub use frame::Frame;
 pub use laws::{
-    any_pieces, no_spelling_begins_another, one_answer, one_piece_after_another, one_reading,
-    round_trip,
+    any_pieces, no_spelling_begins_another, one_answer, one_cut, one_piece_after_another,
+    one_reading, round_trip, spelling_is_cut,
 };
 pub use packet::{Acknowledgement, Packet};
 pub use reading::{decode, read};

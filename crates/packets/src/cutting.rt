@@ -1,0 +1,21 @@
+//! Where a frame ends in a row of bytes.
+ghost use Rattle.std.specs.Prelude.{◌≡◌, ◌≤◌, length};
+ghost use Rattle.packets.specs.Reading.{header_at};
+ghost use Rattle.packets.specs.Cutting.{cut_after};
+
+use crate::header::{HEADER_BYTES, Header};
+
+/// How many bytes a reader cuts off as one frame, by the first 8 of them: the header and its payload, or
+/// these 8 alone where the header is faulty. At most 131,104, those of the longest frame.
+#[tactic(auto, using(crate::proofs::Rows::header_most))]
+pub fn cut_length(header: &[u8]) -> usize
+    requires { 8 ≤ length header.now }
+    ensures cut { result ≡ cut_after (header_at header.now) }
+    ensures least { 8 ≤ result }
+    ensures most { result ≤ 131104 }
+{
+    match Header::judge(header) {
+        Ok(header) => HEADER_BYTES + header.len as usize,
+        Err(_) => HEADER_BYTES,
+    }
+}
