@@ -4,6 +4,8 @@ use Rattle.std.specs.Prelude.{slice_get}
 use Rattle.std.specs.List.{AllByRecursion}
 use Rattle.std.proofs.lemmas.Grind.{flat_map-append}
 use Rattle.std.proofs.lemmas.List.Concat.{flat_map-cons}
+use Rattle.packets.specs.Cutting.{IsCut}
+use Rattle.packets.proofs.Cuts.{spelled_cut}
 use Rattle.packets.proofs.Hellos.{read_spelled}
 use Rattle.link.specs.Past.{Past}
 use Rattle.model.specs.Frames.{Received}
@@ -62,3 +64,15 @@ past_begins came went spelled i j taken pushed at_i at_j beginning =
     subst (λ (x : TakenBefore). IsBeginning x.frames p.0.frames) t.2 (subst (λ (x : PushedBefore). IsBeginning taken.frames x.frames) p.2 beginning) in
     let b : BeginsPushed (taken_before t.0).taken (pushed_before p.0).pushed = begins t.0.frames p.0.frames all frames_begin in
     subst (λ (x : TakenBefore). BeginsPushed x.taken pushed.pushed) (sym t.2) (subst (λ (x : PushedBefore). BeginsPushed (taken_before t.0).taken x.pushed) (sym p.2) b)
+
+-- frames that are spelled are cut off a row as they are
+pub spelled_cuts : (sent : List (List ℕ)) → AllByRecursion IsSpelled sent → AllByRecursion IsCut sent
+spelled_cuts [] h = tt
+spelled_cuts (frame ∷ sent) ((p, rules, spells), rest) = (spelled_cut p frame rules spells, spelled_cuts sent rest)
+
+pub past_cuts : (went : List Past) → AllByRecursion (λ before. AllByRecursion IsSpelled before.frames) went
+    → (j : ℕ) (pushed : PushedBefore) → slice_get (map pushed_before went) j ≡ Some pushed → AllByRecursion IsCut pushed.frames
+past_cuts went spelled j pushed at_j =
+    let p = item_of_map pushed_before went j pushed at_j in
+    let all : AllByRecursion IsSpelled p.0.frames = item_of_all (λ (before : Past). AllByRecursion IsSpelled before.frames) went j p.0 spelled p.1 in
+    subst (λ (x : PushedBefore). AllByRecursion IsCut x.frames) (sym p.2) (spelled_cuts p.0.frames all)

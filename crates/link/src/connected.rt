@@ -3,6 +3,7 @@ ghost use Rattle.std.specs.Prelude.{◌≡◌, ◌<◌, ◌≤◌, ◌↔◌, []
 ghost use Rattle.link.specs.Ends.{OutEnd, InEnd, with_sent, with_taken};
 ghost use Rattle.link.specs.Past.{ended};
 ghost use Rattle.link.specs.Taking.{TakesFirst};
+ghost use Rattle.packets.specs.Cutting.{IsCut};
 ghost use Rattle.blocks.specs.declared.refusal.Refusal.TheVariants.{NoMemory, NothingThere};
 
 use crate::Offered;
@@ -16,9 +17,11 @@ pub trait FrameOut {
     ghost state: { Self → OutEnd };
 
     /// Accepts a frame, or hands it back where the link is full (11). What went of it by then stays on its
-    /// way, and the next offer has to be of it. It takes no memory.
+    /// way, and the next offer has to be of it. It has to be whole, as a reader cuts it off a row of bytes,
+    /// since a link may carry it as that. It takes no memory.
     fn offer(&mut self, frame: Frame) -> Result<(), Offered>
-        requires { IfSome (state self.old).partly (λ begun. begun ≡ frame) }
+        requires whole { IsCut frame }
+        requires again { IfSome (state self.old).partly (λ begun. begun ≡ frame) }
 
         ensures accepted { OnOk result (state self.new ≡ with_sent frame (state self.old)) }
 

@@ -15,3 +15,4 @@ pub use inward::PlainIn;
 pub use outward::PlainOut;
 pub use plain::{PlainEnds, PlainLink};
 pub use queue::Queue;
+pub use trail::Trail;

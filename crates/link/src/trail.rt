@@ -9,8 +9,8 @@ use std::marker::Model;
 /// The frames that went past a point of a link on the present connection, in order, and those of the
 /// connections before it. It takes no bytes, and its calls do nothing when the program runs.
 #[derive(Drop)]
-pub(crate) struct Trail {
-    pub(crate) ghost went: { Went },
+pub struct Trail {
+    pub ghost went: { Went },
 }
 
 impl Model for Trail {
@@ -18,20 +18,22 @@ impl Model for Trail {
 }
 
 impl Trail {
-    pub(crate) fn new() -> Trail
+    /// At the beginning of a first connection.
+    pub fn new() -> Trail
         ensures { result.went ≡ record { frames = []; past = [] } }
     {
         Trail {}
     }
 
-    pub(crate) fn and(&self, _frame: &Frame) -> Trail
+    /// One frame more went past.
+    pub fn and(&self, _frame: &Frame) -> Trail
         ensures { result.went ≡ and_then _frame.now self.now.went }
     {
         Trail {}
     }
 
     /// The connection of this number is over.
-    pub(crate) fn over(&self, _number: &u32) -> Trail
+    pub fn over(&self, _number: &u32) -> Trail
         ensures { result.went ≡ over _number.now self.now.went }
     {
         Trail {}

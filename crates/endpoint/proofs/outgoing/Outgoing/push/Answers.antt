@@ -2,13 +2,17 @@
 use Rattle.std.proofs.Common.{◌≡◌, [], ◌∷◌, ap, sym, subst, ◌∙◌}
 use Rattle.std.specs.Prelude.{IfSome}
 use Rattle.packets.specs.Spelling.{spelling}
+use Rattle.packets.proofs.Cuts.{spelled_cut}
 use Rattle.endpoint.specs.Meaning.{meaning}
 use Rattle.endpoint.specs.Outgoing.{OutgoingState, outgoing, with_pushed}
 use Rattle.endpoint.proofs.Meanings.{same_frame, part_meant, pushed_out}
 use Rattle.endpoint.proofs.outgoing.Outgoing.push.Goals as goal
 
-pub offer-requires : goal.offer-requires
-offer-requires g c =
+pub offer-requires-clause-whole : goal.offer-requires-clause-whole
+offer-requires-clause-whole g c = spelled_cut c.args.packet c.in_ok-frame.frame c.requires.spellable c.in_ok-frame.ensures.spelled
+
+pub offer-requires-clause-again : goal.offer-requires-clause-again
+offer-requires-clause-again g c =
     same_frame (g.O.FrameOut.state c.self.inside.end).partly c.args.packet c.in_ok-frame.frame c.self.invariant.partly
     (subst (λ (s : OutgoingState). IfSome s.partly (λ begun. begun ≡ meaning c.args.packet ∷ [])) (sym c.self.view_is) c.requires.again)
     c.requires.spellable c.in_ok-frame.ensures.spelled
