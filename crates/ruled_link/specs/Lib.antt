@@ -1,2 +1,4 @@
+pub mod Carried
+pub mod Outward
 pub mod Pieces
 pub mod Row

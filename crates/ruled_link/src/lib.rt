@@ -2,8 +2,10 @@
 //! to the other.
 #![tactic(auto)]
 
+mod outward;
 mod piece;
 mod pieces;
 
+pub use outward::RuledOut;
 pub use piece::{PIECE_BYTES, Piece};
 pub use pieces::{PieceIn, PieceOut, join_ends, row};

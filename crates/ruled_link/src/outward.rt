@@ -1,0 +1,121 @@
+//! The sending end of a link between threads.
+ghost use Rattle.std.specs.Prelude.{◌≡◌, ◌<◌, ◌≤◌, [], ◌∷◌, ◌++◌, length, None, Some, OnOk, OnErr, IfErr, IfSome};
+ghost use Rattle.link.specs.Past.{ended};
+ghost use Rattle.packets.specs.Cutting.{IsCut};
+ghost use Rattle.ruled_link.specs.Outward.{IsPushed, sending};
+
+use crate::{PIECE_BYTES, Piece, PieceOut};
+use link::connected::FrameOut;
+use link::{Offered, Trail};
+use packets::Frame;
+use std::marker::Model;
+use std::sync::Wait;
+
+/// The sending end of one direction of a link whose two ends may be in two threads. A frame goes as pieces of
+/// 1,400 bytes, the last of them shorter, and is sent once its last piece is pushed.
+pub struct RuledOut<R: Wait> {
+    pieces: PieceOut<R>,
+    number: u32,
+    sent: Trail,
+    // The frame that was offered in part, and how many of its bytes were pushed.
+    part: Trail,
+    pushed: usize,
+}
+
+impl<R: Wait> Model for RuledOut<R> {
+    ghost use Rattle.ruled_link.specs.Outward.{OutwardState, Sends, outward_state};
+
+    ghost Value = { OutwardState };
+
+    ghost view = { λ e. outward_state e.pieces e.sent.went e.number e.part.went.frames };
+
+    ghost invariant = { λ e. Sends (outward_state e.pieces e.sent.went e.number e.part.went.frames) e.pushed };
+}
+
+impl<R: Wait> RuledOut<R> {
+    /// An end that pushes its pieces here, on a first connection.
+    pub fn new(pieces: PieceOut<R>) -> RuledOut<R>
+        requires { pieces.pieces ≡ [] }
+        ensures { result ≡ record {
+          row = pieces.row;
+          pieces = [];
+          sent = [];
+          number = 1;
+          past = [];
+          partly = None;
+        } }
+    {
+        RuledOut {
+            pieces,
+            number: 1,
+            sent: Trail::new(),
+            part: Trail::new(),
+            pushed: 0,
+        }
+    }
+}
+
+impl<R: Wait> FrameOut for RuledOut<R> {
+    ghost state = { λ e. sending e };
+
+    fn offer(&mut self, frame: Frame) -> Result<(), Offered>
+        requires whole { IsCut frame }
+        requires again { IfSome self.old.partly (λ begun. begun ≡ frame) }
+        ensures accepted { OnOk result (self.new ≡ record self.old {
+          pieces = self.new.pieces;
+          sent = self.old.sent ++ frame ∷ [];
+          partly = None;
+        }) }
+        ensures handed_back { IfErr result (λ offered. offered.frame ≡ frame) }
+        ensures in_part { OnErr result (self.new ≡ record self.old {
+          pieces = self.new.pieces;
+          partly = Some frame;
+        }) }
+    {
+        let whole = frame.as_slice();
+        let pushed = push_from(&mut self.pieces, self.number, whole, self.pushed);
+        if pushed < whole.len() {
+            self.part = Trail::new().and(&frame);
+            self.pushed = pushed;
+            return Err(Offered { frame });
+        }
+        self.sent = self.sent.and(&frame);
+        self.part = Trail::new();
+        self.pushed = 0;
+        Ok(())
+    }
+
+    fn restart(&mut self, number: u32)
+        requires { self.old.number < number }
+        ensures { self.new ≡ record self.old {
+          sent = [];
+          number = number;
+          past = ended self.old.number self.old.sent self.old.past;
+          partly = None;
+        } }
+    {
+        self.sent = self.sent.over(&self.number);
+        self.number = number;
+        self.part = Trail::new();
+        self.pushed = 0;
+    }
+}
+
+/// Pushes the bytes from a place on as pieces of a connection, until the row is full or they are through, and
+/// answers how far it came.
+fn push_from<R: Wait>(pieces: &mut PieceOut<R>, number: u32, bytes: &[u8], from: usize) -> usize
+    requires { from ≤ length bytes.now }
+    ensures row { pieces.new.row ≡ pieces.old.row }
+    ensures within { (from ≤ result) × (result ≤ length bytes.now) }
+    ensures pushed { IsPushed number bytes.now from result pieces.old.pieces pieces.new.pieces }
+{
+    let mut at = from;
+    while at < bytes.len() {
+        let end = bytes.len().min(at.saturating_add(PIECE_BYTES));
+        match pieces.push(Piece::of(number, &bytes[at..end])) {
+            Ok(()) => at = end,
+            Err(_) => break,
+        }
+    }
+    at
+}
