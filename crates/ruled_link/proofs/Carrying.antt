@@ -1,17 +1,17 @@
 -- The bytes of each connection, among pieces of several.
 use Rattle.std.proofs.Common.{◌≡◌, ◌≢◌, ℕ, ◌+◌, ◌<◌, ◌≤◌, Bool, true, false, cond, List, [], ◌∷◌, ◌++◌, length, take, drop, refl, sym, ap, ◌∙◌, subst, append_assoc, arith}
-use Rattle.std.specs.Prelude.{◌==◌}
+use Rattle.std.specs.Prelude.{◌==◌, nat_lt}
 use Rattle.std.specs.List.{flat_map, AllByRecursion}
 use Rattle.std.proofs.lemmas.Bool.Decides.{nat_tests}
 use Rattle.std.proofs.lemmas.Grind.{flat_map-append}
-use Rattle.std.proofs.lemmas.List.{append-nil, length-append, length-take, take-append-drop}
+use Rattle.std.proofs.lemmas.List.{append-nil, length-append, length-take, take-append-drop, take-take, drop-take}
 use Rattle.std.proofs.lemmas.List.Concat.{flat_map-cons}
 use Rattle.packets.specs.Reading.{header_at}
 use Rattle.packets.specs.Cutting.{cut_after, IsCut}
 use Rattle.packets.proofs.Cuts.{cut_front, same_cut}
 use Rattle.link.specs.Past.{Past}
 use Rattle.ruled_link.specs.Pieces.{PieceState, bytes_if, bytes_on}
-use Rattle.ruled_link.specs.Carried.{joined, BeginsNoCut, IsCarried, past_on, IsRising}
+use Rattle.ruled_link.specs.Carried.{joined, BeginsNoCut, IsCarried, past_on, IsRising, whole_length}
 
 -- ---- lists
 
@@ -23,6 +23,14 @@ pub all_map : {X : Type 0} (P Q : X → Type 0) (xs : List X) → ((x : X) → P
 all_map P Q [] f a = tt
 all_map P Q (x ∷ xs) f a = (f x a.0, all_map P Q xs f a.1)
 
+-- two parts of a list, one after the other
+pub two_takes : {X : Type 0} (xs : List X) (m n : ℕ) → take m xs ++ take n (drop m xs) ≡ take (m + n) xs
+two_takes {X = X} xs m n =
+    let less : m ≤ m + n = omega arith in
+    ap (λ (x : List X). x ++ take n (drop m xs)) (sym (take-take m (m + n) xs less))
+    ∙ ap (λ (x : List X). take m (take (m + n) xs) ++ x) (sym (drop-take m n xs))
+    ∙ take-append-drop m (take (m + n) xs)
+
 -- ---- tests
 
 pub same_number : (a b : ℕ) → a ≡ b → (a == b) ≡ true
@@ -30,6 +38,12 @@ same_number a b e = grind (arith, nat_tests)
 
 pub other_number : (a b : ℕ) → a ≢ b → (a == b) ≡ false
 other_number a b e = grind (arith, nat_tests)
+
+pub below : (a b : ℕ) → a < b → nat_lt a b ≡ true
+below a b h = grind (arith, nat_tests)
+
+pub not_below : (a b : ℕ) → b ≤ a → nat_lt a b ≡ false
+not_below a b h = grind (arith, nat_tests)
 
 -- ---- bytes of a connection
 
@@ -82,6 +96,22 @@ joined_none = refl
 pub joined_more : (fs : List (List ℕ)) (f : List ℕ) → joined (fs ++ f ∷ []) ≡ joined fs ++ f
 unfolding joined
 joined_more fs f = flat_map-append (λ frame. frame) fs (f ∷ []) ∙ ap (λ (x : List ℕ). joined fs ++ x) (flat_map-cons (λ frame. frame) f [] ∙ append-nil f)
+
+-- ---- how long a frame is
+
+pub whole_short : (bytes : List ℕ) → length bytes < 8 → whole_length bytes ≡ 8
+unfolding whole_length
+whole_short bytes short = ap (λ (b : Bool). cond b 8 (cut_after (header_at bytes))) (below (length bytes) 8 short)
+
+pub whole_long : (bytes : List ℕ) → 8 ≤ length bytes → whole_length bytes ≡ cut_after (header_at bytes)
+unfolding whole_length
+whole_long bytes long = ap (λ (b : Bool). cond b 8 (cut_after (header_at bytes))) (not_below (length bytes) 8 long)
+
+-- what follows the header does not change it
+pub whole_front : (xs ys : List ℕ) → 8 ≤ length xs → whole_length (xs ++ ys) ≡ whole_length xs
+whole_front xs ys long =
+    let longer : 8 ≤ length (xs ++ ys) = omega (arith, length-append xs ys, long) in
+    whole_long (xs ++ ys) longer ∙ cut_front xs ys long ∙ sym (whole_long xs long)
 
 -- less than a cut begins with none
 pub part_of_cut : (frame : List ℕ) (k : ℕ) → IsCut frame → k < length frame → BeginsNoCut (take k frame)

@@ -3,13 +3,13 @@ use Rattle.std.proofs.Common.{◌≡◌, ◌≢◌, ℕ, ◌+◌, ◌-◌, ◌<�
 use Rattle.std.specs.Prelude.{IfSome, MatchOption}
 use Rattle.std.proofs.lemmas.Bool.{cases_eq}
 use Rattle.std.specs.List.{AllByRecursion}
-use Rattle.std.proofs.lemmas.List.{append-nil, take-append-drop, take-take, drop-take, take_all}
+use Rattle.std.proofs.lemmas.List.{append-nil, take_all}
 use Rattle.packets.specs.Cutting.{IsCut}
 use Rattle.link.specs.Past.{Past, Went, and_then, ended, over}
 use Rattle.ruled_link.specs.Pieces.{EndState, PieceState, bytes_if, bytes_on}
 use Rattle.ruled_link.specs.Carried.{joined, BeginsNoCut, IsCarried, IsRising, past_on}
 use Rattle.ruled_link.specs.Outward.{OutwardState, Sends, IsPushed, first_of, outward_state, pushed_of}
-use Rattle.ruled_link.proofs.Carrying.{all_append, all_map, bytes_append, bytes_first, bytes_one, bytes_none, bytes_above, bytes_apart, no_bytes, own_bytes, joined_more, joined_none, part_of_cut, rising_more, past_same, past_other}
+use Rattle.ruled_link.proofs.Carrying.{two_takes, all_append, all_map, bytes_append, bytes_first, bytes_one, bytes_none, bytes_above, bytes_apart, no_bytes, own_bytes, joined_more, joined_none, part_of_cut, rising_more, past_same, past_other}
 
 -- ---- pushing
 
@@ -26,10 +26,7 @@ nothing_pushed number frame start pieces = record {
 seam : (frame : List ℕ) (at end : ℕ) → at ≤ end → take at frame ++ take (end - at) (drop at frame) ≡ take end frame
 seam frame at end h =
     let whole : at + (end - at) ≡ end = omega arith in
-    let second : drop at (take end frame) ≡ take (end - at) (drop at frame) = ap (λ (n : ℕ). drop at (take n frame)) (sym whole) ∙ drop-take at (end - at) frame in
-    ap (λ (x : List ℕ). x ++ take (end - at) (drop at frame)) (sym (take-take at end frame h))
-    ∙ ap (λ (x : List ℕ). take at (take end frame) ++ x) (sym second)
-    ∙ take-append-drop at (take end frame)
+    two_takes frame at (end - at) ∙ ap (λ (n : ℕ). take n frame) whole
 
 -- one piece more was pushed
 pub pushed_more : (number : ℕ) (frame : List ℕ) (start at end : ℕ) (old new more : List PieceState) (p : PieceState) → at ≤ end

@@ -1,5 +1,5 @@
 -- Frames in a row of bytes, connection by connection.
-use Rattle.std.specs.Prelude.{ℕ, ◌≡◌, ◌==◌, ◌<◌, ◌≤◌, if◌then◌else◌, List, [], ◌∷◌, ◌++◌, length}
+use Rattle.std.specs.Prelude.{ℕ, ◌≡◌, ◌==◌, ◌<◌, ◌≤◌, nat_lt, if◌then◌else◌, List, [], ◌∷◌, ◌++◌, length}
 use Rattle.std.specs.List.{flat_map, AllByRecursion}
 use Rattle.packets.specs.Reading.{header_at}
 use Rattle.packets.specs.Cutting.{cut_after, IsCut}
@@ -31,3 +31,7 @@ frames_on number present past = if present.number == number then present.frames 
 abbrev pub IsRising : List Past → ℕ → Type 0
 IsRising [] number = Unit {0}
 IsRising (before ∷ past) number = (before.number < number) × AllByRecursion (λ after. before.number < after.number) past × IsRising past number
+
+-- how many bytes the frame has that begins so, as far as they tell: those of a header before that is there
+unfoldable pub whole_length : List ℕ → ℕ
+whole_length bytes = if nat_lt (length bytes) 8 then 8 else cut_after (header_at bytes)

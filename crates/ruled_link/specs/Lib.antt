@@ -1,4 +1,5 @@
 pub mod Carried
+pub mod Inward
 pub mod Outward
 pub mod Pieces
 pub mod Row

@@ -2,6 +2,7 @@
 //! to the other.
 #![tactic(auto)]
 
+mod gathered;
 mod outward;
 mod piece;
 mod pieces;

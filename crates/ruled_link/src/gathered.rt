@@ -1,0 +1,173 @@
+//! The bytes of a frame as they come.
+ghost use Rattle.std.specs.Prelude.{◌≡◌, ◌<◌, ◌≤◌, ◌++◌, [], length, take, drop, true, IfOk, IfErr, OnOk, OnErr, MatchOption};
+ghost use Rattle.packets.specs.Cutting.{IsCut};
+ghost use Rattle.ruled_link.specs.Carried.{BeginsNoCut};
+ghost use Rattle.blocks.specs.declared.refusal.Refusal.TheVariants.{NoMemory};
+
+use blocks::Refusal;
+use bytes::{Bytes, BytesMut};
+use packets::{Frame, cut_length};
+use std::alloc::Global;
+use std::marker::Model;
+use std::mem;
+use std::sync::Wait;
+
+/// Bytes of the longest frame, a write of 32 blocks.
+const LONGEST_FRAME: usize = 131_104;
+
+/// Bytes of a header.
+const HEADER_BYTES: usize = 8;
+
+/// The most bytes of a frame that stands inline.
+const SHORT_FRAME: usize = 40;
+
+/// The bytes of a frame that came so far, in a buffer for the longest one.
+#[derive(Drop)]
+pub(crate) struct Gathered {
+    alloc: Global,
+    buffer: BytesMut,
+    // Whether there is a buffer: it goes out with a long frame.
+    is_ready: bool,
+    // How many bytes the frame has, once its header is there; before, those of a header.
+    whole: usize,
+}
+
+impl Model for Gathered {
+    ghost use Rattle.ruled_link.specs.Inward.{GatheredState, IsGathered};
+
+    ghost Value = { GatheredState };
+
+    ghost view = { λ g. record { bytes = g.buffer.items; is_ready = g.is_ready } };
+
+    ghost invariant = { λ g. IsGathered g.buffer.items g.buffer.spare g.is_ready g.whole };
+}
+
+impl Gathered {
+    /// No bytes, and a buffer. `NoMemory` (7) where it cannot be had.
+    pub(crate) fn new(alloc: Global) -> Result<Gathered, Refusal>
+        ensures empty { IfOk result (λ g. g ≡ record { bytes = []; is_ready = true }) }
+        ensures refused { IfErr result (λ e. e ≡ NoMemory) }
+    {
+        Ok(Gathered {
+            alloc,
+            buffer: new_buffer(alloc)?,
+            is_ready: true,
+            whole: HEADER_BYTES,
+        })
+    }
+
+    /// Makes a buffer where there is none. `NoMemory` (7) where it cannot be had.
+    pub(crate) fn ready(&mut self) -> Result<(), Refusal>
+        ensures ready { OnOk result (self.new ≡ record self.old { is_ready = true }) }
+        ensures unchanged { OnErr result (self.new ≡ self.old) }
+        ensures refused { IfErr result (λ e. e ≡ NoMemory) }
+    {
+        if !self.is_ready {
+            self.buffer = new_buffer(self.alloc)?;
+            self.is_ready = true;
+        }
+        Ok(())
+    }
+
+    /// Drops the bytes. It takes no memory.
+    pub(crate) fn clear(&mut self)
+        ensures { self.new ≡ record self.old { bytes = [] } }
+    {
+        self.buffer.clear();
+        self.whole = HEADER_BYTES;
+    }
+
+    /// Puts as many of these bytes at the end as the frame lacks, and answers how many. It takes no memory.
+    pub(crate) fn put(&mut self, bytes: &[u8]) -> usize
+        requires ready { self.old.is_ready ≡ true }
+        ensures within { result ≤ length bytes.now }
+        ensures put { self.new ≡ record self.old { bytes = self.old.bytes ++ take result bytes.now } }
+        // It leaves some only where the frame is whole.
+        ensures all { BeginsNoCut self.new.bytes → result ≡ length bytes.now }
+    {
+        let head = self.put_header(bytes);
+        if self.buffer.len() < HEADER_BYTES {
+            return head;
+        }
+        head + self.put_payload(&bytes[head..])
+    }
+
+    /// Puts what the header lacks.
+    fn put_header(&mut self, bytes: &[u8]) -> usize
+        requires ready { self.old.is_ready ≡ true }
+        ensures within { result ≤ length bytes.now }
+        ensures put { self.new ≡ record self.old { bytes = self.old.bytes ++ take result bytes.now } }
+        ensures all { length self.new.bytes < 8 → result ≡ length bytes.now }
+    {
+        let missing = HEADER_BYTES.saturating_sub(self.buffer.len());
+        if missing == 0 {
+            return 0;
+        }
+        let taken = missing.min(bytes.len());
+        self.buffer.extend_reserved(&bytes[..taken]);
+        if taken == missing {
+            self.whole = cut_length(self.buffer.as_slice());
+        }
+        taken
+    }
+
+    /// Puts what the payload lacks.
+    fn put_payload(&mut self, bytes: &[u8]) -> usize
+        requires ready { self.old.is_ready ≡ true }
+        requires headed { 8 ≤ length self.old.bytes }
+        ensures within { result ≤ length bytes.now }
+        ensures put { self.new ≡ record self.old { bytes = self.old.bytes ++ take result bytes.now } }
+        ensures all { BeginsNoCut self.new.bytes → result ≡ length bytes.now }
+    {
+        let taken = (self.whole - self.buffer.len()).min(bytes.len());
+        self.buffer.extend_reserved(&bytes[..taken]);
+        taken
+    }
+
+    /// The frame, where it is whole. A long one goes out in the buffer. It takes no memory.
+    pub(crate) fn cut<R: Wait>(&mut self, rt: &R) -> Option<Frame>
+        ensures { MatchOption result ((self.new ≡ self.old) × BeginsNoCut self.old.bytes)
+            (λ frame. IsCut frame × (frame ≡ self.old.bytes) × (self.new.bytes ≡ [])
+            × (length frame ≤ 40 → self.new.is_ready ≡ self.old.is_ready)) }
+    {
+        if self.buffer.len() < self.whole {
+            return None;
+        }
+        self.whole = HEADER_BYTES;
+        if self.buffer.len() <= SHORT_FRAME {
+            let frame = Frame::inline(self.buffer.as_slice());
+            self.buffer.clear();
+            return Some(frame);
+        }
+        self.is_ready = false;
+        let buffer = mem::replace(&mut self.buffer, BytesMut::new(self.alloc));
+        Some(Frame::new(frozen(rt, buffer)))
+    }
+}
+
+/// A buffer for the longest frame. The split has its block counted by owners already, so that it can be
+/// frozen later without memory.
+fn new_buffer(alloc: Global) -> Result<BytesMut, Refusal>
+    ensures empty { IfOk result (λ b. (b.items ≡ []) × (131104 ≤ b.spare)) }
+    ensures refused { IfErr result (λ e. e ≡ NoMemory) }
+{
+    let mut buffer = BytesMut::with_capacity(alloc, LONGEST_FRAME + 1)?;
+    buffer.advance_mut(1);
+    let _ = buffer.split_to(1)?;
+    Ok(buffer)
+}
+
+/// The bytes of a buffer whose block is counted by owners. No memory is asked for there, but no contract of
+/// the buffer says so: hence it asks again where it is refused.
+fn frozen<R: Wait>(rt: &R, buffer: BytesMut) -> Bytes
+    ensures { result ≡ buffer.items }
+{
+    let mut buffer = buffer;
+    for _ in rt.forever() {
+        match buffer.freeze() {
+            Ok(bytes) => return bytes,
+            Err(failed) => buffer = failed.value,
+        }
+    }
+    unreachable!()
+}
