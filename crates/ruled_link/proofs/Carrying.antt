@@ -1,5 +1,5 @@
 -- The bytes of each connection, among pieces of several.
-use Rattle.std.proofs.Common.{◌≡◌, ◌≢◌, ℕ, ◌+◌, ◌<◌, ◌≤◌, Bool, true, false, cond, List, [], ◌∷◌, ◌++◌, length, take, drop, refl, sym, ap, ◌∙◌, subst, append_assoc, arith}
+use Rattle.std.proofs.Common.{◌≡◌, ◌≢◌, ℕ, ◌+◌, ◌<◌, ◌≤◌, Bool, true, false, cond, List, [], ◌∷◌, ◌++◌, length, take, drop, refl, sym, ap, ◌∙◌, subst, append_assoc, inl, inr, Result, Ok, Err, arith}
 use Rattle.std.specs.Prelude.{◌==◌, nat_lt}
 use Rattle.std.specs.List.{flat_map, AllByRecursion}
 use Rattle.std.proofs.lemmas.Bool.Decides.{nat_tests}
@@ -8,7 +8,11 @@ use Rattle.std.proofs.lemmas.List.{append-nil, length-append, length-take, take-
 use Rattle.std.proofs.lemmas.List.Concat.{flat_map-cons}
 use Rattle.packets.specs.Reading.{header_at}
 use Rattle.packets.specs.Cutting.{cut_after, IsCut}
+use Rattle.blocks.specs.declared.refusal.Refusal.{Refusal}
+use Rattle.packets.specs.declared.header.Header.{Header}
 use Rattle.packets.proofs.Cuts.{cut_front, same_cut}
+use Rattle.packets.proofs.Rows.{header_most}
+use Rattle.std.proofs.lemmas.Bool.{cases_lt}
 use Rattle.link.specs.Past.{Past}
 use Rattle.ruled_link.specs.Pieces.{PieceState, bytes_if, bytes_on}
 use Rattle.ruled_link.specs.Carried.{joined, BeginsNoCut, IsCarried, past_on, IsRising, whole_length}
@@ -112,6 +116,17 @@ pub whole_front : (xs ys : List ℕ) → 8 ≤ length xs → whole_length (xs ++
 whole_front xs ys long =
     let longer : 8 ≤ length (xs ++ ys) = omega (arith, length-append xs ys, long) in
     whole_long (xs ++ ys) longer ∙ cut_front xs ys long ∙ sym (whole_long xs long)
+
+most_of : (r : Result Header Refusal) (bytes : List ℕ) → header_at bytes ≡ r → cut_after r ≤ 131104
+most_of (Ok h) bytes e = omega (arith, header_most bytes h e)
+most_of (Err fault) bytes e = omega arith
+
+-- less than a cut is shorter than the longest frame
+pub part_most : (bytes : List ℕ) → BeginsNoCut bytes → length bytes < 131104
+part_most bytes part = elim (cases_lt (length bytes) 8) [
+  | inl short ↦ omega (arith, short)
+  | inr long ↦ omega (arith, part long, most_of (header_at bytes) bytes refl)
+]
 
 -- less than a cut begins with none
 pub part_of_cut : (frame : List ℕ) (k : ℕ) → IsCut frame → k < length frame → BeginsNoCut (take k frame)

@@ -67,6 +67,16 @@ rest_on number (Some piece) = bytes_if number piece
 abbrev pub in_hand : InwardState → List ℕ
 in_hand s = s.front ++ rest_on s.number s.rest
 
+-- whether the piece in hand is of a later connection
+abbrev pub is_later : ℕ → Option PieceState → Bool
+is_later number None = false
+is_later number (Some piece) = nat_lt number piece.number
+
+-- the piece in hand, where it is not of an earlier connection
+abbrev pub not_before : ℕ → Option PieceState → Option PieceState
+not_before number None = None
+not_before number (Some piece) = if nat_lt piece.number number then None else Some piece
+
 -- the piece in hand, where it is of a later connection
 abbrev pub later_of : ℕ → Option PieceState → List PieceState
 later_of number None = []

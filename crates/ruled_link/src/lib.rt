@@ -3,10 +3,13 @@
 #![tactic(auto)]
 
 mod gathered;
+mod inward;
 mod outward;
 mod piece;
 mod pieces;
+mod rest;
 
+pub use inward::RuledIn;
 pub use outward::RuledOut;
 pub use piece::{PIECE_BYTES, Piece};
 pub use pieces::{PieceIn, PieceOut, join_ends, row};

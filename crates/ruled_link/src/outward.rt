@@ -13,6 +13,7 @@ use std::sync::Wait;
 
 /// The sending end of one direction of a link whose two ends may be in two threads. A frame goes as pieces of
 /// 1,400 bytes, the last of them shorter, and is sent once its last piece is pushed.
+#[derive(Drop)]
 pub struct RuledOut<R: Wait> {
     pieces: PieceOut<R>,
     number: u32,

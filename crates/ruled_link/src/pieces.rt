@@ -1,6 +1,7 @@
 //! The row of pieces of one direction, and its two ends.
-ghost use Rattle.std.specs.Prelude.{◌≡◌, ◌<◌, List, [], ◌∷◌, ◌++◌, OnOk, OnErr, IfOk, IfErr, MatchOption};
+ghost use Rattle.std.specs.Prelude.{◌≡◌, ◌<◌, ◌≤◌, List, [], ◌∷◌, ◌++◌, OnOk, OnErr, IfOk, IfErr, MatchOption};
 ghost use Rattle.ruled_link.specs.Pieces.{PieceState};
+ghost use Rattle.ruled_link.specs.Inward.{IsDropped};
 
 use crate::Piece;
 use crossbeam_queue::protocol::{Join, Lesson, Outcome, Protocol, Split};
@@ -93,6 +94,7 @@ impl Lesson<Piece, Log> for Taken {
 type Row = RuledArrayQueue<Piece, Log, InOrder>;
 
 /// The end of a row that pushes.
+#[derive(Drop)]
 pub struct PieceOut<R: Wait> {
     rt: R,
     row: Arc<Row, Global>,
@@ -114,6 +116,7 @@ impl<R: Wait> Model for PieceOut<R> {
 }
 
 /// The end of a row that takes.
+#[derive(Drop)]
 pub struct PieceIn<R: Wait> {
     rt: R,
     row: Arc<Row, Global>,
@@ -178,6 +181,25 @@ impl<R: Wait> PieceIn<R> {
             self.new ≡ record self.old { pieces = self.old.pieces ++ piece ∷ [] }) }
     {
         self.row.pop_as::<Taken, R>(&self.rt, &mut self.pass)
+    }
+
+    /// Takes the first piece of this connection or a later one. Pieces of earlier ones before it are dropped.
+    pub(crate) fn pop_from(&mut self, number: u32) -> Option<Piece>
+        ensures { MatchOption result (IsDropped number self.old self.new [])
+            (λ piece. (number ≤ piece.number) × IsDropped number self.old self.new (piece ∷ [])) }
+    {
+        for _ in 0..u64::MAX {
+            let piece = self.pop()?;
+            if piece.number() >= number {
+                return Some(piece);
+            }
+        }
+        None
+    }
+
+    /// The runtime that its calls wait by.
+    pub(crate) fn runtime(&self) -> &R {
+        &self.rt
     }
 }
 

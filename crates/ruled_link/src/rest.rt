@@ -1,0 +1,59 @@
+//! What is left of a piece.
+ghost use Rattle.std.specs.Prelude.{◌≡◌, ◌<◌, ◌≤◌, drop, length};
+
+use crate::Piece;
+use std::marker::Model;
+
+/// A piece of which bytes were taken from the front.
+#[derive(Drop)]
+pub(crate) struct Rest {
+    piece: Piece,
+    used: usize,
+}
+
+impl Model for Rest {
+    ghost use Rattle.std.specs.Prelude.{◌≤◌, drop, length};
+    ghost use Rattle.ruled_link.specs.Pieces.{PieceState};
+
+    ghost Value = { PieceState };
+
+    ghost view = { λ r. record { number = r.piece.number; bytes = drop r.used r.piece.bytes } };
+
+    ghost invariant = { λ r. r.used ≤ length r.piece.bytes };
+}
+
+impl Rest {
+    /// All of a piece.
+    pub(crate) fn new(piece: Piece) -> Rest
+        ensures whole { result ≡ piece }
+        ensures some { 0 < length result.bytes }
+    {
+        // A piece has a byte at least.
+        let _ = piece.bytes();
+        Rest { piece, used: 0 }
+    }
+
+    /// The number of its connection.
+    pub(crate) fn number(&self) -> u32
+        ensures { result ≡ self.now.number }
+    {
+        self.piece.number()
+    }
+
+    /// The bytes that are left.
+    pub(crate) fn bytes(&self) -> &[u8]
+        ensures { result.now ≡ self.now.bytes }
+    {
+        &self.piece.bytes()[self.used..]
+    }
+
+    /// Takes so many bytes from the front.
+    pub(crate) fn advance(&mut self, count: usize)
+        requires { count ≤ length self.old.bytes }
+        ensures { self.new ≡ record self.old { bytes = drop count self.old.bytes } }
+    {
+        // A piece has at most 1,400 bytes.
+        let _ = self.piece.bytes();
+        self.used += count;
+    }
+}
