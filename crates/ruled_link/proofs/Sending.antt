@@ -64,7 +64,7 @@ sends_new pieces went none p w n = rw (p, w, n) (record {
 })
 
 -- what was pushed of a frame is no whole frame
-front_part : (partly : Option (List ℕ)) (pushed : ℕ) → MatchOption partly (pushed ≡ 0) (λ frame. IsCut frame × (pushed < length frame)) → BeginsNoCut (pushed_of partly pushed)
+pub front_part : (partly : Option (List ℕ)) (pushed : ℕ) → MatchOption partly (pushed ≡ 0) (λ frame. IsCut frame × (pushed < length frame)) → BeginsNoCut (pushed_of partly pushed)
 front_part None pushed h = nothing_begun
 front_part (Some frame) pushed h = part_of_cut frame pushed h.0 h.1
 

@@ -1,5 +1,6 @@
 pub mod Carried
 pub mod Inward
+pub mod Joined
 pub mod Outward
 pub mod Pieces
 pub mod Row

@@ -21,13 +21,13 @@ use std::sync::Wait;
 /// from pieces that are cut in any way.
 #[derive(Drop)]
 pub struct RuledIn<R: Wait> {
-    pieces: PieceIn<R>,
-    number: u32,
-    taken: Trail,
+    pub(crate) pieces: PieceIn<R>,
+    pub(crate) number: u32,
+    pub(crate) taken: Trail,
     // The bytes of the next frame, as far as they came.
-    front: Gathered,
+    pub(crate) front: Gathered,
     // What is left of the last piece, or all of one of a later connection.
-    rest: Option<Rest>,
+    pub(crate) rest: Option<Rest>,
 }
 
 impl<R: Wait> Model for RuledIn<R> {

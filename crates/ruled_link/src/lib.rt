@@ -2,6 +2,7 @@
 //! to the other.
 #![tactic(auto)]
 
+mod ends;
 mod gathered;
 mod inward;
 mod outward;
@@ -9,7 +10,8 @@ mod piece;
 mod pieces;
 mod rest;
 
+pub use ends::{join_ends, ruled};
 pub use inward::RuledIn;
 pub use outward::RuledOut;
 pub use piece::{PIECE_BYTES, Piece};
-pub use pieces::{PieceIn, PieceOut, join_ends, row};
+pub use pieces::{PieceIn, PieceOut, join_pieces, row};

@@ -15,12 +15,12 @@ use std::sync::Wait;
 /// 1,400 bytes, the last of them shorter, and is sent once its last piece is pushed.
 #[derive(Drop)]
 pub struct RuledOut<R: Wait> {
-    pieces: PieceOut<R>,
-    number: u32,
-    sent: Trail,
+    pub(crate) pieces: PieceOut<R>,
+    pub(crate) number: u32,
+    pub(crate) sent: Trail,
     // The frame that was offered in part, and how many of its bytes were pushed.
-    part: Trail,
-    pushed: usize,
+    pub(crate) part: Trail,
+    pub(crate) pushed: usize,
 }
 
 impl<R: Wait> Model for RuledOut<R> {

@@ -205,7 +205,7 @@ impl<R: Wait> PieceIn<R> {
 
 /// The two ends of one row, as they were: whoever holds both knows that the pieces taken begin the pieces
 /// pushed. It takes no memory.
-pub fn join_ends<R: Wait>(outward: PieceOut<R>, inward: PieceIn<R>) -> (PieceOut<R>, PieceIn<R>)
+pub fn join_pieces<R: Wait>(outward: PieceOut<R>, inward: PieceIn<R>) -> (PieceOut<R>, PieceIn<R>)
     requires { outward.row ≡ inward.row }
     ensures ends { (result.0 ≡ outward) × (result.1 ≡ inward) }
     ensures begins { (rest : List PieceState) × (inward.pieces ++ rest ≡ outward.pieces) }

@@ -1,7 +1,7 @@
 -- With both parts a pass knows the whole.
 use Rattle.std.proofs.Common.{rules}
 use Rattle.ruled_link.proofs.Rows.{forks, merges, totals}
-use Rattle.ruled_link.proofs.pieces.join_ends.Goals as goal
+use Rattle.ruled_link.proofs.pieces.join_pieces.Goals as goal
 
 pub absorb-requires-clause-rule : goal.absorb-requires-clause-rule
 absorb-requires-clause-rule g c = merges _ _ _ _ (search rules) (search rules)

@@ -1,0 +1,85 @@
+//! A link between two nodes in threads of their own.
+ghost use Rattle.std.specs.Prelude.{◌≡◌, ◌<◌, [], true, None, IfOk, IfErr};
+ghost use Rattle.blocks.specs.declared.refusal.Refusal.TheVariants.{NoMemory};
+ghost use Rattle.ruled_link.specs.Joined.{IsJoined};
+
+use crate::pieces::{join_pieces, row};
+use crate::{RuledIn, RuledOut};
+use blocks::Refusal;
+use std::alloc::Global;
+use std::sync::Wait;
+
+/// Pieces of the longest frame.
+const FRAME_PIECES: usize = 94;
+
+/// One direction of a link, in a row for so many of the longest frames; its ends are on a first connection.
+/// `NoMemory` (7) where the room for it cannot be had.
+pub fn ruled<R: Wait + Copy>(
+    rt: R,
+    alloc: Global,
+    link: u32,
+) -> Result<(RuledOut<R>, RuledIn<R>), Refusal>
+    requires { 0 < link }
+    ensures outward { IfOk result (λ ends. ends.0 ≡ record {
+      row = ends.0.row;
+      pieces = [];
+      sent = [];
+      number = 1;
+      past = [];
+      partly = None;
+    }) }
+    ensures inward { IfOk result (λ ends. ends.1 ≡ record {
+      row = ends.0.row;
+      pieces = [];
+      taken = [];
+      number = 1;
+      past = [];
+      is_ready = true;
+      front = [];
+      rest = None;
+    }) }
+    ensures refused { IfErr result (λ e. e ≡ NoMemory) }
+{
+    let (outward, inward) = row(rt, alloc, FRAME_PIECES * link as usize)?;
+    Ok((RuledOut::new(outward), RuledIn::new(alloc, inward)?))
+}
+
+/// The two ends of one direction, as they were: whoever holds both knows that on each connection the frames
+/// taken begin the frames sent. It takes no memory.
+pub fn join_ends<R: Wait>(outward: RuledOut<R>, inward: RuledIn<R>) -> (RuledOut<R>, RuledIn<R>)
+    requires { outward.row ≡ inward.row }
+    ensures ends { (result.0 ≡ outward) × (result.1 ≡ inward) }
+    ensures begins { IsJoined outward inward }
+{
+    let RuledOut {
+        pieces: pushed_pieces,
+        number: sending,
+        sent,
+        part,
+        pushed,
+    } = outward;
+    let RuledIn {
+        pieces: popped_pieces,
+        number: taking,
+        taken,
+        front,
+        rest,
+    } = inward;
+    let (pushed_pieces, popped_pieces) = join_pieces(pushed_pieces, popped_pieces);
+    (
+        RuledOut {
+            pieces: pushed_pieces,
+            number: sending,
+            sent,
+            part,
+            pushed,
+        },
+        RuledIn {
+            pieces: popped_pieces,
+            number: taking,
+            taken,
+            front,
+            rest,
+        },
+    )
+}
