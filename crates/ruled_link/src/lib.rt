@@ -5,6 +5,9 @@
 mod ends;
 mod gathered;
 mod inward;
+mod named_in;
+mod named_out;
+mod names;
 mod outward;
 mod piece;
 mod pieces;
@@ -12,6 +15,9 @@ mod rest;
 
 pub use ends::{join_ends, ruled};
 pub use inward::RuledIn;
+pub use named_in::NamedIn;
+pub use named_out::NamedOut;
+pub use names::Named;
 pub use outward::RuledOut;
 pub use piece::{PIECE_BYTES, Piece};
 pub use pieces::{PieceIn, PieceOut, join_pieces, row};

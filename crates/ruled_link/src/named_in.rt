@@ -1,0 +1,105 @@
+//! A taking end that has a name.
+ghost use Rattle.std.specs.Prelude.{◌≡◌, ◌<◌, ◌≤◌, [], ◌∷◌, ◌++◌, length, true, IfOk, OnOk, OnErr, IfErr};
+ghost use Rattle.link.specs.Past.{ended};
+ghost use Rattle.packets.specs.Cutting.{IsCut};
+ghost use Rattle.ruled_link.specs.Carried.{BeginsNoCut};
+ghost use Rattle.ruled_link.specs.Inward.{in_hand, not_before, taking};
+ghost use Rattle.ruled_link.specs.Names.{row_of};
+ghost use Rattle.blocks.specs.declared.refusal.Refusal.TheVariants.{NoMemory, NothingThere};
+
+use crate::{Named, RuledIn};
+use blocks::Refusal;
+use link::connected::FrameIn;
+use packets::Frame;
+use std::marker::{Model, PhantomData};
+use std::sync::Wait;
+
+/// The taking end of the direction that has this name, which no call changes.
+#[derive(Drop)]
+pub struct NamedIn<R: Wait, N: Named> {
+    end: RuledIn<R>,
+    of: PhantomData<N>,
+}
+
+impl<R: Wait, N: Named> Model for NamedIn<R, N> {
+    ghost use Rattle.std.specs.Prelude.{◌≡◌};
+    ghost use Rattle.ruled_link.specs.Names.{row_of};
+    ghost use Rattle.ruled_link.specs.Inward.{InwardState};
+
+    ghost Value = { InwardState };
+
+    ghost view = { λ e. e.end };
+
+    ghost invariant = { λ e. e.end.row ≡ row_of N.link N.direction };
+}
+
+impl<R: Wait> RuledIn<R> {
+    /// The end under the name of its direction.
+    pub fn named<N: Named>(self) -> NamedIn<R, N>
+        requires { self.row ≡ row_of N.link N.direction }
+        ensures { result ≡ self }
+    {
+        NamedIn {
+            end: self,
+            of: PhantomData,
+        }
+    }
+}
+
+impl<R: Wait, N: Named> NamedIn<R, N> {
+    /// The end without its name.
+    pub fn into_end(self) -> RuledIn<R>
+        ensures same { result ≡ self }
+        ensures name { result.row ≡ row_of N.link N.direction }
+    {
+        self.end
+    }
+}
+
+impl<R: Wait, N: Named> FrameIn for NamedIn<R, N> {
+    ghost state = { λ e. taking e };
+
+    fn ready(&mut self) -> Result<(), Refusal>
+        ensures ready { OnOk result (self.new ≡ record self.old { is_ready = true }) }
+        ensures unchanged { OnErr result (self.new ≡ self.old) }
+        ensures refused { IfErr result (λ e. e ≡ NoMemory) }
+    {
+        self.end.ready()
+    }
+
+    fn take(&mut self) -> Result<Frame, Refusal>
+        requires { self.old.is_ready ≡ true }
+        ensures next { IfOk result (λ frame. self.new ≡ record self.old {
+          pieces = self.new.pieces;
+          taken = self.old.taken ++ frame ∷ [];
+          is_ready = self.new.is_ready;
+          front = self.new.front;
+          rest = self.new.rest;
+        }) }
+        ensures cut { IfOk result (λ frame. IsCut frame) }
+        ensures still_ready { IfOk result (λ frame. length frame ≤ 40 → self.new.is_ready ≡ true) }
+        ensures refused { IfErr result (λ e. e ≡ NothingThere) }
+        // What is in hand then begins no whole frame.
+        ensures nothing { OnErr result (BeginsNoCut (in_hand self.new)) }
+        ensures unchanged { OnErr result (self.new ≡ record self.old {
+          pieces = self.new.pieces;
+          front = self.new.front;
+          rest = self.new.rest;
+        }) }
+    {
+        self.end.take()
+    }
+
+    fn restart(&mut self, number: u32)
+        requires { self.old.number < number }
+        ensures { self.new ≡ record self.old {
+          taken = [];
+          number = number;
+          past = ended self.old.number self.old.taken self.old.past;
+          front = [];
+          rest = not_before number self.old.rest;
+        } }
+    {
+        self.end.restart(number);
+    }
+}

@@ -1,0 +1,88 @@
+//! A sending end that has a name.
+ghost use Rattle.std.specs.Prelude.{◌≡◌, ◌<◌, [], ◌∷◌, ◌++◌, None, Some, OnOk, OnErr, IfErr, IfSome};
+ghost use Rattle.link.specs.Past.{ended};
+ghost use Rattle.packets.specs.Cutting.{IsCut};
+ghost use Rattle.ruled_link.specs.Names.{row_of};
+ghost use Rattle.ruled_link.specs.Outward.{sending};
+
+use crate::{Named, RuledOut};
+use link::Offered;
+use link::connected::FrameOut;
+use packets::Frame;
+use std::marker::{Model, PhantomData};
+use std::sync::Wait;
+
+/// The sending end of the direction that has this name, which no call changes.
+#[derive(Drop)]
+pub struct NamedOut<R: Wait, N: Named> {
+    end: RuledOut<R>,
+    of: PhantomData<N>,
+}
+
+impl<R: Wait, N: Named> Model for NamedOut<R, N> {
+    ghost use Rattle.std.specs.Prelude.{◌≡◌};
+    ghost use Rattle.ruled_link.specs.Names.{row_of};
+    ghost use Rattle.ruled_link.specs.Outward.{OutwardState};
+
+    ghost Value = { OutwardState };
+
+    ghost view = { λ e. e.end };
+
+    ghost invariant = { λ e. e.end.row ≡ row_of N.link N.direction };
+}
+
+impl<R: Wait> RuledOut<R> {
+    /// The end under the name of its direction.
+    pub fn named<N: Named>(self) -> NamedOut<R, N>
+        requires { self.row ≡ row_of N.link N.direction }
+        ensures { result ≡ self }
+    {
+        NamedOut {
+            end: self,
+            of: PhantomData,
+        }
+    }
+}
+
+impl<R: Wait, N: Named> NamedOut<R, N> {
+    /// The end without its name.
+    pub fn into_end(self) -> RuledOut<R>
+        ensures same { result ≡ self }
+        ensures name { result.row ≡ row_of N.link N.direction }
+    {
+        self.end
+    }
+}
+
+impl<R: Wait, N: Named> FrameOut for NamedOut<R, N> {
+    ghost state = { λ e. sending e };
+
+    fn offer(&mut self, frame: Frame) -> Result<(), Offered>
+        requires whole { IsCut frame }
+        requires again { IfSome self.old.partly (λ begun. begun ≡ frame) }
+        ensures accepted { OnOk result (self.new ≡ record self.old {
+          pieces = self.new.pieces;
+          sent = self.old.sent ++ frame ∷ [];
+          partly = None;
+        }) }
+        ensures handed_back { IfErr result (λ offered. offered.frame ≡ frame) }
+        ensures in_part { OnErr result (self.new ≡ record self.old {
+          pieces = self.new.pieces;
+          partly = Some frame;
+        }) }
+    {
+        self.end.offer(frame)
+    }
+
+    fn restart(&mut self, number: u32)
+        requires { self.old.number < number }
+        ensures { self.new ≡ record self.old {
+          sent = [];
+          number = number;
+          past = ended self.old.number self.old.sent self.old.past;
+          partly = None;
+        } }
+    {
+        self.end.restart(number);
+    }
+}

@@ -1,0 +1,21 @@
+//! The names of links.
+
+use std::marker::Brand;
+
+/// Which link an end is of, and which of its two directions. It has no bytes: a call that has such a
+/// parameter picks both, and the ends of one direction have one name.
+pub trait Named {
+    ghost use Rattle.ruled_link.specs.Names.{Direction, LinkName};
+
+    ghost link: { LinkName };
+
+    ghost direction: { Direction };
+}
+
+impl Named for Brand {
+    ghost use Rattle.ruled_link.specs.Names.{There, no_link};
+
+    ghost link = { no_link };
+
+    ghost direction = { There };
+}
