@@ -17,6 +17,9 @@ impl Model for Trail {
     ghost also_owns = { λ _. ftrue };
 }
 
+// It owns nothing.
+unsafe impl Send for Trail {}
+
 impl Trail {
     /// At the beginning of a first connection.
     pub fn new() -> Trail
