@@ -1,0 +1,75 @@
+//! Frames, byte by byte.
+
+use std::alloc::{AllocError, Global};
+
+/// A header and the numbers of a DATA frame: block 2, write 1, place 0.
+const WRITE: [u8; 32] = [
+    0x83, 0x5A, 0, 0, 0, 0, 0x10, 0x18, 0, 0, 0, 0, 0, 0, 0, 0x10, 0, 0, 0, 0, 0, 0, 0, 1, 0, 0, 0,
+    0, 0, 0, 0, 0,
+];
+
+/// BARRIER 1.
+pub(crate) const BARRIER: [u8; 16] = [0x83, 0x5A, 0, 3, 0, 0, 0, 8, 0, 0, 0, 1, 0, 0, 0, 0];
+
+const WRITE_ACK: [u8; 32] = [
+    0x83, 0x5A, 0, 0x16, 0, 0, 0, 0x18, 0, 0, 0, 0, 0, 0, 0, 0x10, 0, 0, 0, 0, 0, 0, 0, 1, 0, 0,
+    0x10, 0, 0, 0, 0, 0,
+];
+
+const BARRIER_ACK: [u8; 16] = [0x83, 0x5A, 0, 0x1C, 0, 0, 0, 8, 0, 0, 0, 1, 0, 0, 0, 1];
+
+const TWO_WRITES_ACK: [u8; 16] = [0x83, 0x5A, 0, 0x1C, 0, 0, 0, 8, 0, 0, 0, 1, 0, 0, 0, 2];
+
+const PROTOCOL_C: [u8; 12] = [0x83, 0x5A, 0, 0x0B, 0, 0, 0, 4, 0, 0, 0, 3];
+
+const SIZES: [u8; 16] = [0x83, 0x5A, 0, 0x0D, 0, 0, 0, 8, 0, 0, 0, 0, 0, 0, 0, 8];
+
+const UUIDS: [u8; 40] = [
+    0x83, 0x5A, 0, 0x0C, 0, 0, 0, 0x20, 0, 0, 0, 0, 0, 0, 0, 7, 0, 0, 0, 0, 0, 0, 0, 0, 0, 0, 0, 0,
+    0, 0, 0, 9, 0, 0, 0, 0, 0, 0, 0, 1,
+];
+
+const SYNC_UUID: [u8; 16] = [0x83, 0x5A, 0, 0x0F, 0, 0, 0, 8, 0, 0, 0, 0, 0, 0, 0, 9];
+
+/// A header and the numbers of an RS_DATA_REPLY frame: block 3, place 1.
+const RESYNC: [u8; 32] = [
+    0x83, 0x5A, 0, 2, 0, 0, 0x10, 0x18, 0, 0, 0, 0, 0, 0, 0, 0x18, 0, 0, 0, 0, 0, 0, 0, 0, 0, 0, 0,
+    1, 0, 0, 0, 0,
+];
+
+const RS_WRITE_ACK: [u8; 32] = [
+    0x83, 0x5A, 0, 0x17, 0, 0, 0, 0x18, 0, 0, 0, 0, 0, 0, 0, 0x18, 0, 0, 0, 0, 0, 0, 0, 0, 0, 0,
+    0x10, 0, 0, 0, 0, 1,
+];
+
+/// A header of another protocol.
+pub(crate) const OTHER_MAGIC: [u8; 8] = [0x83, 0x5B, 0, 3, 0, 0, 0, 8];
+
+/// These numbers, and then a block of bytes AA.
+fn with_block(alloc: Global, front: &[u8]) -> Result<Vec<u8>, AllocError> {
+    let mut frame = Vec::from_slice(alloc, front)?;
+    frame.extend_from_slice(&[0xAA; 4096])?;
+    Ok(frame)
+}
+
+/// The DATA frame of block 2.
+pub(crate) fn write(alloc: Global) -> Result<Vec<u8>, AllocError> {
+    with_block(alloc, &WRITE)
+}
+
+/// A frame of each kind.
+pub(crate) fn frames(alloc: Global) -> Result<Vec<Vec<u8>>, AllocError> {
+    Ok(vec![in alloc;
+        write(alloc)?,
+        Vec::from_slice(alloc, &BARRIER)?,
+        Vec::from_slice(alloc, &WRITE_ACK)?,
+        Vec::from_slice(alloc, &BARRIER_ACK)?,
+        Vec::from_slice(alloc, &TWO_WRITES_ACK)?,
+        Vec::from_slice(alloc, &PROTOCOL_C)?,
+        Vec::from_slice(alloc, &SIZES)?,
+        Vec::from_slice(alloc, &UUIDS)?,
+        Vec::from_slice(alloc, &SYNC_UUID)?,
+        with_block(alloc, &RESYNC)?,
+        Vec::from_slice(alloc, &RS_WRITE_ACK)?,
+    ]?)
+}
