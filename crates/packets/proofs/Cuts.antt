@@ -1,8 +1,6 @@
 -- What a reader cuts off a row as one frame.
-use Rattle.std.proofs.Common.{◌≡◌, ℕ, ◌+◌, ◌≤◌, List, ◌++◌, length, take, drop, Result, Ok, Err, refl, sym, ap, ◌∙◌, arith}
+use Rattle.std.proofs.Common.{◌≡◌, ℕ, ◌≤◌, List, ◌++◌, length, take, drop, refl, sym, ap, ◌∙◌, arith}
 use Rattle.std.proofs.lemmas.List.{drop_at, take_at}
-use Rattle.blocks.specs.declared.refusal.Refusal.{Refusal}
-use Rattle.packets.specs.declared.header.Header.{Header}
 use Rattle.packets.specs.declared.packet.Packet.{Packet}
 use Rattle.packets.specs.Reading.{header_at}
 use Rattle.packets.specs.Spelling.{IsSpellable, Spells}

@@ -1,9 +1,8 @@
 -- A spelling is read as its packet, whatever hello goes on.
-use Rattle.std.proofs.Common.{◌≡◌, ℕ, ◌+◌, List, length, Option, Result, Ok, refl, ap, arith, ◌∙◌}
+use Rattle.std.proofs.Common.{◌≡◌, ℕ, ◌+◌, List, length, Option, Ok, refl, ap, arith}
 use Rattle.std.proofs.lemmas.Bool.Decides.{nat_tests}
 use Rattle.std.specs.Prelude.{◌==◌, nat_le, true}
 use Rattle.blocks.specs.declared.command.Command.{Command}
-use Rattle.blocks.specs.declared.refusal.Refusal.{Refusal}
 use Rattle.packets.specs.declared.packet.Packet.{Packet}
 use Rattle.packets.specs.Spelling.{payload, IsSpellable, Spells}
 use Rattle.packets.specs.Frames.{frame_read, in_hello}

@@ -1,7 +1,7 @@
 -- The bytes of each connection, among pieces of several.
-use Rattle.std.proofs.Common.{◌≡◌, ◌≢◌, ℕ, ◌+◌, ◌<◌, ◌≤◌, Bool, true, false, cond, List, [], ◌∷◌, ◌++◌, length, take, drop, refl, sym, ap, ◌∙◌, subst, append_assoc, inl, inr, Result, Ok, Err, arith}
+use Rattle.std.proofs.Common.{◌≡◌, ◌≢◌, ℕ, ◌+◌, ◌<◌, ◌≤◌, Bool, true, false, cond, List, [], ◌∷◌, ◌++◌, length, take, drop, refl, sym, ap, ◌∙◌, append_assoc, inl, inr, Result, Ok, Err, arith}
 use Rattle.std.specs.Prelude.{◌==◌, nat_lt}
-use Rattle.std.specs.List.{flat_map, AllByRecursion}
+use Rattle.std.specs.List.{AllByRecursion}
 use Rattle.std.proofs.lemmas.Bool.Decides.{nat_tests}
 use Rattle.std.proofs.lemmas.Grind.{flat_map-append}
 use Rattle.std.proofs.lemmas.List.{append-nil, length-append, length-take, take-append-drop, take-take, drop-take}
@@ -15,7 +15,7 @@ use Rattle.packets.proofs.Rows.{header_most}
 use Rattle.std.proofs.lemmas.Bool.{cases_lt}
 use Rattle.link.specs.Past.{Past}
 use Rattle.ruled_link.specs.Pieces.{PieceState, bytes_if, bytes_on}
-use Rattle.ruled_link.specs.Carried.{joined, BeginsNoCut, IsCarried, past_on, IsRising, whole_length}
+use Rattle.ruled_link.specs.Carried.{joined, BeginsNoCut, past_on, IsRising, whole_length}
 
 -- ---- lists
 

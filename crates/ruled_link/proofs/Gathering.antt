@@ -1,9 +1,8 @@
 -- The bytes of a frame as they come.
-use Rattle.std.proofs.Common.{◌≡◌, ℕ, ◌+◌, ◌<◌, ◌≤◌, Bool, true, false, true≢false, List, [], ◌∷◌, ◌++◌, length, refl, sym, ap, ◌∙◌, subst, inl, inr, arith}
+use Rattle.std.proofs.Common.{◌≡◌, ℕ, ◌+◌, ◌<◌, ◌≤◌, Bool, true, true≢false, List, [], ◌++◌, length, sym, ap, ◌∙◌, inl, inr, arith}
 use Rattle.std.proofs.lemmas.Bool.{cases_lt}
 use Rattle.std.proofs.lemmas.List.{length-append}
-use Rattle.packets.specs.Reading.{header_at}
-use Rattle.packets.specs.Cutting.{cut_after, IsCut}
+use Rattle.packets.specs.Cutting.{IsCut}
 use Rattle.ruled_link.specs.Carried.{BeginsNoCut, whole_length}
 use Rattle.ruled_link.specs.Inward.{IsGathered}
 use Rattle.ruled_link.proofs.Carrying.{whole_short, whole_long}

@@ -6,10 +6,10 @@ use Rattle.std.specs.List.{AllByRecursion}
 use Rattle.std.proofs.lemmas.List.{append-nil, take_all}
 use Rattle.packets.specs.Cutting.{IsCut}
 use Rattle.link.specs.Past.{Past, Went, and_then, ended, over}
-use Rattle.ruled_link.specs.Pieces.{EndState, PieceState, bytes_if, bytes_on}
-use Rattle.ruled_link.specs.Carried.{joined, BeginsNoCut, IsCarried, IsRising, past_on}
-use Rattle.ruled_link.specs.Outward.{OutwardState, Sends, IsPushed, first_of, outward_state, pushed_of}
-use Rattle.ruled_link.proofs.Carrying.{two_takes, all_append, all_map, bytes_append, bytes_first, bytes_one, bytes_none, bytes_above, bytes_apart, no_bytes, own_bytes, joined_more, joined_none, part_of_cut, rising_more, past_same, past_other}
+use Rattle.ruled_link.specs.Pieces.{EndState, PieceState, bytes_on}
+use Rattle.ruled_link.specs.Carried.{joined, BeginsNoCut, IsCarried, past_on}
+use Rattle.ruled_link.specs.Outward.{Sends, IsPushed, first_of, outward_state, pushed_of}
+use Rattle.ruled_link.proofs.Carrying.{two_takes, all_append, all_map, bytes_append, bytes_one, bytes_above, bytes_apart, no_bytes, own_bytes, joined_more, joined_none, part_of_cut, rising_more, past_same, past_other}
 
 -- ---- pushing
 

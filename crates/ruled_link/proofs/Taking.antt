@@ -1,15 +1,14 @@
 -- What was popped is the frames taken, and what is in hand.
-use Rattle.std.proofs.Common.{◌≡◌, ◌≢◌, ℕ, ◌<◌, ◌≤◌, Bool, true, false, cond, List, [], ◌∷◌, ◌++◌, length, Option, None, Some, refl, sym, ap, ◌∙◌, subst, append_assoc, inl, inr, arith}
-use Rattle.std.specs.Prelude.{nat_lt}
+use Rattle.std.proofs.Common.{◌≡◌, ◌≢◌, ℕ, ◌<◌, ◌≤◌, Bool, true, false, cond, List, [], ◌∷◌, ◌++◌, Option, None, Some, refl, sym, ap, ◌∙◌, subst, append_assoc, inl, inr, arith}
 use Rattle.std.specs.List.{AllByRecursion}
 use Rattle.std.proofs.lemmas.Bool.{cases_eq, cases_lt}
 use Rattle.std.proofs.lemmas.List.{append-nil}
 use Rattle.packets.specs.Cutting.{IsCut}
 use Rattle.link.specs.Past.{Past, Went, and_then, ended, over}
 use Rattle.ruled_link.specs.Pieces.{EndState, PieceState, bytes_if, bytes_on}
-use Rattle.ruled_link.specs.Carried.{joined, BeginsNoCut, IsCarried, IsRising, past_on}
-use Rattle.ruled_link.specs.Inward.{GatheredState, InwardState, Takes, IsDropped, inward_state, in_hand, is_later, later_of, not_before, rest_on}
-use Rattle.ruled_link.proofs.Carrying.{all_append, all_map, below, not_below, bytes_append, bytes_one, bytes_none, bytes_above, no_bytes, own_bytes, other_bytes, joined_more, joined_none, rising_more, past_same, past_other}
+use Rattle.ruled_link.specs.Carried.{joined, BeginsNoCut, IsCarried, past_on}
+use Rattle.ruled_link.specs.Inward.{GatheredState, Takes, IsDropped, inward_state, is_later, later_of, not_before, rest_on}
+use Rattle.ruled_link.proofs.Carrying.{all_append, all_map, below, not_below, bytes_append, bytes_one, bytes_none, bytes_above, no_bytes, other_bytes, joined_more, joined_none, rising_more, past_same, past_other}
 
 nothing_begun : BeginsNoCut []
 nothing_begun long = absurd (omega (arith, long))

@@ -1,5 +1,5 @@
 //! The taking end of a link between threads.
-ghost use Rattle.std.specs.Prelude.{◌≡◌, ◌<◌, ◌≤◌, [], ◌∷◌, ◌++◌, length, true, None, IfOk, OnOk, OnErr, IfErr, MatchOption};
+ghost use Rattle.std.specs.Prelude.{◌≡◌, ◌<◌, ◌≤◌, [], ◌∷◌, ◌++◌, length, true, None, IfOk, OnOk, OnErr, IfErr, IfNone, MatchOption};
 ghost use Rattle.link.specs.Past.{ended};
 ghost use Rattle.packets.specs.Cutting.{IsCut};
 ghost use Rattle.ruled_link.specs.Carried.{BeginsNoCut};
@@ -81,7 +81,7 @@ impl<R: Wait> RuledIn<R> {
               rest = self.new.rest;
             }) × IsCut frame × (length frame ≤ 40 → self.new.is_ready ≡ true)) }
         // Where there is none, no whole frame can be cut off the bytes in hand.
-        ensures none { MatchOption result (BeginsNoCut (in_hand self.old)) (λ frame. frame ≡ frame) }
+        ensures none { IfNone result (BeginsNoCut (in_hand self.old)) }
     {
         gather(&mut self.front, &mut self.rest, self.number);
         let frame = self.front.cut(self.pieces.runtime())?;

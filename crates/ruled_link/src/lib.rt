@@ -1,5 +1,5 @@
-//! The link between two nodes in threads of their own: its pieces, and the row in which they go from one end
-//! to the other.
+//! The link between two nodes in threads of their own. Frames go from one end of a direction to the other as
+//! pieces in a row, over one connection after another.
 #![tactic(auto)]
 
 mod ends;

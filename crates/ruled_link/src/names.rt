@@ -7,8 +7,10 @@ use std::marker::Brand;
 pub trait Named {
     ghost use Rattle.ruled_link.specs.Names.{Direction, LinkName};
 
+    /// The link: the two rows in which its directions go.
     ghost link: { LinkName };
 
+    /// From the primary to the secondary, or back.
     ghost direction: { Direction };
 }
 

@@ -1,5 +1,5 @@
 -- What is left behind the one byte that was split off is nothing but room.
-use Rattle.std.proofs.Common.{◌≡◌, ◌≤◌, length, ◌∙◌, arith, ap}
+use Rattle.std.proofs.Common.{◌≤◌, length, ◌∙◌, arith, ap}
 use Rattle.std.proofs.lemmas.List.{drop_all}
 use Rattle.ruled_link.proofs.gathered.new_buffer.Goals as goal
 

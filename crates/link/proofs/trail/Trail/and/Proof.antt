@@ -1,5 +1,5 @@
 use mathlib.Core.Path.{refl}
-use mathlib.Core.List.{[], ◌∷◌, ◌++◌}
+use mathlib.Core.List.{[], ◌∷◌}
 use seplogic.Ra.Ura.{Ura}
 use mir.Syntax.{named}
 use mir.Val.{Val, vptr, vstruct, vnil}

@@ -1,5 +1,5 @@
 -- The bytes are a whole frame where there are as many as it has.
-use Rattle.std.proofs.Common.{◌≡◌, ◌≤◌, ℕ, List, false, true, true≢false, length, sym, ap, ◌∙◌, subst, arith, refl}
+use Rattle.std.proofs.Common.{false, true≢false, length, sym, ap, ◌∙◌, subst, arith, refl}
 use Rattle.packets.specs.Cutting.{IsCut}
 use Rattle.ruled_link.specs.Carried.{BeginsNoCut}
 use Rattle.ruled_link.specs.Inward.{GatheredState}

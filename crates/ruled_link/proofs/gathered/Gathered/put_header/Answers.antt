@@ -1,5 +1,5 @@
 -- With the last byte of the header the frame's length is known.
-use Rattle.std.proofs.Common.{◌≡◌, ◌<◌, ◌≤◌, ℕ, ◌+◌, List, take, length, true, ap, sym, ◌∙◌, arith}
+use Rattle.std.proofs.Common.{◌≡◌, ◌<◌, ℕ, List, take, length, true, ap, sym, ◌∙◌, arith}
 use Rattle.std.proofs.lemmas.List.{length-append, length-take}
 use Rattle.packets.specs.Reading.{header_at}
 use Rattle.packets.specs.Cutting.{cut_after}

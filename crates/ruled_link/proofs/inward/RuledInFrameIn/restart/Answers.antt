@@ -1,4 +1,4 @@
-use Rattle.std.proofs.Common.{◌≡◌, ◌<◌, sym, ap, subst}
+use Rattle.std.proofs.Common.{◌<◌, sym, ap, subst}
 use Rattle.ruled_link.specs.Inward.{GatheredState, InwardState}
 use Rattle.ruled_link.proofs.Taking.{takes_over}
 use Rattle.ruled_link.proofs.inward.RuledInFrameIn.restart.Goals as goal

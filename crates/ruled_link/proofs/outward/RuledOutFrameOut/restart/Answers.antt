@@ -1,4 +1,4 @@
-use Rattle.std.proofs.Common.{◌≡◌, ◌<◌, sym, ap, subst}
+use Rattle.std.proofs.Common.{◌<◌, sym, subst}
 use Rattle.ruled_link.specs.Outward.{OutwardState}
 use Rattle.ruled_link.proofs.Sending.{sends_over}
 use Rattle.ruled_link.proofs.outward.RuledOutFrameOut.restart.Goals as goal
