@@ -9,5 +9,6 @@ pub mod Secondary
 pub mod Joining
 pub mod Pair
 pub mod Settling
+pub mod WriteOrder
 pub mod Headlines
 pub mod Examples

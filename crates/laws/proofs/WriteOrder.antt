@@ -1,0 +1,3 @@
+-- The order of writes that a consistent secondary keeps.
+pub mod Layers
+pub mod Sets
