@@ -9,10 +9,10 @@ use Rattle.blocks.specs.declared.tuple.Tuple.{Tuple}
 use Rattle.model.specs.Contents.{BlockMap, Write, covers}
 use Rattle.model.specs.Stream.{Item, WriteItem, ResyncItem, BarrierItem, SyncUuidItem, UuidsItem, last_epoch, below, within}
 use Rattle.model.specs.Frames.{Received, RecvAckFrame, WriteAckFrame, RsWriteAckFrame, BarrierAckFrame, Acknowledged, naming}
-use Rattle.model.specs.Identifiers.{sync_end}
+use Rattle.model.specs.Identifiers.{are_fresh, sync_end}
 use Rattle.model.specs.Marks.{marking, clearing}
 use Rattle.model.specs.Primary.{LocalOutcome, Waiting, OnDisk, Failed, Accepted, Outward, PrimaryHistory, primary_opening, no_outward, outward, last_index, change_last, with_outward, stands, in_resync, is_waiting, free_block, resync_runs, is_resync, was_resynced, open_writes, local_map, is_rs_write_ack, under_way, same_naming, items_sent, is_open, is_completed, is_failed, is_on_disk}
-use Rattle.model.specs.PrimarySteps.{with_completions, epoch_is_over, appending, resync_is_over, ending_resync, follows, opened, is_unfinished, with_outcome, faulted, accepted_at}
+use Rattle.model.specs.PrimarySteps.{known_tuples, with_completions, epoch_is_over, appending, resync_is_over, ending_resync, follows, opened, is_unfinished, with_outcome, faulted, accepted_at}
 use Rattle.laws.specs.Reflections.{touches, is_sure}
 use Rattle.laws.proofs.Lists.Beginnings.{begins-self}
 use Rattle.laws.proofs.Lists.Last.{get-last-changed}
@@ -127,8 +127,8 @@ account-following : (h : PrimaryHistory) → IsAccounted h → IsAccounted (foll
 account-following = following-from IsAccounted IsAccounted IsAccounted account-completions account-parting (λ g on a. a) account-ending (λ g a. a)
 
 -- Effects.
-account-opens : (h : PrimaryHistory) (sync loss : ℕ) → (outward h).closed ≡ true → IsAccounted h → IsAccounted (opened h sync loss)
-account-opens h sync loss closed accounted = accounted-carries h (opened h sync loss) accounted (known-kept.opens h sync loss closed accounted.known) (carries-open h sync loss) (keeps-writes h.writes).back (keeps-open h sync loss) refl refl refl (λ none. refl) (λ block unmarked. unmarked)
+account-opens : (h : PrimaryHistory) (sync loss : ℕ) → (outward h).closed ≡ true → are_fresh sync loss (known_tuples h) ≡ true → IsAccounted h → IsAccounted (opened h sync loss)
+account-opens h sync loss closed fresh accounted = accounted-carries h (opened h sync loss) accounted (known-kept.opens h sync loss closed fresh accounted.known) (carries-open h sync loss) (keeps-writes h.writes).back (keeps-open h sync loss) refl refl refl (λ none. refl) (λ block unmarked. unmarked)
     (λ block unmarked. latest-opened h.connections _ block refl)
 
 account-writes : (h : PrimaryHistory) (number : ℕ) → is_unfinished h number ≡ true → IsAccounted h → IsAccounted (with_outcome number OnDisk h)
@@ -233,7 +233,7 @@ accounted-kept = record {
   faults = account-faults;
   sends = λ h standing due a. account-change h (with_outward pushing h) pushing a (known-kept.sends h standing due a.known) refl (keeps-pushed (outward h)) refl refl refl refl refl refl refl refl;
   greets = λ h frame standing new met a. account-frame h frame standing (known-kept.greets h frame standing new met a.known) a;
-  begins = λ h peer decided standing new late is a. account-begins h peer decided standing new is a (known-kept.begins h peer decided standing new late is a.known);
+  begins = λ h peer decided standing new late is fresh a. account-begins h peer decided standing new is a (known-kept.begins h peer decided standing new late is fresh a.known);
   receives = λ h ack standing begun may a. account-frame h (Ok (RecvAckFrame ack)) standing (known-kept.receives h ack standing begun may a.known) a;
   applies = λ h ack standing begun may a. account-frame h (Ok (WriteAckFrame ack)) standing (known-kept.applies h ack standing begun may a.known) a;
   clears = account-clears;

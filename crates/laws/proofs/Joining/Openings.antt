@@ -56,13 +56,13 @@ opening-kept : (o : Opening) → IsKeptByMoves (HasOpening o) (HasOpening o)
 opening-kept o = record {
   following =
       following-from (HasOpening o) (HasOpening o) (HasOpening o) (λ h a. kept o h _ refl refl refl refl a) (λ g over a. kept o g _ refl refl refl refl a) (λ g on a. a) (λ g over a. kept o g _ refl refl refl refl a) (λ g a. a);
-  opens = λ h sync loss closed a. kept o h _ refl refl refl refl a;
+  opens = λ h sync loss closed fresh a. kept o h _ refl refl refl refl a;
   submits = λ h first contents may a. kept-submits o h first contents a;
   writes = λ h number waiting a. kept o h _ refl refl refl refl a;
   faults = λ h number offsets waiting a. kept-faults o h number offsets a;
   sends = λ h standing due a. kept o h _ refl refl refl refl a;
   greets = λ h frame standing new met a. kept o h _ refl refl refl refl a;
-  begins = λ h peer decided standing new late is a. kept-begins o h peer decided a;
+  begins = λ h peer decided standing new late is fresh a. kept-begins o h peer decided a;
   receives = λ h ack standing begun may a. kept o h _ refl refl refl refl a;
   applies = λ h ack standing begun may a. kept o h _ refl refl refl refl a;
   clears = λ h ack standing begun may a. kept o h _ refl refl refl refl a;

@@ -245,14 +245,14 @@ few-taking settings h later frame standing same connections writes homes few = f
 few-kept : (settings : Settings) → IsKeptByMoves (Both settings) (Both settings)
 few-kept settings = record {
   following = few-following settings;
-  opens = λ h sync loss closed p. (homes-kept.opens h sync loss closed p.0, few-later settings h (opened h sync loss) refl (λ k c at. (c, get-left h.connections _ k c at, keeps-self c)) (later-self h.writes) p.0 p.1);
+  opens = λ h sync loss closed fresh p. (homes-kept.opens h sync loss closed fresh p.0, few-later settings h (opened h sync loss) refl (λ k c at. (c, get-left h.connections _ k c at, keeps-self c)) (later-self h.writes) p.0 p.1);
   submits = λ h first contents may p. (homes-kept.submits h first contents may p.0, few-submits settings h first contents may p.0 p.1);
   writes = λ h number waiting p. (homes-kept.writes h number waiting p.0, few-outcome settings h _ number OnDisk refl refl refl refl p.0 p.1);
   faults = λ h number offsets waiting p. (homes-kept.faults h number offsets waiting p.0, few-faults settings h number offsets p.0 p.1);
   sends =
       λ h standing due p. (homes-kept.sends h standing due p.0, few-change settings h _ pushing refl refl refl (λ k at. keeps-growing (outward h) (pushing (outward h)) refl (begins-self (outward h).stream) (begins-self (accepted_frames (outward h)))) p.0 p.1);
   greets = λ h frame standing new met p. (homes-kept.greets h frame standing new met p.0, few-taking settings h _ frame standing refl refl refl p.0 p.1);
-  begins = λ h peer decided standing new late is p. (homes-kept.begins h peer decided standing new late is p.0, few-begins settings h peer decided standing new p.0 p.1);
+  begins = λ h peer decided standing new late is fresh p. (homes-kept.begins h peer decided standing new late is fresh p.0, few-begins settings h peer decided standing new p.0 p.1);
   receives = λ h ack standing begun may p. (homes-kept.receives h ack standing begun may p.0, few-taking settings h _ _ standing refl refl refl p.0 p.1);
   applies = λ h ack standing begun may p. (homes-kept.applies h ack standing begun may p.0, few-taking settings h _ _ standing refl refl refl p.0 p.1);
   clears = λ h ack standing begun may p. (homes-kept.clears h ack standing begun may p.0, few-taking settings h _ _ standing refl refl refl p.0 p.1);

@@ -209,13 +209,13 @@ homes-begins h peer decided standing new homes = go decided
 pub homes-kept : IsKeptByMoves HasHomes HasHomes
 homes-kept = record {
   following = homes-following;
-  opens = λ h sync loss closed homes. homes-opens h sync loss homes;
+  opens = λ h sync loss closed fresh homes. homes-opens h sync loss homes;
   submits = λ h first contents may homes. homes-submits h first contents homes;
   writes = λ h number waiting homes. homes-writes h number homes;
   faults = λ h number offsets waiting homes. homes-faults h number offsets homes;
   sends = λ h standing due homes. homes-with h (with_outward pushing h) pushing homes refl refl refl refl (keeps-pushing h homes);
   greets = λ h frame standing new met homes. homes-with h (with_outward (with_frame frame) h) (with_frame frame) homes refl refl refl refl (keeps-taking h frame homes standing);
-  begins = λ h peer decided standing new late is homes. homes-begins h peer decided standing new homes;
+  begins = λ h peer decided standing new late is fresh homes. homes-begins h peer decided standing new homes;
   receives = λ h ack standing begun may homes. homes-with h _ (with_frame _) homes refl refl refl refl (keeps-taking h _ homes standing);
   applies = λ h ack standing begun may homes. homes-with h _ (with_frame _) homes refl refl refl refl (keeps-taking h _ homes standing);
   clears =

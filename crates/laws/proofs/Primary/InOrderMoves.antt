@@ -239,7 +239,7 @@ order-following = following-from IsInOrder IsInOrder IsInOrder (λ h order. orde
 pub in-order-kept : (settings : Settings) → 0 < settings.max_epoch → IsKeptByMoves (Ordered settings) (OrderedAfter settings)
 in-order-kept settings bound = record {
   following = λ h p. (known-kept.following h p.0, (last-open-kept.following h p.1.0, ((lawful-kept settings bound).following h p.1.1.0, order-following h p.1.1.1)));
-  opens = λ h sync loss closed p. (known-kept.opens h sync loss closed p.0, (last-open-kept.opens h sync loss closed p.1.0, ((lawful-kept settings bound).opens h sync loss closed p.1.1.0, order-opens h sync loss p.1.1.0.0 p.1.1.1)));
+  opens = λ h sync loss closed fresh p. (known-kept.opens h sync loss closed fresh p.0, (last-open-kept.opens h sync loss closed fresh p.1.0, ((lawful-kept settings bound).opens h sync loss closed fresh p.1.1.0, order-opens h sync loss p.1.1.0.0 p.1.1.1)));
   submits = λ h first contents may p. (
     known-kept.submits h first contents may p.0,
     (
@@ -290,12 +290,12 @@ in-order-kept settings bound = record {
       ),
     ),
   );
-  begins = λ h peer decided standing new late is p. (
-    known-kept.begins h peer decided standing new late is p.0,
+  begins = λ h peer decided standing new late is fresh p. (
+    known-kept.begins h peer decided standing new late is fresh p.0,
     (
-      last-open-kept.begins h peer decided standing new late is p.1.0,
+      last-open-kept.begins h peer decided standing new late is fresh p.1.0,
       (
-        (lawful-kept settings bound).begins h peer decided standing new late is p.1.1.0,
+        (lawful-kept settings bound).begins h peer decided standing new late is fresh p.1.1.0,
         order-begins h peer decided p.1.1.0.0 standing p.1.1.1,
       ),
     ),

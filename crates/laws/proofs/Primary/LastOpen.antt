@@ -87,13 +87,13 @@ begins h FullSync all = changes h.connections _ all
 pub last-open-kept : IsKeptByMoves IsLastOpen IsLastOpen
 last-open-kept = record {
   following = following-from IsLastOpen IsLastOpen IsLastOpen (λ h all. all) (λ g over all. changes g.connections _ all) (λ g on all. all) (λ g over all. changes g.connections _ all) (λ g all. all);
-  opens = opens;
+  opens = λ h sync loss closed fresh all. opens h sync loss closed all;
   submits = λ h first contents may all. submits h first contents all;
   writes = λ h number waits all. all;
   faults = λ h number offsets waits all. faults h number offsets all;
   sends = λ h standing due all. changes h.connections _ all;
   greets = λ h frame standing new met all. changes h.connections _ all;
-  begins = λ h peer decided standing new late is all. begins _ decided (changes h.connections _ all);
+  begins = λ h peer decided standing new late is fresh all. begins _ decided (changes h.connections _ all);
   receives = λ h ack standing begun may all. changes h.connections _ all;
   applies = λ h ack standing begun may all. changes h.connections _ all;
   clears = λ h ack standing begun may all. changes h.connections _ all;

@@ -233,13 +233,13 @@ After settings h = HasHomes h × HasLawfulStreams settings h
 pub lawful-kept : (settings : Settings) → 0 < settings.max_epoch → IsKeptByMoves (Before settings) (After settings)
 lawful-kept settings bound = record {
   following = λ h p. (homes-kept.following h p.0, lawful-following settings bound h p.1);
-  opens = λ h sync loss closed p. (homes-kept.opens h sync loss closed p.0, lawful-opens settings h sync loss p.1.streams);
+  opens = λ h sync loss closed fresh p. (homes-kept.opens h sync loss closed fresh p.0, lawful-opens settings h sync loss p.1.streams);
   submits = λ h first contents may p. (homes-kept.submits h first contents may p.0, lawful-submits settings h first contents may p.0 p.1);
   writes = λ h number waiting p. (homes-kept.writes h number waiting p.0, lawful-same settings h _ refl refl p.1.streams);
   faults = λ h number offsets waiting p. (homes-kept.faults h number offsets waiting p.0, lawful-faults settings h number offsets p.1.streams);
   sends = λ h standing due p. (homes-kept.sends h standing due p.0, lawful-change settings h _ pushing refl refl (λ k at lawful. lawful) p.1.streams);
   greets = λ h frame standing new met p. (homes-kept.greets h frame standing new met p.0, lawful-change settings h _ (with_frame frame) refl refl (λ k at lawful. lawful) p.1.streams);
-  begins = λ h peer decided standing new late is p. (homes-kept.begins h peer decided standing new late is p.0, lawful-begins settings h peer decided p.1.streams);
+  begins = λ h peer decided standing new late is fresh p. (homes-kept.begins h peer decided standing new late is fresh p.0, lawful-begins settings h peer decided p.1.streams);
   receives = λ h ack standing begun may p. (homes-kept.receives h ack standing begun may p.0, lawful-change settings h _ (with_frame _) refl refl (λ k at lawful. lawful) p.1.streams);
   applies = λ h ack standing begun may p. (homes-kept.applies h ack standing begun may p.0, lawful-change settings h _ (with_frame _) refl refl (λ k at lawful. lawful) p.1.streams);
   clears = λ h ack standing begun may p. (homes-kept.clears h ack standing begun may p.0, lawful-change settings h _ (with_frame _) refl refl (λ k at lawful. lawful) p.1.streams);

@@ -140,8 +140,8 @@ module _ (settings : Settings) where
       following-from Kept Kept Kept (λ h all. met-still h _ all refl refl) (λ g over all. met-appending (BarrierItem (last_epoch (outward g).stream)) g _ all refl refl) (λ g on all. all)
           (λ g over all. met-appending (UuidsItem (sync_end g.tuple)) g _ all refl refl) (λ g all. all) h p.1,
     );
-    opens = λ h sync loss closed p. (
-      homes-kept.opens h sync loss closed p.0,
+    opens = λ h sync loss closed fresh p. (
+      homes-kept.opens h sync loss closed fresh p.0,
       record { setting = p.1.setting; ends = each-append (HasMet settings) h.connections _ p.1.ends (record { sized = λ either long. absurd (omega arith); late = λ begun. absurd (cc) }) },
     );
     submits = λ h first contents may p. (homes-kept.submits h first contents may p.0, met-submits h first contents p.1);
@@ -149,8 +149,8 @@ module _ (settings : Settings) where
     faults = λ h number offsets waiting p. (homes-kept.faults h number offsets waiting p.0, met-faults h number offsets p.1);
     sends = λ h standing due p. (homes-kept.sends h standing due p.0, met-change h _ pushing p.1 refl refl (λ m. met-as settings (outward h) _ refl refl refl m));
     greets = λ h frame standing new met p. (homes-kept.greets h frame standing new met p.0, met-greets h frame new met p.1);
-    begins = λ h peer decided standing new late is p. (
-      homes-kept.begins h peer decided standing new late is p.0,
+    begins = λ h peer decided standing new late is fresh p. (
+      homes-kept.begins h peer decided standing new late is fresh p.0,
       met-begins h peer decided standing new late (not-refused h p.0 standing (length h.connections - 1) (open-at h standing)) p.1,
     );
     receives = λ h ack standing begun may p. (homes-kept.receives h ack standing begun may p.0, met-taking h _ begun p.1);

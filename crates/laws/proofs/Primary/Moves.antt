@@ -1,7 +1,7 @@
 -- A primary's steps, taken apart: what has to be shown of a property so that every step keeps it.
-use Rattle.std.proofs.Common.{ℕ, zero, suc, ◌≡◌, ◌<◌, ◌⊎◌, inl, inr, Bool, true, false, cond, not, ◌&&◌, ◌||◌, List, [], ◌∷◌, ◌++◌, length, Option, Some, None, is_none, Result, Ok, Err, refl, sym, subst, ◌==◌, nat_lt, nat_le, ap, arith}
+use Rattle.std.proofs.Common.{ℕ, zero, suc, ◌≡◌, ◌<◌, ◌⊎◌, inl, inr, Bool, true, false, cond, not, ◌&&◌, ◌||◌, List, [], ◌∷◌, ◌++◌, length, Option, Some, None, is_none, Result, Ok, Err, refl, sym, ◌∙◌, subst, ◌==◌, nat_lt, nat_le, ap, arith}
 use Rattle.std.specs.Prelude.{find, is_some, unwrap_or}
-use Rattle.std.proofs.lemmas.Bool.{not-true, not-false, or_parts, and_parts, leb-false, eqb-true}
+use Rattle.std.proofs.lemmas.Bool.{both_ways, not-true, not-false, or_parts, and_parts, leb-false, eqb-true}
 use Rattle.blocks.specs.declared.refusal.Refusal.{Refusal}
 use Rattle.blocks.specs.declared.refusal.Refusal.TheVariants.{BadRange, Conflict, LogFull, ActivityFull, JournalFull, StreamFull, NoMemory, LocalFault, NothingToDo, LinkFull, NotConnected, NothingThere, ReadFault, UnknownJob, BadBarrierAck, UnknownAck, UsedIdentifier, OtherProtocol, OtherSize, NotDrained}
 use Rattle.blocks.specs.declared.outcome.Decision.{Decision}
@@ -17,11 +17,12 @@ use Rattle.model.specs.Stream.{Item, ResyncItem, BarrierItem, is_write, last_epo
 use Rattle.model.specs.Frames.{Packet, DataFrame, RsDataReplyFrame, BarrierFrame, ProtocolFrame, UuidsFrame, SizesFrame, SyncUuidFrame, RecvAckFrame, WriteAckFrame, RsWriteAckFrame, BarrierAckFrame, Acknowledged, Received}
 use Rattle.model.specs.Identifiers.{are_fresh, decision, stands_in}
 use Rattle.model.specs.Refusals.{Test, first_refusal}
-use Rattle.model.specs.Primary.{OnDisk, Completion, PrimaryHistory, Outward, outward, with_outward, stands, frames_due, unreleased, local_map, resync_runs, under_way, free_block, is_resync, was_received, was_written, was_resynced}
+use Rattle.model.specs.Primary.{OnDisk, Completion, PrimaryHistory, Outward, outward, no_outward, last_of, with_outward, stands, frames_due, unreleased, local_map, resync_runs, under_way, free_block, is_resync, was_received, was_written, was_resynced}
 use Rattle.model.specs.Marks.{Marks, clearing, releasing}
 use Rattle.model.specs.PrimarySteps.{Followed, with_completions, epoch_is_over, resync_is_over, ending_resync, follows, appending, succeeding, tested, known_tuples, open_tests, opened, open_primary, conflict, activity_is_full, submission, submit_tests, submitted, submit, is_unfinished, with_outcome, local_done, faulted, local_fault, send_tests, sending, send, resync_tests, resync_next, resync_fault, closing, close_primary, take_completed_tests, receipted, take_completed}
 use Rattle.model.specs.Acknowledgements.{same_protocol, Taken, begun_with, meeting, taking_hello, names_sent, was_named, is_protocol, is_in_turn, taking_ack, taking, take_frame, ack_in}
 use Rattle.model.specs.LocalRuns.{PrimaryEvent, Opens, Submits, WritesLocally, FailsLocally, Sends, Takes, Resyncs, FailsResync, Closes, Receipts, primary_after, primary_run}
+use Rattle.laws.proofs.Lists.Last.{last-change}
 use Rattle.laws.proofs.Lists.Tests.{test-passed}
 use Rattle.blocks.specs.declared.settings.Protocol.{Protocol}
 
@@ -42,6 +43,7 @@ pub record MaySubmit (h : PrimaryHistory) (first : ℕ) (contents : List (List �
   pub range : is_range h.settings first (length contents) ≡ true
   pub free : is_some (conflict h (submission h first contents)) ≡ false
   pub active : activity_is_full h (extent_of first) ≡ false
+  pub connected : (not (stands (outward h)) && (h.tuple.bitmap == 0)) ≡ false
 
 -- What an accepted acknowledgement was tested for, on the history before it.
 pub record MayAcknowledge (h : PrimaryHistory) (kind : Item → Bool) (before : Outward → ℕ → Item → Bool) (ack : Acknowledged) : Type 0 where
@@ -58,14 +60,14 @@ IsGreeting h frame =
 -- each effect leads from `P` to `Q`, and what follows leads back.
 pub record IsKeptByMoves (P Q : PrimaryHistory → Type 0) : Type 0 where
   pub following : (h : PrimaryHistory) → Q h → P (follows h).history
-  pub opens : (h : PrimaryHistory) (sync loss : ℕ) → (outward h).closed ≡ true → P h → Q (opened h sync loss)
+  pub opens : (h : PrimaryHistory) (sync loss : ℕ) → (outward h).closed ≡ true → are_fresh sync loss (known_tuples h) ≡ true → P h → Q (opened h sync loss)
   pub submits : (h : PrimaryHistory) (first : ℕ) (contents : List (List ℕ)) → MaySubmit h first contents → P h → Q (submitted h first contents)
   pub writes : (h : PrimaryHistory) (number : ℕ) → is_unfinished h number ≡ true → P h → Q (with_outcome number OnDisk h)
   pub faults : (h : PrimaryHistory) (number : ℕ) (offsets : List ℕ) → is_unfinished h number ≡ true → P h → Q (faulted number offsets h)
   pub sends : (h : PrimaryHistory) → (outward h).closed ≡ false → (outward h).pushed < length (frames_due h.settings (outward h)) → P h → Q (with_outward pushing h)
   -- the frames that are accepted, each on the history with the frame taken
   pub greets : (h : PrimaryHistory) (frame : Received) → (outward h).closed ≡ false → (outward h).begun ≡ false → IsGreeting h frame → P h → Q (with_outward (with_frame frame) h)
-  pub begins : (h : PrimaryHistory) (peer : Tuple) (decided : Decision) → (outward h).closed ≡ false → (outward h).begun ≡ false → 1 < length (outward h).taken → decision h.tuple peer ≡ Ok decided → P h
+  pub begins : (h : PrimaryHistory) (peer : Tuple) (decided : Decision) → (outward h).closed ≡ false → (outward h).begun ≡ false → 1 < length (outward h).taken → decision h.tuple peer ≡ Ok decided → stands_in (outward h).loss peer ≡ false → P h
       → Q (begun_with decided (record (with_outward (with_frame (Ok (UuidsFrame peer))) h) { peer = Some peer }))
   pub receives : (h : PrimaryHistory) (ack : Acknowledged) → (outward h).closed ≡ false → (outward h).begun ≡ true → MayAcknowledge h is_write was_received ack → P h
       → Q (with_outward (with_frame (Ok (RecvAckFrame ack))) h)
@@ -95,13 +97,13 @@ kept-by-releases P Q same = record { writes = λ h number waiting p q. same (wit
 pub both-kept : (P Q P' Q' : PrimaryHistory → Type 0) → IsKeptByMoves P Q → IsKeptByMoves P' Q' → IsKeptByMoves (λ h. P h × P' h) (λ h. Q h × Q' h)
 both-kept P Q P' Q' one two = record {
   following = λ h q. (one.following h q.0, two.following h q.1);
-  opens = λ h sync loss closed p. (one.opens h sync loss closed p.0, two.opens h sync loss closed p.1);
+  opens = λ h sync loss closed fresh p. (one.opens h sync loss closed fresh p.0, two.opens h sync loss closed fresh p.1);
   submits = λ h first contents may p. (one.submits h first contents may p.0, two.submits h first contents may p.1);
   writes = λ h number waiting p. (one.writes h number waiting p.0, two.writes h number waiting p.1);
   faults = λ h number offsets waiting p. (one.faults h number offsets waiting p.0, two.faults h number offsets waiting p.1);
   sends = λ h standing due p. (one.sends h standing due p.0, two.sends h standing due p.1);
   greets = λ h frame standing new met p. (one.greets h frame standing new met p.0, two.greets h frame standing new met p.1);
-  begins = λ h peer decided standing new late is p. (one.begins h peer decided standing new late is p.0, two.begins h peer decided standing new late is p.1);
+  begins = λ h peer decided standing new late is fresh p. (one.begins h peer decided standing new late is fresh p.0, two.begins h peer decided standing new late is fresh p.1);
   receives = λ h ack standing begun may p. (one.receives h ack standing begun may p.0, two.receives h ack standing begun may p.1);
   applies = λ h ack standing begun may p. (one.applies h ack standing begun may p.0, two.applies h ack standing begun may p.1);
   clears = λ h ack standing begun may p. (one.clears h ack standing begun may p.0, two.clears h ack standing begun may p.1);
@@ -164,7 +166,8 @@ module _ (P Q : PrimaryHistory → Type 0) (K : IsKeptByMoves P Q) (R : IsKeptBy
   keeps-open : (sync loss : ℕ) (starved : Bool) (h : PrimaryHistory) → P h → P (open_primary sync loss starved h).1
   keeps-open sync loss starved h p = tested-keeps P h (open_tests h sync loss starved) (λ _. succeeding what.Nothing (opened h sync loss)) p (λ none.
       let first = test-passed (not (outward h).closed) NotDrained ((not (are_fresh sync loss (known_tuples h)), UsedIdentifier) ∷ (nat_le 4294967295 (length h.connections), StreamFull) ∷ (starved, NoMemory) ∷ []) none in
-      K.following (opened h sync loss) (K.opens h sync loss (not-false (outward h).closed first.0) p))
+      let second = test-passed (not (are_fresh sync loss (known_tuples h))) UsedIdentifier ((nat_le 4294967295 (length h.connections), StreamFull) ∷ (starved, NoMemory) ∷ []) first.1 in
+      K.following (opened h sync loss) (K.opens h sync loss (not-false (outward h).closed first.0) (not-false (are_fresh sync loss (known_tuples h)) second.0) p))
 
   keeps-submit : (first : ℕ) (contents : List (List ℕ)) (starved : Bool) (h : PrimaryHistory) → P h → P (submit first contents starved h).1
   keeps-submit first contents starved h p =
@@ -183,7 +186,7 @@ module _ (P Q : PrimaryHistory → Type 0) (K : IsKeptByMoves P Q) (R : IsKeptBy
       let four = test-passed (nat_le h.settings.backlog (length (unreleased h))) LogFull t5 three.1 in
       let five = test-passed (is_some met) (Conflict (unwrap_or met 0)) t6 four.1 in
       let six = test-passed (activity_is_full h (extent_of first)) ActivityFull t7 five.1 in
-      K.following (submitted h first contents) (K.submits h first contents (record { range = not-false (is_range h.settings first (length contents)) one.0; free = five.0; active = six.0 }) p))
+      K.following (submitted h first contents) (K.submits h first contents (record { range = not-false (is_range h.settings first (length contents)) one.0; free = five.0; active = six.0; connected = two.0 }) p))
 
   keeps-local : (number : ℕ) (h : PrimaryHistory) → P h → P (local_done number h).1
   keeps-local number h p = tested-keeps P h ((not (is_unfinished h number), UnknownJob) ∷ []) (λ _. succeeding what.Nothing (releasing h (with_outcome number OnDisk h))) p (λ none.
@@ -232,7 +235,7 @@ module _ (P Q : PrimaryHistory → Type 0) (K : IsKeptByMoves P Q) (R : IsKeptBy
 
   keeps-meeting : (h : PrimaryHistory) → (outward h).closed ≡ false → (outward h).begun ≡ false → 1 < length (outward h).taken → P h → (peer : Tuple)
       → Fine Q (with_outward (with_frame (Ok (UuidsFrame peer))) h) (meeting peer (with_outward (with_frame (Ok (UuidsFrame peer))) h))
-  keeps-meeting h standing new late p peer = go (stands_in (outward taken).sync peer || stands_in (outward taken).loss peer) (decision h.tuple peer) refl
+  keeps-meeting h standing new late p peer = go (stands_in (outward taken).sync peer || stands_in (outward taken).loss peer) (decision h.tuple peer) refl refl
     where
       taken : PrimaryHistory
       taken = with_outward (with_frame (Ok (UuidsFrame peer))) h
@@ -240,13 +243,20 @@ module _ (P Q : PrimaryHistory → Type 0) (K : IsKeptByMoves P Q) (R : IsKeptBy
       seen : PrimaryHistory
       seen = record (with_outward (with_frame (Ok (UuidsFrame peer))) h) { peer = Some peer }
 
-      go : (used : Bool) (v : Result Decision Refusal) → decision h.tuple peer ≡ v → Fine Q (with_outward (with_frame (Ok (UuidsFrame peer))) h) (elim used as (λ _. Taken) [
+      -- the words are those of the end before the frame
+      fresh-words : (stands_in (outward taken).sync peer || stands_in (outward taken).loss peer) ≡ false → stands_in (outward h).loss peer ≡ false
+      fresh-words used = elim (last-change (with_frame (Ok (UuidsFrame peer))) (no_outward h.tuple) (no_outward h.tuple) h.connections) [
+        | inl none ↦ absurd (both_ways (outward h).closed standing (ap (λ (l : List Outward). (last_of (no_outward h.tuple) l).closed) none))
+        | inr last ↦ ap (λ (c : Outward). stands_in c.loss peer) (sym last) ∙ (or_parts (stands_in (outward taken).sync peer) (stands_in (outward taken).loss peer) used).1
+      ]
+
+      go : (used : Bool) (v : Result Decision Refusal) → (stands_in (outward taken).sync peer || stands_in (outward taken).loss peer) ≡ used → decision h.tuple peer ≡ v → Fine Q (with_outward (with_frame (Ok (UuidsFrame peer))) h) (elim used as (λ _. Taken) [
         | true ↦ Err (UsedIdentifier, record (with_outward (with_frame (Ok (UuidsFrame peer))) h) { peer = Some peer })
         | false ↦ elim v as (λ _. Taken) [ Err refusal ↦ Err (refusal, record (with_outward (with_frame (Ok (UuidsFrame peer))) h) { peer = Some peer }) | Ok decided ↦ Ok (what.Decided decided, begun_with decided (record (with_outward (with_frame (Ok (UuidsFrame peer))) h) { peer = Some peer })) ]
       ])
-      go true v is = (Some peer, refl)
-      go false (Err refusal) is = (Some peer, refl)
-      go false (Ok decided) is = K.begins h peer decided standing new late is p
+      go true v used is = (Some peer, refl)
+      go false (Err refusal) used is = (Some peer, refl)
+      go false (Ok decided) used is = K.begins h peer decided standing new late is (fresh-words used) p
 
   keeps-hello : (h : PrimaryHistory) → (outward h).closed ≡ false → (outward h).begun ≡ false → P h → (n : ℕ) (packet : Packet) → length (outward h).taken ≡ n
       → Fine Q (with_outward (with_frame (Ok packet)) h) (taking_hello n packet (with_outward (with_frame (Ok packet)) h))

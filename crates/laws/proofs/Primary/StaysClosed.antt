@@ -78,13 +78,13 @@ stays-kept p = record {
   following = following-from (StaysClosed p) (StaysClosed p) (StaysClosed p) (λ h stays. stays-same p h _ refl stays)
       (λ g over stays. stays-change p g _ _ refl (open-stands (outward g) (and_parts (stands (outward g)) _ over).0) stays) (λ g on stays. stays)
       (λ g over stays. stays-change p g _ _ refl (open-stands (outward g) (over-stands g over)) stays) (λ g stays. stays);
-  opens = λ h sync loss closed stays. record { same = λ k c at was. get-left h.connections _ k c (stays.same k c at was) };
+  opens = λ h sync loss closed fresh stays. record { same = λ k c at was. get-left h.connections _ k c (stays.same k c at was) };
   submits = λ h first contents may stays. stays-submits p h first contents stays;
   writes = λ h number waiting stays. stays-same p h _ refl stays;
   faults = λ h number offsets waiting stays. stays-faults p h number offsets stays;
   sends = λ h standing due stays. stays-change p h _ pushing refl standing stays;
   greets = λ h frame standing new met stays. stays-change p h _ (with_frame frame) refl standing stays;
-  begins = λ h peer decided standing new late is stays. stays-begins p h peer decided standing stays;
+  begins = λ h peer decided standing new late is fresh stays. stays-begins p h peer decided standing stays;
   receives = λ h ack standing begun may stays. stays-change p h _ (with_frame _) refl standing stays;
   applies = λ h ack standing begun may stays. stays-change p h _ (with_frame _) refl standing stays;
   clears = λ h ack standing begun may stays. stays-change p h _ (with_frame _) refl standing stays;

@@ -136,7 +136,7 @@ numbers-begun h FullSync numbers = numbers
 pub known-kept : IsKeptByMoves IsKnown IsKnown
 known-kept = record {
   following = known-following;
-  opens = λ h sync loss closed known. record { tracked = tracked-opens h sync loss closed known.tracked; numbers = known.numbers };
+  opens = λ h sync loss closed fresh known. record { tracked = tracked-opens h sync loss closed fresh known.tracked; numbers = known.numbers };
   submits = λ h first contents may known. record {
     tracked = tracked-submits h first contents may (fresh-number h known.numbers) known.tracked (homes-kept.submits h first contents may known.tracked.homes);
     numbers = numbers-submitted h first contents known.numbers;
@@ -148,8 +148,8 @@ known-kept = record {
   };
   sends = λ h standing due known. record { tracked = tracked-sends h standing known.tracked (homes-kept.sends h standing due known.tracked.homes); numbers = known.numbers };
   greets = λ h frame standing new met known. record { tracked = tracked-takes h frame standing known.tracked (homes-kept.greets h frame standing new met known.tracked.homes); numbers = known.numbers };
-  begins = λ h peer decided standing new late is known. record {
-    tracked = tracked-begins h peer decided standing new known.tracked (homes-kept.begins h peer decided standing new late is known.tracked.homes);
+  begins = λ h peer decided standing new late is fresh known. record {
+    tracked = tracked-begins h peer decided standing new known.tracked (homes-kept.begins h peer decided standing new late is fresh known.tracked.homes);
     numbers = numbers-begun (record (with_outward (with_frame (Ok (UuidsFrame peer))) h) { peer = Some peer }) decided known.numbers;
   };
   receives = λ h ack standing begun may known. record { tracked = tracked-takes h _ standing known.tracked (homes-kept.receives h ack standing begun may known.tracked.homes); numbers = known.numbers };

@@ -10,10 +10,10 @@ use Rattle.blocks.specs.declared.outcome.Decision.TheVariants.{NoSync, BitmapSyn
 use Rattle.model.specs.Contents.{covers}
 use Rattle.model.specs.Stream.{Item, WriteItem, ResyncItem, BarrierItem, SyncUuidItem, UuidsItem, last_epoch}
 use Rattle.model.specs.Frames.{Received, UuidsFrame, RsWriteAckFrame, Acknowledged, naming}
-use Rattle.model.specs.Identifiers.{sync_start, sync_end, lost}
+use Rattle.model.specs.Identifiers.{are_fresh, sync_start, sync_end, lost}
 use Rattle.model.specs.Marks.{Marks, clearing, marking_all, marking_unreleased}
 use Rattle.model.specs.Primary.{Accepted, Completion, Outward, PrimaryHistory, no_outward, last_of, outward, last_index, change_last, with_outward, stands, is_on_disk, is_completed, is_open, is_answered, is_alone, completes, in_resync, resync_runs, under_way, marked_blocks, is_resync, was_resynced, same_naming, items_sent}
-use Rattle.model.specs.PrimarySteps.{newly_completed, completion_of, with_completions, epoch_is_over, appending, resync_is_over, ending_resync, opened, closing, receipted}
+use Rattle.model.specs.PrimarySteps.{known_tuples, newly_completed, completion_of, with_completions, epoch_is_over, appending, resync_is_over, ending_resync, opened, closing, receipted}
 use Rattle.model.specs.Acknowledgements.{begun_with}
 use Rattle.laws.specs.Reflections.{content_at}
 use Rattle.laws.proofs.Blocks.LatestPlaces.{latest-last}
@@ -88,11 +88,11 @@ tracked-ending g over t = tracked-appending g (UuidsItem (sync_end g.tuple)) (sy
 -- Connections open, begin and close.
 
 -- A new connection has not begun.
-pub tracked-opens : (h : PrimaryHistory) (sync loss : ℕ) → (outward h).closed ≡ true → IsTracked h → IsTracked (opened h sync loss)
-tracked-opens h sync loss closed t =
+pub tracked-opens : (h : PrimaryHistory) (sync loss : ℕ) → (outward h).closed ≡ true → are_fresh sync loss (known_tuples h) ≡ true → IsTracked h → IsTracked (opened h sync loss)
+tracked-opens h sync loss closed fresh t =
     let new : Outward = record { sync = sync; loss = loss; hello = h.tuple; stream = []; pushed = 0; taken = []; refused = false; begun = false; closed = false } in
     let none : stands (outward (opened h sync loss)) ≡ false = ap stands (last-more (no_outward h.tuple) new h.connections) in
-    tracked-quiet h (h.connections ++ new ∷ []) h.marks h.tuple h.peer h.receipts t (homes-kept.opens h sync loss closed t.homes) (λ block. latest-opened h.connections new block refl)
+    tracked-quiet h (h.connections ++ new ∷ []) h.marks h.tuple h.peer h.receipts t (homes-kept.opens h sync loss closed fresh t.homes) (λ block. latest-opened h.connections new block refl)
     (λ stood. absurd (both_ways (stands (outward (opened h sync loss))) none stood)) (λ place block contents stood there. absurd (both_ways (stands (outward (opened h sync loss))) none stood)) t.equal
 
 -- a stream without items has no block of a resync, nor has one that only begins a resync
