@@ -102,7 +102,7 @@ pub held-covers : (h : PrimaryHistory) (block i : ℕ) (accepted : Accepted) →
 held-covers h block i accepted at held covered = any-filtered (λ (a : Accepted). covers a.write block) (λ (a : Accepted). not (is_released h a)) h.writes i accepted at (subst (λ b. not b ≡ true) (sym held) refl) covered
 
 -- the epoch of a place in a stream that grew
-epoch-same : (stream longer : List Item) (place : ℕ) → IsBeginning stream longer → place ≤ length stream → epoch_of longer place ≡ epoch_of stream place
+pub epoch-same : (stream longer : List Item) (place : ℕ) → IsBeginning stream longer → place ≤ length stream → epoch_of longer place ≡ epoch_of stream place
 epoch-same stream longer place b within = ap (λ (l : List Item). epoch_of l place) (sym b.1) ∙ epoch-grows stream b.0 place within
 
 -- what is sure stays so

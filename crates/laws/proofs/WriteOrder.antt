@@ -1,3 +1,4 @@
 -- The order of writes that a consistent secondary keeps.
 pub mod Layers
 pub mod Sets
+pub mod Turns

@@ -38,7 +38,7 @@ unsettled-at h c place item going same at =
     pick-none (is_settled h c) (items_of_epoch c.stream (last_epoch c.stream)) found.0 (place, item) going.unsettled found.1
 
 -- an accepted write of the open last epoch is open itself
-write-open : (h : PrimaryHistory) (c : Outward) (k place : ℕ) (write : Write) → HasHomes h → slice_get h.connections k ≡ Some c → IsEndOpen h c
+pub write-open : (h : PrimaryHistory) (c : Outward) (k place : ℕ) (write : Write) → HasHomes h → slice_get h.connections k ≡ Some c → IsEndOpen h c
     → epoch_of c.stream place ≡ last_epoch c.stream → slice_get c.stream place ≡ Some (WriteItem write)
     → (m : ℕ) × (accepted : Accepted) × (slice_get (open_writes h) m ≡ Some accepted) × (accepted.write ≡ write)
 write-open h c k place write homes there going same at =

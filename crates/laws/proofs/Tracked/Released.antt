@@ -118,7 +118,7 @@ ordered-release settings h later release p q = (
   (q.1.0, (lawful-marks settings later _ q.1.1.0, order-same later (releasing h later) q.1.1.1 refl (keeps-writes later.writes))),
 )
 
-ordered-released : (settings : Settings) → IsKeptByReleases (Ordered settings) (OrderedAfter settings)
+pub ordered-released : (settings : Settings) → IsKeptByReleases (Ordered settings) (OrderedAfter settings)
 ordered-released settings = record {
   writes = λ h number waiting p q. ordered-release settings h (with_outcome number OnDisk h) (done-releases h number p.1.1.0.0) p q;
   confirms = λ h number size standing begun turn p q. ordered-release settings h _ (confirmed-releases settings h number size standing p) p q;
