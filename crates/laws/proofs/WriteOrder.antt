@@ -1,4 +1,5 @@
 -- The order of writes that a consistent secondary keeps.
 pub mod Layers
 pub mod Sets
+pub mod Spans
 pub mod Turns

@@ -36,6 +36,7 @@ pub record AreInTurn (p : PrimaryHistory) : Type 0 where
 pub record IsRead (p : PrimaryHistory) (k : ℕ) (c : Outward) (older place block : ℕ) (contents : List ℕ) : Type 0 where
   pub count : ℕ
   pub more : older ≤ count
+  pub bound : count ≤ length p.writes
   pub content : writes_over p.opening_map count p.writes block ≡ Some contents
   pub before : (n : ℕ) (a : Accepted) → older ≤ n → n < count → slice_get p.writes n ≡ Some a → covers a.write block ≡ true → (other : ℕ) × (a.home ≡ Some (k, other)) × (other < place) × (epoch_of c.stream other < epoch_of c.stream place)
   pub after : (n other : ℕ) (a : Accepted) → count ≤ n → slice_get p.writes n ≡ Some a → a.home ≡ Some (k, other) → place < other
