@@ -2,4 +2,7 @@
 pub mod Layers
 pub mod Sets
 pub mod Spans
+pub mod SpanMoves
+pub mod SpanKept
+pub mod SpanSteps
 pub mod Turns

@@ -47,7 +47,7 @@ carries-open h sync loss =
       writes = λ i a at. (a, at, refl, refl, λ w. w);
     }
 
-keeps-open : (h : PrimaryHistory) (sync loss : ℕ) → KeepsBegun h (opened h sync loss)
+pub keeps-open : (h : PrimaryHistory) (sync loss : ℕ) → KeepsBegun h (opened h sync loss)
 keeps-open h sync loss =
     let new : Outward = record { sync = sync; loss = loss; hello = h.tuple; stream = []; pushed = 0; taken = []; refused = false; begun = false; closed = false } in
     record {
@@ -63,7 +63,7 @@ same-some : {X : Type 0} {x y : X} → Some x ≡ Some y → x ≡ y
 same-some {X} {x} {y} e = cc
 
 -- An acknowledgement of a resync names a block that is under way.
-named-item : (h : PrimaryHistory) (ack : Acknowledged) → (outward h).closed ≡ false → (outward h).begun ≡ true → MayAcknowledge h is_resync was_resynced ack
+pub named-item : (h : PrimaryHistory) (ack : Acknowledged) → (outward h).closed ≡ false → (outward h).begun ≡ true → MayAcknowledge h is_resync was_resynced ack
     → (contents : List ℕ) × IsUnderWay (outward h) ack.place ack.first contents × (same_naming (naming ack.place (ResyncItem ack.first contents)) ack ≡ true)
 named-item h ack standing begun may = go (slice_get (outward h).stream ack.place) refl may.names may.first
   where
@@ -94,7 +94,7 @@ named-item h ack standing begun may = go (slice_get (outward h).stream ack.place
     go (Some item) is names first = one item is names first
 
 -- once its frame is taken, the block is acknowledged
-resynced-now : (h : PrimaryHistory) (ack : Acknowledged) (contents : List ℕ) → (outward h).refused ≡ false → same_naming (naming ack.place (ResyncItem ack.first contents)) ack ≡ true
+pub resynced-now : (h : PrimaryHistory) (ack : Acknowledged) (contents : List ℕ) → (outward h).refused ≡ false → same_naming (naming ack.place (ResyncItem ack.first contents)) ack ≡ true
     → was_resynced (with_frame (Ok (RsWriteAckFrame ack)) (outward h)) ack.place (ResyncItem ack.first contents) ≡ true
 resynced-now h ack contents plain same =
     let test = is_rs_write_ack (naming ack.place (ResyncItem ack.first contents)) in

@@ -83,10 +83,10 @@ account-release h later clears order known a = record {
     keeps = record { forward = λ k c at begun. (c, at, begun, begins-self c.taken); back = λ k d at. inl (d, at, refl) }
 
 -- The order and the account together.
-abbrev Both : Settings → PrimaryHistory → Type 0
+abbrev pub Both : Settings → PrimaryHistory → Type 0
 Both settings h = Ordered settings h × IsAccounted h
 
-abbrev BothAfter : Settings → PrimaryHistory → Type 0
+abbrev pub BothAfter : Settings → PrimaryHistory → Type 0
 BothAfter settings h = OrderedAfter settings h × IsAccounted h
 
 both-release : (settings : Settings) (h later : PrimaryHistory) → IsRelease h later → Both settings h → BothAfter settings later → BothAfter settings (releasing h later)
@@ -94,7 +94,7 @@ both-release settings h later release p q =
     let ordered = ordered-release settings h later release p.0 q.0 in
     (ordered, account-release h later (λ block cleared. release-clears settings h later block p.0 q.0.1.1.0.0 q.0.1.0 release cleared) q.0.1.1.1 ordered.0 q.1)
 
-both-released : (settings : Settings) → IsKeptByReleases (Both settings) (BothAfter settings)
+pub both-released : (settings : Settings) → IsKeptByReleases (Both settings) (BothAfter settings)
 both-released settings = record {
   writes = λ h number waiting p q. both-release settings h (with_outcome number OnDisk h) (done-releases h number p.0.1.1.0.0) p q;
   confirms = λ h number size standing begun turn p q. both-release settings h _ (confirmed-releases settings h number size standing p.0) p q;

@@ -32,7 +32,7 @@ open-is-last h k c all at unshut =
     ]
 
 -- a change of the last connection keeps it
-changes : (cs : List Outward) (f : Outward → Outward) → ((k : ℕ) (c : Outward) → slice_get cs k ≡ Some c → suc k < length cs → c.closed ≡ true)
+pub changes : (cs : List Outward) (f : Outward → Outward) → ((k : ℕ) (c : Outward) → slice_get cs k ≡ Some c → suc k < length cs → c.closed ≡ true)
     → (k : ℕ) (c : Outward) → slice_get (change_last f cs) k ≡ Some c → suc k < length (change_last f cs) → c.closed ≡ true
 changes [] f all k c at less = absurd (cc)
 changes (x ∷ cs) f all k c at less =

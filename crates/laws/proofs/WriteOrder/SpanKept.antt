@@ -1,0 +1,139 @@
+-- Every move of a primary keeps the spans of its connections.
+use Rattle.std.proofs.Common.{ℕ, zero, suc, ◌≡◌, ◌-◌, ◌+◌, ◌<◌, ◌≤◌, ◌⊎◌, inl, inr, Bool, true, false, not, ◌&&◌, ◌||◌, ◌==◌, nat_lt, List, [], ◌∷◌, ◌++◌, length, take, map, Option, Some, None, slice_get, Ok, refl, sym, ◌∙◌, ap, subst, arith, length-append}
+use Rattle.std.specs.Prelude.{is_some, unwrap_or, if◌then◌else◌}
+use Rattle.std.specs.List.{list_any}
+use Rattle.std.proofs.lemmas.Bool.{cases_Bool, cases_lt, both_ways, and_parts, and_cases, and_from, and_left, and_right, or_parts, not-true, not-false, eqb-true, eq-eqb, ltb-true, lt-ltb, false_from_ne_true}
+use Rattle.std.proofs.lemmas.Option.{slice_get_within, slice_get-map}
+use Rattle.std.proofs.lemmas.List.{take-map, append-nil}
+use Rattle.std.proofs.Math.Seq.{take-append_seam}
+use Rattle.blocks.specs.declared.settings.Settings.{Settings}
+use Rattle.blocks.specs.declared.tuple.Tuple.{Tuple}
+use Rattle.blocks.specs.declared.outcome.Decision.{Decision}
+use Rattle.blocks.specs.declared.outcome.Decision.TheVariants.{NoSync, BitmapSync, FullSync}
+use Rattle.blocks.specs.SettingsRange.{IsInRange}
+use Rattle.model.specs.Contents.{BlockMap, Layer, Write, covers, block_under, overlay}
+use Rattle.model.specs.Stream.{Item, WriteItem, ResyncItem, BarrierItem, SyncUuidItem, UuidsItem, IsBeginning, epoch_of, last_epoch, below, within}
+use Rattle.model.specs.Frames.{Received, Acknowledged, UuidsFrame, RsWriteAckFrame, BarrierAckFrame, naming}
+use Rattle.model.specs.Identifiers.{decision, sync_end}
+use Rattle.model.specs.Marks.{Marks, marking, marking_unreleased, clearing, releasing, is_cleared}
+use Rattle.model.specs.Primary.{LocalOutcome, Waiting, OnDisk, Failed, Accepted, Outward, PrimaryHistory, no_outward, outward, last_index, change_last, with_outward, stands, local_layer, local_map, offset_reached, is_waiting, is_failed, is_open, open_writes, is_resync, was_resynced, resync_runs, in_resync, under_way, marked_blocks, free_block, accepted_frames, primary_opening, unreleased, is_released}
+use Rattle.model.specs.PrimarySteps.{set_outcome, with_completions, epoch_is_over, resync_is_over, appending, ending_resync, follows, opened, submission, submitted, with_outcome, is_unfinished, accepted_at, faulted, closing, receipted}
+use Rattle.model.specs.Acknowledgements.{begun_with}
+use Rattle.model.specs.LocalRuns.{PrimaryEvent, primary_run}
+use Rattle.model.specs.Headline.{is_marked, is_covered}
+use Rattle.laws.specs.Reflections.{touches, is_sure, FirstBegan, NoneBegan, FromItem, FromOpening}
+use Rattle.laws.proofs.Lists.Beginnings.{begins-self, take-begins}
+use Rattle.laws.proofs.Lists.Elements.{get-left, get-more, get-end, same-at}
+use Rattle.laws.proofs.Lists.Last.{get-change, get-change-back, change-none, change-twice, get-last-changed, last-at}
+use Rattle.laws.proofs.Lists.Picks.{pick-any, pick-image, pick-filtered, filtered-pick, pick-found, pick-none, any-filtered, found-passes, pick-below}
+use Rattle.laws.proofs.Blocks.Overlays.{overlay-agrees, under-alike, under-outside, overlay-some}
+use Rattle.laws.proofs.Streams.Lawful.{epoch-end, epoch-bound}
+use Rattle.laws.proofs.Streams.Places.{epoch-grows}
+use Rattle.laws.proofs.Primary.Homes.{HasHomes, Grows, grows-self, KeepsConnection, open-at, outcome-write, outcome-home}
+use Rattle.laws.proofs.Primary.Moves.{IsKeptByMoves, IsKeptByReleases, MaySubmit, MayAcknowledge, following-from, both-kept, keeps-run, with_frame, refusing, pushing}
+use Rattle.laws.proofs.Primary.Ends.{stands-parts, not-refused, frames-taking, frames-refusing}
+use Rattle.laws.proofs.Primary.LastOpen.{IsLastOpen, changes, open-is-last}
+use Rattle.laws.proofs.Primary.StaysClosed.{open-stands, over-stands}
+use Rattle.laws.proofs.Primary.LastEpoch.{end-open, write-open}
+use Rattle.laws.proofs.Primary.Releases.{IsRelease, IsCleared, done-releases, confirmed-releases, release-clears}
+use Rattle.laws.proofs.Primary.InOrderMoves.{Ordered, OrderedAfter, in-order-kept}
+use Rattle.laws.proofs.Tracked.Kept.{IsKnown}
+use Rattle.laws.proofs.Tracked.Released.{ordered-opening}
+use Rattle.laws.proofs.Accounted.{IsAccounted, KeepsBegun}
+use Rattle.laws.proofs.Accounted.Moves.{first-carries}
+use Rattle.laws.proofs.Accounted.Steps.{begun-change}
+use Rattle.laws.proofs.Accounted.Kept.{accounted-kept, accounted-opening, waits-open, keeps-open, named-item, resynced-now}
+use Rattle.laws.proofs.Accounted.Reflected.{reflected, rest-marked}
+use Rattle.laws.proofs.Accounted.Released.{Both, BothAfter, both-released}
+use Rattle.laws.proofs.WriteOrder.Layers.{full_layer, writes_over}
+use Rattle.laws.proofs.WriteOrder.Sets.{IsRead}
+use Rattle.laws.proofs.WriteOrder.Spans.{NoneFailed, IsTold, left_by, FromBelow, OpeningBelow, WasBelow, IsSpan, Passes, Extends, below-passes, span-passes}
+use Rattle.laws.proofs.WriteOrder.SpanMoves.{HasSpans, SameOpening, KeepsFirst, passes-change, span-shut, last-end, spans-with, KeepsSpan, keeps-quiet, spans-change}
+
+-- The moves that change the last connection alone, and its stream not.
+
+-- a connection that keeps its stream, and has more frames
+pub grows-with : (c d : Outward) → d.stream ≡ c.stream → c.pushed ≤ d.pushed → IsBeginning (accepted_frames c) (accepted_frames d) → Grows c d
+grows-with c d stream pushed frames = record { stream = subst (λ (l : List Item). IsBeginning c.stream l) (sym stream) (begins-self c.stream); pushed = pushed; frames = frames }
+
+-- one whose stream goes on
+pub grows-item : (c : Outward) (item : Item) → Grows c (record c { stream = c.stream ++ item ∷ [] })
+grows-item c item = record { stream = (item ∷ [], refl); pushed = omega arith; frames = begins-self (accepted_frames c) }
+
+-- no connection and no write changes, and no mark goes away
+pub spans-still : (h later : PrimaryHistory) → IsLastOpen h → later.connections ≡ h.connections → later.writes ≡ h.writes → SameOpening h later → ((block : ℕ) → later.marks block ≡ false → h.marks block ≡ false) → HasSpans h → HasSpans later
+spans-still h later last connections writes opening marks t =
+    let same : later.connections ≡ change_last (λ (c : Outward). c) h.connections = connections ∙ sym (change-none h.connections) in
+    spans-change h later (λ c. c) last (passes-change h later (λ c. c) same writes opening (λ decided. first-carries h later decided (begun-change h later (λ c. c) same refl (begins-self (outward h).taken)) opening.1.0)) same (ap length writes)
+    (keeps-quiet h later (outward h) refl (λ k at. grows-self (outward h)) (λ is. is) refl (λ unshut block unmarked. marks block unmarked)) t
+
+-- the last connection changes, and neither its stream nor whether it began
+pub spans-end : (h later : PrimaryHistory) (f : Outward → Outward) → IsLastOpen h → later.connections ≡ change_last f h.connections → later.writes ≡ h.writes → SameOpening h later → (f (outward h)).begun ≡ (outward h).begun
+    → IsBeginning (outward h).taken (f (outward h)).taken → KeepsSpan h later (f (outward h)) → HasSpans h → HasSpans later
+spans-end h later f last connections writes opening begun taken keeps t =
+    spans-change h later f last (passes-change h later f connections writes opening (λ decided. first-carries h later decided (begun-change h later f connections begun taken) opening.1.0)) connections (ap length writes) keeps t
+
+-- A frame is taken, and no mark goes away but with a word of the peer.
+pub spans-takes : (h later : PrimaryHistory) (frame : Received) → HasHomes h → IsLastOpen h → (outward h).closed ≡ false → later.connections ≡ change_last (with_frame frame) h.connections → later.writes ≡ h.writes → SameOpening h later
+    → ((block : ℕ) → later.marks block ≡ false → (h.marks block ≡ false) ⊎ IsTold (with_frame frame (outward h)) block) → HasSpans h → HasSpans later
+spans-takes h later frame homes last standing connections writes opening marks t =
+    spans-end h later (with_frame frame) last connections writes opening refl (frame ∷ [], refl) (record {
+      grows = λ k at. grows-with (outward h) (with_frame frame (outward h)) refl (omega arith) (frames-taking (outward h) frame (not-refused h homes standing k at));
+      unshut = λ is. is;
+      begun = refl;
+      marks = λ fine unshut block inside unmarked. marks block unmarked;
+      reads = λ k older newer at s fine place block contents there. inl there;
+      ends = λ n tuple there. inl there;
+    }) t
+
+-- an item that is no block of a resync goes to the end of the stream, and no end of one but where nothing is marked
+pub spans-appends : (h later : PrimaryHistory) (item : Item) → IsLastOpen h → later.connections ≡ change_last (λ c. record c { stream = c.stream ++ item ∷ [] }) h.connections → later.writes ≡ h.writes → SameOpening h later
+    → ((block : ℕ) → later.marks block ≡ false → h.marks block ≡ false)
+    → ((block : ℕ) (contents : List ℕ) → item ≡ ResyncItem block contents → ⊥) → ((tuple : Tuple) → item ≡ UuidsItem tuple → ((outward h).closed ≡ false) × ((block : ℕ) → block < h.settings.blocks → h.marks block ≡ false)) → HasSpans h → HasSpans later
+spans-appends h later item last connections writes opening marks other over t =
+    let f : Outward → Outward = λ c. record c { stream = c.stream ++ item ∷ [] } in
+    spans-end h later f last connections writes opening refl (begins-self (outward h).taken) (record {
+      grows = λ k at. grows-item (outward h) item;
+      unshut = λ is. is;
+      begun = refl;
+      marks = λ fine unshut block inside unmarked. inl (marks block unmarked);
+      reads = λ k older newer at s fine place block contents there. elim (get-more (outward h).stream item place (ResyncItem block contents) there) [ inl old ↦ inl old | inr new ↦ absurd (other block contents (sym new.1)) ];
+      ends = λ n tuple there. elim (get-more (outward h).stream item n (UuidsItem tuple) there) [ inl old ↦ inl old | inr new ↦ inr (over tuple (sym new.1)) ];
+    }) t
+
+below-length : (n : ℕ) → length (below n) ≡ n
+below-length zero = refl
+below-length (suc n) = length-append (below n) (n ∷ []) ∙ (let rest = below-length n in omega arith)
+
+-- each number below a number stands among those
+below-at : (n k : ℕ) → k < n → slice_get (below n) k ≡ Some k
+below-at zero k less = absurd (omega arith)
+below-at (suc n) k less = elim (cases_lt k n) [
+  | inl low ↦ get-left (below n) (n ∷ []) k k (below-at n k low)
+  | inr high ↦
+      let index : k ≡ n = omega arith in
+      let end : slice_get (below n ++ n ∷ []) n ≡ Some n = subst (λ (m : ℕ). slice_get (below n ++ n ∷ []) m ≡ Some n) (below-length n) (get-end (below n) n) in
+      subst (λ (m : ℕ). slice_get (below n ++ n ∷ []) m ≡ Some m) (sym index) end
+]
+
+-- What follows an effect: the end of a resync comes where no block is marked.
+unmarked-over : (g : PrimaryHistory) → resync_is_over g ≡ true → (block : ℕ) → block < g.settings.blocks → g.marks block ≡ false
+unmarked-over g over block inside = false_from_ne_true (g.marks block) (λ marked. go (resync_runs (outward g)) over marked)
+  where
+    go : (b : Bool) → elim b as (λ _. Bool) [ false ↦ false | true ↦ (length (marked_blocks g) == 0) && (length (under_way (outward g)) == 0) ] ≡ true → g.marks block ≡ true → ⊥
+    go false over marked = cc
+    go true over marked =
+        let none = eqb-true (length (marked_blocks g)) 0 (and_parts (length (marked_blocks g) == 0) (length (under_way (outward g)) == 0) over).0 in
+        let there = filtered-pick g.marks (below g.settings.blocks) block block (below-at g.settings.blocks block inside) marked in
+        let within = slice_get_within (marked_blocks g) there.0 block there.1 in
+        omega arith
+
+-- Spans and that the last end alone may be open: kept by what follows an effect.
+abbrev pub Follows : PrimaryHistory → Type 0
+Follows h = IsLastOpen h × HasSpans h
+
+pub spans-following : (h : PrimaryHistory) → Follows h → Follows (follows h).history
+spans-following = following-from Follows Follows Follows
+    (λ h t. (t.0, spans-still h (with_completions h) t.0 refl refl (refl, (refl, (refl, refl))) (λ block is. is) t.1))
+    (λ g over t. (changes g.connections _ t.0, spans-appends g _ (BarrierItem (last_epoch (outward g).stream)) t.0 refl refl (refl, (refl, (refl, refl))) (λ block is. is) (λ block contents is. cc) (λ tuple is. absurd (cc)) t.1)) (λ g on t. t)
+    (λ g over t. (changes g.connections _ t.0, spans-appends g (ending_resync g) (UuidsItem (sync_end g.tuple)) t.0 refl refl (refl, (refl, (refl, refl))) (λ block is. is) (λ block contents is. cc) (λ tuple is. (open-stands (outward g) (over-stands g over), unmarked-over g over)) t.1)) (λ g t. t)
