@@ -5,4 +5,5 @@ pub mod Spans
 pub mod SpanMoves
 pub mod SpanKept
 pub mod SpanSteps
+pub mod SpanBegins
 pub mod Turns

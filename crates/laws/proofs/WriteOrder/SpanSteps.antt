@@ -89,7 +89,7 @@ passes-outcome h later number outcome connections writes opening fine = record {
     map-length [] = refl
     map-length (w ∷ ws) = ap suc (map-length ws)
 
-outcome-length : (number : ℕ) (outcome : LocalOutcome) (ws : List Accepted) → length (map (set_outcome number outcome) ws) ≡ length ws
+pub outcome-length : (number : ℕ) (outcome : LocalOutcome) (ws : List Accepted) → length (map (set_outcome number outcome) ws) ≡ length ws
 outcome-length number outcome [] = refl
 outcome-length number outcome (w ∷ ws) = ap suc (outcome-length number outcome ws)
 
@@ -125,10 +125,10 @@ none-failed-done h number homes waiting fine n a at = go (a.write.number == numb
         let same : found.1 ≡ a = same-at h.writes n found.1 a (subst (λ (m : ℕ). slice_get h.writes m ≡ Some found.1) index found.2) at in
         waits-not-failed a.outcome (subst (λ (x : Accepted). is_waiting x.outcome ≡ true) same parts.1)
 
-spans-done : (h : PrimaryHistory) (number : ℕ) → HasHomes h → IsLastOpen h → is_unfinished h number ≡ true → HasSpans h → HasSpans (with_outcome number OnDisk h)
+pub spans-done : (h : PrimaryHistory) (number : ℕ) → HasHomes h → IsLastOpen h → is_unfinished h number ≡ true → HasSpans h → HasSpans (with_outcome number OnDisk h)
 spans-done h number homes last waiting t = spans-outcome h (with_outcome number OnDisk h) number OnDisk last refl refl (refl, (refl, (refl, refl))) (none-failed-done h number homes waiting) (λ block unmarked. unmarked) t
 
-spans-faults : (h : PrimaryHistory) (number : ℕ) (offsets : List ℕ) → IsLastOpen h → HasSpans h → HasSpans (faulted number offsets h)
+pub spans-faults : (h : PrimaryHistory) (number : ℕ) (offsets : List ℕ) → IsLastOpen h → HasSpans h → HasSpans (faulted number offsets h)
 spans-faults h number offsets last t = go (accepted_at h number) refl
   where
     go : (v : Option Accepted) → accepted_at h number ≡ v → HasSpans (elim v as (λ _. PrimaryHistory) [ None ↦ h | Some accepted ↦ with_outcome number (Failed (within (length accepted.write.contents) offsets)) (record h { marks = marking accepted.write h.marks }) ])
@@ -145,7 +145,7 @@ spans-faults h number offsets last t = go (accepted_at h number) refl
         (λ block unmarked. (or_parts (h.marks block) (covers accepted.write block) unmarked).0) t
 
 -- A step releases writes: a block that it clears has a word of the peer.
-spans-releasing : (settings : Settings) (h later : PrimaryHistory) → IsRelease h later → Ordered settings h → OrderedAfter settings later → HasSpans later → HasSpans (releasing h later)
+pub spans-releasing : (settings : Settings) (h later : PrimaryHistory) → IsRelease h later → Ordered settings h → OrderedAfter settings later → HasSpans later → HasSpans (releasing h later)
 spans-releasing settings h later release p q t =
     let same : (releasing h later).connections ≡ change_last (λ (c : Outward). c) later.connections = sym (change-none later.connections) in
     spans-end later (releasing h later) (λ c. c) q.1.0 same refl (refl, (refl, (refl, refl))) refl (begins-self (outward later).taken) (record {

@@ -1,0 +1,229 @@
+-- The moves that open, begin or close a stream, accept a write or read a block of a resync keep the spans; so does every run.
+use Rattle.std.proofs.Common.{ℕ, zero, suc, ◌≡◌, ◌-◌, ◌+◌, ◌<◌, ◌≤◌, ◌⊎◌, inl, inr, Bool, true, false, not, ◌&&◌, ◌||◌, ◌==◌, nat_lt, List, [], ◌∷◌, ◌++◌, length, take, map, Option, Some, None, slice_get, Ok, refl, sym, ◌∙◌, ap, subst, arith, length-append}
+use Rattle.std.specs.Prelude.{is_some, unwrap_or, if◌then◌else◌}
+use Rattle.std.specs.List.{list_any}
+use Rattle.std.proofs.lemmas.Bool.{cases_Bool, cases_lt, both_ways, and_parts, and_cases, and_from, and_left, and_right, or_parts, not-true, not-false, eqb-true, eq-eqb, ltb-true, lt-ltb, false_from_ne_true}
+use Rattle.std.proofs.lemmas.Option.{slice_get_within, slice_get-map}
+use Rattle.std.proofs.lemmas.List.{take-map, append-nil}
+use Rattle.std.proofs.Math.Seq.{take-append_seam}
+use Rattle.blocks.specs.declared.settings.Settings.{Settings}
+use Rattle.blocks.specs.declared.tuple.Tuple.{Tuple}
+use Rattle.blocks.specs.declared.outcome.Decision.{Decision}
+use Rattle.blocks.specs.declared.outcome.Decision.TheVariants.{NoSync, BitmapSync, FullSync}
+use Rattle.blocks.specs.SettingsRange.{IsInRange}
+use Rattle.model.specs.Contents.{BlockMap, Layer, Write, covers, block_under, overlay}
+use Rattle.model.specs.Stream.{Item, WriteItem, ResyncItem, BarrierItem, SyncUuidItem, UuidsItem, IsBeginning, epoch_of, last_epoch, below, within}
+use Rattle.model.specs.Frames.{Received, Acknowledged, UuidsFrame, RsWriteAckFrame, BarrierAckFrame, naming}
+use Rattle.model.specs.Identifiers.{decision, sync_end}
+use Rattle.model.specs.Marks.{Marks, marking, marking_unreleased, clearing, releasing, is_cleared}
+use Rattle.model.specs.Primary.{LocalOutcome, Waiting, OnDisk, Failed, Accepted, Outward, PrimaryHistory, no_outward, outward, last_index, change_last, with_outward, stands, local_layer, local_map, offset_reached, is_waiting, is_failed, is_open, open_writes, is_resync, was_resynced, resync_runs, in_resync, under_way, marked_blocks, free_block, accepted_frames, primary_opening, unreleased, is_released}
+use Rattle.model.specs.PrimarySteps.{set_outcome, with_completions, epoch_is_over, resync_is_over, appending, ending_resync, follows, opened, submission, submitted, with_outcome, is_unfinished, accepted_at, faulted, closing, receipted}
+use Rattle.model.specs.Acknowledgements.{begun_with}
+use Rattle.model.specs.LocalRuns.{PrimaryEvent, primary_run}
+use Rattle.model.specs.Headline.{is_marked, is_covered}
+use Rattle.laws.specs.Reflections.{touches, is_sure, FirstBegan, NoneBegan, FromItem, FromOpening}
+use Rattle.laws.proofs.Lists.Beginnings.{begins-self, take-begins}
+use Rattle.laws.proofs.Lists.Elements.{get-left, get-more, get-end, same-at}
+use Rattle.laws.proofs.Lists.Last.{get-change, get-change-back, change-none, change-twice, get-last-changed, last-at}
+use Rattle.laws.proofs.Lists.Picks.{pick-any, pick-image, pick-filtered, filtered-pick, pick-found, pick-none, any-filtered, found-passes, pick-below}
+use Rattle.laws.proofs.Blocks.Overlays.{overlay-agrees, under-alike, under-outside, overlay-some}
+use Rattle.laws.proofs.Streams.Lawful.{epoch-end, epoch-bound}
+use Rattle.laws.proofs.Streams.Places.{epoch-grows}
+use Rattle.laws.proofs.Primary.Homes.{HasHomes, Grows, grows-self, KeepsConnection, open-at, outcome-write, outcome-home}
+use Rattle.laws.proofs.Primary.Moves.{IsKeptByMoves, IsKeptByReleases, MaySubmit, MayAcknowledge, following-from, both-kept, keeps-run, with_frame, refusing, pushing}
+use Rattle.laws.proofs.Primary.Ends.{stands-parts, not-refused, frames-taking, frames-refusing}
+use Rattle.laws.proofs.Primary.LastOpen.{IsLastOpen, changes, open-is-last}
+use Rattle.laws.proofs.Primary.StaysClosed.{open-stands, over-stands}
+use Rattle.laws.proofs.Primary.LastEpoch.{end-open, write-open}
+use Rattle.laws.proofs.Primary.Releases.{IsRelease, IsCleared, done-releases, confirmed-releases, release-clears}
+use Rattle.laws.proofs.Primary.InOrderMoves.{Ordered, OrderedAfter, in-order-kept}
+use Rattle.laws.proofs.Tracked.Kept.{IsKnown}
+use Rattle.laws.proofs.Tracked.Released.{ordered-opening}
+use Rattle.laws.proofs.Accounted.{IsAccounted, KeepsBegun}
+use Rattle.laws.proofs.Accounted.Moves.{first-carries}
+use Rattle.laws.proofs.Accounted.Steps.{begun-change}
+use Rattle.laws.proofs.Accounted.Kept.{accounted-kept, accounted-opening, waits-open, keeps-open, named-item, resynced-now}
+use Rattle.laws.proofs.Accounted.Reflected.{reflected, rest-marked}
+use Rattle.laws.proofs.Accounted.Released.{Both, BothAfter, both-released}
+use Rattle.laws.proofs.WriteOrder.Layers.{full_layer, writes_over}
+use Rattle.laws.proofs.WriteOrder.Sets.{IsRead}
+use Rattle.laws.proofs.WriteOrder.Spans.{NoneFailed, IsTold, left_by, FromBelow, OpeningBelow, WasBelow, IsSpan, Passes, Extends, below-passes, span-passes}
+use Rattle.std.proofs.lemmas.Bool.{le-leb}
+use Rattle.laws.proofs.WriteOrder.SpanMoves.{HasSpans, SameOpening, KeepsFirst, passes-change, span-shut, last-end, spans-with, KeepsSpan, keeps-quiet, spans-change}
+use Rattle.laws.proofs.WriteOrder.SpanKept.{grows-with, grows-item, spans-still, spans-end, spans-takes, spans-appends, spans-following}
+use Rattle.laws.proofs.WriteOrder.SpanSteps.{spans-done, spans-faults, spans-releasing}
+
+-- An acknowledged block of a resync.
+spans-clears : (h : PrimaryHistory) (ack : Acknowledged) → HasHomes h → IsLastOpen h → (outward h).closed ≡ false → (outward h).begun ≡ true → MayAcknowledge h is_resync was_resynced ack → HasSpans h
+    → HasSpans (record (with_outward (with_frame (Ok (RsWriteAckFrame ack))) h) { marks = clearing ack.first h.marks })
+spans-clears h ack homes last standing begun may t =
+    spans-takes h _ (Ok (RsWriteAckFrame ack)) homes last standing refl refl (refl, (refl, (refl, refl))) (λ block unmarked. elim (and_cases (h.marks block) (not (block == ack.first)) unmarked) [
+      | inl clean ↦ inl clean
+      | inr cleared ↦
+          let is : block ≡ ack.first = eqb-true block ack.first (not-false (block == ack.first) cleared) in
+          let named = named-item h ack standing begun may in
+          inr (subst (λ (b : ℕ). IsTold (with_frame (Ok (RsWriteAckFrame ack)) (outward h)) b) (sym is) (record {
+            place = ack.place;
+            item = ResyncItem ack.first named.0;
+            there = named.1.there;
+            touched = and_from _ _ (le-leb ack.first ack.first (omega arith)) (lt-ltb ack.first (ack.first + 1) (omega arith));
+            sure = resynced-now h ack named.0 (not-refused h homes standing (length h.connections - 1) (open-at h standing)) named.2;
+          }))
+    ]) t
+
+-- The end closes.
+spans-closes : (h : PrimaryHistory) → IsLastOpen h → HasSpans h → HasSpans (closing h)
+spans-closes h last t =
+    let f : Outward → Outward = λ c. record c { closed = true } in
+    spans-end h (closing h) f last refl refl (refl, (refl, (refl, refl))) refl (begins-self (outward h).taken)
+    (keeps-quiet h (closing h) (f (outward h)) refl (λ k at. grows-with (outward h) (f (outward h)) refl (omega arith) (begins-self (accepted_frames (outward h)))) (λ is. absurd (cc)) refl (λ unshut block unmarked. absurd (cc))) t
+
+spans-refuses : (h : PrimaryHistory) (frame : Received) (peer : Option Tuple) → HasHomes h → IsLastOpen h → (outward h).closed ≡ false → HasSpans h
+    → HasSpans (closing (with_outward refusing (record (with_outward (with_frame frame) h) { peer = peer })))
+spans-refuses h frame peer homes last standing t =
+    let f : Outward → Outward = λ c. record c { taken = c.taken ++ frame ∷ []; refused = true; closed = true } in
+    let later : PrimaryHistory = closing (with_outward refusing (record (with_outward (with_frame frame) h) { peer = peer })) in
+    spans-end h later f last (ap (change_last (λ (c : Outward). record c { closed = true })) (change-twice (with_frame frame) refusing h.connections) ∙ change-twice (λ c. refusing (with_frame frame c)) (λ c. record c { closed = true }) h.connections) refl
+    (refl, (refl, (refl, refl))) refl (frame ∷ [], refl)
+    (keeps-quiet h later (f (outward h)) refl (λ k at. grows-with (outward h) (f (outward h)) refl (omega arith) (subst (λ (l : List Received). IsBeginning (accepted_frames (outward h)) l) (sym (frames-refusing (outward h) frame (not-refused h homes standing k at))) (begins-self (accepted_frames (outward h)))))
+    (λ is. absurd (cc)) refl (λ unshut block unmarked. absurd (cc))) t
+
+-- where the last end is closed, every end is
+all-closed : (h : PrimaryHistory) → IsLastOpen h → (outward h).closed ≡ true → (k : ℕ) (c : Outward) → slice_get h.connections k ≡ Some c → c.closed ≡ true
+all-closed h last shut k c at = elim (cases_Bool c.closed) [
+  | inl is ↦ is
+  | inr unshut ↦ absurd (both_ways (outward h).closed (subst (λ (x : Outward). x.closed ≡ false) (open-is-last h k c last at unshut).1 unshut) shut)
+]
+
+-- A connection opens.
+spans-opens : (h : PrimaryHistory) (sync loss : ℕ) → IsLastOpen h → (outward h).closed ≡ true → HasSpans h → HasSpans (opened h sync loss)
+spans-opens h sync loss last shut t = record {
+  spans = λ k c at begun. elim (get-more h.connections new k c at) [
+    | inr added ↦ absurd (let no : c.begun ≡ false = ap (λ (x : Outward). x.begun) added.1 in both_ways c.begun no begun)
+    | inl old ↦
+        let s = t.spans k c old begun in
+        (s.0, s.1, span-shut h (opened h sync loss) k c s.0 s.1 passes old (all-closed h last shut k c old) (λ j e less there. get-left h.connections (new ∷ []) j e there) (λ n other b from there home. let within = slice_get_within h.writes n b there in omega arith) s.2)
+  ];
+  quiet = λ none bitmap. t.quiet (λ k c at. none k c (get-left h.connections (new ∷ []) k c at)) bitmap;
+}
+  where
+    new : Outward
+    new = record { sync = sync; loss = loss; hello = h.tuple; stream = []; pushed = 0; taken = []; refused = false; begun = false; closed = false }
+
+    passes : Passes h (opened h sync loss)
+    passes = record {
+      map = refl;
+      tuple = refl;
+      marks = refl;
+      settings = refl;
+      over = λ count block within. refl;
+      writes = λ i b less at. (b, at, refl, refl);
+      count = omega arith;
+      fine = λ fine. fine;
+      front = λ j c less at. get-left h.connections (new ∷ []) j c at;
+      back = λ j c less at. elim (get-more h.connections new j c at) [ inl old ↦ old | inr added ↦ absurd (let end = added.0 in omega arith) ];
+      first = λ decided. first-carries h (opened h sync loss) decided (keeps-open h sync loss) refl;
+    }
+
+-- What the local disk holds.
+
+take-all : {X : Type 0} (xs : List X) → take (length xs) xs ≡ xs
+take-all xs = ap (take (length xs)) (sym (append-nil xs)) ∙ take-append_seam xs []
+
+-- where no waiting write has the block, and none failed, it has what all writes leave
+local-full : (h : PrimaryHistory) (block : ℕ) → NoneFailed h → ((i : ℕ) (a : Accepted) → slice_get h.writes i ≡ Some a → is_waiting a.outcome ≡ true → covers a.write block ≡ false) → local_map h block ≡ left_by h (length h.writes) block
+local-full h block fine free =
+    overlay-agrees local_layer full_layer h.opening_map h.writes block (λ i a at v. elim (cases_Bool (covers a.write block)) [
+      | inr outside ↦ under-outside (local_layer a) block v outside ∙ sym (under-outside (full_layer a) block v outside)
+      | inl inside ↦ under-alike a.write.first a.write.contents (offset_reached a.outcome) (λ offset. true) block v (reached a.outcome (fine i a at) (λ waits. both_ways (covers a.write block) (free i a at waits) inside) (block - a.write.first))
+    ])
+    ∙ ap (λ (l : List Accepted). overlay h.opening_map (map full_layer l) block) (sym (take-all h.writes))
+  where
+    reached : (o : LocalOutcome) → is_failed o ≡ false → (is_waiting o ≡ true → ⊥) → (offset : ℕ) → offset_reached o offset ≡ true
+    reached Waiting fails waits offset = absurd (waits refl)
+    reached OnDisk fails waits offset = refl
+    reached (Failed offsets) fails waits offset = absurd (cc)
+
+-- A block of a resync is read: no open write has it.
+spans-resyncs : (h : PrimaryHistory) (block : ℕ) → IsKnown h → HasHomes h → IsLastOpen h → epoch_is_over h ≡ false → resync_runs (outward h) ≡ true → free_block h ≡ Some block → HasSpans h
+    → HasSpans (appending (ResyncItem block (unwrap_or (local_map h block) [])) h)
+spans-resyncs h block known homes last on runs free t =
+    spans-end h later f last refl refl (refl, (refl, (refl, refl))) refl (begins-self (outward h).taken) (record {
+      grows = λ k at. grows-item (outward h) item;
+      unshut = λ is. is;
+      begun = refl;
+      marks = λ fine unshut other inside unmarked. inl unmarked;
+      reads = λ k older newer at s fine place other contents there. elim (get-more (outward h).stream item place (ResyncItem other contents) there) [
+        | inl old ↦ inl old
+        | inr new ↦ inr (
+            let same : ResyncItem other contents ≡ item = new.1 in
+            let one : other ≡ block = ap first_block same in
+            let two : contents ≡ unwrap_or (local_map h block) [] = ap contents_block same in
+            let size = new.0 in
+            let short = s.rising in
+            let still = s.still standing in
+            subst (λ (b : ℕ). IsRead later k (f (outward h)) older place b contents) (sym one) (record {
+              count = length h.writes;
+              more = omega arith;
+              bound = omega arith;
+              content = sym (local-full h block fine (λ i a ata waits. uncovered i a ata (waits-open h known i a ata waits))) ∙ (some-of (local_map h block) (overlay-some h.opening_map (map local_layer h.writes) block (known.tracked.sized block inside_device)) ∙ ap (λ (l : List ℕ). Some l) (sym two));
+              before = λ n a from less ata covered.
+                  let home = s.own n a from (omega arith) ata in
+                  let was = homes.housed n k home.0 a ata home.1 in
+                  let item_there : slice_get (outward h).stream home.0 ≡ Some (WriteItem a.write) = subst (λ (c : Outward). slice_get c.stream home.0 ≡ Some (WriteItem a.write)) (same-at h.connections k was.0 (outward h) was.1 at) was.2 in
+                  let within = slice_get_within (outward h).stream home.0 (WriteItem a.write) item_there in
+                  let near = epoch-grows (outward h).stream (item ∷ []) home.0 (omega arith) in
+                  let far = epoch-end (outward h).stream (item ∷ []) in
+                  let bound = epoch-bound (outward h).stream home.0 in
+                  (home.0, home.1, (omega arith), subst (λ (m : ℕ). epoch_of ((outward h).stream ++ item ∷ []) home.0 < epoch_of ((outward h).stream ++ item ∷ []) m) (sym size) (elim (cases_lt (epoch_of (outward h).stream home.0) (last_epoch (outward h).stream)) [
+                    | inl low ↦ omega arith
+                    | inr high ↦ absurd (
+                        let equal : epoch_of (outward h).stream home.0 ≡ last_epoch (outward h).stream = omega arith in
+                        let opened_one = write-open h (outward h) k home.0 a.write homes at (end-open h stood on) equal item_there in
+                        let none = pick-none (λ (x : Accepted). covers x.write block) (open_writes h) opened_one.0 opened_one.1 free_of_open opened_one.2 in
+                        both_ways (covers a.write block) (subst (λ (w : Write). covers w block ≡ false) opened_one.3 none) covered)
+                  ]));
+              after = λ n other_place a from ata home. absurd (let within = slice_get_within h.writes n a ata in omega arith);
+            }))
+      ];
+      ends = λ n tuple there. elim (get-more (outward h).stream item n (UuidsItem tuple) there) [ inl old ↦ inl old | inr new ↦ absurd (let e = new.1 in cc) ];
+    }) t
+  where
+    item : Item
+    item = ResyncItem block (unwrap_or (local_map h block) [])
+
+    f : Outward → Outward
+    f c = record c { stream = c.stream ++ ResyncItem block (unwrap_or (local_map h block) []) ∷ [] }
+
+    later : PrimaryHistory
+    later = appending (ResyncItem block (unwrap_or (local_map h block) [])) h
+
+    stood : stands (outward h) ≡ true
+    stood = (and_parts (stands (outward h)) (in_resync (outward h).stream) runs).0
+
+    standing : (outward h).closed ≡ false
+    standing = open-stands (outward h) stood
+
+    first_block : Item → ℕ
+    first_block (ResyncItem b c) = b
+    first_block _ = 0
+
+    contents_block : Item → List ℕ
+    contents_block (ResyncItem b c) = c
+    contents_block _ = []
+
+    free_of_open : list_any (λ (a : Accepted). covers a.write block) (open_writes h) ≡ false
+    free_of_open = not-true _ (found-passes (λ (b : ℕ). not (list_any (λ (a : Accepted). covers a.write b) (open_writes h))) (marked_blocks h) block free)
+
+    uncovered : (i : ℕ) (a : Accepted) → slice_get h.writes i ≡ Some a → is_open h a ≡ true → covers a.write block ≡ false
+    uncovered i a ata opens = let found = filtered-pick (is_open h) h.writes i a ata opens in pick-none (λ (x : Accepted). covers x.write block) (open_writes h) found.0 a free_of_open found.1
+
+    inside_device : block < h.settings.blocks
+    inside_device =
+        let found = pick-found (λ (b : ℕ). not (list_any (λ (a : Accepted). covers a.write b) (open_writes h))) (marked_blocks h) block free in
+        let listed = pick-filtered h.marks (below h.settings.blocks) found.0 block found.1 in
+        pick-below h.settings.blocks listed.0 block listed.1
+
+    some-of : (v : Option (List ℕ)) → is_some v ≡ true → v ≡ Some (unwrap_or v [])
+    some-of None is = absurd (cc)
+    some-of (Some x) is = refl
