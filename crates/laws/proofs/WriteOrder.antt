@@ -6,4 +6,5 @@ pub mod SpanMoves
 pub mod SpanKept
 pub mod SpanSteps
 pub mod SpanBegins
+pub mod SpanRuns
 pub mod Turns

@@ -54,7 +54,7 @@ use Rattle.laws.proofs.WriteOrder.SpanKept.{grows-with, grows-item, spans-still,
 use Rattle.laws.proofs.WriteOrder.SpanSteps.{spans-done, spans-faults, spans-releasing}
 
 -- An acknowledged block of a resync.
-spans-clears : (h : PrimaryHistory) (ack : Acknowledged) → HasHomes h → IsLastOpen h → (outward h).closed ≡ false → (outward h).begun ≡ true → MayAcknowledge h is_resync was_resynced ack → HasSpans h
+pub spans-clears : (h : PrimaryHistory) (ack : Acknowledged) → HasHomes h → IsLastOpen h → (outward h).closed ≡ false → (outward h).begun ≡ true → MayAcknowledge h is_resync was_resynced ack → HasSpans h
     → HasSpans (record (with_outward (with_frame (Ok (RsWriteAckFrame ack))) h) { marks = clearing ack.first h.marks })
 spans-clears h ack homes last standing begun may t =
     spans-takes h _ (Ok (RsWriteAckFrame ack)) homes last standing refl refl (refl, (refl, (refl, refl))) (λ block unmarked. elim (and_cases (h.marks block) (not (block == ack.first)) unmarked) [
@@ -72,13 +72,13 @@ spans-clears h ack homes last standing begun may t =
     ]) t
 
 -- The end closes.
-spans-closes : (h : PrimaryHistory) → IsLastOpen h → HasSpans h → HasSpans (closing h)
+pub spans-closes : (h : PrimaryHistory) → IsLastOpen h → HasSpans h → HasSpans (closing h)
 spans-closes h last t =
     let f : Outward → Outward = λ c. record c { closed = true } in
     spans-end h (closing h) f last refl refl (refl, (refl, (refl, refl))) refl (begins-self (outward h).taken)
     (keeps-quiet h (closing h) (f (outward h)) refl (λ k at. grows-with (outward h) (f (outward h)) refl (omega arith) (begins-self (accepted_frames (outward h)))) (λ is. absurd (cc)) refl (λ unshut block unmarked. absurd (cc))) t
 
-spans-refuses : (h : PrimaryHistory) (frame : Received) (peer : Option Tuple) → HasHomes h → IsLastOpen h → (outward h).closed ≡ false → HasSpans h
+pub spans-refuses : (h : PrimaryHistory) (frame : Received) (peer : Option Tuple) → HasHomes h → IsLastOpen h → (outward h).closed ≡ false → HasSpans h
     → HasSpans (closing (with_outward refusing (record (with_outward (with_frame frame) h) { peer = peer })))
 spans-refuses h frame peer homes last standing t =
     let f : Outward → Outward = λ c. record c { taken = c.taken ++ frame ∷ []; refused = true; closed = true } in
@@ -89,14 +89,14 @@ spans-refuses h frame peer homes last standing t =
     (λ is. absurd (cc)) refl (λ unshut block unmarked. absurd (cc))) t
 
 -- where the last end is closed, every end is
-all-closed : (h : PrimaryHistory) → IsLastOpen h → (outward h).closed ≡ true → (k : ℕ) (c : Outward) → slice_get h.connections k ≡ Some c → c.closed ≡ true
+pub all-closed : (h : PrimaryHistory) → IsLastOpen h → (outward h).closed ≡ true → (k : ℕ) (c : Outward) → slice_get h.connections k ≡ Some c → c.closed ≡ true
 all-closed h last shut k c at = elim (cases_Bool c.closed) [
   | inl is ↦ is
   | inr unshut ↦ absurd (both_ways (outward h).closed (subst (λ (x : Outward). x.closed ≡ false) (open-is-last h k c last at unshut).1 unshut) shut)
 ]
 
 -- A connection opens.
-spans-opens : (h : PrimaryHistory) (sync loss : ℕ) → IsLastOpen h → (outward h).closed ≡ true → HasSpans h → HasSpans (opened h sync loss)
+pub spans-opens : (h : PrimaryHistory) (sync loss : ℕ) → IsLastOpen h → (outward h).closed ≡ true → HasSpans h → HasSpans (opened h sync loss)
 spans-opens h sync loss last shut t = record {
   spans = λ k c at begun. elim (get-more h.connections new k c at) [
     | inr added ↦ absurd (let no : c.begun ≡ false = ap (λ (x : Outward). x.begun) added.1 in both_ways c.begun no begun)
@@ -127,11 +127,11 @@ spans-opens h sync loss last shut t = record {
 
 -- What the local disk holds.
 
-take-all : {X : Type 0} (xs : List X) → take (length xs) xs ≡ xs
+pub take-all : {X : Type 0} (xs : List X) → take (length xs) xs ≡ xs
 take-all xs = ap (take (length xs)) (sym (append-nil xs)) ∙ take-append_seam xs []
 
 -- where no waiting write has the block, and none failed, it has what all writes leave
-local-full : (h : PrimaryHistory) (block : ℕ) → NoneFailed h → ((i : ℕ) (a : Accepted) → slice_get h.writes i ≡ Some a → is_waiting a.outcome ≡ true → covers a.write block ≡ false) → local_map h block ≡ left_by h (length h.writes) block
+pub local-full : (h : PrimaryHistory) (block : ℕ) → NoneFailed h → ((i : ℕ) (a : Accepted) → slice_get h.writes i ≡ Some a → is_waiting a.outcome ≡ true → covers a.write block ≡ false) → local_map h block ≡ left_by h (length h.writes) block
 local-full h block fine free =
     overlay-agrees local_layer full_layer h.opening_map h.writes block (λ i a at v. elim (cases_Bool (covers a.write block)) [
       | inr outside ↦ under-outside (local_layer a) block v outside ∙ sym (under-outside (full_layer a) block v outside)
@@ -145,7 +145,7 @@ local-full h block fine free =
     reached (Failed offsets) fails waits offset = absurd (cc)
 
 -- A block of a resync is read: no open write has it.
-spans-resyncs : (h : PrimaryHistory) (block : ℕ) → IsKnown h → HasHomes h → IsLastOpen h → epoch_is_over h ≡ false → resync_runs (outward h) ≡ true → free_block h ≡ Some block → HasSpans h
+pub spans-resyncs : (h : PrimaryHistory) (block : ℕ) → IsKnown h → HasHomes h → IsLastOpen h → epoch_is_over h ≡ false → resync_runs (outward h) ≡ true → free_block h ≡ Some block → HasSpans h
     → HasSpans (appending (ResyncItem block (unwrap_or (local_map h block) [])) h)
 spans-resyncs h block known homes last on runs free t =
     spans-end h later f last refl refl (refl, (refl, (refl, refl))) refl (begins-self (outward h).taken) (record {

@@ -93,6 +93,17 @@ pub record Passes (h later : PrimaryHistory) : Type 0 where
 left-same : (h later : PrimaryHistory) → Passes h later → (count block : ℕ) → count ≤ length h.writes → left_by later count block ≡ left_by h count block
 left-same h later p count block within = ap (λ (m : BlockMap). writes_over m count later.writes block) p.map ∙ p.over count block within
 
+-- a block that stands as at the opening still does
+pub opening-below : (h later : PrimaryHistory) (k older block : ℕ) → Passes h later → k < length h.connections → older ≤ length h.writes → h.opening_map block ≡ left_by h older block → opening_marked h block ≡ false
+    → ((other next : ℕ) (c : Outward) (i : Item) → other < k → slice_get h.connections other ≡ Some c → slice_get c.stream next ≡ Some i → touches i block ≡ true → content_at i block ≡ left_by h older block)
+    → ((decided : Decision) × FirstBegan later decided × (decided ≡ FullSync → ⊥)) → OpeningBelow later k older block
+opening-below h later k older block p within few content unmarked items began = record {
+  content = ap (λ (m : BlockMap). m block) p.map ∙ (content ∙ sym (left-same h later p older block few));
+  unmarked = subst (λ (m : ℕ → Bool). (nat_lt block later.settings.blocks && m block) ≡ false) (sym p.marks) (subst (λ (s : Settings). (nat_lt block s.blocks && h.opening_marks block) ≡ false) (sym p.settings) unmarked);
+  items = λ other next c i less at there touched. items other next c i less (p.back other c (omega arith) at) there touched ∙ sym (left-same h later p older block few);
+  began = began;
+}
+
 -- and so does why the peer held it
 pub below-passes : (h later : PrimaryHistory) (k older block : ℕ) → Passes h later → k < length h.connections → older ≤ length h.writes → WasBelow h k older block → WasBelow later k older block
 below-passes h later k older block p within few (inl b) = inl (record {
@@ -108,12 +119,7 @@ below-passes h later k older block p within few (inl b) = inl (record {
   content = b.content ∙ sym (left-same h later p older block few);
   later = λ other next c i less at there touched after. b.later other next c i less (p.back other c (omega arith) at) there touched after ∙ sym (left-same h later p older block few);
 })
-below-passes h later k older block p within few (inr b) = inr (record {
-  content = ap (λ (m : BlockMap). m block) p.map ∙ (b.content ∙ sym (left-same h later p older block few));
-  unmarked = subst (λ (m : ℕ → Bool). (nat_lt block later.settings.blocks && m block) ≡ false) (sym p.marks) (subst (λ (s : Settings). (nat_lt block s.blocks && h.opening_marks block) ≡ false) (sym p.settings) b.unmarked);
-  items = λ other next c i less at there touched. b.items other next c i less (p.back other c (omega arith) at) there touched ∙ sym (left-same h later p older block few);
-  began = (b.began.0, p.first b.began.0 b.began.1, b.began.2);
-})
+below-passes h later k older block p within few (inr b) = inr (opening-below h later k older block p within few b.content b.unmarked b.items (b.began.0, p.first b.began.0 b.began.1, b.began.2))
 
 -- what the peer has said stays said
 told-grows : (c d : Outward) (block : ℕ) → Grows c d → IsTold c block → IsTold d block
