@@ -7,4 +7,5 @@ pub mod SpanKept
 pub mod SpanSteps
 pub mod SpanBegins
 pub mod SpanRuns
+pub mod Generations
 pub mod Turns
