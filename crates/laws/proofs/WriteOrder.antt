@@ -8,4 +8,5 @@ pub mod SpanSteps
 pub mod SpanBegins
 pub mod SpanRuns
 pub mod Generations
+pub mod GenerationMoves
 pub mod Turns

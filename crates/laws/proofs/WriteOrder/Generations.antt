@@ -70,7 +70,7 @@ pub record KeepsLeft (h later : PrimaryHistory) (f : Outward → Outward) : Type
   pub taken : IsBeginning (outward h).taken (f (outward h)).taken
 
 -- a resync stays one as its stream goes on
-resync-grows : (c d : Outward) → d.begun ≡ c.begun → IsBeginning c.stream d.stream → IsResync c → IsResync d
+pub resync-grows : (c d : Outward) → d.begun ≡ c.begun → IsBeginning c.stream d.stream → IsResync c → IsResync d
 resync-grows c d begun grows (inl new) = inl (begun ∙ new)
 resync-grows c d begun grows (inr old) = inr (old.0, get-beginning c.stream d.stream 0 (SyncUuidItem old.0) grows old.1)
 
@@ -187,3 +187,10 @@ decided-current own peer some is = elim (cases_Bool (own.current == peer.current
         let decides : decision own peer ≡ Ok BitmapSync = rw first (rw other (rw third refl)) in
         let both : Ok NoSync ≡ Ok BitmapSync = sym is ∙ decides in
         cc
+
+-- no resync is decided of equal currents alone
+pub decided-none : (own peer : Tuple) → decision own peer ≡ Ok NoSync → own.current ≡ peer.current
+decided-none own peer is = decided-current own peer (λ zero_peer.
+    let decides : decision own peer ≡ Ok FullSync = rw (eq-eqb peer.current 0 zero_peer) refl in
+    let both : Ok NoSync ≡ Ok FullSync = sym is ∙ decides in
+    cc) is

@@ -418,7 +418,7 @@ Spanned settings h = Both settings h × HasSpans h
 abbrev pub SpannedAfter : Settings → PrimaryHistory → Type 0
 SpannedAfter settings h = BothAfter settings h × HasSpans h
 
-spans-kept : (settings : Settings) → 0 < settings.max_epoch → IsKeptByMoves (Spanned settings) (SpannedAfter settings)
+pub spans-kept : (settings : Settings) → 0 < settings.max_epoch → IsKeptByMoves (Spanned settings) (SpannedAfter settings)
 spans-kept settings bound =
     let base : IsKeptByMoves (Both settings) (BothAfter settings) = both-kept (Ordered settings) (OrderedAfter settings) IsAccounted IsAccounted (in-order-kept settings bound) accounted-kept in
     let takes : (h : PrimaryHistory) (frame : Received) → (outward h).closed ≡ false → Spanned settings h → HasSpans (with_outward (with_frame frame) h) = λ h frame standing p.
@@ -446,7 +446,7 @@ spans-kept settings bound =
       receipts = λ h number p. (base.receipts h number p.0, spans-still h (receipted number h) p.0.0.1.0 refl refl (refl, (refl, (refl, refl))) (λ block unmarked. unmarked) p.1);
     }
 
-spans-released : (settings : Settings) → IsKeptByReleases (Spanned settings) (SpannedAfter settings)
+pub spans-released : (settings : Settings) → IsKeptByReleases (Spanned settings) (SpannedAfter settings)
 spans-released settings =
     let base = both-released settings in
     record {

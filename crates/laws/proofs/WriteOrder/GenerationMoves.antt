@@ -1,0 +1,450 @@
+-- Every run of a primary keeps that a generation that was left does not come back.
+use Rattle.std.proofs.Common.{ℕ, zero, suc, ◌≡◌, ◌-◌, ◌+◌, ◌<◌, ◌≤◌, ◌⊎◌, inl, inr, Bool, true, false, List, [], ◌∷◌, ◌++◌, length, Option, Some, None, slice_get, Ok, refl, sym, ◌∙◌, ap, subst, arith, length-append, ◌==◌}
+use Rattle.std.specs.Prelude.{is_some, unwrap_or, if◌then◌else◌}
+use Rattle.std.proofs.lemmas.Bool.{cases_Bool, cases_lt, both_ways, eqb-true, eq-eqb, and_parts}
+use Rattle.std.proofs.lemmas.Option.{slice_get_within}
+use Rattle.std.proofs.lemmas.List.{append-nil}
+use Rattle.blocks.specs.declared.settings.Settings.{Settings}
+use Rattle.blocks.specs.declared.tuple.Tuple.{Tuple}
+use Rattle.blocks.specs.declared.outcome.Decision.{Decision}
+use Rattle.blocks.specs.declared.outcome.Decision.TheVariants.{NoSync, BitmapSync, FullSync}
+use Rattle.blocks.specs.SettingsRange.{IsInRange}
+use Rattle.model.specs.Contents.{BlockMap}
+use Rattle.model.specs.Stream.{Item, WriteItem, ResyncItem, BarrierItem, SyncUuidItem, UuidsItem, IsBeginning, last_epoch, within}
+use Rattle.model.specs.Frames.{Received, UuidsFrame, RsWriteAckFrame}
+use Rattle.model.specs.Identifiers.{are_fresh, stands_in, decision, lost, sync_start, sync_end}
+use Rattle.model.specs.Marks.{Marks, marking}
+use Rattle.model.specs.Primary.{Waiting, OnDisk, Failed, Accepted, Outward, PrimaryHistory, no_outward, outward, last_of, last_index, change_last, with_outward, stands, local_map, primary_opening}
+use Rattle.model.specs.PrimarySteps.{known_tuples, with_completions, epoch_is_over, resync_is_over, appending, ending_resync, follows, opened, submission, submitted, with_outcome, accepted_at, faulted, closing, receipted}
+use Rattle.model.specs.Acknowledgements.{begun_with}
+use Rattle.model.specs.LocalRuns.{PrimaryEvent, primary_run}
+use Rattle.laws.specs.Reflections.{NoneBegan}
+use Rattle.laws.proofs.Lists.Beginnings.{begins-self, get-beginning}
+use Rattle.laws.proofs.Lists.Elements.{get-left, get-more, get-end, same-at}
+use Rattle.laws.proofs.Lists.Last.{get-change, get-change-back, change-none, change-twice, last-at, last-change, last-more, get-last-changed, length-change}
+use Rattle.laws.proofs.Primary.Homes.{HasHomes, open-at}
+use Rattle.laws.proofs.Primary.Moves.{IsKeptByMoves, IsKeptByReleases, following-from, both-kept, keeps-run, with_frame, refusing, pushing}
+use Rattle.laws.proofs.Primary.StaysClosed.{open-stands, over-stands}
+use Rattle.laws.proofs.Primary.Ends.{stands-parts}
+use Rattle.laws.proofs.Accounted.{IsAccounted}
+use Rattle.laws.proofs.WriteOrder.SpanRuns.{Spanned, SpannedAfter, spans-kept, spans-released, spans-run}
+use Rattle.laws.proofs.WriteOrder.Generations.{TakesOnly, IsResync, IsStanding, IsGone, IsLeft, outward-change, outward-none, KeepsLeft, resync-grows, left-change, takes-back, end-current, end-bitmap, start-current, lost-current, lost-fresh, not-current, fresh-loss, decided-same, decided-none}
+
+-- no stream began
+abbrev pub NoneBegun : PrimaryHistory → Type 0
+NoneBegun h = (k : ℕ) (c : Outward) → slice_get h.connections k ≡ Some c → c.begun ≡ false
+
+-- The first stream that began is that before this number, without a resync, or the one of this number: from there on the word was
+-- left.
+pub record IsFirst (word : ℕ) (h : PrimaryHistory) : Type 0 where
+  pub from : ℕ
+  pub left : IsLeft word from h
+  pub earlier : (j : ℕ) (c : Outward) → suc j < from → slice_get h.connections j ≡ Some c → c.begun ≡ false
+  pub there : (j : ℕ) (c : Outward) → suc j ≡ from → slice_get h.connections j ≡ Some c → (c.begun ≡ false) ⊎ (h.opening_tuple.bitmap ≡ 0)
+
+-- Where every later peer still has what a resync ended with, or what the first peer had, that generation was left.
+pub record HasLeft (h : PrimaryHistory) : Type 0 where
+  pub own : (outward h).closed ≡ false → h.tuple.current ≡ (outward h).hello.current
+  pub fresh : (k : ℕ) (c : Outward) → slice_get h.connections k ≡ Some c → c.loss ≡ c.hello.current → ⊥
+  pub met : (k : ℕ) (c : Outward) → slice_get h.connections k ≡ Some c → c.begun ≡ true → (n : ℕ) × (peer : Tuple) × (slice_get c.taken n ≡ Some (Ok (UuidsFrame peer))) × (stands_in c.loss peer ≡ false)
+  pub ended : (i n : ℕ) (c : Outward) (tuple : Tuple) → slice_get h.connections i ≡ Some c → slice_get c.stream n ≡ Some (UuidsItem tuple) → TakesOnly tuple.current (suc i) h → IsLeft tuple.current (suc i) h
+  pub first : (word : ℕ) → (word ≡ 0 → ⊥) → (h.opening_tuple.current ≡ word → h.opening_tuple.bitmap ≡ 0) → TakesOnly word 0 h → NoneBegun h ⊎ IsFirst word h
+
+-- The last connection changes and goes on.
+left-goes-on : (h later : PrimaryHistory) (f : Outward → Outward) → KeepsLeft h later f → later.opening_tuple ≡ h.opening_tuple
+    → ((n : ℕ) (tuple : Tuple) → slice_get (f (outward h)).stream n ≡ Some (UuidsItem tuple)
+      → (slice_get (outward h).stream n ≡ Some (UuidsItem tuple)) ⊎ ((tuple.current ≡ h.tuple.current) × ((later.tuple.bitmap ≡ 0) × (((outward h).closed ≡ false) × ((outward h).begun ≡ true)))))
+    → HasLeft h → HasLeft later
+left-goes-on h later f k opening ends t = record {
+  own = λ unshut. elim (outward-change h later f k.connections) [
+    | inl none ↦ absurd (both_ways (outward later).closed unshut (outward-none h later f k.connections none))
+    | inr end ↦ k.current ∙ (t.own (sym k.closed ∙ (ap (λ (c : Outward). c.closed) (sym end) ∙ unshut)) ∙ ap (λ (x : Tuple). x.current) (sym k.hello ∙ ap (λ (c : Outward). c.hello) (sym end)))
+  ];
+  fresh = λ j c at is. elim (back j c at) [
+    | inl same ↦ t.fresh j c same is
+    | inr changed ↦ t.fresh j (outward h) changed.1 (sym k.loss ∙ (ap (λ (x : Outward). x.loss) (sym changed.0) ∙ (is ∙ ap (λ (x : Tuple). x.current) (ap (λ (x : Outward). x.hello) changed.0 ∙ k.hello))))
+  ];
+  met = λ j c at begun. elim (back j c at) [
+    | inl same ↦ t.met j c same begun
+    | inr changed ↦
+        let was = t.met j (outward h) changed.1 (sym k.begun ∙ (ap (λ (x : Outward). x.begun) (sym changed.0) ∙ begun)) in (
+          was.0,
+          was.1,
+          subst (λ (x : Outward). slice_get x.taken was.0 ≡ Some (Ok (UuidsFrame was.1))) (sym changed.0) (get-beginning (outward h).taken (f (outward h)).taken was.0 (Ok (UuidsFrame was.1)) k.taken was.2),
+          ap (λ (n : ℕ). stands_in n was.1) (ap (λ (x : Outward). x.loss) changed.0 ∙ k.loss) ∙ was.3,
+        )
+  ];
+  ended = λ i n c tuple at there only.
+      let before = takes-back h later f tuple.current (suc i) k.connections k.taken only in
+      elim (back i c at) [
+        | inl same ↦ left-change h later f tuple.current (suc i) k (t.ended i n c tuple same there before)
+        | inr changed ↦ elim (ends n tuple (subst (λ (x : Outward). slice_get x.stream n ≡ Some (UuidsItem tuple)) changed.0 there)) [
+          | inl old ↦ left-change h later f tuple.current (suc i) k (t.ended i n (outward h) tuple changed.1 old before)
+          | inr new ↦ elim (outward-change h later f k.connections) [
+            | inl none ↦ absurd (both_ways (outward h).closed new.1.1.0 (ap (λ (l : List Outward). (last_of (no_outward h.tuple) l).closed) none))
+            | inr end ↦ inl (record {
+              last = ap length k.connections ∙ (length-change f h.connections ∙ sym changed.2);
+              unshut = ap (λ (x : Outward). x.closed) end ∙ (k.closed ∙ new.1.1.0);
+              begun = ap (λ (x : Outward). x.begun) end ∙ (k.begun ∙ new.1.1.1);
+              current = k.current ∙ sym new.0;
+              bitmap = new.1.0;
+              loss = λ is. t.fresh i (outward h) changed.1 (sym k.loss ∙ (ap (λ (x : Outward). x.loss) (sym end) ∙ (is ∙ (new.0 ∙ t.own new.1.1.0))));
+            })
+          ]
+        ]
+      ];
+  first = λ word some premise only. elim (t.first word some (λ is. sym (ap (λ (x : Tuple). x.bitmap) opening) ∙ premise (ap (λ (x : Tuple). x.current) opening ∙ is)) (takes-back h later f word 0 k.connections k.taken only)) [
+    | inl none ↦ inl (λ j c at. begun-back j c at (λ x there. none j x there))
+    | inr one ↦ inr (record {
+      from = one.from;
+      left = left-change h later f word one.from k one.left;
+      earlier = λ j c less at. begun-back j c at (λ x there. one.earlier j x less there);
+      there = λ j c is at. elim (back j c at) [
+        | inl same ↦ elim (one.there j c is same) [ inl new ↦ inl new | inr bitmap ↦ inr (ap (λ (x : Tuple). x.bitmap) opening ∙ bitmap) ]
+        | inr changed ↦ elim (one.there j (outward h) is changed.1) [ inl new ↦ inl (ap (λ (x : Outward). x.begun) changed.0 ∙ (k.begun ∙ new)) | inr bitmap ↦ inr (ap (λ (x : Tuple). x.bitmap) opening ∙ bitmap) ]
+      ];
+    })
+  ];
+}
+  where
+    back : (j : ℕ) (c : Outward) → slice_get later.connections j ≡ Some c → (slice_get h.connections j ≡ Some c) ⊎ ((c ≡ f (outward h)) × (slice_get h.connections j ≡ Some (outward h)) × (suc j ≡ length h.connections))
+    back j c at = get-change-back f (no_outward h.tuple) h.connections j c (subst (λ (l : List Outward). slice_get l j ≡ Some c) k.connections at)
+
+    begun-back : (j : ℕ) (c : Outward) → slice_get later.connections j ≡ Some c → ((x : Outward) → slice_get h.connections j ≡ Some x → x.begun ≡ false) → c.begun ≡ false
+    begun-back j c at none = elim (back j c at) [ inl same ↦ none c same | inr changed ↦ ap (λ (x : Outward). x.begun) changed.0 ∙ (k.begun ∙ none (outward h) changed.1) ]
+
+-- nothing changes that is spoken of
+left-still : (h later : PrimaryHistory) → later.connections ≡ h.connections → later.tuple ≡ h.tuple → later.opening_tuple ≡ h.opening_tuple → HasLeft h → HasLeft later
+left-still h later connections tuple opening t = left-goes-on h later (λ c. c) (record {
+  connections = connections ∙ sym (change-none h.connections);
+  current = ap (λ (x : Tuple). x.current) tuple;
+  bitmap = λ none. ap (λ (x : Tuple). x.bitmap) tuple ∙ none;
+  closed = refl;
+  begun = refl;
+  loss = refl;
+  hello = refl;
+  stream = begins-self (outward h).stream;
+  taken = begins-self (outward h).taken;
+}) opening (λ n tuple there. inl there) t
+
+-- the last connection changes, and no end of a resync is appended
+left-with : (h later : PrimaryHistory) (f : Outward → Outward) → later.connections ≡ change_last f h.connections → later.tuple ≡ h.tuple → later.opening_tuple ≡ h.opening_tuple → (f (outward h)).closed ≡ (outward h).closed → (f (outward h)).begun ≡ (outward h).begun
+    → (f (outward h)).loss ≡ (outward h).loss → (f (outward h)).hello ≡ (outward h).hello → IsBeginning (outward h).stream (f (outward h)).stream → IsBeginning (outward h).taken (f (outward h)).taken
+    → ((n : ℕ) (tuple : Tuple) → slice_get (f (outward h)).stream n ≡ Some (UuidsItem tuple) → slice_get (outward h).stream n ≡ Some (UuidsItem tuple)) → HasLeft h → HasLeft later
+left-with h later f connections tuple opening closed begun loss hello stream taken ends t = left-goes-on h later f (record {
+  connections = connections;
+  current = ap (λ (x : Tuple). x.current) tuple;
+  bitmap = λ none. ap (λ (x : Tuple). x.bitmap) tuple ∙ none;
+  closed = closed;
+  begun = begun;
+  loss = loss;
+  hello = hello;
+  stream = stream;
+  taken = taken;
+}) opening (λ n tuple there. inl (ends n tuple there)) t
+
+-- an item is appended that ends no resync
+left-appends : (h later : PrimaryHistory) (item : Item) → later.connections ≡ change_last (λ c. record c { stream = c.stream ++ item ∷ [] }) h.connections → later.tuple ≡ h.tuple → later.opening_tuple ≡ h.opening_tuple → ((tuple : Tuple) → item ≡ UuidsItem tuple → ⊥)
+    → HasLeft h → HasLeft later
+left-appends h later item connections tuple opening other t = left-with h later (λ c. record c { stream = c.stream ++ item ∷ [] }) connections tuple opening refl refl refl refl (item ∷ [], refl) (begins-self (outward h).taken)
+    (λ n t there. elim (get-more (outward h).stream item n (UuidsItem t) there) [ inl old ↦ old | inr new ↦ absurd (other t (sym new.1)) ]) t
+
+-- a resync ends
+left-ending : (g : PrimaryHistory) → resync_is_over g ≡ true → HasLeft g → HasLeft (ending_resync g)
+left-ending g over t =
+    let parts = stands-parts (outward g) (over-stands g over) in
+    let item : Item = UuidsItem (sync_end g.tuple) in
+    left-goes-on g (ending_resync g) (λ c. record c { stream = c.stream ++ item ∷ [] }) (record {
+      connections = refl;
+      current = end-current g.tuple;
+      bitmap = λ none. end-bitmap g.tuple;
+      closed = refl;
+      begun = refl;
+      loss = refl;
+      hello = refl;
+      stream = (item ∷ [], refl);
+      taken = begins-self (outward g).taken;
+    }) refl (λ n tuple there. elim (get-more (outward g).stream item n (UuidsItem tuple) there) [
+      | inl old ↦ inl old
+      | inr new ↦
+          let same : UuidsItem tuple ≡ UuidsItem (sync_end g.tuple) = new.1 in
+          let is : tuple ≡ sync_end g.tuple = cc in
+          inr (ap (λ (x : Tuple). x.current) is ∙ end-current g.tuple, (end-bitmap g.tuple, (parts.0, parts.1)))
+    ]) t
+
+left-following : (h : PrimaryHistory) → HasLeft h → HasLeft (follows h).history
+left-following = following-from HasLeft HasLeft HasLeft (λ h t. left-still h (with_completions h) refl refl refl t)
+    (λ g over t. left-appends g _ (BarrierItem (last_epoch (outward g).stream)) refl refl refl (λ tuple is. cc) t) (λ g on t. t) left-ending (λ g t. t)
+
+-- A stream ends: if it had begun, another generation begins with it, or had begun before.
+left-closes : (h later : PrimaryHistory) (f : Outward → Outward) → (outward h).closed ≡ false → later.connections ≡ change_last f h.connections → later.opening_tuple ≡ h.opening_tuple
+    → (((outward h).begun ≡ true) × (later.tuple ≡ lost (outward h).loss h.tuple)) ⊎ (((outward h).begun ≡ false) × (later.tuple ≡ h.tuple))
+    → (f (outward h)).closed ≡ true → (f (outward h)).begun ≡ (outward h).begun → (f (outward h)).loss ≡ (outward h).loss → (f (outward h)).hello ≡ (outward h).hello → (f (outward h)).stream ≡ (outward h).stream → IsBeginning (outward h).taken (f (outward h)).taken
+    → HasLeft h → HasLeft later
+left-closes h later f standing connections opening tuple closed begun loss hello stream taken t = record {
+  own = λ unshut. absurd (elim (outward-change h later f connections) [
+    | inl none ↦ both_ways (outward later).closed unshut (outward-none h later f connections none)
+    | inr end ↦ both_ways (outward later).closed unshut (ap (λ (c : Outward). c.closed) end ∙ closed)
+  ]);
+  fresh = λ j c at is. elim (back j c at) [
+    | inl same ↦ t.fresh j c same is
+    | inr changed ↦ t.fresh j (outward h) changed.1 (sym loss ∙ (ap (λ (x : Outward). x.loss) (sym changed.0) ∙ (is ∙ ap (λ (x : Tuple). x.current) (ap (λ (x : Outward). x.hello) changed.0 ∙ hello))))
+  ];
+  met = λ j c at began. elim (back j c at) [
+    | inl same ↦ t.met j c same began
+    | inr changed ↦
+        let was = t.met j (outward h) changed.1 (sym begun ∙ (ap (λ (x : Outward). x.begun) (sym changed.0) ∙ began)) in (
+          was.0,
+          was.1,
+          subst (λ (x : Outward). slice_get x.taken was.0 ≡ Some (Ok (UuidsFrame was.1))) (sym changed.0) (get-beginning (outward h).taken (f (outward h)).taken was.0 (Ok (UuidsFrame was.1)) taken was.2),
+          ap (λ (n : ℕ). stands_in n was.1) (ap (λ (x : Outward). x.loss) changed.0 ∙ loss) ∙ was.3,
+        )
+  ];
+  ended = λ i n c ending at there only.
+      let before = takes-back h later f ending.current (suc i) connections taken only in
+      elim (back i c at) [
+        | inl same ↦ leaves ending.current (suc i) before (t.ended i n c ending same there before)
+        | inr changed ↦ leaves ending.current (suc i) before (t.ended i n (outward h) ending changed.1 (subst (λ (l : List Item). slice_get l n ≡ Some (UuidsItem ending)) stream (subst (λ (x : Outward). slice_get x.stream n ≡ Some (UuidsItem ending)) changed.0 there)) before)
+      ];
+  first = λ word some premise only.
+      let before = takes-back h later f word 0 connections taken only in
+      elim (t.first word some (λ is. sym (ap (λ (x : Tuple). x.bitmap) opening) ∙ premise (ap (λ (x : Tuple). x.current) opening ∙ is)) before) [
+        | inl none ↦ inl (λ j c at. begun-back j c at (λ x there. none j x there))
+        | inr one ↦ inr (record {
+          from = one.from;
+          left = leaves word one.from (λ j n c peer more. before j n c peer (omega arith)) one.left;
+          earlier = λ j c less at. begun-back j c at (λ x there. one.earlier j x less there);
+          there = λ j c is at. elim (back j c at) [
+            | inl same ↦ elim (one.there j c is same) [ inl new ↦ inl new | inr bitmap ↦ inr (ap (λ (x : Tuple). x.bitmap) opening ∙ bitmap) ]
+            | inr changed ↦ elim (one.there j (outward h) is changed.1) [ inl new ↦ inl (ap (λ (x : Outward). x.begun) changed.0 ∙ (begun ∙ new)) | inr bitmap ↦ inr (ap (λ (x : Tuple). x.bitmap) opening ∙ bitmap) ]
+          ];
+        })
+      ];
+}
+  where
+    back : (j : ℕ) (c : Outward) → slice_get later.connections j ≡ Some c → (slice_get h.connections j ≡ Some c) ⊎ ((c ≡ f (outward h)) × (slice_get h.connections j ≡ Some (outward h)) × (suc j ≡ length h.connections))
+    back j c at = get-change-back f (no_outward h.tuple) h.connections j c (subst (λ (l : List Outward). slice_get l j ≡ Some c) connections at)
+
+    begun-back : (j : ℕ) (c : Outward) → slice_get later.connections j ≡ Some c → ((x : Outward) → slice_get h.connections j ≡ Some x → x.begun ≡ false) → c.begun ≡ false
+    begun-back j c at none = elim (back j c at) [ inl same ↦ none c same | inr changed ↦ ap (λ (x : Outward). x.begun) changed.0 ∙ (begun ∙ none (outward h) changed.1) ]
+
+    size : length later.connections ≡ length h.connections
+    size = ap length connections ∙ length-change f h.connections
+
+    shut : (outward later).closed ≡ false → ⊥
+    shut unshut = elim (outward-change h later f connections) [
+      | inl none ↦ both_ways (outward later).closed unshut (outward-none h later f connections none)
+      | inr end ↦ both_ways (outward later).closed unshut (ap (λ (c : Outward). c.closed) end ∙ closed)
+    ]
+
+    -- a word that was current no more is not taken up again
+    other-word : (word from : ℕ) → TakesOnly word from h → IsGone word from h → later.tuple.current ≡ word → ⊥
+    other-word word from only g is = elim tuple [
+      | inr same ↦ g.current (ap (λ (x : Tuple). x.current) (sym same.1) ∙ is)
+      | inl lost_it ↦ elim (lost-current (outward h).loss h.tuple) [
+        | inr still ↦ g.current (sym still ∙ (ap (λ (x : Tuple). x.current) (sym lost_it.1) ∙ is))
+        | inl new ↦
+            let there = open-at h standing in
+            let was = t.met (length h.connections - 1) (outward h) there lost_it.0 in
+            let past = g.past standing in
+            let peer = only (length h.connections - 1) was.0 (outward h) was.1 (omega arith) there was.2 in
+            not-current (outward h).loss was.1 was.3 (sym new.1 ∙ (ap (λ (x : Tuple). x.current) (sym lost_it.1) ∙ (is ∙ sym peer)))
+      ]
+    ]
+
+    leaves : (word from : ℕ) → TakesOnly word from h → IsLeft word from h → IsLeft word from later
+    leaves word from only (inl s) = inr (record {
+      few = let last = s.last in let e = size in omega arith;
+      past = λ unshut. absurd (shut unshut);
+      current = λ is. elim tuple [
+        | inr same ↦ both_ways (outward h).begun same.0 s.begun
+        | inl lost_it ↦ s.loss (sym (lost-fresh (outward h).loss h.tuple s.bitmap) ∙ (ap (λ (x : Tuple). x.current) (sym lost_it.1) ∙ is))
+      ];
+      resyncs = λ j c more at. absurd (let within = slice_get_within later.connections j c at in let last = s.last in let e = size in omega arith);
+    })
+    leaves word from only (inr g) = inr (record {
+      few = let few = g.few in let e = size in omega arith;
+      past = λ unshut. absurd (shut unshut);
+      current = other-word word from only g;
+      resyncs = λ j c more at. elim (back j c at) [
+        | inl same ↦ g.resyncs j c more same
+        | inr changed ↦ subst IsResync (sym changed.0) (resync-grows (outward h) (f (outward h)) begun (subst (λ (l : List Item). IsBeginning (outward h).stream l) (sym stream) (begins-self (outward h).stream)) (g.resyncs j (outward h) more changed.1))
+      ];
+    })
+
+-- A connection opens.
+left-opens : (h : PrimaryHistory) (sync loss : ℕ) → (outward h).closed ≡ true → are_fresh sync loss (known_tuples h) ≡ true → HasLeft h → HasLeft (opened h sync loss)
+left-opens h sync loss shut fresh t = record {
+  own = λ unshut. ap (λ (c : Outward). c.hello.current) (sym (last-more (no_outward h.tuple) new h.connections));
+  fresh = λ j c at is. elim (get-more h.connections new j c at) [
+    | inl old ↦ t.fresh j c old is
+    | inr added ↦ fresh-loss h sync loss fresh (ap (λ (x : Outward). x.loss) (sym added.1) ∙ (is ∙ ap (λ (x : Outward). x.hello.current) added.1))
+  ];
+  met = λ j c at begun. elim (get-more h.connections new j c at) [ inl old ↦ t.met j c old begun | inr added ↦ absurd (both_ways c.begun (ap (λ (x : Outward). x.begun) added.1) begun) ];
+  ended = λ i n c tuple at there only. elim (get-more h.connections new i c at) [
+    | inl old ↦ goes-on tuple.current (suc i) (t.ended i n c tuple old there (back tuple.current (suc i) only))
+    | inr added ↦ absurd (let item : slice_get [] n ≡ Some (UuidsItem tuple) = subst (λ (x : Outward). slice_get x.stream n ≡ Some (UuidsItem tuple)) added.1 there in cc (item))
+  ];
+  first = λ word some premise only. elim (t.first word some premise (back word 0 only)) [
+    | inl none ↦ inl (λ j c at. elim (get-more h.connections new j c at) [ inl old ↦ none j c old | inr added ↦ ap (λ (x : Outward). x.begun) added.1 ])
+    | inr one ↦ inr (record {
+      from = one.from;
+      left = goes-on word one.from one.left;
+      earlier = λ j c less at. elim (get-more h.connections new j c at) [ inl old ↦ one.earlier j c less old | inr added ↦ ap (λ (x : Outward). x.begun) added.1 ];
+      there = λ j c is at. elim (get-more h.connections new j c at) [ inl old ↦ one.there j c is old | inr added ↦ inl (ap (λ (x : Outward). x.begun) added.1) ];
+    })
+  ];
+}
+  where
+    new : Outward
+    new = record { sync = sync; loss = loss; hello = h.tuple; stream = []; pushed = 0; taken = []; refused = false; begun = false; closed = false }
+
+    size : length (h.connections ++ new ∷ []) ≡ length h.connections + 1
+    size = length-append h.connections (new ∷ [])
+
+    back : (word from : ℕ) → TakesOnly word from (opened h sync loss) → TakesOnly word from h
+    back word from only j n c peer more at there = only j n c peer more (get-left h.connections (new ∷ []) j c at) there
+
+    goes-on : (word from : ℕ) → IsLeft word from h → IsLeft word from (opened h sync loss)
+    goes-on word from (inl s) = absurd (both_ways (outward h).closed s.unshut shut)
+    goes-on word from (inr g) = inr (record {
+      few = let few = g.few in let e = size in omega arith;
+      past = λ unshut. let few = g.few in let e = size in omega arith;
+      current = g.current;
+      resyncs = λ j c more at. elim (get-more h.connections new j c at) [ inl old ↦ g.resyncs j c more old | inr added ↦ inl (ap (λ (x : Outward). x.begun) added.1) ];
+    })
+
+-- What the begin of a stream does to its connection and the tuple.
+record BeginsHere (h later : PrimaryHistory) (peer : Tuple) (decided : Decision) (f : Outward → Outward) : Type 0 where
+  connections : later.connections ≡ change_last f h.connections
+  opening : later.opening_tuple ≡ h.opening_tuple
+  current : later.tuple.current ≡ h.tuple.current
+  closed : (f (outward h)).closed ≡ (outward h).closed
+  begun : (f (outward h)).begun ≡ true
+  loss : (f (outward h)).loss ≡ (outward h).loss
+  hello : (f (outward h)).hello ≡ (outward h).hello
+  taken : (f (outward h)).taken ≡ (outward h).taken ++ Ok (UuidsFrame peer) ∷ []
+  no_end : (n : ℕ) (tuple : Tuple) → slice_get (f (outward h)).stream n ≡ Some (UuidsItem tuple) → ⊥
+  -- without a resync the tuple stays, or the stream is one
+  how : ((decided ≡ NoSync) × (later.tuple ≡ h.tuple)) ⊎ ((decided ≡ NoSync → ⊥) × ((word : ℕ) × (slice_get (f (outward h)).stream 0 ≡ Some (SyncUuidItem word))))
+
+module _ (h later : PrimaryHistory) (peer : Tuple) (decided : Decision) (f : Outward → Outward) (accounted : IsAccounted h) (standing : (outward h).closed ≡ false) (fresh : (outward h).begun ≡ false)
+    (is : decision h.tuple peer ≡ Ok decided) (unused : stands_in (outward h).loss peer ≡ false) (b : BeginsHere h later peer decided f) where
+  begin-back : (j : ℕ) (c : Outward) → slice_get later.connections j ≡ Some c → (slice_get h.connections j ≡ Some c) ⊎ ((c ≡ f (outward h)) × (slice_get h.connections j ≡ Some (outward h)) × (suc j ≡ length h.connections))
+  begin-back j c at = get-change-back f (no_outward h.tuple) h.connections j c (subst (λ (l : List Outward). slice_get l j ≡ Some c) b.connections at)
+
+  begin-size : length later.connections ≡ length h.connections
+  begin-size = ap length b.connections ∙ length-change f h.connections
+
+  begin-there : slice_get h.connections (length h.connections - 1) ≡ Some (outward h)
+  begin-there = open-at h standing
+
+  begin-within : length h.connections - 1 < length h.connections
+  begin-within = slice_get_within h.connections (length h.connections - 1) (outward h) begin-there
+
+  begin-last : slice_get later.connections (length h.connections - 1) ≡ Some (f (outward h))
+  begin-last = subst (λ (l : List Outward). slice_get l (length h.connections - 1) ≡ Some (f (outward h))) (sym b.connections) (get-last-changed f (no_outward h.tuple) h.connections (outward h) begin-there refl)
+
+  begin-end : outward later ≡ f (outward h)
+  begin-end = elim (outward-change h later f b.connections) [
+    | inl none ↦ absurd (both_ways (outward h).closed standing (ap (λ (l : List Outward). (last_of (no_outward h.tuple) l).closed) none))
+    | inr end ↦ end
+  ]
+
+  begin-taken : IsBeginning (outward h).taken (f (outward h)).taken
+  begin-taken = (Ok (UuidsFrame peer) ∷ [], sym b.taken)
+
+  begin-frame : slice_get (f (outward h)).taken (length (outward h).taken) ≡ Some (Ok (UuidsFrame peer))
+  begin-frame = subst (λ (l : List Received). slice_get l (length (outward h).taken) ≡ Some (Ok (UuidsFrame peer))) (sym b.taken) (get-end (outward h).taken (Ok (UuidsFrame peer)))
+
+  -- the peer of this stream has the word
+  begin-peer : (word from : ℕ) → from < length h.connections → TakesOnly word from later → peer.current ≡ word
+  begin-peer word from less only = only (length h.connections - 1) (length (outward h).taken) (f (outward h)) peer (omega arith) begin-last begin-frame
+
+  begin-gone : (word from : ℕ) → TakesOnly word from later → IsLeft word from h → IsLeft word from later
+  begin-gone word from only (inl s) = absurd (both_ways (outward h).begun fresh s.begun)
+  begin-gone word from only (inr g) = inr (record {
+    few = let few = g.few in let e = begin-size in omega arith;
+    past = λ unshut. let past = g.past standing in let e = begin-size in omega arith;
+    current = λ same. g.current (sym b.current ∙ same);
+    resyncs = λ j c more at. elim (begin-back j c at) [
+      | inl same ↦ g.resyncs j c more same
+      | inr changed ↦ subst IsResync (sym changed.0) (elim b.how [
+        | inr resync ↦ inr resync.1
+        | inl none ↦ absurd (g.current (decided-none h.tuple peer (subst (λ (v : Decision). decision h.tuple peer ≡ Ok v) none.0 is) ∙ begin-peer word from (g.past standing) only))
+      ])
+    ];
+  })
+
+  -- the first stream begins: without a resync at the word, or with one at another
+  begin-first : (word : ℕ) → (word ≡ 0 → ⊥) → (h.opening_tuple.current ≡ word → h.opening_tuple.bitmap ≡ 0) → TakesOnly word 0 later → NoneBegun h → IsFirst word later
+  begin-first word some premise only none =
+      let its : peer.current ≡ word = begin-peer word 0 (let w = begin-within in omega arith) only in
+      let opening : h.tuple ≡ h.opening_tuple = elim accounted.began [ inl nothing ↦ nothing.tuple | inr first ↦ absurd (both_ways first.1.end.begun (none first.1.connection first.1.end first.1.at) first.1.begun) ] in
+      elim b.how [
+        | inl same ↦
+            let current : h.tuple.current ≡ word = decided-none h.tuple peer (subst (λ (v : Decision). decision h.tuple peer ≡ Ok v) same.0 is) ∙ its in
+            let bitmap : h.opening_tuple.bitmap ≡ 0 = premise (ap (λ (x : Tuple). x.current) (sym opening) ∙ current) in
+            record {
+              from = length h.connections;
+              left = inl (record {
+                last = begin-size;
+                unshut = ap (λ (c : Outward). c.closed) begin-end ∙ (b.closed ∙ standing);
+                begun = ap (λ (c : Outward). c.begun) begin-end ∙ b.begun;
+                current = b.current ∙ current;
+                bitmap = ap (λ (x : Tuple). x.bitmap) (same.1 ∙ opening) ∙ bitmap;
+                loss = λ equal. not-current (outward h).loss peer unused (sym b.loss ∙ (ap (λ (c : Outward). c.loss) (sym begin-end) ∙ (equal ∙ sym its)));
+              });
+              earlier = λ j c less at. elim (begin-back j c at) [ inl old ↦ none j c old | inr changed ↦ absurd (let end = changed.2 in omega arith) ];
+              there = λ j c index at. inr (ap (λ (x : Tuple). x.bitmap) b.opening ∙ bitmap);
+            }
+        | inr resync ↦ record {
+          from = length h.connections - 1;
+          left = inr (record {
+            few = let e = begin-size in omega arith;
+            past = λ unshut. let e = begin-size in let w = begin-within in omega arith;
+            current = λ equal. resync.0 (let both : Ok decided ≡ Ok NoSync = sym is ∙ decided-same h.tuple peer (λ zero_peer. some (sym its ∙ zero_peer)) (sym b.current ∙ (equal ∙ sym its)) in cc);
+            resyncs = λ j c more at. elim (begin-back j c at) [ inl old ↦ inl (none j c old) | inr changed ↦ subst IsResync (sym changed.0) (inr resync.1) ];
+          });
+          earlier = λ j c less at. elim (begin-back j c at) [ inl old ↦ none j c old | inr changed ↦ absurd (let end = changed.2 in omega arith) ];
+          there = λ j c index at. elim (begin-back j c at) [ inl old ↦ inl (none j c old) | inr changed ↦ absurd (let end = changed.2 in omega arith) ];
+        }
+      ]
+
+  left-beginning : HasLeft h → HasLeft later
+  left-beginning t = record {
+    own = λ unshut. b.current ∙ (t.own standing ∙ ap (λ (x : Tuple). x.current) (sym b.hello ∙ ap (λ (c : Outward). c.hello) (sym begin-end)));
+    fresh = λ j c at equal. elim (begin-back j c at) [
+      | inl same ↦ t.fresh j c same equal
+      | inr changed ↦ t.fresh j (outward h) changed.1 (sym b.loss ∙ (ap (λ (x : Outward). x.loss) (sym changed.0) ∙ (equal ∙ ap (λ (x : Tuple). x.current) (ap (λ (x : Outward). x.hello) changed.0 ∙ b.hello))))
+    ];
+    met = λ j c at began. elim (begin-back j c at) [
+      | inl same ↦ t.met j c same began
+      | inr changed ↦ (
+        length (outward h).taken,
+        peer,
+        subst (λ (x : Outward). slice_get x.taken (length (outward h).taken) ≡ Some (Ok (UuidsFrame peer))) (sym changed.0) begin-frame,
+        ap (λ (n : ℕ). stands_in n peer) (ap (λ (x : Outward). x.loss) changed.0 ∙ b.loss) ∙ unused,
+      )
+    ];
+    ended = λ i n c tuple at there only. elim (begin-back i c at) [
+      | inl same ↦ begin-gone tuple.current (suc i) only (t.ended i n c tuple same there (takes-back h later f tuple.current (suc i) b.connections begin-taken only))
+      | inr changed ↦ absurd (b.no_end n tuple (subst (λ (x : Outward). slice_get x.stream n ≡ Some (UuidsItem tuple)) changed.0 there))
+    ];
+    first = λ word some premise only.
+        let before : h.opening_tuple.current ≡ word → h.opening_tuple.bitmap ≡ 0 = λ equal. sym (ap (λ (x : Tuple). x.bitmap) b.opening) ∙ premise (ap (λ (x : Tuple). x.current) b.opening ∙ equal) in
+        elim (t.first word some before (takes-back h later f word 0 b.connections begin-taken only)) [
+          | inl none ↦ inr (begin-first word some before only none)
+          | inr one ↦
+              let past : one.from < length h.connections = elim one.left [ inl s ↦ absurd (both_ways (outward h).begun fresh s.begun) | inr g ↦ g.past standing ] in
+              inr (record {
+                from = one.from;
+                left = begin-gone word one.from (λ j n c from more. only j n c from (omega arith)) one.left;
+                earlier = λ j c less at. elim (begin-back j c at) [ inl old ↦ one.earlier j c less old | inr changed ↦ absurd (let end = changed.2 in omega arith) ];
+                there = λ j c index at. elim (begin-back j c at) [
+                  | inr changed ↦ absurd (let end = changed.2 in omega arith)
+                  | inl old ↦ elim (one.there j c index old) [ inl new ↦ inl new | inr bitmap ↦ inr (ap (λ (x : Tuple). x.bitmap) b.opening ∙ bitmap) ]
+                ];
+              })
+        ];
+  }
