@@ -9,4 +9,5 @@ pub mod SpanBegins
 pub mod SpanRuns
 pub mod Generations
 pub mod GenerationMoves
+pub mod GenerationRuns
 pub mod Turns

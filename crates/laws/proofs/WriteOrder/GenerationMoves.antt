@@ -51,7 +51,7 @@ pub record HasLeft (h : PrimaryHistory) : Type 0 where
   pub first : (word : ℕ) → (word ≡ 0 → ⊥) → (h.opening_tuple.current ≡ word → h.opening_tuple.bitmap ≡ 0) → TakesOnly word 0 h → NoneBegun h ⊎ IsFirst word h
 
 -- The last connection changes and goes on.
-left-goes-on : (h later : PrimaryHistory) (f : Outward → Outward) → KeepsLeft h later f → later.opening_tuple ≡ h.opening_tuple
+pub left-goes-on : (h later : PrimaryHistory) (f : Outward → Outward) → KeepsLeft h later f → later.opening_tuple ≡ h.opening_tuple
     → ((n : ℕ) (tuple : Tuple) → slice_get (f (outward h)).stream n ≡ Some (UuidsItem tuple)
       → (slice_get (outward h).stream n ≡ Some (UuidsItem tuple)) ⊎ ((tuple.current ≡ h.tuple.current) × ((later.tuple.bitmap ≡ 0) × (((outward h).closed ≡ false) × ((outward h).begun ≡ true)))))
     → HasLeft h → HasLeft later
@@ -114,7 +114,7 @@ left-goes-on h later f k opening ends t = record {
     begun-back j c at none = elim (back j c at) [ inl same ↦ none c same | inr changed ↦ ap (λ (x : Outward). x.begun) changed.0 ∙ (k.begun ∙ none (outward h) changed.1) ]
 
 -- nothing changes that is spoken of
-left-still : (h later : PrimaryHistory) → later.connections ≡ h.connections → later.tuple ≡ h.tuple → later.opening_tuple ≡ h.opening_tuple → HasLeft h → HasLeft later
+pub left-still : (h later : PrimaryHistory) → later.connections ≡ h.connections → later.tuple ≡ h.tuple → later.opening_tuple ≡ h.opening_tuple → HasLeft h → HasLeft later
 left-still h later connections tuple opening t = left-goes-on h later (λ c. c) (record {
   connections = connections ∙ sym (change-none h.connections);
   current = ap (λ (x : Tuple). x.current) tuple;
@@ -128,7 +128,7 @@ left-still h later connections tuple opening t = left-goes-on h later (λ c. c) 
 }) opening (λ n tuple there. inl there) t
 
 -- the last connection changes, and no end of a resync is appended
-left-with : (h later : PrimaryHistory) (f : Outward → Outward) → later.connections ≡ change_last f h.connections → later.tuple ≡ h.tuple → later.opening_tuple ≡ h.opening_tuple → (f (outward h)).closed ≡ (outward h).closed → (f (outward h)).begun ≡ (outward h).begun
+pub left-with : (h later : PrimaryHistory) (f : Outward → Outward) → later.connections ≡ change_last f h.connections → later.tuple ≡ h.tuple → later.opening_tuple ≡ h.opening_tuple → (f (outward h)).closed ≡ (outward h).closed → (f (outward h)).begun ≡ (outward h).begun
     → (f (outward h)).loss ≡ (outward h).loss → (f (outward h)).hello ≡ (outward h).hello → IsBeginning (outward h).stream (f (outward h)).stream → IsBeginning (outward h).taken (f (outward h)).taken
     → ((n : ℕ) (tuple : Tuple) → slice_get (f (outward h)).stream n ≡ Some (UuidsItem tuple) → slice_get (outward h).stream n ≡ Some (UuidsItem tuple)) → HasLeft h → HasLeft later
 left-with h later f connections tuple opening closed begun loss hello stream taken ends t = left-goes-on h later f (record {
@@ -144,13 +144,13 @@ left-with h later f connections tuple opening closed begun loss hello stream tak
 }) opening (λ n tuple there. inl (ends n tuple there)) t
 
 -- an item is appended that ends no resync
-left-appends : (h later : PrimaryHistory) (item : Item) → later.connections ≡ change_last (λ c. record c { stream = c.stream ++ item ∷ [] }) h.connections → later.tuple ≡ h.tuple → later.opening_tuple ≡ h.opening_tuple → ((tuple : Tuple) → item ≡ UuidsItem tuple → ⊥)
+pub left-appends : (h later : PrimaryHistory) (item : Item) → later.connections ≡ change_last (λ c. record c { stream = c.stream ++ item ∷ [] }) h.connections → later.tuple ≡ h.tuple → later.opening_tuple ≡ h.opening_tuple → ((tuple : Tuple) → item ≡ UuidsItem tuple → ⊥)
     → HasLeft h → HasLeft later
 left-appends h later item connections tuple opening other t = left-with h later (λ c. record c { stream = c.stream ++ item ∷ [] }) connections tuple opening refl refl refl refl (item ∷ [], refl) (begins-self (outward h).taken)
     (λ n t there. elim (get-more (outward h).stream item n (UuidsItem t) there) [ inl old ↦ old | inr new ↦ absurd (other t (sym new.1)) ]) t
 
 -- a resync ends
-left-ending : (g : PrimaryHistory) → resync_is_over g ≡ true → HasLeft g → HasLeft (ending_resync g)
+pub left-ending : (g : PrimaryHistory) → resync_is_over g ≡ true → HasLeft g → HasLeft (ending_resync g)
 left-ending g over t =
     let parts = stands-parts (outward g) (over-stands g over) in
     let item : Item = UuidsItem (sync_end g.tuple) in
@@ -172,12 +172,12 @@ left-ending g over t =
           inr (ap (λ (x : Tuple). x.current) is ∙ end-current g.tuple, (end-bitmap g.tuple, (parts.0, parts.1)))
     ]) t
 
-left-following : (h : PrimaryHistory) → HasLeft h → HasLeft (follows h).history
+pub left-following : (h : PrimaryHistory) → HasLeft h → HasLeft (follows h).history
 left-following = following-from HasLeft HasLeft HasLeft (λ h t. left-still h (with_completions h) refl refl refl t)
     (λ g over t. left-appends g _ (BarrierItem (last_epoch (outward g).stream)) refl refl refl (λ tuple is. cc) t) (λ g on t. t) left-ending (λ g t. t)
 
 -- A stream ends: if it had begun, another generation begins with it, or had begun before.
-left-closes : (h later : PrimaryHistory) (f : Outward → Outward) → (outward h).closed ≡ false → later.connections ≡ change_last f h.connections → later.opening_tuple ≡ h.opening_tuple
+pub left-closes : (h later : PrimaryHistory) (f : Outward → Outward) → (outward h).closed ≡ false → later.connections ≡ change_last f h.connections → later.opening_tuple ≡ h.opening_tuple
     → (((outward h).begun ≡ true) × (later.tuple ≡ lost (outward h).loss h.tuple)) ⊎ (((outward h).begun ≡ false) × (later.tuple ≡ h.tuple))
     → (f (outward h)).closed ≡ true → (f (outward h)).begun ≡ (outward h).begun → (f (outward h)).loss ≡ (outward h).loss → (f (outward h)).hello ≡ (outward h).hello → (f (outward h)).stream ≡ (outward h).stream → IsBeginning (outward h).taken (f (outward h)).taken
     → HasLeft h → HasLeft later
@@ -273,7 +273,7 @@ left-closes h later f standing connections opening tuple closed begun loss hello
     })
 
 -- A connection opens.
-left-opens : (h : PrimaryHistory) (sync loss : ℕ) → (outward h).closed ≡ true → are_fresh sync loss (known_tuples h) ≡ true → HasLeft h → HasLeft (opened h sync loss)
+pub left-opens : (h : PrimaryHistory) (sync loss : ℕ) → (outward h).closed ≡ true → are_fresh sync loss (known_tuples h) ≡ true → HasLeft h → HasLeft (opened h sync loss)
 left-opens h sync loss shut fresh t = record {
   own = λ unshut. ap (λ (c : Outward). c.hello.current) (sym (last-more (no_outward h.tuple) new h.connections));
   fresh = λ j c at is. elim (get-more h.connections new j c at) [
@@ -315,18 +315,18 @@ left-opens h sync loss shut fresh t = record {
     })
 
 -- What the begin of a stream does to its connection and the tuple.
-record BeginsHere (h later : PrimaryHistory) (peer : Tuple) (decided : Decision) (f : Outward → Outward) : Type 0 where
-  connections : later.connections ≡ change_last f h.connections
-  opening : later.opening_tuple ≡ h.opening_tuple
-  current : later.tuple.current ≡ h.tuple.current
-  closed : (f (outward h)).closed ≡ (outward h).closed
-  begun : (f (outward h)).begun ≡ true
-  loss : (f (outward h)).loss ≡ (outward h).loss
-  hello : (f (outward h)).hello ≡ (outward h).hello
-  taken : (f (outward h)).taken ≡ (outward h).taken ++ Ok (UuidsFrame peer) ∷ []
-  no_end : (n : ℕ) (tuple : Tuple) → slice_get (f (outward h)).stream n ≡ Some (UuidsItem tuple) → ⊥
+pub record BeginsHere (h later : PrimaryHistory) (peer : Tuple) (decided : Decision) (f : Outward → Outward) : Type 0 where
+  pub connections : later.connections ≡ change_last f h.connections
+  pub opening : later.opening_tuple ≡ h.opening_tuple
+  pub current : later.tuple.current ≡ h.tuple.current
+  pub closed : (f (outward h)).closed ≡ (outward h).closed
+  pub begun : (f (outward h)).begun ≡ true
+  pub loss : (f (outward h)).loss ≡ (outward h).loss
+  pub hello : (f (outward h)).hello ≡ (outward h).hello
+  pub taken : (f (outward h)).taken ≡ (outward h).taken ++ Ok (UuidsFrame peer) ∷ []
+  pub no_end : (n : ℕ) (tuple : Tuple) → slice_get (f (outward h)).stream n ≡ Some (UuidsItem tuple) → ⊥
   -- without a resync the tuple stays, or the stream is one
-  how : ((decided ≡ NoSync) × (later.tuple ≡ h.tuple)) ⊎ ((decided ≡ NoSync → ⊥) × ((word : ℕ) × (slice_get (f (outward h)).stream 0 ≡ Some (SyncUuidItem word))))
+  pub how : ((decided ≡ NoSync) × (later.tuple ≡ h.tuple)) ⊎ ((decided ≡ NoSync → ⊥) × ((word : ℕ) × (slice_get (f (outward h)).stream 0 ≡ Some (SyncUuidItem word))))
 
 module _ (h later : PrimaryHistory) (peer : Tuple) (decided : Decision) (f : Outward → Outward) (accounted : IsAccounted h) (standing : (outward h).closed ≡ false) (fresh : (outward h).begun ≡ false)
     (is : decision h.tuple peer ≡ Ok decided) (unused : stands_in (outward h).loss peer ≡ false) (b : BeginsHere h later peer decided f) where
@@ -411,7 +411,7 @@ module _ (h later : PrimaryHistory) (peer : Tuple) (decided : Decision) (f : Out
         }
       ]
 
-  left-beginning : HasLeft h → HasLeft later
+  pub left-beginning : HasLeft h → HasLeft later
   left-beginning t = record {
     own = λ unshut. b.current ∙ (t.own standing ∙ ap (λ (x : Tuple). x.current) (sym b.hello ∙ ap (λ (c : Outward). c.hello) (sym begin-end)));
     fresh = λ j c at equal. elim (begin-back j c at) [
