@@ -1,6 +1,6 @@
 -- A secondary's steps, taken apart: what has to be shown of a property so that it holds after a step.
-use Rattle.std.proofs.Common.{ℕ, zero, suc, ◌≡◌, ◌<◌, Bool, true, false, cond, not, ◌&&◌, List, [], ◌∷◌, ◌++◌, length, Option, Some, None, is_none, Ok, Err, refl, nat_lt, nat_le}
-use Rattle.std.proofs.lemmas.Bool.{not-false, and_parts, leb-false}
+use Rattle.std.proofs.Common.{ℕ, zero, suc, ◌≡◌, ◌<◌, Bool, true, false, cond, not, ◌&&◌, List, [], ◌∷◌, ◌++◌, length, Option, Some, None, is_none, Ok, Err, refl, sym, ap, ◌⊎◌, inl, inr, nat_lt, nat_le}
+use Rattle.std.proofs.lemmas.Bool.{both_ways, not-false, and_parts, leb-false}
 use Rattle.blocks.specs.declared.refusal.Refusal.{Refusal}
 use Rattle.blocks.specs.declared.refusal.Refusal.TheVariants.{NothingThere, NotConnected, PendingFull, NoMemory, LinkFull, UnknownJob, EpochOpen, NotDrained}
 use Rattle.blocks.specs.declared.outcome.What.{What}
@@ -11,11 +11,12 @@ use Rattle.blocks.specs.declared.settings.Protocol.{Protocol}
 use Rattle.blocks.specs.declared.settings.Protocol.TheVariants as protocol
 use Rattle.blocks.specs.declared.tuple.Tuple.{Tuple}
 use Rattle.model.specs.Contents.{Write}
-use Rattle.model.specs.Stream.{Item, WriteItem}
+use Rattle.model.specs.Stream.{Item, WriteItem, ResyncItem, BarrierItem, SyncUuidItem, UuidsItem}
+use Rattle.model.specs.Primary.{is_sync_start, is_sync_end, is_resync}
 use Rattle.model.specs.Frames.{Packet, DataFrame, RsDataReplyFrame, BarrierFrame, ProtocolFrame, UuidsFrame, SizesFrame, SyncUuidFrame, RecvAckFrame, Received, naming}
 use Rattle.model.specs.Refusals.{Test, done_with}
-use Rattle.model.specs.Secondary.{Inward, SecondaryHistory, inward, with_inward, items_taken, received_item, is_drained, pending, answers_due}
-use Rattle.model.specs.SecondarySteps.{answering, succeeding_secondary, open_secondary_tests, opened_secondary, open_secondary, Checked, checking_hello, checking_item, checking, adopting, receiving, take_item, receive, peer_tests, is_pending_at, has_earlier, applying, peer, failing, peer_fault, ack_out_tests, answering_with, ack_out, close_secondary}
+use Rattle.model.specs.Secondary.{Inward, SecondaryHistory, inward, with_inward, items_taken, received_item, is_drained, pending, answers_due, is_in_resync}
+use Rattle.model.specs.SecondarySteps.{answering, succeeding_secondary, open_secondary_tests, opened_secondary, open_secondary, Checked, checking_hello, checking_item, checking, adopting, receiving, take_item, receive, peer_tests, is_apart, is_pending_at, has_earlier, applying, peer, failing, peer_fault, ack_out_tests, answering_with, ack_out, close_secondary}
 use Rattle.model.specs.LocalRuns.{SecondaryEvent, OpensToo, Receives, Applies, FailsToApply, Acknowledges, ClosesToo, secondary_after}
 use Rattle.laws.proofs.Secondary.Runs.{tested-keeps}
 use Rattle.laws.proofs.Lists.Tests.{test-passed}
@@ -50,44 +51,77 @@ pub record AfterFrame (R : SecondaryHistory → Type 0) (h : SecondaryHistory) (
       → R (with_inward answering (adopting tuple consistent (with_inward (framed frame) h)))
   pub refuses : R (with_inward refused_end (with_inward (framed frame) h))
 
+-- A frame that is taken as one of the hello, or brings an item that neither begins nor ends a resync; a block of one comes in a
+-- resync.
+abbrev pub IsPlain : SecondaryHistory → Received → Type 0
+IsPlain h frame =
+    (nat_lt (length (inward h).taken) 3 ≡ true)
+    ⊎ ((nat_lt (length (inward h).taken) 3 ≡ false) × ((item : Item) → received_item frame ≡ Some item → (is_sync_start item ≡ false) × ((is_sync_end item ≡ false) × (is_resync item ≡ true → is_in_resync (inward h) ≡ true))))
+
+-- The same in more detail: what kind of frame it is, and which tuple is adopted with which item.
+pub record AfterKind (R : SecondaryHistory → Type 0) (h : SecondaryHistory) (frame : Received) : Type 0 where
+  pub accepts : IsPlain h frame → R (with_inward answering (with_inward (framed frame) h))
+  pub receipts : (write : Write) (at : ℕ) → frame ≡ Ok (DataFrame write at) → nat_lt (length (inward h).taken) 3 ≡ false
+      → R (with_inward answering (with_inward (receipting (length (items_taken (inward h))) write) (with_inward (framed frame) h)))
+  pub starts : (word : ℕ) → frame ≡ Ok (SyncUuidFrame word) → nat_lt (length (inward h).taken) 3 ≡ false → R (with_inward answering (adopting (record h.tuple { current = word }) false (with_inward (framed frame) h)))
+  pub ends : (tuple : Tuple) → frame ≡ Ok (UuidsFrame tuple) → nat_lt (length (inward h).taken) 3 ≡ false → R (with_inward answering (adopting tuple true (with_inward (framed frame) h)))
+  pub refuses : R (with_inward refused_end (with_inward (framed frame) h))
+
+-- what holds whatever the kind
+of-kind : (R : SecondaryHistory → Type 0) (h : SecondaryHistory) (frame : Received) → AfterFrame R h frame → AfterKind R h frame
+of-kind R h frame after = record {
+  accepts = λ plain. after.accepts;
+  receipts = after.receipts;
+  starts = λ word is late. after.adopts (SyncUuidItem word) (record h.tuple { current = word }) false (ap received_item is) late;
+  ends = λ tuple is late. after.adopts (UuidsItem tuple) tuple true (ap received_item is) late;
+  refuses = after.refuses;
+}
+
 -- The same before the answers that follow.
 abbrev Judged : (SecondaryHistory → Type 0) → Checked → Type 0
 Judged R (Ok done) = R (with_inward answering done.1)
 Judged R (Err refusal) = Unit {0}
 
-judged-if : (R : SecondaryHistory → Type 0) (good : Bool) (done : What) (h : SecondaryHistory) (refusal : Refusal) → R (with_inward answering h) → Judged R (cond good (Ok (done, h)) (Err refusal))
-judged-if R true done h refusal r = r
+judged-if : (R : SecondaryHistory → Type 0) (good : Bool) (done : What) (h : SecondaryHistory) (refusal : Refusal) → (good ≡ true → R (with_inward answering h)) → Judged R (cond good (Ok (done, h)) (Err refusal))
+judged-if R true done h refusal r = r refl
 judged-if R false done h refusal r = tt
 
 judged-hello : (R : SecondaryHistory → Type 0) (n : ℕ) (packet : Packet) (h : SecondaryHistory) → R (with_inward answering h) → Judged R (checking_hello n packet h)
-judged-hello R zero (ProtocolFrame asked) h r = judged-if R _ _ h _ r
-judged-hello R (suc zero) (SizesFrame blocks) h r = judged-if R _ _ h _ r
+judged-hello R zero (ProtocolFrame asked) h r = judged-if R _ _ h _ (λ good. r)
+judged-hello R (suc zero) (SizesFrame blocks) h r = judged-if R _ _ h _ (λ good. r)
 judged-hello R (suc (suc n)) (UuidsFrame tuple) h r = r
 judged-hello R n packet h r = tt
 
-judged-write : (R : SecondaryHistory → Type 0) (h : SecondaryHistory) (write : Write) (at : ℕ) → nat_lt (length (inward h).taken) 3 ≡ false → AfterFrame R h (Ok (DataFrame write at))
+judged-write : (R : SecondaryHistory → Type 0) (h : SecondaryHistory) (write : Write) (at : ℕ) → nat_lt (length (inward h).taken) 3 ≡ false → AfterKind R h (Ok (DataFrame write at))
     → R (with_inward answering (receiving (length (items_taken (inward h))) (WriteItem write) (with_inward (framed (Ok (DataFrame write at))) h)))
 judged-write R h write at late after = go h.settings.protocol
   where
+    plain : IsPlain h (Ok (DataFrame write at))
+    plain = inr (late, λ item is. let same : WriteItem write ≡ item = cc in (ap is_sync_start (sym same), (ap is_sync_end (sym same), λ block. absurd (both_ways (is_resync item) (ap is_resync (sym same)) block))))
+
     go : (asked : Protocol) → R (with_inward answering (elim asked as (λ _. SecondaryHistory) [
       | protocol.A ↦ with_inward (framed (Ok (DataFrame write at))) h
       | protocol.B ↦ with_inward (receipting (length (items_taken (inward h))) write) (with_inward (framed (Ok (DataFrame write at))) h)
       | protocol.C ↦ with_inward (framed (Ok (DataFrame write at))) h
     ]))
-    go protocol.A = after.accepts
+    go protocol.A = after.accepts plain
     go protocol.B = after.receipts write at refl late
-    go protocol.C = after.accepts
+    go protocol.C = after.accepts plain
 
-judged-item : (R : SecondaryHistory → Type 0) (h : SecondaryHistory) (packet : Packet) → nat_lt (length (inward h).taken) 3 ≡ false → AfterFrame R h (Ok packet)
+judged-item : (R : SecondaryHistory → Type 0) (h : SecondaryHistory) (packet : Packet) → nat_lt (length (inward h).taken) 3 ≡ false → AfterKind R h (Ok packet)
     → Judged R (checking_item packet (length (items_taken (inward h))) (inward h) (with_inward (framed (Ok packet)) h))
-judged-item R h (DataFrame write at) late after = judged-if R _ _ _ _ (judged-write R h write at late after)
-judged-item R h (RsDataReplyFrame block contents at) late after = judged-if R _ _ _ _ after.accepts
-judged-item R h (BarrierFrame number) late after = judged-if R _ _ _ _ after.accepts
-judged-item R h (UuidsFrame tuple) late after = judged-if R _ _ _ _ (after.adopts _ tuple true refl late)
-judged-item R h (SyncUuidFrame word) late after = judged-if R _ _ _ _ (after.adopts _ (record h.tuple { current = word }) false refl late)
+judged-item R h (DataFrame write at) late after = judged-if R _ _ _ _ (λ good. judged-write R h write at late after)
+judged-item R h (RsDataReplyFrame block contents at) late after = judged-if R _ _ _ _ (λ good. after.accepts (inr (late, λ item is.
+    let same : ResyncItem block contents ≡ item = cc in
+    (ap is_sync_start (sym same), (ap is_sync_end (sym same), λ resync. (and_parts (is_in_resync (inward h)) _ (and_parts _ (is_in_resync (inward h) && is_apart (ResyncItem block contents) (items_taken (inward h))) good).1).0)))))
+judged-item R h (BarrierFrame number) late after = judged-if R _ _ _ _ (λ good. after.accepts (inr (late, λ item is.
+    let same : BarrierItem number ≡ item = cc in
+    (ap is_sync_start (sym same), (ap is_sync_end (sym same), λ resync. absurd (both_ways (is_resync item) (ap is_resync (sym same)) resync))))))
+judged-item R h (UuidsFrame tuple) late after = judged-if R _ _ _ _ (λ good. after.ends tuple refl late)
+judged-item R h (SyncUuidFrame word) late after = judged-if R _ _ _ _ (λ good. after.starts word refl late)
 judged-item R h packet late after = tt
 
-judged : (R : SecondaryHistory → Type 0) (h : SecondaryHistory) (frame : Received) → AfterFrame R h frame → Judged R (checking frame (inward h) (with_inward (framed frame) h))
+judged : (R : SecondaryHistory → Type 0) (h : SecondaryHistory) (frame : Received) → AfterKind R h frame → Judged R (checking frame (inward h) (with_inward (framed frame) h))
 judged R h (Err fault) after = tt
 judged R h (Ok packet) after = go (nat_lt (length (inward h).taken) 3) refl
   where
@@ -95,12 +129,12 @@ judged R h (Ok packet) after = go (nat_lt (length (inward h).taken) 3) refl
       | true ↦ checking_hello (length (inward h).taken) packet (with_inward (framed (Ok packet)) h)
       | false ↦ checking_item packet (length (items_taken (inward h))) (inward h) (with_inward (framed (Ok packet)) h)
     ])
-    go true is = judged-hello R (length (inward h).taken) packet (with_inward (framed (Ok packet)) h) after.accepts
+    go true is = judged-hello R (length (inward h).taken) packet (with_inward (framed (Ok packet)) h) (after.accepts (inl is))
     go false is = judged-item R h packet is after
 
 -- What holds before and after a frame was taken.
-pub after-take : (R : SecondaryHistory → Type 0) (h : SecondaryHistory) (frame : Received) → AfterFrame R h frame → R (take_item frame h).1
-after-take R h frame after = go (checking frame (inward h) (with_inward (framed frame) h)) (judged R h frame after)
+pub after-kind : (R : SecondaryHistory → Type 0) (h : SecondaryHistory) (frame : Received) → AfterKind R h frame → R (take_item frame h).1
+after-kind R h frame after = go (checking frame (inward h) (with_inward (framed frame) h)) (judged R h frame after)
   where
     go : (v : Checked) → Judged R v → R (elim v as (λ _. Reply × SecondaryHistory) [
       | Ok done ↦ succeeding_secondary done.0 done.1
@@ -109,10 +143,14 @@ after-take R h frame after = go (checking frame (inward h) (with_inward (framed 
     go (Ok done) j = j
     go (Err refusal) j = after.refuses
 
+-- the same in less detail
+pub after-take : (R : SecondaryHistory → Type 0) (h : SecondaryHistory) (frame : Received) → AfterFrame R h frame → R (take_item frame h).1
+after-take R h frame after = after-kind R h frame (of-kind R h frame after)
+
 -- After a step that takes the next frame, if there is one.
-pub after-receive : (R : SecondaryHistory → Type 0) (h : SecondaryHistory) (frame : Option Received) (starved : Bool) → R h
-    → ((taken : Received) → frame ≡ Some taken → (inward h).closed ≡ false → AfterFrame R h taken) → R (receive frame starved h).1
-after-receive R h frame starved same takes = tested-keeps R h (((inward h).closed, NotConnected) ∷ rest) (λ _. elim frame as (λ _. Reply × SecondaryHistory) [ None ↦ (reply.Refused NothingThere, h) | Some taken ↦ take_item taken h ])
+pub receive-kind : (R : SecondaryHistory → Type 0) (h : SecondaryHistory) (frame : Option Received) (starved : Bool) → R h
+    → ((taken : Received) → frame ≡ Some taken → (inward h).closed ≡ false → AfterKind R h taken) → R (receive frame starved h).1
+receive-kind R h frame starved same takes = tested-keeps R h (((inward h).closed, NotConnected) ∷ rest) (λ _. elim frame as (λ _. Reply × SecondaryHistory) [ None ↦ (reply.Refused NothingThere, h) | Some taken ↦ take_item taken h ])
     same (λ passed. go frame refl (test-passed (inward h).closed NotConnected rest passed).0)
   where
     rest : List Test
@@ -120,7 +158,12 @@ after-receive R h frame starved same takes = tested-keeps R h (((inward h).close
 
     go : (v : Option Received) → frame ≡ v → (inward h).closed ≡ false → R (elim v as (λ _. Reply × SecondaryHistory) [ None ↦ (reply.Refused NothingThere, h) | Some taken ↦ take_item taken h ]).1
     go None is standing = same
-    go (Some taken) is standing = after-take R h taken (takes taken is standing)
+    go (Some taken) is standing = after-kind R h taken (takes taken is standing)
+
+-- the same in less detail
+pub after-receive : (R : SecondaryHistory → Type 0) (h : SecondaryHistory) (frame : Option Received) (starved : Bool) → R h
+    → ((taken : Received) → frame ≡ Some taken → (inward h).closed ≡ false → AfterFrame R h taken) → R (receive frame starved h).1
+after-receive R h frame starved same takes = receive-kind R h frame starved same (λ taken is standing. of-kind R h taken (takes taken is standing))
 
 -- After an opening.
 pub after-open : (R : SecondaryHistory → Type 0) (unseen : ℕ) (h : SecondaryHistory) → R h → ((inward h).closed ≡ true → R (with_inward answering (opened_secondary unseen h))) → R (open_secondary unseen h).1
@@ -168,6 +211,25 @@ pub record After (R : SecondaryHistory → Type 0) (h : SecondaryHistory) : Type
   pub fails : (place : ℕ) (offsets : List ℕ) → is_pending_at (inward h) place ≡ true → has_earlier (inward h) place ≡ false → R (with_inward (failing place offsets) h)
   pub pushes : (inward h).closed ≡ false → (inward h).pushed < length (answers_due h.settings (inward h)) → R (with_inward pushed_one h)
   pub closes : (inward h).closed ≡ false → R (with_inward closed_end h)
+
+-- The same, where the kind of a frame counts.
+pub record AfterKinds (R : SecondaryHistory → Type 0) (h : SecondaryHistory) : Type 0 where
+  pub same : R h
+  pub opens : (unseen : ℕ) → (inward h).closed ≡ true → R (with_inward answering (opened_secondary unseen h))
+  pub takes : (frame : Received) → (inward h).closed ≡ false → AfterKind R h frame
+  pub applies : (place : ℕ) → R (with_inward answering (with_inward (applying h.settings.protocol place) h))
+  pub fails : (place : ℕ) (offsets : List ℕ) → R (with_inward (failing place offsets) h)
+  pub pushes : (inward h).closed ≡ false → R (with_inward pushed_one h)
+  pub closes : (inward h).closed ≡ false → R (with_inward closed_end h)
+
+-- it then holds after every event
+pub after-kinds : (R : SecondaryHistory → Type 0) (h : SecondaryHistory) (event : SecondaryEvent) → AfterKinds R h → R (secondary_after event h)
+after-kinds R h (OpensToo unseen) a = after-open R unseen h a.same (a.opens unseen)
+after-kinds R h (Receives frame starved) a = receive-kind R h frame starved a.same (λ taken is standing. a.takes taken standing)
+after-kinds R h (Applies place) a = after-peer R h place a.same (λ waiting first. a.applies place)
+after-kinds R h (FailsToApply place offsets) a = after-fault R h place offsets a.same (λ waiting first. a.fails place offsets)
+after-kinds R h (Acknowledges room starved) a = after-push R h room starved a.same (λ standing due. a.pushes standing)
+after-kinds R h ClosesToo a = after-close R h a.same a.closes
 
 -- It then does.
 pub after-event : (R : SecondaryHistory → Type 0) (h : SecondaryHistory) (event : SecondaryEvent) → After R h → R (secondary_after event h)
