@@ -10,4 +10,5 @@ pub mod SpanRuns
 pub mod Generations
 pub mod GenerationMoves
 pub mod GenerationRuns
+pub mod Consistent
 pub mod Turns
