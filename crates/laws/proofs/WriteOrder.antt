@@ -11,4 +11,5 @@ pub mod Generations
 pub mod GenerationMoves
 pub mod GenerationRuns
 pub mod Consistent
+pub mod Ends
 pub mod Turns

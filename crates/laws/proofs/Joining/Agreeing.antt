@@ -56,7 +56,7 @@ reaches-disk s epochs block v k d at holds later =
     ]
 
 -- a block that no item touches but with what it had at the opening
-from-opening : (s : SecondaryHistory) → HoldsEarlierEpochs s → (block : ℕ) (v : Option (List ℕ)) → s.opening_map block ≡ v
+pub from-opening : (s : SecondaryHistory) → HoldsEarlierEpochs s → (block : ℕ) (v : Option (List ℕ)) → s.opening_map block ≡ v
     → ((j : ℕ) (e : Inward) → slice_get s.connections j ≡ Some e → TakesOnly block v e) → secondary_map s block ≡ v
 from-opening s epochs block v was only = go s.connections refl
   where

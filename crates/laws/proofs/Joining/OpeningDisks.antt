@@ -1,12 +1,13 @@
 -- The two ends of joined nodes, and the opening disks: they agree on a block that stands as it did at the opening and was
 -- not marked there.
-use Rattle.std.proofs.Common.{ℕ, zero, suc, ◌≡◌, ◌<◌, inl, inr, Bool, true, false, ◌&&◌, List, [], ◌∷◌, take, Option, Some, None, slice_get, Ok, refl, sym, ◌∙◌, ap, subst, arith, nat_lt}
+use Rattle.std.proofs.Common.{ℕ, zero, suc, ◌≡◌, ◌<◌, ◌⊎◌, inl, inr, Bool, true, false, ◌&&◌, List, [], ◌∷◌, take, Option, Some, None, slice_get, Ok, refl, sym, ◌∙◌, ap, subst, arith, nat_lt}
 use Rattle.std.specs.Prelude.{is_some}
 use Rattle.std.specs.List.{list_any}
 use Rattle.std.proofs.lemmas.Bool.{cases_Bool, both_ways, or_from, ltb-true, lt-ltb, cases_lt, and_right}
 use Rattle.blocks.specs.declared.settings.Settings.{Settings}
 use Rattle.blocks.specs.declared.tuple.Tuple.{Tuple}
 use Rattle.blocks.specs.declared.outcome.Decision.{Decision}
+use Rattle.blocks.specs.declared.outcome.Decision.TheVariants.{FullSync}
 use Rattle.model.specs.Contents.{BlockMap}
 use Rattle.model.specs.Frames.{UuidsFrame, SizesFrame}
 use Rattle.model.specs.Identifiers.{decision}
@@ -16,7 +17,7 @@ use Rattle.model.specs.Pair.{same_block}
 use Rattle.model.specs.LocalRuns.{PrimaryEvent, primary_run, SecondaryEvent, secondary_run}
 use Rattle.model.specs.Headline.{IsJoined, IsGrounded, Cover, opening_marked, pushed_back_by}
 use Rattle.model.specs.Theorems.{Opening, IsSoundOpening, primary_at, secondary_at, marks_at}
-use Rattle.laws.specs.Reflections.{FromOpening, FirstBegan}
+use Rattle.laws.specs.Reflections.{FromOpening, FirstBegan, NoneBegan}
 use Rattle.laws.proofs.Lists.Beginnings.{begins-take, get-beginning}
 use Rattle.laws.proofs.Primary.Homes.{HasHomes}
 use Rattle.laws.proofs.Primary.HomesMoves.{homes-kept, homes-released, homes-opening}
@@ -35,7 +36,7 @@ use Rattle.laws.proofs.Primary.Met.{HasMet, primary-met}
 use Rattle.laws.proofs.Lists.Each.{each-get}
 
 -- a tuple among the frames that a secondary owes is that of its hello, if none was due
-named : (settings : Settings) (d : Inward) (n : ℕ) (t : Tuple) → slice_get (answers_due settings d) n ≡ Some (UuidsFrame t) → ((m : ℕ) → slice_get d.due m ≡ Some (UuidsFrame t) → ⊥) → t ≡ d.hello
+pub named : (settings : Settings) (d : Inward) (n : ℕ) (t : Tuple) → slice_get (answers_due settings d) n ≡ Some (UuidsFrame t) → ((m : ℕ) → slice_get d.due m ≡ Some (UuidsFrame t) → ⊥) → t ≡ d.hello
 named settings d zero t at none = absurd (cc)
 named settings d (suc zero) t at none = absurd (cc)
 named settings d (suc (suc zero)) t at none = let same : UuidsFrame d.hello ≡ UuidsFrame t = cc in cc
@@ -108,10 +109,11 @@ sizes-agree o here there decided joined first =
     let same : s.settings.blocks ≡ o.settings.blocks = cc in
     sym same ∙ ap (λ (x : Settings). x.blocks) (kept-opening-secondary o there).settings
 
--- The opening disks agree on a block that stands as it did at the opening.
-pub openings-agree : (o : Opening) (here : List PrimaryEvent) (there : List SecondaryEvent) → IsSoundOpening o → IsJoined (primary_run here (primary_at o)) (secondary_run there (secondary_at o))
-    → IsGrounded (primary_run here (primary_at o)) (secondary_run there (secondary_at o)) → (block : ℕ) → FromOpening (primary_run here (primary_at o)) block → o.local block ≡ o.peer block
-openings-agree o here there sound joined grounded block a =
+-- The opening disks agree on a block that was not marked at the opening, where the first stream that began did not mark all.
+pub unmarked-agree : (o : Opening) (here : List PrimaryEvent) (there : List SecondaryEvent) → IsSoundOpening o → IsJoined (primary_run here (primary_at o)) (secondary_run there (secondary_at o))
+    → IsGrounded (primary_run here (primary_at o)) (secondary_run there (secondary_at o)) → (block : ℕ) → opening_marked (primary_run here (primary_at o)) block ≡ false
+    → NoneBegan (primary_run here (primary_at o)) ⊎ ((decided : Decision) × FirstBegan (primary_run here (primary_at o)) decided × (block < (primary_run here (primary_at o)).settings.blocks → decided ≡ FullSync → ⊥)) → o.local block ≡ o.peer block
+unmarked-agree o here there sound joined grounded block clean began =
     let p : PrimaryHistory = primary_run here (primary_at o) in
     let s : SecondaryHistory = secondary_run there (secondary_at o) in
     let mine : HasOpening o p = kept-opening-primary o here in
@@ -120,8 +122,8 @@ openings-agree o here there sound joined grounded block a =
       | inr past ↦
           let out : nat_lt block o.settings.blocks ≡ false = elim (cases_Bool (nat_lt block o.settings.blocks)) [ inr outside ↦ outside | inl inside ↦ absurd (let less = ltb-true block o.settings.blocks inside in omega arith) ] in
           elim grounded [
-            | inr cover ↦ ap (λ (m : BlockMap). m block) (sym mine.disk) ∙ (covered-same (opening_marked p) p.opening_map s.opening_map block cover a.unmarked ∙ ap (λ (m : BlockMap). m block) theirs.disk)
-            | inl begun ↦ elim a.began [
+            | inr cover ↦ ap (λ (m : BlockMap). m block) (sym mine.disk) ∙ (covered-same (opening_marked p) p.opening_map s.opening_map block cover clean ∙ ap (λ (m : BlockMap). m block) theirs.disk)
+            | inl begun ↦ elim began [
               | inl none ↦ absurd (both_ways (list_any (λ (c : Outward). c.begun) p.connections) (none-begun p.connections none.none) begun)
               | inr first ↦
                   let size = sizes-agree o here there first.0 joined first.1 in
@@ -131,12 +133,12 @@ openings-agree o here there sound joined grounded block a =
       | inl inside ↦
           let within : nat_lt block p.settings.blocks ≡ true = ap (λ (x : Settings). nat_lt block x.blocks) mine.settings ∙ lt-ltb block o.settings.blocks inside in
           let less : block < p.settings.blocks = subst (λ (x : Settings). block < x.blocks) (sym mine.settings) inside in
-          let bare : p.opening_marks block ≡ false = sym (ap (λ b. b && p.opening_marks block) within) ∙ a.unmarked in
+          let bare : p.opening_marks block ≡ false = sym (ap (λ b. b && p.opening_marks block) within) ∙ clean in
           let unmarked : o.marks block ≡ false = ap (λ (m : ℕ → Bool). m block) (sym mine.marks) ∙ bare in
           let marked_not : marks_at o block ≡ false = and_right (nat_lt block o.settings.blocks) (o.marks block) unmarked in
           elim grounded [
-            | inr cover ↦ ap (λ (m : BlockMap). m block) (sym mine.disk) ∙ (covered-same (opening_marked p) p.opening_map s.opening_map block cover a.unmarked ∙ ap (λ (m : BlockMap). m block) theirs.disk)
-            | inl begun ↦ elim a.began [
+            | inr cover ↦ ap (λ (m : BlockMap). m block) (sym mine.disk) ∙ (covered-same (opening_marked p) p.opening_map s.opening_map block cover clean ∙ ap (λ (m : BlockMap). m block) theirs.disk)
+            | inl begun ↦ elim began [
               | inl none ↦ absurd (both_ways (list_any (λ (c : Outward). c.begun) p.connections) (none-begun p.connections none.none) begun)
               | inr first ↦
                   let peer : first.1.peer ≡ o.peer_tuple = first-peer o here there first.0 joined first.1 in
@@ -152,3 +154,8 @@ openings-agree o here there sound joined grounded block a =
             ]
           ]
     ]
+
+-- So they agree on one that stands as it did at the opening.
+pub openings-agree : (o : Opening) (here : List PrimaryEvent) (there : List SecondaryEvent) → IsSoundOpening o → IsJoined (primary_run here (primary_at o)) (secondary_run there (secondary_at o))
+    → IsGrounded (primary_run here (primary_at o)) (secondary_run there (secondary_at o)) → (block : ℕ) → FromOpening (primary_run here (primary_at o)) block → o.local block ≡ o.peer block
+openings-agree o here there sound joined grounded block a = unmarked-agree o here there sound joined grounded block a.unmarked a.began
