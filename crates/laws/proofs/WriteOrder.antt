@@ -12,4 +12,6 @@ pub mod GenerationMoves
 pub mod GenerationRuns
 pub mod Consistent
 pub mod Ends
+pub mod Never
+pub mod Adopted
 pub mod Turns

@@ -1,0 +1,1 @@
+-- The order of writes of a secondary that adopted the tuple that ended a resync.
