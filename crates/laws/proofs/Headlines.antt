@@ -120,7 +120,7 @@ every_run_is_joined o events =
     record { here = runs.0; there = runs.1; primary = runs.2; secondary = runs.3; joined = runs.4 }
 
 -- what joined nodes have, every run of the pair has
-of-joined : (IsSuch : Opening → Type 0) (Holds : PrimaryHistory → SecondaryHistory → Type 0) → JoinedRuns IsSuch Holds → EveryRun IsSuch Holds
+pub of-joined : (IsSuch : Opening → Type 0) (Holds : PrimaryHistory → SecondaryHistory → Type 0) → JoinedRuns IsSuch Holds → EveryRun IsSuch Holds
 of-joined IsSuch Holds joined o events shares such =
     let runs = every_run_is_joined o events in
     let both = subst (λ p. IsJoined p (run events (pair_at o)).1.secondary) runs.primary runs.joined in

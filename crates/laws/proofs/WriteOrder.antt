@@ -14,4 +14,5 @@ pub mod Consistent
 pub mod Ends
 pub mod Never
 pub mod Adopted
+pub mod Theorem
 pub mod Turns

@@ -92,6 +92,10 @@ JoinedRunsHaveTheHeadline = JoinedRuns IsSoundOpening Headline
 abbrev pub JoinedRunsCoverDifferences : Type 0
 JoinedRunsCoverDifferences = JoinedRuns IsSoundOpening CoversDifferences
 
+-- the same of the write order, where nothing failed
+abbrev pub JoinedRunsKeepWriteOrder : Type 0
+JoinedRunsKeepWriteOrder = JoinedRuns IsSoundOpening (λ p s. IsUnharmed p s → KeepsWriteOrder p s)
+
 -- What a settlement says of two joined nodes: the headline; no more taken than sent, and in a grounded history no block on
 -- which the disks differ and that is not marked; each confirmed receipt is that of an entry of the journal, and none is given
 -- twice; and the journal has each number once.
