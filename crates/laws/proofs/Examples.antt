@@ -9,7 +9,7 @@ use Rattle.model.specs.Headline.{Cover}
 use Rattle.model.specs.Rows.{connect}
 use Rattle.model.specs.Theorems.{marks_at}
 use Rattle.model.specs.WriteRows.{one_write}
-use Rattle.laws.specs.Examples.{new_pair, left_behind, OpeningsAreMet, OneWriteIsMet, CoverIsMet, ReflectionIsMet, RestIsMet}
+use Rattle.laws.specs.Examples.{new_pair, left_behind, OpeningsAreMet, OneWriteIsMet, CoverIsMet, ReflectionIsMet, RestIsMet, OrderIsMet}
 use Rattle.laws.proofs.Headlines.{every_run_is_joined}
 
 ranges : IsInRange standard
@@ -63,3 +63,6 @@ reflection_is_met = record { written = refl; touched = refl; sure = refl; untouc
 
 pub rest_is_met : RestIsMet
 rest_is_met = record { rest = refl; numbers = refl }
+
+pub order_is_met : OrderIsMet
+order_is_met = record { unharmed = record { local = refl; opening = λ same. refl }; consistent = refl; adopted = refl; earlier = refl; later = refl; completed = refl; before = refl; copied = refl; written = refl; whole_to = refl }

@@ -1,14 +1,16 @@
 -- The premises of the theorems are met, and their conclusions speak of something: histories that a short script reaches.
-use Rattle.std.specs.Prelude.{◌≡◌, ◌==◌, true, false, if◌then◌else◌, List, [], ◌∷◌, ◌++◌, length, Some, Ok}
+use Rattle.std.specs.Prelude.{◌≡◌, ◌==◌, true, false, if◌then◌else◌, List, [], ◌∷◌, ◌++◌, length, Some, None, slice_get, Ok}
 use Rattle.blocks.specs.SettingsRange.{standard}
 use Rattle.model.specs.Contents.{Write, filled}
 use Rattle.model.specs.Stream.{WriteItem}
-use Rattle.model.specs.Primary.{Linked, outward, stands, unreleased, active_extents}
-use Rattle.model.specs.Secondary.{inward, items_taken}
-use Rattle.model.specs.Pair.{Event, LocalEvent, SendEvent, ReceiveEvent, AckOutEvent, AckInEvent, ClosePrimaryEvent, CloseSecondaryEvent, PairHistory, run_fed, differing, marked}
+use Rattle.model.specs.Primary.{OnDisk, Accepted, Linked, outward, stands, unreleased, active_extents}
+use Rattle.model.specs.Secondary.{inward, items_taken, secondary_map, whole}
+use Rattle.model.specs.Pair.{Event, LocalEvent, SendEvent, ReceiveEvent, PeerEvent, AckOutEvent, AckInEvent, ClosePrimaryEvent, CloseSecondaryEvent, PairHistory, run_fed, differing, marked}
 use Rattle.model.specs.Headline.{IsJoined, IsGrounded, is_covered}
 use Rattle.model.specs.Settlement.{is_at_rest, settle}
 use Rattle.model.specs.Rows.{words, fill, connect}
+use Rattle.model.specs.ResyncRows.{written_alone, first_copied, second_copied, ended}
+use Rattle.model.specs.WriteOrder.{comes_before, has_adopted, IsUnharmed}
 use Rattle.model.specs.WriteRows.{one_write}
 use Rattle.model.specs.Theorems.{Opening, pair_at, IsSoundOpening}
 use Rattle.laws.specs.Reflections.{touches, is_sure}
@@ -91,3 +93,30 @@ settled = released ++ ClosePrimaryEvent ∷ CloseSecondaryEvent ∷ []
 pub record RestIsMet : Type 0 where
   pub rest : is_at_rest (reached settled).primary (reached settled).secondary ≡ true
   pub numbers : settle (reached settled).primary (reached settled).secondary (record { number = 1; first = 2; count = 1; kind = Linked; home = Some (1, 0) } ∷ []) false ≡ Ok (record { sent = 2; taken = 2; applied = 1; confirmed = 1; unmarked = 0 })
+
+-- Two writes while the link was down, the resync that copies them to its end, and a write that is completed since.
+abbrev pub rewritten : List Event
+rewritten =
+    written_alone ++ connect 9 11 ++ first_copied ++ second_copied ++ ended
+    ++ fill 2 1 204 ∷ LocalEvent 3 ∷ SendEvent ∷ ReceiveEvent ∷ PeerEvent 6 ∷ AckOutEvent ∷ AckOutEvent ∷ AckInEvent ∷ AckInEvent ∷ []
+
+-- the first of them, and the last one, which was accepted when both of the others were completed
+abbrev pub first_alone : Accepted
+first_alone = record { write = record { number = 1; first = 3; contents = (170 ∷ []) ∷ [] }; journal_length = 0; home = None; outcome = OnDisk }
+
+-- the one that came over the link
+abbrev pub since : Accepted
+since = record { write = record { number = 3; first = 2; contents = (204 ∷ []) ∷ [] }; journal_length = 2; home = Some (1, 6); outcome = OnDisk }
+
+-- The premises of the write order, at a secondary that has adopted a tuple; and what is on its disk then.
+pub record OrderIsMet : Type 0 where
+  pub unharmed : IsUnharmed (reached rewritten).primary (reached rewritten).secondary
+  pub consistent : (reached rewritten).secondary.consistent ≡ true
+  pub adopted : has_adopted (reached rewritten).secondary ≡ true
+  pub earlier : slice_get (reached rewritten).primary.writes 0 ≡ Some first_alone
+  pub later : slice_get (reached rewritten).primary.writes 2 ≡ Some since
+  pub completed : slice_get (reached rewritten).primary.journal 2 ≡ Some (record { write = since.write; kind = Linked; home = Some (1, 6) })
+  pub before : comes_before (reached rewritten).primary first_alone since ≡ true
+  pub copied : secondary_map (reached rewritten).secondary 3 ≡ Some (170 ∷ [])
+  pub written : secondary_map (reached rewritten).secondary 2 ≡ Some (204 ∷ [])
+  pub whole_to : whole (reached rewritten).secondary ≡ 2

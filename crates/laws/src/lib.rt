@@ -5,8 +5,8 @@
 #![tactic(auto)]
 
 ghost use Rattle.laws.specs.Statements.{PrimaryWritesOnce, PrimaryStreamsAreLawful, PrimaryExtentsAreFew, PrimaryReleasesInOrder, PrimaryStaysClosed, PrimaryReflects, PrimaryMarksAtRest, SecondaryHoldsEarlierEpochs, SecondaryDrainsFirst, SecondaryStaysClosed, JoinedTakesABeginning, JoinedRunsKeepPromises, EveryRunIsJoined, EveryRunTakesABeginning, EveryRunStaysClosed, EveryRunHoldsEarlierEpochs, EveryRunKeepsPromises, EveryRunMarksDifferences, EveryStepIsHonest, RefusedStepsChangeNothing, RefusedFramesClose};
-ghost use Rattle.laws.specs.Examples.{OpeningsAreMet, OneWriteIsMet, CoverIsMet, ReflectionIsMet, RestIsMet};
-ghost use Rattle.model.specs.Theorems.{JoinedRunsHaveTheHeadline, JoinedRunsCoverDifferences, JoinedRunsSettle, EveryRunHasTheHeadline, EveryRunCoversDifferences};
+ghost use Rattle.laws.specs.Examples.{OpeningsAreMet, OneWriteIsMet, CoverIsMet, ReflectionIsMet, RestIsMet, OrderIsMet};
+ghost use Rattle.model.specs.Theorems.{JoinedRunsHaveTheHeadline, JoinedRunsCoverDifferences, JoinedRunsSettle, JoinedRunsKeepWriteOrder, EveryRunHasTheHeadline, EveryRunCoversDifferences, EveryRunKeepsWriteOrder};
 
 /// A primary by itself, for any frames taken. Each write has one place, on one connection; streams are lawful; a closed
 /// end stays as it is; the extents of unreleased writes are no more than the activity log has slots; and of two writes that
@@ -68,6 +68,14 @@ pub fn cover()
     ensures covered { EveryRunCoversDifferences }
 {}
 
+/// The order of writes, at every moment at which the secondary calls itself consistent, across any number of connections,
+/// where no local write failed and an opening with equal identifiers had nothing to resync: its disk is an ordered set of the
+/// accepted writes over the base, and the set has each write of the last connection whose epoch it is whole to.
+pub fn write_order()
+    ensures joined { JoinedRunsKeepWriteOrder }
+    ensures pair { EveryRunKeepsWriteOrder }
+{}
+
 /// No step of the pair is refused as a protocol error: the link holds only frames that the other end made.
 pub fn honest_link()
     ensures honest { EveryStepIsHonest }
@@ -82,11 +90,12 @@ pub fn refusals()
 
 /// The premises are met by histories of a worked write, and the conclusions speak of something there: a write completed
 /// over the link and applied, a block that differs and is under an unreleased write, and then marked, a block that is clean
-/// because its item is surely applied, two nodes at rest.
+/// because its item is surely applied, two nodes at rest, a secondary that adopted a tuple after a resync and has a write since.
 pub fn premises_are_met()
     ensures openings { OpeningsAreMet }
     ensures write { OneWriteIsMet }
     ensures cover { CoverIsMet }
     ensures reflection { ReflectionIsMet }
     ensures rest { RestIsMet }
+    ensures order { OrderIsMet }
 {}

@@ -1,5 +1,5 @@
 -- By computation.
-use Rattle.laws.proofs.Examples.{openings_are_met, one_write_is_met, cover_is_met, reflection_is_met, rest_is_met}
+use Rattle.laws.proofs.Examples.{openings_are_met, one_write_is_met, cover_is_met, reflection_is_met, rest_is_met, order_is_met}
 use Rattle.laws.proofs.premises_are_met.Goals as goal
 
 pub returns-clause-openings : goal.returns-clause-openings
@@ -16,3 +16,6 @@ returns-clause-reflection c = reflection_is_met
 
 pub returns-clause-rest : goal.returns-clause-rest
 returns-clause-rest c = rest_is_met
+
+pub returns-clause-order : goal.returns-clause-order
+returns-clause-order c = order_is_met
