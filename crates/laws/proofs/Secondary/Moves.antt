@@ -111,12 +111,18 @@ judged-write R h write at late after = go h.settings.protocol
 judged-item : (R : SecondaryHistory → Type 0) (h : SecondaryHistory) (packet : Packet) → nat_lt (length (inward h).taken) 3 ≡ false → AfterKind R h (Ok packet)
     → Judged R (checking_item packet (length (items_taken (inward h))) (inward h) (with_inward (framed (Ok packet)) h))
 judged-item R h (DataFrame write at) late after = judged-if R _ _ _ _ (λ good. judged-write R h write at late after)
-judged-item R h (RsDataReplyFrame block contents at) late after = judged-if R _ _ _ _ (λ good. after.accepts (inr (late, λ item is.
-    let same : ResyncItem block contents ≡ item = cc in
-    (ap is_sync_start (sym same), (ap is_sync_end (sym same), λ resync. (and_parts (is_in_resync (inward h)) _ (and_parts _ (is_in_resync (inward h) && is_apart (ResyncItem block contents) (items_taken (inward h))) good).1).0)))))
-judged-item R h (BarrierFrame number) late after = judged-if R _ _ _ _ (λ good. after.accepts (inr (late, λ item is.
-    let same : BarrierItem number ≡ item = cc in
-    (ap is_sync_start (sym same), (ap is_sync_end (sym same), λ resync. absurd (both_ways (is_resync item) (ap is_resync (sym same)) resync))))))
+judged-item R h (RsDataReplyFrame block contents at) late after = judged-if R _ _ _ _ (λ good. after.accepts (inr (
+  late,
+  λ item is.
+      let same : ResyncItem block contents ≡ item = cc in
+      (ap is_sync_start (sym same), (ap is_sync_end (sym same), λ resync. (and_parts (is_in_resync (inward h)) _ (and_parts _ (is_in_resync (inward h) && is_apart (ResyncItem block contents) (items_taken (inward h))) good).1).0)),
+)))
+judged-item R h (BarrierFrame number) late after = judged-if R _ _ _ _ (λ good. after.accepts (inr (
+  late,
+  λ item is.
+      let same : BarrierItem number ≡ item = cc in
+      (ap is_sync_start (sym same), (ap is_sync_end (sym same), λ resync. absurd (both_ways (is_resync item) (ap is_resync (sym same)) resync))),
+)))
 judged-item R h (UuidsFrame tuple) late after = judged-if R _ _ _ _ (λ good. after.ends tuple refl late)
 judged-item R h (SyncUuidFrame word) late after = judged-if R _ _ _ _ (λ good. after.starts word refl late)
 judged-item R h packet late after = tt

@@ -1,19 +1,19 @@
 -- The order of writes of a secondary that adopted the tuple that ended a resync: what it has was applied on that connection, over
 -- what the earlier writes leave on the primary's opening disk.
-use Rattle.std.proofs.Common.{ℕ, zero, suc, ◌≡◌, ◌-◌, ◌+◌, ◌<◌, ◌≤◌, ◌⊎◌, inl, inr, Bool, true, false, not, ◌&&◌, ◌||◌, nat_lt, zero-add, List, [], ◌∷◌, length, take, map, Option, Some, None, slice_get, Ok, refl, sym, ◌∙◌, ap, subst, arith}
+use Rattle.std.proofs.Common.{ℕ, suc, ◌≡◌, ◌-◌, ◌<◌, inl, inr, true, false, not, nat_lt, zero-add, List, [], length, take, map, Option, Some, slice_get, refl, sym, ◌∙◌, ap, subst, arith}
 use Rattle.std.specs.List.{list_any}
-use Rattle.std.proofs.lemmas.Bool.{cases_Bool, cases_lt, both_ways, or_from, and_left, lt-ltb, ltb-true, false_from_ne_true}
+use Rattle.std.proofs.lemmas.Bool.{cases_Bool, cases_lt, both_ways, or_from, and_left, ltb-true, false_from_ne_true}
 use Rattle.std.proofs.lemmas.Option.{slice_get_within}
 use Rattle.blocks.specs.declared.tuple.Tuple.{Tuple}
-use Rattle.model.specs.Contents.{BlockMap, covers, overlay}
-use Rattle.model.specs.Stream.{Item, ResyncItem, SyncUuidItem, UuidsItem, IsBeginning, is_in, first_of, contents_of}
+use Rattle.model.specs.Contents.{BlockMap, covers}
+use Rattle.model.specs.Stream.{Item, SyncUuidItem, UuidsItem, IsBeginning, is_in, first_of, contents_of}
 use Rattle.model.specs.Primary.{Accepted, Outward, PrimaryHistory, is_sync_start, is_sync_end, local_layer, local_map, is_released, unreleased}
 use Rattle.model.specs.Secondary.{Inward, SecondaryHistory, items_taken, map_of, secondary_map}
 use Rattle.model.specs.LocalRuns.{PrimaryEvent, primary_run, SecondaryEvent, secondary_run}
-use Rattle.model.specs.Headline.{IsJoined, HoldsEarlierEpochs, IsGrounded, is_marked, is_covered}
+use Rattle.model.specs.Headline.{IsJoined, HoldsEarlierEpochs, IsGrounded, is_marked}
 use Rattle.model.specs.Theorems.{Opening, IsSoundOpening, primary_at, secondary_at}
-use Rattle.model.specs.WriteOrder.{Blocks, has_adopted, base_of, IsOnDisk, IsUnharmed}
-use Rattle.laws.specs.Reflections.{touches, content_at}
+use Rattle.model.specs.WriteOrder.{has_adopted, base_of, IsUnharmed}
+use Rattle.laws.specs.Reflections.{touches}
 use Rattle.laws.proofs.Blocks.Overlays.{overlay-same, overlay-none, under-outside}
 use Rattle.laws.proofs.Blocks.Ranges.{between-parts}
 use Rattle.laws.proofs.Blocks.SameBlocks.{same-equal}
@@ -32,14 +32,14 @@ use Rattle.laws.proofs.Secondary.Applied.{map-settles}
 use Rattle.laws.proofs.Accounted.{IsAccounted}
 use Rattle.laws.proofs.Accounted.Steps.{covered-inside}
 use Rattle.laws.proofs.Accounted.Reflected.{reflected}
-use Rattle.laws.proofs.WriteOrder.Layers.{full_layer, writes_over, layers-bare}
+use Rattle.laws.proofs.WriteOrder.Layers.{full_layer, layers-bare}
 use Rattle.laws.proofs.WriteOrder.Sets.{IsBehind}
-use Rattle.laws.proofs.WriteOrder.Spans.{NoneFailed, IsTold, left_by, FromBelow, OpeningBelow, WasBelow, IsSpan}
+use Rattle.laws.proofs.WriteOrder.Spans.{NoneFailed, left_by, FromBelow, OpeningBelow, IsSpan}
 use Rattle.laws.proofs.WriteOrder.SpanMoves.{HasSpans}
-use Rattle.laws.proofs.WriteOrder.Generations.{TakesOnly, IsResync, IsStanding, IsGone, IsLeft}
+use Rattle.laws.proofs.WriteOrder.Generations.{TakesOnly, IsLeft}
 use Rattle.laws.proofs.WriteOrder.GenerationMoves.{HasLeft}
-use Rattle.laws.proofs.WriteOrder.Consistent.{IsPlainEnd, IsAdopted}
-use Rattle.laws.proofs.WriteOrder.Ends.{none-in, first-in, BringsOnly, brings-nothing, base-from-opening, base-from-end, rises, peer-hello, outward-of, behind-of, none-failed}
+use Rattle.laws.proofs.WriteOrder.Consistent.{IsAdopted}
+use Rattle.laws.proofs.WriteOrder.Ends.{none-in, first-in, brings-nothing, base-from-opening, base-from-end, rises, peer-hello, outward-of, behind-of, none-failed}
 
 module _ (o : Opening) (here : List PrimaryEvent) (there : List SecondaryEvent) (sound : IsSoundOpening o) (joined : IsJoined (primary_run here (primary_at o)) (secondary_run there (secondary_at o)))
     (unharmed : IsUnharmed (primary_run here (primary_at o)) (secondary_run there (secondary_at o))) (homes : HasHomes (primary_run here (primary_at o))) (accounted : IsAccounted (primary_run here (primary_at o)))
@@ -157,16 +157,16 @@ module _ (o : Opening) (here : List PrimaryEvent) (there : List SecondaryEvent) 
       let applied = sure-is-applied o here there joined from.connection end.0 from.place from.end e from.item end.2 from.there from.sure in
       let begins = taken-begins p s (rises o here there joined) joined from.connection end.0 from.end e end.2 in
       let holds : map_of e block ≡ v = map-settles e block v from.place from.item applied.0 from.touched applied.1 from.content (λ n i less at touched.
-          from.later from.connection n from.end i from.less from.at (get-beginning (items_taken e) from.end.stream n i begins at) touched (inr (refl, less))) in
+      from.later from.connection n from.end i from.less from.at (get-beginning (items_taken e) from.end.stream n i begins at) touched (inr (refl, less))) in
       let one = end.2.number in
       let two = adopted-on.2.number in
       let below_it = from.less in
       base-from-end s epochs block v end.0 e end.2.inward holds j d (comes-first end.0 e j 0 d end.2.inward a.at (omega arith)) a.at (λ m f low high at n i taken touched.
-          let of = outward-of o here there joined m n f i at taken in
-          let number = of.2.number in
-          let after = (rises o here there joined).rise end.0 m e f low end.2.inward at in
-          let before = (rises o here there joined).rise m j f d high at a.at in
-          from.later of.0 n of.1 i (omega arith) of.2.outward (get-beginning (items_taken f) of.1.stream n i of.3 taken) touched (inl (omega arith)))
+      let of = outward-of o here there joined m n f i at taken in
+      let number = of.2.number in
+      let after = (rises o here there joined).rise end.0 m e f low end.2.inward at in
+      let before = (rises o here there joined).rise m j f d high at a.at in
+      from.later of.0 n of.1 i (omega arith) of.2.outward (get-beginning (items_taken f) of.1.stream n i of.3 taken) touched (inl (omega arith)))
 
   -- where it stands as at the opening
   opened-as-opening : (older block : ℕ) → OpeningBelow p k older block → d.base block ≡ left_by p older block
@@ -177,11 +177,11 @@ module _ (o : Opening) (here : List PrimaryEvent) (there : List SecondaryEvent) 
       let same = unmarked-agree o here there sound joined grounded block below.unmarked (inr (below.began.0, below.began.1, λ inside. below.began.2)) in
       let was : s.opening_map block ≡ v = ap (λ (m : BlockMap). m block) theirs.disk ∙ (sym same ∙ (ap (λ (m : BlockMap). m block) (sym mine.disk) ∙ below.content)) in
       base-from-opening s epochs block v was j d a.at (λ m f high at n i taken touched.
-          let of = outward-of o here there joined m n f i at taken in
-          let number = of.2.number in
-          let two = adopted-on.2.number in
-          let before = (rises o here there joined).rise m j f d high at a.at in
-          below.items of.0 n of.1 i (omega arith) of.2.outward (get-beginning (items_taken f) of.1.stream n i of.3 taken) touched)
+      let of = outward-of o here there joined m n f i at taken in
+      let number = of.2.number in
+      let two = adopted-on.2.number in
+      let before = (rises o here there joined).rise m j f d high at a.at in
+      below.items of.0 n of.1 i (omega arith) of.2.outward (get-beginning (items_taken f) of.1.stream n i of.3 taken) touched)
 
   -- what is bare stays as the connection opened
   bare-map : (block : ℕ) → IsBare block → map_of d block ≡ d.base block
@@ -193,9 +193,9 @@ module _ (o : Opening) (here : List PrimaryEvent) (there : List SecondaryEvent) 
       let free : (i : ℕ) (w : Accepted) → slice_get p.writes i ≡ Some w → covers w.write block ≡ false = λ i w at. false_from_ne_true (covers w.write block) (λ covered. out (covered-inside p accounted.known i block w at covered)) in
       let unmarked : is_marked p block ≡ false = and_left (nat_lt block p.settings.blocks) (p.marks block) (false_from_ne_true (nat_lt block p.settings.blocks) (λ inside. out (ltb-true block p.settings.blocks inside))) in
       let unheld : list_any (λ (w : Accepted). covers w.write block) (unreleased p) ≡ false = false_from_ne_true _ (λ some.
-          let found = pick-any (λ (w : Accepted). covers w.write block) (unreleased p) some in
-          let stood = pick-filtered (λ (w : Accepted). not (is_released p w)) p.writes found.0 found.1 found.2 in
-          both_ways (covers found.1.write block) (free stood.0 found.1 stood.1) found.3) in
+      let found = pick-any (λ (w : Accepted). covers w.write block) (unreleased p) some in
+      let stood = pick-filtered (λ (w : Accepted). not (is_released p w)) p.writes found.0 found.1 found.2 in
+      both_ways (covers found.1.write block) (free stood.0 found.1 stood.1) found.3) in
       let same = same-equal (local_map p block) (secondary_map s block) (joined-agrees o here there sound joined grounded block (reflected p block accounted (or_from (is_marked p block) _ unmarked unheld))) in
       let here_map : local_map p block ≡ p.opening_map block = overlay-none local_layer p.opening_map p.writes block (λ i w at v. under-outside (local_layer w) block v (free i w at)) in
       let there_map : secondary_map s block ≡ map_of d block = reaches-disk s epochs block (map_of d block) j d a.at refl (λ m e less at. brings-nothing block (map_of d block) e (later-empty m e less at)) in

@@ -1,6 +1,6 @@
 -- Why a secondary calls itself consistent: it never took a SYNC_UUID, or it adopted the tuple that ended a resync and took no
 -- SYNC_UUID on a later connection. Kept by every step, whatever frames it takes.
-use Rattle.std.proofs.Common.{ℕ, zero, suc, ◌≡◌, ◌-◌, ◌<◌, ◌⊎◌, inl, inr, Bool, true, false, not, ◌&&◌, ◌==◌, nat_lt, List, [], ◌∷◌, ◌++◌, length, take, drop, map, Option, Some, None, slice_get, Ok, refl, sym, ◌∙◌, ap, subst, arith}
+use Rattle.std.proofs.Common.{ℕ, suc, ◌≡◌, ◌-◌, ◌<◌, ◌⊎◌, inl, inr, Bool, true, false, not, ◌==◌, nat_lt, List, [], ◌∷◌, ◌++◌, length, take, drop, map, Option, Some, None, slice_get, Ok, refl, sym, ◌∙◌, ap, subst, arith}
 use Rattle.std.specs.Prelude.{filter_map, if◌then◌else◌}
 use Rattle.std.specs.List.{list_any, cons_option}
 use Rattle.std.proofs.lemmas.Bool.{cases_Bool, both_ways, and_parts, not-true, eq-eqb, ltb-true, ltb-false, false_from_ne_true}
@@ -11,8 +11,8 @@ use Rattle.blocks.specs.declared.settings.Settings.{Settings}
 use Rattle.blocks.specs.declared.settings.Protocol.{Protocol}
 use Rattle.blocks.specs.declared.tuple.Tuple.{Tuple}
 use Rattle.model.specs.Contents.{BlockMap}
-use Rattle.model.specs.Stream.{Item, WriteItem, SyncUuidItem, UuidsItem, IsBeginning, below, contents_of}
-use Rattle.model.specs.Frames.{Packet, Received, DataFrame, SyncUuidFrame, UuidsFrame}
+use Rattle.model.specs.Stream.{Item, WriteItem, UuidsItem, IsBeginning, below, contents_of}
+use Rattle.model.specs.Frames.{Received, UuidsFrame}
 use Rattle.model.specs.Primary.{last_of, change_last, is_sync_start, is_sync_end, is_resync}
 use Rattle.model.specs.Secondary.{Inward, SecondaryHistory, secondary_opening, no_inward, inward, with_inward, accepted_of, received_item, items_taken, is_in_resync, secondary_map}
 use Rattle.model.specs.SecondarySteps.{answering, barrier_answer, barriers_to_answer, opened_secondary, next_number, offsets_at, applied_answer, applying, failing, adopting}
@@ -20,9 +20,9 @@ use Rattle.model.specs.LocalRuns.{SecondaryEvent, secondary_after, secondary_run
 use Rattle.laws.proofs.Lists.Beginnings.{begins-self, get-beginning}
 use Rattle.laws.proofs.Lists.Elements.{get-left, get-more, get-end}
 use Rattle.laws.proofs.Lists.Last.{get-change, get-change-back, change-twice, last-at, get-last-changed, length-change}
-use Rattle.laws.proofs.Lists.Picks.{pick-any, any-pick}
+use Rattle.laws.proofs.Lists.Picks.{pick-any}
 use Rattle.laws.proofs.Secondary.Good.{taking-more, items-refusing}
-use Rattle.laws.proofs.Secondary.Moves.{framed, receipting, refused_end, pushed_one, closed_end, IsPlain, AfterKind, after-kinds}
+use Rattle.laws.proofs.Secondary.Moves.{framed, receipting, refused_end, pushed_one, closed_end, IsPlain, after-kinds}
 use Rattle.laws.proofs.Secondary.Tuples.{taken-item}
 
 -- An end whose hello has this tuple, and whose items neither begin nor end a resync, nor are blocks of one.
@@ -72,10 +72,16 @@ plain-keeps tuple d e k p = record {
   hello = k.hello ∙ p.hello;
   items = λ n i at. elim (k.items n i at) [
     | inl old ↦ p.items n i old
-    | inr new ↦ (new.0, (new.1.0, false_from_ne_true (is_resync i) (λ block.
-        let started = (and_parts (list_any is_sync_start (items_taken d)) (not (list_any is_sync_end (items_taken d))) (new.1.1 block)).0 in
-        let found = pick-any is_sync_start (items_taken d) started in
-        both_ways (is_sync_start found.1) (p.items found.0 found.1 found.2).0 found.3)))
+    | inr new ↦ (
+      new.0,
+      (
+        new.1.0,
+        false_from_ne_true (is_resync i) (λ block.
+            let started = (and_parts (list_any is_sync_start (items_taken d)) (not (list_any is_sync_end (items_taken d))) (new.1.1 block)).0 in
+            let found = pick-any is_sync_start (items_taken d) started in
+            both_ways (is_sync_start found.1) (p.items found.0 found.1 found.2).0 found.3),
+      ),
+    )
   ];
 }
 
@@ -263,9 +269,12 @@ synced-after event h t = after-kinds HasSynced h event (record {
       record {
         accepts = λ kind. then-answering (with_inward (framed frame) h) (synced-change h (with_inward (framed frame) h) (framed frame) refl refl refl refl (plain-taking h frame plain kind) t);
         receipts = λ write at is late.
-            let kind : IsPlain h frame = inr (late, λ item brings.
-            let same : WriteItem write ≡ item = let e : Some (WriteItem write) ≡ Some item = ap received_item (sym is) ∙ brings in cc in
-            (ap is_sync_start (sym same), (ap is_sync_end (sym same), λ block. absurd (both_ways (is_resync item) (ap is_resync (sym same)) block)))) in
+            let kind : IsPlain h frame = inr (
+              late,
+              λ item brings.
+                  let same : WriteItem write ≡ item = let e : Some (WriteItem write) ≡ Some item = ap received_item (sym is) ∙ brings in cc in
+                  (ap is_sync_start (sym same), (ap is_sync_end (sym same), λ block. absurd (both_ways (is_resync item) (ap is_resync (sym same)) block))),
+            ) in
             let taken = synced-change h (with_inward (framed frame) h) (framed frame) refl refl refl refl (plain-taking h frame plain kind) t in
             let answer : Inward → Inward = receipting (length (items_taken (inward h))) write in
             then-answering (with_inward answer (with_inward (framed frame) h)) (synced-change (with_inward (framed frame) h) (with_inward answer (with_inward (framed frame) h)) answer refl refl refl refl (same-items _ _ refl refl (λ was. was)) taken);

@@ -1,18 +1,16 @@
 -- The two ends of joined nodes: whose hello the primary took, what a connection opened on, and the set behind a connection
 -- after which the secondary took nothing.
-use Rattle.std.proofs.Common.{ℕ, zero, suc, ◌≡◌, ◌-◌, ◌+◌, ◌<◌, ◌≤◌, ◌⊎◌, inl, inr, Bool, true, false, nat_lt, List, [], ◌∷◌, length, take, map, filter, Option, Some, None, slice_get, Ok, refl, sym, ◌∙◌, ap, subst, arith}
-use Rattle.std.specs.List.{list_any}
-use Rattle.std.proofs.lemmas.Bool.{cases_Bool, cases_lt, both_ways, lt-ltb, ltb-true, false_from_ne_true}
+use Rattle.std.proofs.Common.{ℕ, zero, suc, ◌≡◌, ◌-◌, ◌<◌, ◌⊎◌, inl, inr, true, false, nat_lt, List, [], ◌∷◌, length, take, map, filter, Option, Some, slice_get, Ok, refl, ◌∙◌, ap, subst, arith}
+use Rattle.std.proofs.lemmas.Bool.{cases_lt, both_ways, lt-ltb, ltb-true, false_from_ne_true}
 use Rattle.std.proofs.lemmas.Option.{slice_get_within}
-use Rattle.blocks.specs.declared.settings.Settings.{Settings}
 use Rattle.blocks.specs.declared.tuple.Tuple.{Tuple}
 use Rattle.model.specs.Stream.{Item, ResyncItem, IsBeginning, is_in, first_of, barriers_in, below}
 use Rattle.model.specs.Frames.{UuidsFrame}
 use Rattle.model.specs.Primary.{Accepted, Outward, PrimaryHistory, last_of, is_failed}
-use Rattle.model.specs.Secondary.{Inward, SecondaryHistory, no_inward, inward, items_taken, map_of, secondary_map, answers_due, is_done_to, whole}
+use Rattle.model.specs.Secondary.{Inward, SecondaryHistory, no_inward, inward, items_taken, map_of, answers_due, is_done_to, whole}
 use Rattle.model.specs.LocalRuns.{PrimaryEvent, primary_run, SecondaryEvent, secondary_run}
 use Rattle.model.specs.Headline.{IsJoined, HoldsEarlierEpochs, pushed_back_by}
-use Rattle.model.specs.Theorems.{Opening, IsSoundOpening, primary_at, secondary_at}
+use Rattle.model.specs.Theorems.{Opening, primary_at, secondary_at}
 use Rattle.model.specs.WriteOrder.{base_of, IsUnharmed}
 use Rattle.laws.specs.Reflections.{touches, content_at}
 use Rattle.laws.proofs.Lists.Beginnings.{begins-take, get-beginning}
@@ -24,12 +22,11 @@ use Rattle.laws.proofs.Joining.Ends.{AreEnds, joined-back, primary-end, secondar
 use Rattle.laws.proofs.Joining.OpeningDisks.{named}
 use Rattle.laws.proofs.Joining.Promises.{read-back}
 use Rattle.laws.proofs.Joining.SureApplied.{taken-begins}
-use Rattle.laws.proofs.Primary.Homes.{HasHomes}
 use Rattle.laws.proofs.Secondary.Applied.{map-keeps}
 use Rattle.laws.proofs.Secondary.Numbers.{NumbersRise, numbers-rise}
 use Rattle.laws.proofs.Secondary.TrueBarriers.{due_is_no_tuple}
 use Rattle.laws.proofs.WriteOrder.Layers.{writes_over}
-use Rattle.laws.proofs.WriteOrder.Sets.{IsRead, IsBehind}
+use Rattle.laws.proofs.WriteOrder.Sets.{IsBehind}
 use Rattle.laws.proofs.WriteOrder.Spans.{NoneFailed, IsSpan}
 
 -- a list of no length is empty

@@ -1,34 +1,24 @@
 -- Every run of a primary keeps that a generation that was left does not come back.
-use Rattle.std.proofs.Common.{ℕ, zero, suc, ◌≡◌, ◌-◌, ◌+◌, ◌<◌, ◌≤◌, ◌⊎◌, inl, inr, Bool, true, false, List, [], ◌∷◌, ◌++◌, length, Option, Some, None, slice_get, Ok, refl, sym, ◌∙◌, ap, subst, arith, length-append, ◌==◌}
-use Rattle.std.specs.Prelude.{is_some, unwrap_or, if◌then◌else◌}
-use Rattle.std.proofs.lemmas.Bool.{cases_Bool, cases_lt, both_ways, eqb-true, eq-eqb, and_parts}
+use Rattle.std.proofs.Common.{ℕ, suc, ◌≡◌, ◌-◌, ◌+◌, ◌<◌, ◌⊎◌, inl, inr, true, false, List, [], ◌∷◌, ◌++◌, length, Some, slice_get, Ok, refl, sym, ◌∙◌, ap, subst, arith, length-append}
+use Rattle.std.proofs.lemmas.Bool.{both_ways}
 use Rattle.std.proofs.lemmas.Option.{slice_get_within}
-use Rattle.std.proofs.lemmas.List.{append-nil}
-use Rattle.blocks.specs.declared.settings.Settings.{Settings}
 use Rattle.blocks.specs.declared.tuple.Tuple.{Tuple}
 use Rattle.blocks.specs.declared.outcome.Decision.{Decision}
-use Rattle.blocks.specs.declared.outcome.Decision.TheVariants.{NoSync, BitmapSync, FullSync}
-use Rattle.blocks.specs.SettingsRange.{IsInRange}
-use Rattle.model.specs.Contents.{BlockMap}
-use Rattle.model.specs.Stream.{Item, WriteItem, ResyncItem, BarrierItem, SyncUuidItem, UuidsItem, IsBeginning, last_epoch, within}
-use Rattle.model.specs.Frames.{Received, UuidsFrame, RsWriteAckFrame}
-use Rattle.model.specs.Identifiers.{are_fresh, stands_in, decision, lost, sync_start, sync_end}
-use Rattle.model.specs.Marks.{Marks, marking}
-use Rattle.model.specs.Primary.{Waiting, OnDisk, Failed, Accepted, Outward, PrimaryHistory, no_outward, outward, last_of, last_index, change_last, with_outward, stands, local_map, primary_opening}
-use Rattle.model.specs.PrimarySteps.{known_tuples, with_completions, epoch_is_over, resync_is_over, appending, ending_resync, follows, opened, submission, submitted, with_outcome, accepted_at, faulted, closing, receipted}
-use Rattle.model.specs.Acknowledgements.{begun_with}
-use Rattle.model.specs.LocalRuns.{PrimaryEvent, primary_run}
-use Rattle.laws.specs.Reflections.{NoneBegan}
+use Rattle.blocks.specs.declared.outcome.Decision.TheVariants.{NoSync}
+use Rattle.model.specs.Stream.{Item, BarrierItem, SyncUuidItem, UuidsItem, IsBeginning, last_epoch}
+use Rattle.model.specs.Frames.{Received, UuidsFrame}
+use Rattle.model.specs.Identifiers.{are_fresh, stands_in, decision, lost, sync_end}
+use Rattle.model.specs.Primary.{Outward, PrimaryHistory, no_outward, outward, last_of, change_last}
+use Rattle.model.specs.PrimarySteps.{known_tuples, with_completions, resync_is_over, ending_resync, follows, opened}
 use Rattle.laws.proofs.Lists.Beginnings.{begins-self, get-beginning}
-use Rattle.laws.proofs.Lists.Elements.{get-left, get-more, get-end, same-at}
-use Rattle.laws.proofs.Lists.Last.{get-change, get-change-back, change-none, change-twice, last-at, last-change, last-more, get-last-changed, length-change}
-use Rattle.laws.proofs.Primary.Homes.{HasHomes, open-at}
-use Rattle.laws.proofs.Primary.Moves.{IsKeptByMoves, IsKeptByReleases, following-from, both-kept, keeps-run, with_frame, refusing, pushing}
-use Rattle.laws.proofs.Primary.StaysClosed.{open-stands, over-stands}
+use Rattle.laws.proofs.Lists.Elements.{get-left, get-more, get-end}
+use Rattle.laws.proofs.Lists.Last.{get-change-back, change-none, last-more, get-last-changed, length-change}
+use Rattle.laws.proofs.Primary.Homes.{open-at}
+use Rattle.laws.proofs.Primary.Moves.{following-from}
+use Rattle.laws.proofs.Primary.StaysClosed.{over-stands}
 use Rattle.laws.proofs.Primary.Ends.{stands-parts}
 use Rattle.laws.proofs.Accounted.{IsAccounted}
-use Rattle.laws.proofs.WriteOrder.SpanRuns.{Spanned, SpannedAfter, spans-kept, spans-released, spans-run}
-use Rattle.laws.proofs.WriteOrder.Generations.{TakesOnly, IsResync, IsStanding, IsGone, IsLeft, outward-change, outward-none, KeepsLeft, resync-grows, left-change, takes-back, end-current, end-bitmap, start-current, lost-current, lost-fresh, not-current, fresh-loss, decided-same, decided-none}
+use Rattle.laws.proofs.WriteOrder.Generations.{TakesOnly, IsResync, IsGone, IsLeft, outward-change, outward-none, KeepsLeft, resync-grows, left-change, takes-back, end-current, end-bitmap, lost-current, lost-fresh, not-current, fresh-loss, decided-same, decided-none}
 
 -- no stream began
 abbrev pub NoneBegun : PrimaryHistory → Type 0
@@ -53,7 +43,7 @@ pub record HasLeft (h : PrimaryHistory) : Type 0 where
 -- The last connection changes and goes on.
 pub left-goes-on : (h later : PrimaryHistory) (f : Outward → Outward) → KeepsLeft h later f → later.opening_tuple ≡ h.opening_tuple
     → ((n : ℕ) (tuple : Tuple) → slice_get (f (outward h)).stream n ≡ Some (UuidsItem tuple)
-      → (slice_get (outward h).stream n ≡ Some (UuidsItem tuple)) ⊎ ((tuple.current ≡ h.tuple.current) × ((later.tuple.bitmap ≡ 0) × (((outward h).closed ≡ false) × ((outward h).begun ≡ true)))))
+    → (slice_get (outward h).stream n ≡ Some (UuidsItem tuple)) ⊎ ((tuple.current ≡ h.tuple.current) × ((later.tuple.bitmap ≡ 0) × (((outward h).closed ≡ false) × ((outward h).begun ≡ true)))))
     → HasLeft h → HasLeft later
 left-goes-on h later f k opening ends t = record {
   own = λ unshut. elim (outward-change h later f k.connections) [

@@ -1,36 +1,29 @@
 -- A generation that was left does not come back, in any run of a primary.
-use Rattle.std.proofs.Common.{ℕ, zero, suc, ◌≡◌, ◌-◌, ◌+◌, ◌<◌, ◌≤◌, ◌⊎◌, inl, inr, Bool, true, false, List, [], ◌∷◌, ◌++◌, length, Option, Some, None, slice_get, Ok, refl, sym, ◌∙◌, ap, subst, arith, length-append, ◌==◌}
+use Rattle.std.proofs.Common.{ℕ, zero, suc, ◌≡◌, ◌-◌, ◌<◌, ◌⊎◌, inl, inr, Bool, true, false, List, [], ◌∷◌, ◌++◌, length, Option, Some, None, slice_get, Ok, refl, ◌∙◌, ap, subst}
 use Rattle.std.specs.Prelude.{is_some, unwrap_or, if◌then◌else◌}
-use Rattle.std.proofs.lemmas.Bool.{cases_Bool, cases_lt, both_ways, eqb-true, eq-eqb, and_parts}
-use Rattle.std.proofs.lemmas.Option.{slice_get_within}
-use Rattle.std.proofs.lemmas.List.{append-nil}
+use Rattle.std.proofs.lemmas.Bool.{both_ways}
 use Rattle.blocks.specs.declared.settings.Settings.{Settings}
 use Rattle.blocks.specs.declared.tuple.Tuple.{Tuple}
 use Rattle.blocks.specs.declared.outcome.Decision.{Decision}
 use Rattle.blocks.specs.declared.outcome.Decision.TheVariants.{NoSync, BitmapSync, FullSync}
 use Rattle.blocks.specs.SettingsRange.{IsInRange}
 use Rattle.model.specs.Contents.{BlockMap}
-use Rattle.model.specs.Stream.{Item, WriteItem, ResyncItem, BarrierItem, SyncUuidItem, UuidsItem, IsBeginning, last_epoch, within}
+use Rattle.model.specs.Stream.{Item, WriteItem, ResyncItem, SyncUuidItem, UuidsItem, within}
 use Rattle.model.specs.Frames.{Received, UuidsFrame, RsWriteAckFrame, BarrierAckFrame}
-use Rattle.model.specs.Identifiers.{are_fresh, stands_in, decision, lost, sync_start, sync_end}
-use Rattle.model.specs.Marks.{Marks, marking}
+use Rattle.model.specs.Identifiers.{stands_in, decision, lost}
+use Rattle.model.specs.Marks.{marking}
 use Rattle.model.specs.Primary.{Waiting, OnDisk, Failed, Accepted, Outward, PrimaryHistory, no_outward, outward, last_of, last_index, change_last, with_outward, stands, local_map, primary_opening}
-use Rattle.model.specs.PrimarySteps.{known_tuples, with_completions, epoch_is_over, resync_is_over, appending, ending_resync, follows, opened, submission, submitted, with_outcome, accepted_at, faulted, closing, receipted}
+use Rattle.model.specs.PrimarySteps.{appending, submission, submitted, with_outcome, accepted_at, faulted, closing, receipted}
 use Rattle.model.specs.Acknowledgements.{begun_with}
 use Rattle.model.specs.LocalRuns.{PrimaryEvent, primary_run}
-use Rattle.laws.specs.Reflections.{NoneBegan}
-use Rattle.laws.proofs.Lists.Beginnings.{begins-self, get-beginning}
-use Rattle.laws.proofs.Lists.Elements.{get-left, get-more, get-end, same-at}
-use Rattle.laws.proofs.Lists.Last.{get-change, get-change-back, change-none, change-twice, last-at, last-change, last-more, get-last-changed, length-change}
+use Rattle.laws.proofs.Lists.Beginnings.{begins-self}
+use Rattle.laws.proofs.Lists.Last.{change-twice}
 use Rattle.laws.proofs.Primary.Homes.{HasHomes, open-at}
-use Rattle.laws.proofs.Primary.Moves.{IsKeptByMoves, IsKeptByReleases, following-from, both-kept, keeps-run, with_frame, refusing, pushing}
-use Rattle.laws.proofs.Primary.StaysClosed.{open-stands, over-stands}
-use Rattle.laws.proofs.Primary.Ends.{stands-parts}
+use Rattle.laws.proofs.Primary.Moves.{IsKeptByMoves, IsKeptByReleases, keeps-run, with_frame, refusing, pushing}
 use Rattle.laws.proofs.Accounted.{IsAccounted}
 use Rattle.laws.proofs.WriteOrder.SpanRuns.{Spanned, SpannedAfter, spans-kept, spans-released, spans-run}
-use Rattle.laws.proofs.WriteOrder.Generations.{TakesOnly, IsResync, IsStanding, IsGone, IsLeft, outward-change, outward-none, KeepsLeft, resync-grows, left-change, takes-back, end-current, end-bitmap, start-current, lost-current, lost-fresh, not-current, fresh-loss, decided-same, decided-none}
-
-use Rattle.laws.proofs.WriteOrder.GenerationMoves.{HasLeft, left-still, left-with, left-appends, left-following, left-closes, left-opens, BeginsHere, left-beginning}
+use Rattle.laws.proofs.WriteOrder.Generations.{outward-change, start-current}
+use Rattle.laws.proofs.WriteOrder.GenerationMoves.{HasLeft, left-still, left-with, left-appends, left-following, left-closes, left-opens, left-beginning}
 
 left-submits : (h : PrimaryHistory) (first : ℕ) (contents : List (List ℕ)) → HasLeft h → HasLeft (submitted h first contents)
 left-submits h first contents t = go (stands (outward h))

@@ -1,22 +1,19 @@
 -- Once a generation of data is left, no later stream begins without a resync to a peer that still has it. What the primary's
 -- tuple says of that, at a given word and from a given connection on.
-use Rattle.std.proofs.Common.{ℕ, zero, suc, ◌≡◌, ◌-◌, ◌+◌, ◌<◌, ◌≤◌, ◌⊎◌, inl, inr, Bool, true, false, not, ◌&&◌, ◌||◌, ◌==◌, List, [], ◌∷◌, ◌++◌, length, Option, Some, None, slice_get, Ok, refl, sym, ◌∙◌, ap, subst, arith, length-append}
+use Rattle.std.proofs.Common.{ℕ, ◌≡◌, ◌<◌, ◌≤◌, ◌⊎◌, inl, inr, Bool, true, false, not, ◌&&◌, ◌||◌, ◌==◌, List, [], ◌∷◌, length, Option, Some, None, slice_get, Ok, refl, sym, ◌∙◌, ap, subst, arith}
 use Rattle.std.specs.Prelude.{if◌then◌else◌}
 use Rattle.std.specs.List.{list_any}
-use Rattle.std.proofs.lemmas.Bool.{cases_Bool, cases_lt, both_ways, and_parts, or_parts, not-true, eqb-true, eq-eqb, false_from_ne_true}
-use Rattle.std.proofs.lemmas.Option.{slice_get_within}
+use Rattle.std.proofs.lemmas.Bool.{cases_Bool, both_ways, and_parts, or_parts, not-true, eqb-true, eq-eqb, false_from_ne_true}
 use Rattle.blocks.specs.declared.tuple.Tuple.{Tuple}
-use Rattle.blocks.specs.declared.outcome.Decision.{Decision}
 use Rattle.blocks.specs.declared.outcome.Decision.TheVariants.{NoSync, BitmapSync, FullSync}
-use Rattle.model.specs.Stream.{Item, SyncUuidItem, UuidsItem, IsBeginning}
-use Rattle.model.specs.Frames.{Received, UuidsFrame}
+use Rattle.model.specs.Stream.{SyncUuidItem, IsBeginning}
+use Rattle.model.specs.Frames.{UuidsFrame}
 use Rattle.model.specs.Identifiers.{are_fresh, is_fresh, stands_in, decision, lost, into_history, sync_start, sync_end}
 use Rattle.model.specs.Primary.{Outward, PrimaryHistory, no_outward, last_of, outward, change_last}
 use Rattle.model.specs.PrimarySteps.{known_tuples}
 use Rattle.laws.proofs.Lists.Beginnings.{get-beginning}
-use Rattle.laws.proofs.Lists.Elements.{get-left, get-more, get-end, same-at}
 use Rattle.laws.proofs.Blocks.SameBlocks.{decided-by}
-use Rattle.laws.proofs.Lists.Last.{get-change, get-change-back, last-at, last-change, last-more, length-change}
+use Rattle.laws.proofs.Lists.Last.{get-change, get-change-back, last-change, length-change}
 
 -- every tuple that the primary took on these connections, from this one on, has the word for its current identifier
 abbrev pub TakesOnly : ℕ → ℕ → PrimaryHistory → Type 0

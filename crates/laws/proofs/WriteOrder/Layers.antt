@@ -77,11 +77,11 @@ pub layers-bare : (base : BlockMap) (start : ℕ) (items : List Item) (part : Pa
 layers-bare base start [] part block bare = refl
 layers-bare base start (x ∷ items) part block bare =
     layers-bare (λ b. block_under (item_layer part start x) b (base b)) (suc start) items part block (λ n i at touched.
-        let here : start + suc n ≡ suc start + n = omega arith in
-        subst (λ m. is_in part m (block - first_of i) ≡ false) here (bare (suc n) i at touched))
+    let here : start + suc n ≡ suc start + n = omega arith in
+    subst (λ m. is_in part m (block - first_of i) ≡ false) here (bare (suc n) i at touched))
     ∙ under-bare (item_layer part start x) block (base block) (λ inside.
-        let here : start + 0 ≡ start = omega arith in
-        subst (λ m. is_in part m (block - first_of x) ≡ false) here (bare 0 x refl inside))
+    let here : start + 0 ≡ start = omega arith in
+    subst (λ m. is_in part m (block - first_of x) ≡ false) here (bare 0 x refl inside))
 
 -- The last one that is laid in a block is what it holds.
 pub layers-last : (base : BlockMap) (start : ℕ) (items : List Item) (part : Part) (block place : ℕ) (item : Item) → slice_get items place ≡ Some item → touches item block ≡ true
@@ -92,8 +92,8 @@ layers-last base start (x ∷ items) part block zero item at touched laid bare =
     let same : item ≡ x = cc in
     let here : start + 0 ≡ start = omega arith in
     layers-bare (λ b. block_under (item_layer part start x) b (base b)) (suc start) items part block (λ n i there hit.
-        let index : start + suc n ≡ suc start + n = omega arith in
-        subst (λ m. is_in part m (block - first_of i) ≡ false) index (bare (suc n) i (omega arith) there hit))
+    let index : start + suc n ≡ suc start + n = omega arith in
+    subst (λ m. is_in part m (block - first_of i) ≡ false) index (bare (suc n) i (omega arith) there hit))
     ∙ (under-inside (item_layer part start x) block (base block) (subst (λ (i : Item). touches i block ≡ true) same touched)
     (subst (λ (i : Item). is_in part start (block - first_of i) ≡ true) same (subst (λ n. is_in part n (block - first_of item) ≡ true) here laid))
     ∙ ap (λ (i : Item). content_at i block) (let e : x ≡ item = cc in e))
@@ -101,5 +101,5 @@ layers-last base start (x ∷ items) part block (suc place) item at touched laid
     let here : start + suc place ≡ suc start + place = omega arith in
     layers-last (λ b. block_under (item_layer part start x) b (base b)) (suc start) items part block place item at touched
     (subst (λ n. is_in part n (block - first_of item) ≡ true) here laid) (λ n i less there hit.
-        let index : start + suc n ≡ suc start + n = omega arith in
-        subst (λ m. is_in part m (block - first_of i) ≡ false) index (bare (suc n) i (omega arith) there hit))
+    let index : start + suc n ≡ suc start + n = omega arith in
+    subst (λ m. is_in part m (block - first_of i) ≡ false) index (bare (suc n) i (omega arith) there hit))

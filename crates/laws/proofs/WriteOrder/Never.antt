@@ -1,20 +1,17 @@
 -- The order of writes of a secondary that never took a SYNC_UUID: what it has was applied on the first connection whose stream
 -- began, and before that there was no write.
-use Rattle.std.proofs.Common.{ℕ, zero, suc, ◌≡◌, ◌-◌, ◌+◌, ◌<◌, ◌≤◌, ◌⊎◌, inl, inr, Bool, true, false, nat_lt, List, [], ◌∷◌, length, take, map, filter, Option, Some, None, slice_get, Ok, refl, sym, ◌∙◌, ap, subst, arith}
+use Rattle.std.proofs.Common.{ℕ, suc, ◌≡◌, ◌-◌, ◌<◌, ◌⊎◌, inl, inr, true, false, nat_lt, List, [], length, map, filter, Option, Some, slice_get, refl, sym, ◌∙◌, ap, subst, arith}
 use Rattle.std.specs.List.{list_any}
 use Rattle.std.proofs.lemmas.Bool.{cases_Bool, cases_lt, both_ways, lt-ltb, false_from_ne_true}
 use Rattle.std.proofs.lemmas.Option.{slice_get_within}
-use Rattle.blocks.specs.declared.settings.Settings.{Settings}
 use Rattle.blocks.specs.declared.tuple.Tuple.{Tuple}
-use Rattle.model.specs.Contents.{BlockMap}
-use Rattle.model.specs.Stream.{Item, ResyncItem, SyncUuidItem, IsBeginning, is_in, first_of, barriers_in, below}
-use Rattle.model.specs.Primary.{Accepted, Outward, PrimaryHistory, last_of, is_sync_start, is_sync_end, is_resync}
-use Rattle.model.specs.Secondary.{Inward, SecondaryHistory, no_inward, inward, items_taken, map_of, secondary_map, is_done_to, whole}
+use Rattle.model.specs.Stream.{Item, ResyncItem, SyncUuidItem, IsBeginning, barriers_in, below}
+use Rattle.model.specs.Primary.{Outward, PrimaryHistory, last_of, is_sync_start, is_sync_end, is_resync}
+use Rattle.model.specs.Secondary.{Inward, SecondaryHistory, no_inward, inward, items_taken, is_done_to, whole}
 use Rattle.model.specs.LocalRuns.{PrimaryEvent, primary_run, SecondaryEvent, secondary_run}
 use Rattle.model.specs.Headline.{IsJoined, HoldsEarlierEpochs}
 use Rattle.model.specs.Theorems.{Opening, IsSoundOpening, primary_at, secondary_at}
 use Rattle.model.specs.WriteOrder.{Blocks, layer_of, has_adopted, base_of, IsOnDisk, IsUnharmed}
-use Rattle.laws.specs.Reflections.{touches}
 use Rattle.laws.proofs.Blocks.Overlays.{overlay-none}
 use Rattle.laws.proofs.Lists.Beginnings.{get-beginning}
 use Rattle.laws.proofs.Lists.Elements.{same-at}
@@ -22,15 +19,13 @@ use Rattle.laws.proofs.Lists.Last.{last-at}
 use Rattle.laws.proofs.Lists.Picks.{pick-any}
 use Rattle.laws.proofs.Joining.Agreeing.{from-opening}
 use Rattle.laws.proofs.Joining.Ends.{AreEnds}
-use Rattle.laws.proofs.Joining.Openings.{kept-opening-primary, kept-opening-secondary}
 use Rattle.laws.proofs.Primary.Homes.{HasHomes}
-use Rattle.laws.proofs.WriteOrder.Layers.{writes_over, under-bare, LastPassing, last-passing}
+use Rattle.laws.proofs.WriteOrder.Layers.{writes_over, under-bare, last-passing}
 use Rattle.laws.proofs.WriteOrder.Sets.{IsBehind}
-use Rattle.laws.proofs.WriteOrder.Spans.{NoneFailed, IsSpan}
 use Rattle.laws.proofs.WriteOrder.SpanMoves.{HasSpans}
-use Rattle.laws.proofs.WriteOrder.Generations.{TakesOnly, IsResync, IsStanding, IsGone, IsLeft}
+use Rattle.laws.proofs.WriteOrder.Generations.{TakesOnly}
 use Rattle.laws.proofs.WriteOrder.GenerationMoves.{HasLeft, NoneBegun, IsFirst}
-use Rattle.laws.proofs.WriteOrder.Consistent.{IsPlainEnd, IsNever}
+use Rattle.laws.proofs.WriteOrder.Consistent.{IsNever}
 use Rattle.laws.proofs.WriteOrder.Ends.{none-in, first-in, brings-nothing, base-from-opening, rises, peer-hello, outward-of, behind-of, none-failed}
 
 -- Where the secondary took no item, the empty set is behind it.
@@ -141,8 +136,8 @@ module _ (o : Opening) (here : List PrimaryEvent) (there : List SecondaryEvent) 
               keeps (behind-of o here there joined k j span.0 span.1 c d of.2 of.3 epochs (none-failed o here there joined unharmed) span.2 (λ m e less at. none-in (items_taken e) (l.later m e less at))
               (λ place block contents at. absurd (both_ways (is_resync (ResyncItem block contents)) ((never.ends j d l.at).items place (ResyncItem block contents) at).1.1 refl))
               (λ block bare.
-                  base-from-opening s epochs block (s.opening_map block) refl j d l.at (λ m e less at. brings-nothing block (s.opening_map block) e (earlier-empty first j d k c of.2 its.0 m e less at))
-                  ∙ (sym (base_same block) ∙ ap (λ (n : ℕ). writes_over (base_of p s) n p.writes block) (sym none_older))))
+              base-from-opening s epochs block (s.opening_map block) refl j d l.at (λ m e less at. brings-nothing block (s.opening_map block) e (earlier-empty first j d k c of.2 its.0 m e less at))
+              ∙ (sym (base_same block) ∙ ap (λ (n : ℕ). writes_over (base_of p s) n p.writes block) (sym none_older))))
         ]
   ]
     where

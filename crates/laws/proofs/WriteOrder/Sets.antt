@@ -1,20 +1,20 @@
 -- The ordered set of writes behind a consistent secondary: every block of the writes that were accepted before the stream of a
 -- connection began, and of the writes of that connection what is applied there.
 use Rattle.std.proofs.Common.{ℕ, zero, suc, ◌≡◌, ◌+◌, ◌-◌, ◌<◌, ◌≤◌, ◌⊎◌, inl, inr, Bool, true, false, not, ◌&&◌, ◌||◌, ◌==◌, nat_lt, nat_le, zero-add, List, [], ◌∷◌, ◌++◌, length, take, map, filter, Option, Some, None, slice_get, refl, sym, ◌∙◌, ap, subst, arith}
-use Rattle.std.specs.List.{list_any, list_all}
-use Rattle.std.proofs.lemmas.Bool.{cases_Bool, cases_lt, both_ways, not-true, or_cases, or_left, or_right, or_from, and_parts, and_from, eqb-true, eq-eqb, lt-ltb, ltb-true, le-ltb, le-leb, leb-true, false_from_ne_true, and_cases}
+use Rattle.std.specs.List.{list_all}
+use Rattle.std.proofs.lemmas.Bool.{cases_Bool, cases_lt, both_ways, not-true, or_cases, or_left, or_right, or_from, and_parts, and_from, eqb-true, eq-eqb, lt-ltb, ltb-true, le-ltb, le-leb, false_from_ne_true, and_cases}
 use Rattle.std.proofs.lemmas.Option.{slice_get_within}
-use Rattle.model.specs.Contents.{BlockMap, Write, covers, Layer, block_under, overlay}
-use Rattle.model.specs.Stream.{Item, WriteItem, ResyncItem, BarrierItem, SyncUuidItem, UuidsItem, Part, IsBeginning, IsClosedAt, is_in, is_whole, first_of, contents_of, has_blocks, epoch_of, last_epoch, barriers_in, placed, below, layers_of}
+use Rattle.model.specs.Contents.{BlockMap, Write, covers, block_under, overlay}
+use Rattle.model.specs.Stream.{Item, WriteItem, ResyncItem, BarrierItem, SyncUuidItem, UuidsItem, Part, IsBeginning, is_in, is_whole, first_of, contents_of, has_blocks, epoch_of, barriers_in, placed, below}
 use Rattle.model.specs.Primary.{Accepted, Outward, PrimaryHistory, outward_at, last_of}
 use Rattle.model.specs.Secondary.{Inward, SecondaryHistory, inward, items_taken, map_of, secondary_map, is_done, is_done_to, whole}
 use Rattle.model.specs.Headline.{HoldsEarlierEpochs}
 use Rattle.model.specs.WriteOrder.{Blocks, comes_before, IsOrdered, layer_of, base_of, HasWholeEpochs, IsOnDisk}
-use Rattle.laws.specs.Reflections.{touches, content_at, IsLater}
+use Rattle.laws.specs.Reflections.{touches, content_at}
 use Rattle.laws.proofs.Blocks.Overlays.{overlay-same, overlay-last, under-alike, under-inside, under-outside}
 use Rattle.laws.proofs.Blocks.Ranges.{between-parts, touches-nothing}
-use Rattle.laws.proofs.Lists.Beginnings.{get-beginning, length-begins}
-use Rattle.laws.proofs.Lists.Elements.{same-at, get-there}
+use Rattle.laws.proofs.Lists.Beginnings.{get-beginning}
+use Rattle.laws.proofs.Lists.Elements.{same-at}
 use Rattle.laws.proofs.Lists.Picks.{pick-filtered, pick-image, pick-below}
 use Rattle.laws.proofs.Lists.Last.{last-at}
 use Rattle.laws.proofs.Streams.Places.{epoch-grows, epoch-behind, get-grows, placed-at}

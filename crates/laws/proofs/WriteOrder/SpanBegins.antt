@@ -1,57 +1,40 @@
 -- The moves that open, begin or close a stream, accept a write or read a block of a resync keep the spans; so does every run.
-use Rattle.std.proofs.Common.{ℕ, zero, suc, ◌≡◌, ◌-◌, ◌+◌, ◌<◌, ◌≤◌, ◌⊎◌, inl, inr, Bool, true, false, not, ◌&&◌, ◌||◌, ◌==◌, nat_lt, List, [], ◌∷◌, ◌++◌, length, take, map, Option, Some, None, slice_get, Ok, refl, sym, ◌∙◌, ap, subst, arith, length-append}
-use Rattle.std.specs.Prelude.{is_some, unwrap_or, if◌then◌else◌}
+use Rattle.std.proofs.Common.{ℕ, ◌≡◌, ◌-◌, ◌+◌, ◌<◌, inl, inr, true, false, not, ◌==◌, List, [], ◌∷◌, ◌++◌, length, take, map, Option, Some, None, slice_get, Ok, refl, sym, ◌∙◌, ap, subst, arith}
+use Rattle.std.specs.Prelude.{is_some, unwrap_or}
 use Rattle.std.specs.List.{list_any}
-use Rattle.std.proofs.lemmas.Bool.{cases_Bool, cases_lt, both_ways, and_parts, and_cases, and_from, and_left, and_right, or_parts, not-true, not-false, eqb-true, eq-eqb, ltb-true, lt-ltb, false_from_ne_true}
-use Rattle.std.proofs.lemmas.Option.{slice_get_within, slice_get-map}
-use Rattle.std.proofs.lemmas.List.{take-map, append-nil}
+use Rattle.std.proofs.lemmas.Bool.{cases_Bool, cases_lt, both_ways, and_parts, and_cases, and_from, not-true, not-false, eqb-true, lt-ltb}
+use Rattle.std.proofs.lemmas.Option.{slice_get_within}
+use Rattle.std.proofs.lemmas.List.{append-nil}
 use Rattle.std.proofs.Math.Seq.{take-append_seam}
-use Rattle.blocks.specs.declared.settings.Settings.{Settings}
 use Rattle.blocks.specs.declared.tuple.Tuple.{Tuple}
-use Rattle.blocks.specs.declared.outcome.Decision.{Decision}
-use Rattle.blocks.specs.declared.outcome.Decision.TheVariants.{NoSync, BitmapSync, FullSync}
-use Rattle.blocks.specs.SettingsRange.{IsInRange}
-use Rattle.model.specs.Contents.{BlockMap, Layer, Write, covers, block_under, overlay}
-use Rattle.model.specs.Stream.{Item, WriteItem, ResyncItem, BarrierItem, SyncUuidItem, UuidsItem, IsBeginning, epoch_of, last_epoch, below, within}
-use Rattle.model.specs.Frames.{Received, Acknowledged, UuidsFrame, RsWriteAckFrame, BarrierAckFrame, naming}
-use Rattle.model.specs.Identifiers.{decision, sync_end}
-use Rattle.model.specs.Marks.{Marks, marking, marking_unreleased, clearing, releasing, is_cleared}
-use Rattle.model.specs.Primary.{LocalOutcome, Waiting, OnDisk, Failed, Accepted, Outward, PrimaryHistory, no_outward, outward, last_index, change_last, with_outward, stands, local_layer, local_map, offset_reached, is_waiting, is_failed, is_open, open_writes, is_resync, was_resynced, resync_runs, in_resync, under_way, marked_blocks, free_block, accepted_frames, primary_opening, unreleased, is_released}
-use Rattle.model.specs.PrimarySteps.{set_outcome, with_completions, epoch_is_over, resync_is_over, appending, ending_resync, follows, opened, submission, submitted, with_outcome, is_unfinished, accepted_at, faulted, closing, receipted}
-use Rattle.model.specs.Acknowledgements.{begun_with}
-use Rattle.model.specs.LocalRuns.{PrimaryEvent, primary_run}
-use Rattle.model.specs.Headline.{is_marked, is_covered}
-use Rattle.laws.specs.Reflections.{touches, is_sure, FirstBegan, NoneBegan, FromItem, FromOpening}
-use Rattle.laws.proofs.Lists.Beginnings.{begins-self, take-begins}
-use Rattle.laws.proofs.Lists.Elements.{get-left, get-more, get-end, same-at}
-use Rattle.laws.proofs.Lists.Last.{get-change, get-change-back, change-none, change-twice, get-last-changed, last-at}
-use Rattle.laws.proofs.Lists.Picks.{pick-any, pick-image, pick-filtered, filtered-pick, pick-found, pick-none, any-filtered, found-passes, pick-below}
+use Rattle.model.specs.Contents.{Write, covers, overlay}
+use Rattle.model.specs.Stream.{Item, WriteItem, ResyncItem, UuidsItem, IsBeginning, epoch_of, last_epoch, below}
+use Rattle.model.specs.Frames.{Received, Acknowledged, RsWriteAckFrame}
+use Rattle.model.specs.Marks.{clearing}
+use Rattle.model.specs.Primary.{LocalOutcome, Waiting, OnDisk, Failed, Accepted, Outward, PrimaryHistory, outward, change_last, with_outward, stands, local_layer, local_map, offset_reached, is_waiting, is_failed, is_open, open_writes, is_resync, was_resynced, resync_runs, in_resync, marked_blocks, free_block, accepted_frames}
+use Rattle.model.specs.PrimarySteps.{epoch_is_over, appending, opened, closing}
+use Rattle.laws.proofs.Lists.Beginnings.{begins-self}
+use Rattle.laws.proofs.Lists.Elements.{get-left, get-more, same-at}
+use Rattle.laws.proofs.Lists.Last.{change-twice}
+use Rattle.laws.proofs.Lists.Picks.{pick-filtered, filtered-pick, pick-found, pick-none, found-passes, pick-below}
 use Rattle.laws.proofs.Blocks.Overlays.{overlay-agrees, under-alike, under-outside, overlay-some}
 use Rattle.laws.proofs.Streams.Lawful.{epoch-end, epoch-bound}
 use Rattle.laws.proofs.Streams.Places.{epoch-grows}
-use Rattle.laws.proofs.Primary.Homes.{HasHomes, Grows, grows-self, KeepsConnection, open-at, outcome-write, outcome-home}
-use Rattle.laws.proofs.Primary.Moves.{IsKeptByMoves, IsKeptByReleases, MaySubmit, MayAcknowledge, following-from, both-kept, keeps-run, with_frame, refusing, pushing}
-use Rattle.laws.proofs.Primary.Ends.{stands-parts, not-refused, frames-taking, frames-refusing}
-use Rattle.laws.proofs.Primary.LastOpen.{IsLastOpen, changes, open-is-last}
-use Rattle.laws.proofs.Primary.StaysClosed.{open-stands, over-stands}
+use Rattle.laws.proofs.Primary.Homes.{HasHomes, open-at}
+use Rattle.laws.proofs.Primary.Moves.{MayAcknowledge, with_frame, refusing}
+use Rattle.laws.proofs.Primary.Ends.{not-refused, frames-refusing}
+use Rattle.laws.proofs.Primary.LastOpen.{IsLastOpen, open-is-last}
+use Rattle.laws.proofs.Primary.StaysClosed.{open-stands}
 use Rattle.laws.proofs.Primary.LastEpoch.{end-open, write-open}
-use Rattle.laws.proofs.Primary.Releases.{IsRelease, IsCleared, done-releases, confirmed-releases, release-clears}
-use Rattle.laws.proofs.Primary.InOrderMoves.{Ordered, OrderedAfter, in-order-kept}
 use Rattle.laws.proofs.Tracked.Kept.{IsKnown}
-use Rattle.laws.proofs.Tracked.Released.{ordered-opening}
-use Rattle.laws.proofs.Accounted.{IsAccounted, KeepsBegun}
 use Rattle.laws.proofs.Accounted.Moves.{first-carries}
-use Rattle.laws.proofs.Accounted.Steps.{begun-change}
-use Rattle.laws.proofs.Accounted.Kept.{accounted-kept, accounted-opening, waits-open, keeps-open, named-item, resynced-now}
-use Rattle.laws.proofs.Accounted.Reflected.{reflected, rest-marked}
-use Rattle.laws.proofs.Accounted.Released.{Both, BothAfter, both-released}
-use Rattle.laws.proofs.WriteOrder.Layers.{full_layer, writes_over}
+use Rattle.laws.proofs.Accounted.Kept.{waits-open, keeps-open, named-item, resynced-now}
+use Rattle.laws.proofs.WriteOrder.Layers.{full_layer}
 use Rattle.laws.proofs.WriteOrder.Sets.{IsRead}
-use Rattle.laws.proofs.WriteOrder.Spans.{NoneFailed, IsTold, left_by, FromBelow, OpeningBelow, WasBelow, IsSpan, Passes, Extends, below-passes, span-passes}
+use Rattle.laws.proofs.WriteOrder.Spans.{NoneFailed, IsTold, left_by, Passes}
 use Rattle.std.proofs.lemmas.Bool.{le-leb}
-use Rattle.laws.proofs.WriteOrder.SpanMoves.{HasSpans, SameOpening, KeepsFirst, passes-change, span-shut, last-end, spans-with, KeepsSpan, keeps-quiet, spans-change}
-use Rattle.laws.proofs.WriteOrder.SpanKept.{grows-with, grows-item, spans-still, spans-end, spans-takes, spans-appends, spans-following}
-use Rattle.laws.proofs.WriteOrder.SpanSteps.{spans-done, spans-faults, spans-releasing}
+use Rattle.laws.proofs.WriteOrder.SpanMoves.{HasSpans, span-shut, keeps-quiet}
+use Rattle.laws.proofs.WriteOrder.SpanKept.{grows-with, grows-item, spans-end, spans-takes}
 
 -- An acknowledged block of a resync.
 pub spans-clears : (h : PrimaryHistory) (ack : Acknowledged) → HasHomes h → IsLastOpen h → (outward h).closed ≡ false → (outward h).begun ≡ true → MayAcknowledge h is_resync was_resynced ack → HasSpans h
@@ -174,15 +157,19 @@ spans-resyncs h block known homes last on runs free t =
                   let within = slice_get_within (outward h).stream home.0 (WriteItem a.write) item_there in
                   let near = epoch-grows (outward h).stream (item ∷ []) home.0 (omega arith) in
                   let far = epoch-end (outward h).stream (item ∷ []) in
-                  let bound = epoch-bound (outward h).stream home.0 in
-                  (home.0, home.1, (omega arith), subst (λ (m : ℕ). epoch_of ((outward h).stream ++ item ∷ []) home.0 < epoch_of ((outward h).stream ++ item ∷ []) m) (sym size) (elim (cases_lt (epoch_of (outward h).stream home.0) (last_epoch (outward h).stream)) [
-                    | inl low ↦ omega arith
-                    | inr high ↦ absurd (
-                        let equal : epoch_of (outward h).stream home.0 ≡ last_epoch (outward h).stream = omega arith in
-                        let opened_one = write-open h (outward h) k home.0 a.write homes at (end-open h stood on) equal item_there in
-                        let none = pick-none (λ (x : Accepted). covers x.write block) (open_writes h) opened_one.0 opened_one.1 free_of_open opened_one.2 in
-                        both_ways (covers a.write block) (subst (λ (w : Write). covers w block ≡ false) opened_one.3 none) covered)
-                  ]));
+                  let bound = epoch-bound (outward h).stream home.0 in (
+                    home.0,
+                    home.1,
+                    (omega arith),
+                    subst (λ (m : ℕ). epoch_of ((outward h).stream ++ item ∷ []) home.0 < epoch_of ((outward h).stream ++ item ∷ []) m) (sym size) (elim (cases_lt (epoch_of (outward h).stream home.0) (last_epoch (outward h).stream)) [
+                      | inl low ↦ omega arith
+                      | inr high ↦ absurd (
+                          let equal : epoch_of (outward h).stream home.0 ≡ last_epoch (outward h).stream = omega arith in
+                          let opened_one = write-open h (outward h) k home.0 a.write homes at (end-open h stood on) equal item_there in
+                          let none = pick-none (λ (x : Accepted). covers x.write block) (open_writes h) opened_one.0 opened_one.1 free_of_open opened_one.2 in
+                          both_ways (covers a.write block) (subst (λ (w : Write). covers w block ≡ false) opened_one.3 none) covered)
+                    ]),
+                  );
               after = λ n other_place a from ata home. absurd (let within = slice_get_within h.writes n a ata in omega arith);
             }))
       ];

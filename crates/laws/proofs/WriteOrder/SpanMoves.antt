@@ -1,24 +1,19 @@
 -- What the moves of a primary do to the spans of its connections.
-use Rattle.std.proofs.Common.{ℕ, suc, ◌≡◌, ◌-◌, ◌+◌, ◌<◌, ◌≤◌, ◌⊎◌, inl, inr, Bool, true, false, ◌&&◌, ◌==◌, List, [], ◌∷◌, ◌++◌, length, take, map, Option, Some, None, slice_get, refl, sym, ◌∙◌, ap, subst, arith, length-append}
+use Rattle.std.proofs.Common.{ℕ, suc, ◌≡◌, ◌-◌, ◌<◌, ◌≤◌, ◌⊎◌, inl, inr, true, false, List, length, Some, slice_get, refl, sym, ◌∙◌, ap, subst, arith}
 use Rattle.std.proofs.lemmas.Bool.{cases_lt, both_ways}
 use Rattle.std.proofs.lemmas.Option.{slice_get_within}
-use Rattle.blocks.specs.declared.settings.Settings.{Settings}
 use Rattle.blocks.specs.declared.tuple.Tuple.{Tuple}
 use Rattle.blocks.specs.declared.outcome.Decision.{Decision}
-use Rattle.model.specs.Contents.{BlockMap}
-use Rattle.model.specs.Stream.{Item, ResyncItem, UuidsItem, IsBeginning}
+use Rattle.model.specs.Stream.{Item, ResyncItem, UuidsItem}
 use Rattle.model.specs.Primary.{Accepted, Outward, PrimaryHistory, no_outward, outward, change_last}
 use Rattle.laws.specs.Reflections.{FirstBegan}
-use Rattle.laws.proofs.Lists.Beginnings.{begins-self}
 use Rattle.laws.proofs.Lists.Elements.{same-at}
 use Rattle.laws.proofs.Lists.Last.{get-change, get-change-back, get-last-changed, last-at, length-change}
 use Rattle.laws.proofs.Primary.Homes.{Grows, grows-self}
 use Rattle.laws.proofs.Primary.LastOpen.{IsLastOpen}
-use Rattle.laws.proofs.Accounted.{KeepsBegun}
-use Rattle.laws.proofs.Accounted.Moves.{first-carries}
 use Rattle.laws.proofs.WriteOrder.Layers.{writes_over}
 use Rattle.laws.proofs.WriteOrder.Sets.{IsRead}
-use Rattle.laws.proofs.WriteOrder.Spans.{NoneFailed, IsTold, IsSpan, Passes, Extends, span-passes}
+use Rattle.laws.proofs.WriteOrder.Spans.{NoneFailed, IsTold, IsSpan, Passes, span-passes}
 
 -- Each connection that began has its span; and as long as none began, no write was accepted where there was nothing to resync.
 pub record HasSpans (h : PrimaryHistory) : Type 0 where

@@ -1,59 +1,49 @@
 -- Every run of a primary keeps the spans of its connections.
-use Rattle.std.proofs.Common.{ℕ, zero, suc, ◌≡◌, ◌-◌, ◌+◌, ◌<◌, ◌≤◌, ◌⊎◌, inl, inr, Bool, true, false, not, ◌&&◌, ◌||◌, ◌==◌, nat_lt, List, [], ◌∷◌, ◌++◌, length, take, map, Option, Some, None, slice_get, Ok, refl, sym, ◌∙◌, ap, subst, arith, length-append}
-use Rattle.std.specs.Prelude.{is_some, unwrap_or, if◌then◌else◌}
+use Rattle.std.proofs.Common.{ℕ, zero, suc, ◌≡◌, ◌-◌, ◌+◌, ◌<◌, ◌≤◌, inl, inr, Bool, true, false, not, ◌&&◌, ◌||◌, ◌==◌, nat_lt, List, [], ◌∷◌, ◌++◌, length, map, Option, Some, None, slice_get, Ok, refl, sym, ◌∙◌, ap, subst, arith, length-append}
+use Rattle.std.specs.Prelude.{is_some}
 use Rattle.std.specs.List.{list_any}
-use Rattle.std.proofs.lemmas.Bool.{cases_Bool, cases_lt, both_ways, and_parts, and_cases, and_from, and_left, and_right, or_parts, not-true, not-false, eqb-true, eq-eqb, ltb-true, lt-ltb, false_from_ne_true}
-use Rattle.std.proofs.lemmas.Option.{slice_get_within, slice_get-map}
-use Rattle.std.proofs.lemmas.List.{take-map, append-nil}
-use Rattle.std.proofs.Math.Seq.{take-append_seam}
+use Rattle.std.proofs.lemmas.Bool.{cases_Bool, cases_lt, both_ways, and_from, and_right, or_parts, eq-eqb, lt-ltb, false_from_ne_true}
+use Rattle.std.proofs.lemmas.Option.{slice_get_within}
 use Rattle.blocks.specs.declared.settings.Settings.{Settings}
 use Rattle.blocks.specs.declared.tuple.Tuple.{Tuple}
 use Rattle.blocks.specs.declared.outcome.Decision.{Decision}
 use Rattle.blocks.specs.declared.outcome.Decision.TheVariants.{NoSync, BitmapSync, FullSync}
 use Rattle.blocks.specs.SettingsRange.{IsInRange}
-use Rattle.model.specs.Contents.{BlockMap, Layer, Write, covers, block_under, overlay}
-use Rattle.model.specs.Stream.{Item, WriteItem, ResyncItem, BarrierItem, SyncUuidItem, UuidsItem, IsBeginning, epoch_of, last_epoch, below, within}
-use Rattle.model.specs.Frames.{Received, Acknowledged, UuidsFrame, RsWriteAckFrame, BarrierAckFrame, naming}
-use Rattle.model.specs.Identifiers.{decision, sync_end}
-use Rattle.model.specs.Marks.{Marks, marking, marking_unreleased, clearing, releasing, is_cleared}
-use Rattle.model.specs.Primary.{LocalOutcome, Waiting, OnDisk, Failed, Accepted, Outward, PrimaryHistory, no_outward, outward, last_index, change_last, with_outward, stands, local_layer, local_map, offset_reached, is_waiting, is_failed, is_open, open_writes, is_resync, was_resynced, resync_runs, in_resync, under_way, marked_blocks, free_block, accepted_frames, primary_opening, unreleased, is_released, is_confirmed, is_alone}
-use Rattle.model.specs.PrimarySteps.{set_outcome, with_completions, epoch_is_over, resync_is_over, appending, ending_resync, follows, opened, submission, submitted, with_outcome, is_unfinished, accepted_at, faulted, closing, receipted}
+use Rattle.model.specs.Contents.{BlockMap, Write, covers, overlay}
+use Rattle.model.specs.Stream.{Item, WriteItem, ResyncItem, SyncUuidItem, UuidsItem}
+use Rattle.model.specs.Frames.{Received, UuidsFrame, BarrierAckFrame}
+use Rattle.model.specs.Identifiers.{decision}
+use Rattle.model.specs.Marks.{marking}
+use Rattle.model.specs.Primary.{Waiting, OnDisk, Accepted, Outward, PrimaryHistory, no_outward, outward, last_index, change_last, with_outward, stands, local_map, accepted_frames, primary_opening, unreleased, is_released, is_confirmed, is_alone}
+use Rattle.model.specs.PrimarySteps.{appending, submission, submitted, with_outcome, receipted}
 use Rattle.model.specs.Acknowledgements.{begun_with}
 use Rattle.model.specs.LocalRuns.{PrimaryEvent, primary_run}
 use Rattle.model.specs.Headline.{is_marked, is_covered}
-use Rattle.laws.specs.Reflections.{touches, is_sure, FirstBegan, NoneBegan, FromItem, FromOpening}
+use Rattle.laws.specs.Reflections.{FirstBegan, NoneBegan}
 use Rattle.laws.proofs.Lists.Beginnings.{begins-self, take-begins}
 use Rattle.laws.proofs.Lists.Elements.{get-left, get-more, get-end, same-at}
-use Rattle.laws.proofs.Lists.Last.{get-change, get-change-back, change-none, change-twice, get-last-changed, last-at}
-use Rattle.laws.proofs.Lists.Picks.{pick-any, pick-image, pick-filtered, filtered-pick, pick-found, pick-none, any-filtered, found-passes, pick-below}
-use Rattle.laws.proofs.Blocks.Overlays.{overlay-agrees, under-alike, under-outside, overlay-some}
-use Rattle.laws.proofs.Streams.Lawful.{epoch-end, epoch-bound}
-use Rattle.laws.proofs.Streams.Places.{epoch-grows}
-use Rattle.laws.proofs.Primary.Homes.{HasHomes, Grows, grows-self, KeepsConnection, open-at, outcome-write, outcome-home}
-use Rattle.laws.proofs.Primary.Moves.{IsKeptByMoves, IsKeptByReleases, MaySubmit, MayAcknowledge, following-from, both-kept, keeps-run, with_frame, refusing, pushing}
-use Rattle.laws.proofs.Primary.Ends.{stands-parts, not-refused, frames-taking, frames-refusing}
-use Rattle.laws.proofs.Primary.LastOpen.{IsLastOpen, changes, open-is-last}
-use Rattle.laws.proofs.Primary.StaysClosed.{open-stands, over-stands}
-use Rattle.laws.proofs.Primary.LastEpoch.{end-open, write-open}
-use Rattle.laws.proofs.Primary.Releases.{IsRelease, IsCleared, done-releases, confirmed-releases, release-clears}
+use Rattle.laws.proofs.Lists.Last.{get-change, get-change-back, change-twice, get-last-changed}
+use Rattle.laws.proofs.Primary.Homes.{HasHomes, open-at}
+use Rattle.laws.proofs.Primary.Moves.{IsKeptByMoves, IsKeptByReleases, MaySubmit, both-kept, keeps-run, with_frame, pushing}
+use Rattle.laws.proofs.Primary.Ends.{stands-parts}
+use Rattle.laws.proofs.Primary.LastOpen.{IsLastOpen, open-is-last}
+use Rattle.laws.proofs.Primary.Releases.{done-releases, confirmed-releases}
 use Rattle.laws.proofs.Primary.InOrderMoves.{Ordered, OrderedAfter, in-order-kept}
-use Rattle.laws.proofs.Tracked.Kept.{IsKnown}
 use Rattle.laws.proofs.Tracked.Released.{ordered-opening}
-use Rattle.laws.proofs.Accounted.{IsAccounted, KeepsBegun}
+use Rattle.laws.proofs.Accounted.{IsAccounted}
 use Rattle.laws.proofs.Accounted.Moves.{first-carries}
 use Rattle.laws.proofs.Accounted.Steps.{begun-change}
-use Rattle.laws.proofs.Accounted.Kept.{accounted-kept, accounted-opening, waits-open, keeps-open, named-item, resynced-now}
+use Rattle.laws.proofs.Accounted.Kept.{accounted-kept, accounted-opening}
 use Rattle.laws.proofs.Accounted.Reflected.{reflected, rest-marked}
 use Rattle.laws.proofs.Accounted.Released.{Both, BothAfter, both-released}
-use Rattle.laws.proofs.WriteOrder.Layers.{full_layer, writes_over}
-use Rattle.laws.proofs.WriteOrder.Sets.{IsRead}
-use Rattle.laws.proofs.WriteOrder.Spans.{NoneFailed, IsTold, left_by, FromBelow, OpeningBelow, WasBelow, IsSpan, Passes, Extends, below-passes, span-passes}
+use Rattle.laws.proofs.WriteOrder.Layers.{full_layer}
+use Rattle.laws.proofs.WriteOrder.Spans.{NoneFailed, left_by, WasBelow, IsSpan, Passes, below-passes, span-passes}
 use Rattle.laws.proofs.Accounted.{held-covers}
 use Rattle.laws.proofs.WriteOrder.Spans.{opening-below}
-use Rattle.laws.proofs.WriteOrder.SpanMoves.{HasSpans, SameOpening, KeepsFirst, passes-change, span-shut, last-end, spans-with, KeepsSpan, keeps-quiet, spans-change}
-use Rattle.laws.proofs.WriteOrder.SpanKept.{grows-with, grows-item, spans-still, spans-end, spans-takes, spans-appends, Follows, spans-following}
+use Rattle.laws.proofs.WriteOrder.SpanMoves.{HasSpans, SameOpening, KeepsFirst, passes-change, span-shut, last-end, spans-with, keeps-quiet}
+use Rattle.laws.proofs.WriteOrder.SpanKept.{grows-with, grows-item, spans-still, spans-end, spans-takes, spans-following}
 use Rattle.laws.proofs.WriteOrder.SpanSteps.{spans-done, spans-faults, spans-releasing}
-use Rattle.laws.proofs.WriteOrder.SpanBegins.{spans-clears, spans-closes, spans-refuses, all-closed, spans-opens, local-full, spans-resyncs}
+use Rattle.laws.proofs.WriteOrder.SpanBegins.{spans-clears, spans-closes, spans-refuses, spans-opens, local-full, spans-resyncs}
 
 -- A write is accepted.
 
@@ -145,11 +135,14 @@ submits-alone : (h : PrimaryHistory) (write : Write) → IsLastOpen h → IsAcco
     → HasSpans (record h { writes = h.writes ++ record { write = write; journal_length = length h.journal; home = None; outcome = Waiting } ∷ []; marks = marking write h.marks })
 submits-alone h write last accounted rests connected t = record {
   spans = λ k c at begun.
-      let s = t.spans k c at begun in
-      (s.0, s.1, span-shut h later k c s.0 s.1 passes at (shut k c at begun) (λ j e less there. there) (λ n other b from there home. elim (get-more h.writes new n b there) [
-        | inl old ↦ let within = slice_get_within h.writes n b old in omega arith
-        | inr added ↦ let e : None ≡ Some (k, other) = ap (λ (x : Accepted). x.home) (sym added.1) ∙ home in cc
-      ]) s.2);
+      let s = t.spans k c at begun in (
+        s.0,
+        s.1,
+        span-shut h later k c s.0 s.1 passes at (shut k c at begun) (λ j e less there. there) (λ n other b from there home. elim (get-more h.writes new n b there) [
+          | inl old ↦ let within = slice_get_within h.writes n b old in omega arith
+          | inr added ↦ let e : None ≡ Some (k, other) = ap (λ (x : Accepted). x.home) (sym added.1) ∙ home in cc
+        ]) s.2,
+      );
   quiet = λ none bitmap. absurd (elim accounted.began [
     | inr first ↦ both_ways first.1.end.begun (none first.1.connection first.1.end first.1.at) first.1.begun
     | inl nothing ↦

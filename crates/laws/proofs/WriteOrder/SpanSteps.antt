@@ -1,55 +1,29 @@
 -- The moves that accept a write, do one, begin a stream or read a block of a resync keep the spans; so does every run.
-use Rattle.std.proofs.Common.{ℕ, zero, suc, ◌≡◌, ◌-◌, ◌+◌, ◌<◌, ◌≤◌, ◌⊎◌, inl, inr, Bool, true, false, not, ◌&&◌, ◌||◌, ◌==◌, nat_lt, List, [], ◌∷◌, ◌++◌, length, take, map, Option, Some, None, slice_get, Ok, refl, sym, ◌∙◌, ap, subst, arith, length-append}
-use Rattle.std.specs.Prelude.{is_some, unwrap_or, if◌then◌else◌}
-use Rattle.std.specs.List.{list_any}
-use Rattle.std.proofs.lemmas.Bool.{cases_Bool, cases_lt, both_ways, and_parts, and_cases, and_from, and_left, and_right, or_parts, not-true, not-false, eqb-true, eq-eqb, ltb-true, lt-ltb, false_from_ne_true}
-use Rattle.std.proofs.lemmas.Option.{slice_get_within, slice_get-map}
-use Rattle.std.proofs.lemmas.List.{take-map, append-nil}
-use Rattle.std.proofs.Math.Seq.{take-append_seam}
+use Rattle.std.proofs.Common.{ℕ, suc, ◌≡◌, inl, inr, Bool, true, false, not, ◌&&◌, ◌==◌, List, [], ◌∷◌, length, take, map, Option, Some, None, slice_get, refl, sym, ◌∙◌, ap, subst, arith}
+use Rattle.std.specs.Prelude.{if◌then◌else◌}
+use Rattle.std.proofs.lemmas.Bool.{both_ways, and_parts, and_cases, or_parts, not-false, eqb-true}
+use Rattle.std.proofs.lemmas.Option.{slice_get-map}
+use Rattle.std.proofs.lemmas.List.{take-map}
 use Rattle.blocks.specs.declared.settings.Settings.{Settings}
-use Rattle.blocks.specs.declared.tuple.Tuple.{Tuple}
-use Rattle.blocks.specs.declared.outcome.Decision.{Decision}
-use Rattle.blocks.specs.declared.outcome.Decision.TheVariants.{NoSync, BitmapSync, FullSync}
-use Rattle.blocks.specs.SettingsRange.{IsInRange}
 use Rattle.model.specs.Contents.{BlockMap, Layer, Write, covers, block_under, overlay}
-use Rattle.model.specs.Stream.{Item, WriteItem, ResyncItem, BarrierItem, SyncUuidItem, UuidsItem, IsBeginning, epoch_of, last_epoch, below, within}
-use Rattle.model.specs.Frames.{Received, Acknowledged, UuidsFrame, RsWriteAckFrame, BarrierAckFrame, naming}
-use Rattle.model.specs.Identifiers.{decision, sync_end}
-use Rattle.model.specs.Marks.{Marks, marking, marking_unreleased, clearing, releasing, is_cleared}
-use Rattle.model.specs.Primary.{LocalOutcome, Waiting, OnDisk, Failed, Accepted, Outward, PrimaryHistory, no_outward, outward, last_index, change_last, with_outward, stands, local_layer, local_map, offset_reached, is_waiting, is_failed, is_open, open_writes, is_resync, was_resynced, resync_runs, in_resync, under_way, marked_blocks, free_block, accepted_frames, primary_opening, unreleased, is_released}
-use Rattle.model.specs.PrimarySteps.{set_outcome, with_completions, epoch_is_over, resync_is_over, appending, ending_resync, follows, opened, submission, submitted, with_outcome, is_unfinished, accepted_at, faulted, closing, receipted}
-use Rattle.model.specs.Acknowledgements.{begun_with}
-use Rattle.model.specs.LocalRuns.{PrimaryEvent, primary_run}
-use Rattle.model.specs.Headline.{is_marked, is_covered}
-use Rattle.laws.specs.Reflections.{touches, is_sure, FirstBegan, NoneBegan, FromItem, FromOpening}
-use Rattle.laws.proofs.Lists.Beginnings.{begins-self, take-begins}
-use Rattle.laws.proofs.Lists.Elements.{get-left, get-more, get-end, same-at}
-use Rattle.laws.proofs.Lists.Last.{get-change, get-change-back, change-none, change-twice, get-last-changed, last-at}
-use Rattle.laws.proofs.Lists.Picks.{pick-any, pick-image, pick-filtered, filtered-pick, pick-found, pick-none, any-filtered, found-passes, pick-below}
-use Rattle.laws.proofs.Blocks.Overlays.{overlay-agrees, under-alike, under-outside, overlay-some}
-use Rattle.laws.proofs.Streams.Lawful.{epoch-end, epoch-bound}
-use Rattle.laws.proofs.Streams.Places.{epoch-grows}
-use Rattle.laws.proofs.Primary.Homes.{HasHomes, Grows, grows-self, KeepsConnection, open-at, outcome-write, outcome-home}
-use Rattle.laws.proofs.Primary.Moves.{IsKeptByMoves, IsKeptByReleases, MaySubmit, MayAcknowledge, following-from, both-kept, keeps-run, with_frame, refusing, pushing}
-use Rattle.laws.proofs.Primary.Ends.{stands-parts, not-refused, frames-taking, frames-refusing}
-use Rattle.laws.proofs.Primary.LastOpen.{IsLastOpen, changes, open-is-last}
-use Rattle.laws.proofs.Primary.StaysClosed.{open-stands, over-stands}
-use Rattle.laws.proofs.Primary.LastEpoch.{end-open, write-open}
-use Rattle.laws.proofs.Primary.Releases.{IsRelease, IsCleared, done-releases, confirmed-releases, release-clears}
-use Rattle.laws.proofs.Primary.InOrderMoves.{Ordered, OrderedAfter, in-order-kept}
-use Rattle.laws.proofs.Tracked.Kept.{IsKnown}
-use Rattle.laws.proofs.Tracked.Released.{ordered-opening}
-use Rattle.laws.proofs.Accounted.{IsAccounted, KeepsBegun}
+use Rattle.model.specs.Stream.{WriteItem, within}
+use Rattle.model.specs.Marks.{marking, releasing, is_cleared}
+use Rattle.model.specs.Primary.{LocalOutcome, Waiting, OnDisk, Failed, Accepted, Outward, PrimaryHistory, outward, change_last, is_waiting, is_failed}
+use Rattle.model.specs.PrimarySteps.{set_outcome, with_outcome, is_unfinished, accepted_at, faulted}
+use Rattle.laws.proofs.Lists.Beginnings.{begins-self}
+use Rattle.laws.proofs.Lists.Elements.{same-at}
+use Rattle.laws.proofs.Lists.Last.{change-none}
+use Rattle.laws.proofs.Lists.Picks.{pick-any, pick-image, pick-found}
+use Rattle.laws.proofs.Blocks.Overlays.{overlay-agrees}
+use Rattle.laws.proofs.Primary.Homes.{HasHomes, grows-self, outcome-write, outcome-home}
+use Rattle.laws.proofs.Primary.LastOpen.{IsLastOpen}
+use Rattle.laws.proofs.Primary.Releases.{IsRelease, release-clears}
+use Rattle.laws.proofs.Primary.InOrderMoves.{Ordered, OrderedAfter}
 use Rattle.laws.proofs.Accounted.Moves.{first-carries}
-use Rattle.laws.proofs.Accounted.Steps.{begun-change}
-use Rattle.laws.proofs.Accounted.Kept.{accounted-kept, accounted-opening, waits-open, keeps-open, named-item, resynced-now}
-use Rattle.laws.proofs.Accounted.Reflected.{reflected, rest-marked}
-use Rattle.laws.proofs.Accounted.Released.{Both, BothAfter, both-released}
 use Rattle.laws.proofs.WriteOrder.Layers.{full_layer, writes_over}
-use Rattle.laws.proofs.WriteOrder.Sets.{IsRead}
-use Rattle.laws.proofs.WriteOrder.Spans.{NoneFailed, IsTold, left_by, FromBelow, OpeningBelow, WasBelow, IsSpan, Passes, Extends, below-passes, span-passes}
-use Rattle.laws.proofs.WriteOrder.SpanMoves.{HasSpans, SameOpening, KeepsFirst, passes-change, span-shut, last-end, spans-with, KeepsSpan, keeps-quiet, spans-change}
-use Rattle.laws.proofs.WriteOrder.SpanKept.{grows-with, grows-item, spans-still, spans-end, spans-takes, spans-appends, spans-following}
+use Rattle.laws.proofs.WriteOrder.Spans.{NoneFailed, Passes}
+use Rattle.laws.proofs.WriteOrder.SpanMoves.{HasSpans, SameOpening, keeps-quiet, spans-change}
+use Rattle.laws.proofs.WriteOrder.SpanKept.{spans-end}
 
 -- The local disk does or fails a write.
 
@@ -137,11 +111,11 @@ spans-faults h number offsets last t = go (accepted_at h number) refl
         let failed : LocalOutcome = Failed (within (length accepted.write.contents) offsets) in
         let later : PrimaryHistory = with_outcome number failed (record h { marks = marking accepted.write h.marks }) in
         spans-outcome h later number failed last refl refl (refl, (refl, (refl, refl))) (λ fine.
-            let found = pick-found (λ (x : Accepted). x.write.number == number) h.writes accepted is in
-            let there : slice_get (map (set_outcome number failed) h.writes) found.0 ≡ Some (set_outcome number failed accepted) = slice_get-map (set_outcome number failed) h.writes found.0 ∙ ap (λ (v : Option Accepted). elim v as (λ _. Option Accepted) [ None ↦ None | Some x ↦ Some (set_outcome number failed x) ]) found.1 in
-            let not_so = fine found.0 (set_outcome number failed accepted) there in
-            let so : is_failed (set_outcome number failed accepted).outcome ≡ true = ap (λ b. is_failed (if b then record accepted { outcome = failed } else accepted).outcome) found.2 in
-            absurd (both_ways (is_failed (set_outcome number failed accepted).outcome) not_so so))
+        let found = pick-found (λ (x : Accepted). x.write.number == number) h.writes accepted is in
+        let there : slice_get (map (set_outcome number failed) h.writes) found.0 ≡ Some (set_outcome number failed accepted) = slice_get-map (set_outcome number failed) h.writes found.0 ∙ ap (λ (v : Option Accepted). elim v as (λ _. Option Accepted) [ None ↦ None | Some x ↦ Some (set_outcome number failed x) ]) found.1 in
+        let not_so = fine found.0 (set_outcome number failed accepted) there in
+        let so : is_failed (set_outcome number failed accepted).outcome ≡ true = ap (λ b. is_failed (if b then record accepted { outcome = failed } else accepted).outcome) found.2 in
+        absurd (both_ways (is_failed (set_outcome number failed accepted).outcome) not_so so))
         (λ block unmarked. (or_parts (h.marks block) (covers accepted.write block) unmarked).0) t
 
 -- A step releases writes: a block that it clears has a word of the peer.

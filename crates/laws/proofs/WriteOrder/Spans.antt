@@ -1,6 +1,6 @@
 -- The writes of a connection whose stream began: those accepted before, those of its own, and those after. What its resync
 -- blocks have, and why the peer holds the earlier writes on a block that is not marked any more.
-use Rattle.std.proofs.Common.{ℕ, suc, ◌≡◌, ◌+◌, ◌-◌, ◌<◌, ◌≤◌, ◌⊎◌, inl, inr, Bool, true, false, ◌&&◌, nat_lt, List, [], ◌∷◌, ◌++◌, length, take, map, Option, Some, None, slice_get, refl, sym, ◌∙◌, ap, subst, arith}
+use Rattle.std.proofs.Common.{ℕ, suc, ◌≡◌, ◌<◌, ◌≤◌, ◌⊎◌, inl, inr, Bool, true, false, ◌&&◌, nat_lt, List, length, Option, Some, slice_get, sym, ◌∙◌, ap, subst, arith}
 use Rattle.std.proofs.lemmas.Bool.{cases_lt}
 use Rattle.std.proofs.lemmas.Option.{slice_get_within}
 use Rattle.blocks.specs.declared.settings.Settings.{Settings}
@@ -8,13 +8,12 @@ use Rattle.blocks.specs.declared.tuple.Tuple.{Tuple}
 use Rattle.blocks.specs.declared.outcome.Decision.{Decision}
 use Rattle.blocks.specs.declared.outcome.Decision.TheVariants.{FullSync}
 use Rattle.model.specs.Contents.{BlockMap, Write, covers}
-use Rattle.model.specs.Stream.{Item, WriteItem, ResyncItem, UuidsItem, IsBeginning, epoch_of}
+use Rattle.model.specs.Stream.{Item, ResyncItem, UuidsItem, IsBeginning}
 use Rattle.model.specs.Primary.{Accepted, Outward, PrimaryHistory, is_failed}
 use Rattle.model.specs.Headline.{opening_marked}
 use Rattle.laws.specs.Reflections.{touches, content_at, is_sure, IsLater, FirstBegan}
 use Rattle.laws.proofs.Lists.Beginnings.{get-beginning}
-use Rattle.laws.proofs.Lists.Elements.{same-at}
-use Rattle.laws.proofs.Primary.Homes.{Grows, HasHomes}
+use Rattle.laws.proofs.Primary.Homes.{Grows}
 use Rattle.laws.proofs.Accounted.{sure-grows, epoch-same}
 use Rattle.laws.proofs.WriteOrder.Layers.{writes_over}
 use Rattle.laws.proofs.WriteOrder.Sets.{IsRead}

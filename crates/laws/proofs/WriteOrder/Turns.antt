@@ -1,6 +1,6 @@
 -- A write that was completed when another one was accepted was accepted earlier, and on one connection it is of an earlier
 -- epoch: a completed write's epoch is over. Kept by every step of a primary.
-use Rattle.std.proofs.Common.{ℕ, suc, ◌≡◌, ◌-◌, ◌+◌, ◌<◌, ◌≤◌, ◌⊎◌, inl, inr, Bool, true, false, not, ◌&&◌, ◌==◌, List, [], ◌∷◌, ◌++◌, length, take, map, Option, Some, None, slice_get, Ok, refl, sym, ◌∙◌, ap, subst, arith, length-append}
+use Rattle.std.proofs.Common.{ℕ, suc, ◌≡◌, ◌-◌, ◌<◌, ◌≤◌, ◌⊎◌, inl, inr, Bool, true, false, not, ◌==◌, List, [], ◌∷◌, ◌++◌, length, take, map, Option, Some, None, slice_get, Ok, refl, sym, ◌∙◌, ap, subst, arith, length-append}
 use Rattle.std.specs.Prelude.{unwrap_or}
 use Rattle.std.specs.List.{list_any}
 use Rattle.std.proofs.lemmas.Bool.{cases_lt, both_ways, and_parts, not-true, eqb-true}
@@ -16,9 +16,9 @@ use Rattle.model.specs.Contents.{BlockMap}
 use Rattle.model.specs.Stream.{Item, WriteItem, ResyncItem, BarrierItem, SyncUuidItem, UuidsItem, IsBeginning, epoch_of, last_epoch, within}
 use Rattle.model.specs.Frames.{Received, UuidsFrame, RsWriteAckFrame, BarrierAckFrame}
 use Rattle.model.specs.Identifiers.{sync_end}
-use Rattle.model.specs.Marks.{Marks, marking, clearing}
-use Rattle.model.specs.Primary.{LocalOutcome, Waiting, OnDisk, Failed, Accepted, Completion, Outward, PrimaryHistory, no_outward, outward, last_index, change_last, with_outward, stands, local_map, is_completed, is_open, open_writes, primary_opening}
-use Rattle.model.specs.PrimarySteps.{set_outcome, completion_of, newly_completed, with_completions, epoch_is_over, appending, ending_resync, follows, opened, submission, submitted, with_outcome, accepted_at, faulted, closing, receipted}
+use Rattle.model.specs.Marks.{marking}
+use Rattle.model.specs.Primary.{LocalOutcome, Waiting, OnDisk, Failed, Accepted, Completion, Outward, PrimaryHistory, no_outward, outward, last_index, change_last, with_outward, stands, local_map, is_completed, is_open, primary_opening}
+use Rattle.model.specs.PrimarySteps.{set_outcome, completion_of, newly_completed, with_completions, appending, ending_resync, follows, submission, submitted, with_outcome, accepted_at, faulted, closing}
 use Rattle.model.specs.Acknowledgements.{begun_with}
 use Rattle.model.specs.LocalRuns.{PrimaryEvent, primary_run}
 use Rattle.model.specs.WriteOrder.{comes_before}
@@ -30,7 +30,7 @@ use Rattle.laws.proofs.Lists.Picks.{pick-any, pick-filtered, pick-image}
 use Rattle.laws.proofs.Streams.Lawful.{epoch-end, epoch-bound}
 use Rattle.laws.proofs.Streams.Places.{epoch-grows}
 use Rattle.laws.proofs.Primary.Homes.{HasHomes, open-at, outcome-write, outcome-home}
-use Rattle.laws.proofs.Primary.Moves.{IsKeptByMoves, IsKeptByReleases, MaySubmit, following-from, both-kept, keeps-run, with_frame, refusing, pushing}
+use Rattle.laws.proofs.Primary.Moves.{IsKeptByMoves, IsKeptByReleases, following-from, keeps-run, with_frame, refusing, pushing}
 use Rattle.laws.proofs.Primary.InOrderMoves.{Ordered, OrderedAfter, in-order-kept}
 use Rattle.laws.proofs.Primary.LastEpoch.{end-open, write-open}
 use Rattle.laws.proofs.Primary.Ends.{stands-parts}
@@ -131,7 +131,7 @@ pub turns-added : (h later : PrimaryHistory) (new : Accepted) → StreamsGrow h 
     → ((n : ℕ) (entry : Completion) → slice_get h.journal n ≡ Some entry → entry.write.number ≡ new.write.number → ⊥)
     → ((k place : ℕ) → new.home ≡ Some (k, place) → (c : Outward) × (slice_get later.connections k ≡ Some c) × (place < length c.stream))
     → ((n k place other : ℕ) (a : Accepted) (c : Outward) → slice_get h.writes n ≡ Some a → is_completed h a.write.number ≡ true → a.home ≡ Some (k, place) → new.home ≡ Some (k, other) → slice_get later.connections k ≡ Some c
-      → epoch_of c.stream place < epoch_of c.stream other)
+    → epoch_of c.stream place < epoch_of c.stream other)
     → HasTurns h → HasTurns later
 turns-added h later new grow writes journal size unknown stands apart t = record {
   lengths = λ n b at. elim (there n b at) [
@@ -241,21 +241,21 @@ turns-submits settings h first contents p t = go (stands (outward h)) refl
         let later : PrimaryHistory = appending item (record h { writes = h.writes ++ new ∷ [] }) in
         turns-added h later new (streams-change h later f refl (item ∷ [], refl)) refl refl refl unknown
         (λ k place home.
-            let here : ℕ × ℕ = (last_index h.connections, length (outward h).stream) in
-            let there : ℕ × ℕ = (k, place) in
-            let same : here ≡ there = let e : Some here ≡ Some there = home in cc in
-            let index : last_index h.connections ≡ k = ap (λ (x : ℕ × ℕ). x.0) same in
-            let end : length (outward h).stream ≡ place = ap (λ (x : ℕ × ℕ). x.1) same in
-            (f (outward h), subst (λ (n : ℕ). slice_get (change_last f h.connections) n ≡ Some (f (outward h))) index new_last, (let long = length-append (outward h).stream (item ∷ []) in omega arith)))
+        let here : ℕ × ℕ = (last_index h.connections, length (outward h).stream) in
+        let there : ℕ × ℕ = (k, place) in
+        let same : here ≡ there = let e : Some here ≡ Some there = home in cc in
+        let index : last_index h.connections ≡ k = ap (λ (x : ℕ × ℕ). x.0) same in
+        let end : length (outward h).stream ≡ place = ap (λ (x : ℕ × ℕ). x.1) same in
+        (f (outward h), subst (λ (n : ℕ). slice_get (change_last f h.connections) n ≡ Some (f (outward h))) index new_last, (let long = length-append (outward h).stream (item ∷ []) in omega arith)))
         (λ n k place other a c at done ha hb there.
-            let here : ℕ × ℕ = (last_index h.connections, length (outward h).stream) in
-            let that : ℕ × ℕ = (k, other) in
-            let same : here ≡ that = let e : Some here ≡ Some that = hb in cc in
-            let index : last_index h.connections ≡ k = ap (λ (x : ℕ × ℕ). x.0) same in
-            let end : length (outward h).stream ≡ other = ap (λ (x : ℕ × ℕ). x.1) same in
-            let home : a.home ≡ Some (last_index h.connections, place) = subst (λ (m : ℕ). a.home ≡ Some (m, place)) (sym index) ha in
-            let ended : f (outward h) ≡ c = same-at (change_last f h.connections) (last_index h.connections) (f (outward h)) c new_last (subst (λ (m : ℕ). slice_get (change_last f h.connections) m ≡ Some c) (sym index) there) in
-            subst (λ (x : Outward). epoch_of x.stream place < epoch_of x.stream other) ended (subst (λ (m : ℕ). epoch_of (f (outward h)).stream place < epoch_of (f (outward h)).stream m) end (closed-epoch is n place a at done home)))
+        let here : ℕ × ℕ = (last_index h.connections, length (outward h).stream) in
+        let that : ℕ × ℕ = (k, other) in
+        let same : here ≡ that = let e : Some here ≡ Some that = hb in cc in
+        let index : last_index h.connections ≡ k = ap (λ (x : ℕ × ℕ). x.0) same in
+        let end : length (outward h).stream ≡ other = ap (λ (x : ℕ × ℕ). x.1) same in
+        let home : a.home ≡ Some (last_index h.connections, place) = subst (λ (m : ℕ). a.home ≡ Some (m, place)) (sym index) ha in
+        let ended : f (outward h) ≡ c = same-at (change_last f h.connections) (last_index h.connections) (f (outward h)) c new_last (subst (λ (m : ℕ). slice_get (change_last f h.connections) m ≡ Some c) (sym index) there) in
+        subst (λ (x : Outward). epoch_of x.stream place < epoch_of x.stream other) ended (subst (λ (m : ℕ). epoch_of (f (outward h)).stream place < epoch_of (f (outward h)).stream m) end (closed-epoch is n place a at done home)))
         t
     go false is =
         let new : Accepted = record { write = submission h first contents; journal_length = length h.journal; home = None; outcome = Waiting } in
