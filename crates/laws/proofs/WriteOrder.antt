@@ -1,18 +1,21 @@
--- The order of writes that a consistent secondary keeps.
-pub mod Layers
-pub mod Sets
-pub mod Spans
-pub mod SpanMoves
-pub mod SpanKept
-pub mod SpanSteps
-pub mod SpanBegins
-pub mod SpanRuns
-pub mod Generations
-pub mod GenerationMoves
-pub mod GenerationRuns
+-- The order of writes that a consistent secondary keeps: the set behind its disk, what a primary's history keeps of the writes of
+-- each connection and of its generations, why a secondary is consistent, and the two joined.
+pub mod Adopted
 pub mod Consistent
 pub mod Ends
+pub mod GenerationBegins
+pub mod GenerationMoves
+pub mod GenerationRuns
+pub mod Generations
+pub mod Layers
 pub mod Never
-pub mod Adopted
+pub mod Sets
+pub mod SpanBegins
+pub mod SpanKept
+pub mod SpanMoves
+pub mod SpanRuns
+pub mod SpanSteps
+pub mod SpanSubmits
+pub mod Spans
 pub mod Theorem
 pub mod Turns

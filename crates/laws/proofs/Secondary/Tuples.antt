@@ -103,7 +103,7 @@ taken-item frame item d accepted late is =
 -- Steps.
 
 -- the last connection of an open end is there, and it refused nothing
-open-there : (h : SecondaryHistory) → (inward h).closed ≡ false → slice_get h.connections (length h.connections - 1) ≡ Some (inward h)
+pub open-there : (h : SecondaryHistory) → (inward h).closed ≡ false → slice_get h.connections (length h.connections - 1) ≡ Some (inward h)
 open-there h standing = elim (last-at (no_inward h) h.connections) [
   | inl none ↦ absurd (both_ways (inward h).closed standing (ap (λ (l : List Inward). (last_of (no_inward h) l).closed) none))
   | inr at ↦ at

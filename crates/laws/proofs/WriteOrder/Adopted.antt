@@ -84,8 +84,8 @@ module _ (o : Opening) (here : List PrimaryEvent) (there : List SecondaryEvent) 
   base-same block = ap (λ b. elim b as (λ _. Option (List ℕ)) [ true ↦ p.opening_map block | false ↦ s.opening_map block ]) adopted
 
   -- of two connections the one with the lower number comes first
-  comes-first : (m : ℕ) (e : Inward) (i n : ℕ) (f : Inward) → slice_get s.connections m ≡ Some e → slice_get s.connections i ≡ Some f → e.number < f.number → m < i
-  comes-first m e i n f ate atf less = elim (cases_lt m i) [
+  comes-first : (m : ℕ) (e : Inward) (i : ℕ) (f : Inward) → slice_get s.connections m ≡ Some e → slice_get s.connections i ≡ Some f → e.number < f.number → m < i
+  comes-first m e i f ate atf less = elim (cases_lt m i) [
     | inl is ↦ is
     | inr late ↦ absurd (elim (cases_lt i m) [
       | inl early ↦ (let rise = (rises o here there joined).rise i m f e early atf ate in omega arith)
@@ -103,7 +103,7 @@ module _ (o : Opening) (here : List PrimaryEvent) (there : List SecondaryEvent) 
       let hello = peer-hello o here there joined i n e peer at taken in
       let one = hello.2.number in
       let two = adopted-on.2.number in
-      let less = comes-first j d hello.0 0 hello.1 a.at hello.2.inward (omega arith) in
+      let less = comes-first j d hello.0 hello.1 a.at hello.2.inward (omega arith) in
       ap (λ (t : Tuple). t.current) (hello.3 ∙ (a.later hello.0 hello.1 less hello.2.inward).hello)
 
   left-then : IsLeft s.tuple.current (suc k) p
@@ -161,7 +161,7 @@ module _ (o : Opening) (here : List PrimaryEvent) (there : List SecondaryEvent) 
       let one = end.2.number in
       let two = adopted-on.2.number in
       let below_it = from.less in
-      base-from-end s epochs block v end.0 e end.2.inward holds j d (comes-first end.0 e j 0 d end.2.inward a.at (omega arith)) a.at (λ m f low high at n i taken touched.
+      base-from-end s epochs block v end.0 e end.2.inward holds j d (comes-first end.0 e j d end.2.inward a.at (omega arith)) a.at (λ m f low high at n i taken touched.
       let of = outward-of o here there joined m n f i at taken in
       let number = of.2.number in
       let after = (rises o here there joined).rise end.0 m e f low end.2.inward at in

@@ -23,7 +23,7 @@ use Rattle.laws.proofs.Lists.Last.{get-change, get-change-back, change-twice, la
 use Rattle.laws.proofs.Lists.Picks.{pick-any}
 use Rattle.laws.proofs.Secondary.Good.{taking-more, items-refusing}
 use Rattle.laws.proofs.Secondary.Moves.{framed, receipting, refused_end, pushed_one, closed_end, IsPlain, after-kinds}
-use Rattle.laws.proofs.Secondary.Tuples.{taken-item}
+use Rattle.laws.proofs.Secondary.Tuples.{open-there, taken-item}
 
 -- An end whose hello has this tuple, and whose items neither begin nor end a resync, nor are blocks of one.
 pub record IsPlainEnd (tuple : Tuple) (d : Inward) : Type 0 where
@@ -188,12 +188,6 @@ plain-taking h frame plain (inr late) = go (received_item frame) refl
         }
 
 -- Steps.
-
-open-there : (h : SecondaryHistory) → (inward h).closed ≡ false → slice_get h.connections (length h.connections - 1) ≡ Some (inward h)
-open-there h standing = elim (last-at (no_inward h) h.connections) [
-  | inl none ↦ absurd (both_ways (inward h).closed standing (ap (λ (l : List Inward). (last_of (no_inward h) l).closed) none))
-  | inr at ↦ at
-]
 
 not-refused-yet : (h : SecondaryHistory) → HasSynced h → (inward h).closed ≡ false → (inward h).refused ≡ false
 not-refused-yet h t standing = elim (cases_Bool (inward h).refused) [

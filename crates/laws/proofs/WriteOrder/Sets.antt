@@ -239,15 +239,15 @@ module _ (p : PrimaryHistory) (s : SecondaryHistory) (homes : HasHomes p) (order
       ])
       (λ i a more at v. under-bare (layer_of the_set a) block v (λ inside. none i a more at inside))
 
-  -- a later write of the connection is not in the set on a block, where no place behind this one is applied there
-  late-bare : (from n block : ℕ) (a : Accepted) → ((place : ℕ) (i : Item) → from < place → slice_get items place ≡ Some i → (touches i block && is_in b.inner.applied place (block - first_of i)) ≡ false)
-      → ((place : ℕ) → a.home ≡ Some (b.index, place) → from < place) → b.older ≤ n → slice_get p.writes n ≡ Some a → covers a.write block ≡ true → the_set a.write.number (block - a.write.first) ≡ false
-  late-bare from n block a bare behind late at inside = set-at p b.older b.index b.inner.applied n (block - a.write.first) a homes at ∙ or_from (nat_lt n b.older) _ (le-ltb n b.older late) (false_from_ne_true _ (λ has.
+  -- a write of the connection, or of a later one, is not in the set on a block, where its place is not applied there
+  unlaid : (n block : ℕ) (a : Accepted) → ((place : ℕ) (i : Item) → a.home ≡ Some (b.index, place) → slice_get items place ≡ Some i → (touches i block && is_in b.inner.applied place (block - first_of i)) ≡ false)
+      → b.older ≤ n → slice_get p.writes n ≡ Some a → covers a.write block ≡ true → the_set a.write.number (block - a.write.first) ≡ false
+  unlaid n block a bare late at inside = set-at p b.older b.index b.inner.applied n (block - a.write.first) a homes at ∙ or_from (nat_lt n b.older) _ (le-ltb n b.older late) (false_from_ne_true _ (λ has.
       let home = home-of b.index b.inner.applied a.home (block - a.write.first) has in
       let found = applied-item home.0 (block - a.write.first) home.2 in
       let same : found.0 ≡ WriteItem a.write = same-at b.end.stream home.0 found.0 (WriteItem a.write) found.2 (home-item n home.0 a at home.1) in
       let there : slice_get items home.0 ≡ Some (WriteItem a.write) = subst (λ (i : Item). slice_get items home.0 ≡ Some i) same found.1 in
-      both_ways (touches (WriteItem a.write) block && is_in b.inner.applied home.0 (block - a.write.first)) (bare home.0 (WriteItem a.write) (behind home.0 home.1) there) (and_from _ _ inside home.2)))
+      both_ways (touches (WriteItem a.write) block && is_in b.inner.applied home.0 (block - a.write.first)) (bare home.0 (WriteItem a.write) home.1 there) (and_from _ _ inside home.2)))
 
   -- the disk where nothing of the connection is applied on the block
   disk-bare : (block : ℕ) → ((place : ℕ) (i : Item) → slice_get items place ≡ Some i → (touches i block && is_in b.inner.applied place (block - first_of i)) ≡ false)
@@ -257,15 +257,7 @@ module _ (p : PrimaryHistory) (s : SecondaryHistory) (homes : HasHomes p) (order
       layers-bare b.inner.base 0 items b.inner.applied block (λ n i at touched. subst (λ (m : ℕ). is_in b.inner.applied m (block - first_of i) ≡ false) (sym (zero-add n)) (bare n i at touched))
       ∙ (b.base block bare ∙ sym (set-front (base_of p s) b.older block
       (λ n a less at inside. set-at p b.older b.index b.inner.applied n (block - a.write.first) a homes at ∙ or_left (nat_lt n b.older) _ (lt-ltb n b.older less))
-      (λ n a more at inside. never n a more at inside)))
-    where
-      never : (n : ℕ) (a : Accepted) → b.older ≤ n → slice_get p.writes n ≡ Some a → covers a.write block ≡ true → the_set a.write.number (block - a.write.first) ≡ false
-      never n a late at inside = set-at p b.older b.index b.inner.applied n (block - a.write.first) a homes at ∙ or_from (nat_lt n b.older) _ (le-ltb n b.older late) (false_from_ne_true _ (λ has.
-          let home = home-of b.index b.inner.applied a.home (block - a.write.first) has in
-          let found = applied-item home.0 (block - a.write.first) home.2 in
-          let same : found.0 ≡ WriteItem a.write = same-at b.end.stream home.0 found.0 (WriteItem a.write) found.2 (home-item n home.0 a at home.1) in
-          let there : slice_get items home.0 ≡ Some (WriteItem a.write) = subst (λ (i : Item). slice_get items home.0 ≡ Some i) same found.1 in
-          both_ways (touches (WriteItem a.write) block && is_in b.inner.applied home.0 (block - a.write.first)) (none home.0 (WriteItem a.write) there) (and_from _ _ inside home.2)))
+      (λ n a more at inside. unlaid n block a (λ place i home there. none place i there) more at inside)))
 
   -- the disk where an item is the last one applied on the block
   disk-last : (block : ℕ) → LastPassing (λ place i. touches i block && is_in b.inner.applied place (block - first_of i)) items → map_of b.inner block ≡ overlay (base_of p s) (map (layer_of the_set) p.writes) block
@@ -289,7 +281,7 @@ module _ (p : PrimaryHistory) (s : SecondaryHistory) (homes : HasHomes p) (order
           ap (λ (x : Write). slice_get x.contents (block - x.first)) (sym its.3)
           ∙ sym (overlay-last (layer_of the_set) (base_of p s) p.writes block n a (slice_get a.write.contents (block - a.write.first)) its.2
           (λ v. under-inside (layer_of the_set a) block v covered has)
-          (λ i y less aty v. under-bare (layer_of the_set y) block v (λ ins. late-bare l.place i block y l.later (λ place home. home-rises n i l.place place a y less its.2 aty its.4 home) (omega arith) aty ins)))
+          (λ i y less aty v. under-bare (layer_of the_set y) block v (λ ins. unlaid i block y (λ place z home there_too. l.later place z (home-rises n i l.place place a y less its.2 aty its.4 home) there_too) (omega arith) aty ins)))
       go (ResyncItem other contents) at touched laid =
           let ends = between-parts other 1 block touched in
           let low = ends.0 in
@@ -313,7 +305,7 @@ module _ (p : PrimaryHistory) (s : SecondaryHistory) (homes : HasHomes p) (order
                 or_right (nat_lt n b.older) _ (home-has b.index b.inner.applied a.home was.0 (block - a.write.first) was.1
                 (applied-before was.0 l.place (block - a.write.first) (WriteItem a.write) (block - other) was.2 (home-item n was.0 a ata was.1) was.3 laid (omega arith)))
           ])
-          (λ n a more ata inside. late-bare l.place n block a l.later (λ place home. r.after n place a more ata home) (let m = r.more in omega arith) ata inside)))))
+          (λ n a more ata inside. unlaid n block a (λ place z home there_too. l.later place z (r.after n place a more ata home) there_too) (let m = r.more in omega arith) ata inside)))))
       go (BarrierItem epoch) at touched laid = absurd (both_ways (touches (BarrierItem epoch) block) (touches-nothing 0 block) touched)
       go (SyncUuidItem word) at touched laid = absurd (both_ways (touches (SyncUuidItem word) block) (touches-nothing 0 block) touched)
       go (UuidsItem tuple) at touched laid = absurd (both_ways (touches (UuidsItem tuple) block) (touches-nothing 0 block) touched)

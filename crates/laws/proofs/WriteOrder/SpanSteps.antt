@@ -38,6 +38,11 @@ over-outcome number outcome base count block ws =
     map-twice [] = refl
     map-twice (x ∷ xs) = ap (λ (l : List Layer). full_layer (set_outcome number outcome x) ∷ l) (map-twice xs)
 
+-- as many writes as before
+outcome-length : (number : ℕ) (outcome : LocalOutcome) (ws : List Accepted) → length (map (set_outcome number outcome) ws) ≡ length ws
+outcome-length number outcome [] = refl
+outcome-length number outcome (w ∷ ws) = ap suc (outcome-length number outcome ws)
+
 passes-outcome : (h later : PrimaryHistory) (number : ℕ) (outcome : LocalOutcome) → later.connections ≡ h.connections → later.writes ≡ map (set_outcome number outcome) h.writes → SameOpening h later → (NoneFailed later → NoneFailed h) → Passes h later
 passes-outcome h later number outcome connections writes opening fine = record {
   map = opening.0;
@@ -52,20 +57,12 @@ passes-outcome h later number outcome connections writes opening fine = record {
         ap (λ (x : Accepted). x.write) (sym was.2) ∙ outcome-write number outcome was.0,
         ap (λ (x : Accepted). x.home) (sym was.2) ∙ outcome-home number outcome was.0,
       );
-  count = let same = ap length writes in let size = map-length h.writes in omega arith;
+  count = let same = ap length writes in let size = outcome-length number outcome h.writes in omega arith;
   fine = fine;
   front = λ j c less at. subst (λ (l : List Outward). slice_get l j ≡ Some c) (sym connections) at;
   back = λ j c less at. subst (λ (l : List Outward). slice_get l j ≡ Some c) connections at;
   first = λ decided. first-carries h later decided (record { forward = λ k c at begun. (c, subst (λ (l : List Outward). slice_get l k ≡ Some c) (sym connections) at, begun, begins-self c.taken); back = λ k d at. inl (d, subst (λ (l : List Outward). slice_get l k ≡ Some d) connections at, refl) }) opening.1.0;
 }
-  where
-    map-length : (ws : List Accepted) → length (map (set_outcome number outcome) ws) ≡ length ws
-    map-length [] = refl
-    map-length (w ∷ ws) = ap suc (map-length ws)
-
-pub outcome-length : (number : ℕ) (outcome : LocalOutcome) (ws : List Accepted) → length (map (set_outcome number outcome) ws) ≡ length ws
-outcome-length number outcome [] = refl
-outcome-length number outcome (w ∷ ws) = ap suc (outcome-length number outcome ws)
 
 spans-outcome : (h later : PrimaryHistory) (number : ℕ) (outcome : LocalOutcome) → IsLastOpen h → later.connections ≡ h.connections → later.writes ≡ map (set_outcome number outcome) h.writes → SameOpening h later → (NoneFailed later → NoneFailed h)
     → ((block : ℕ) → later.marks block ≡ false → h.marks block ≡ false) → HasSpans h → HasSpans later

@@ -1,0 +1,190 @@
+-- A write that is accepted goes to the span of the connection that stands.
+use Rattle.std.proofs.Common.{ℕ, zero, suc, ◌≡◌, ◌-◌, ◌+◌, ◌<◌, ◌≤◌, inl, inr, Bool, true, false, not, ◌&&◌, ◌||◌, ◌==◌, nat_lt, List, [], ◌∷◌, ◌++◌, length, map, Option, Some, None, slice_get, Ok, refl, sym, ◌∙◌, ap, subst, arith, length-append}
+use Rattle.std.specs.Prelude.{is_some}
+use Rattle.std.specs.List.{list_any}
+use Rattle.std.proofs.lemmas.Bool.{cases_Bool, cases_lt, both_ways, and_from, and_right, or_parts, eq-eqb, lt-ltb, false_from_ne_true}
+use Rattle.std.proofs.lemmas.Option.{slice_get_within}
+use Rattle.blocks.specs.declared.settings.Settings.{Settings}
+use Rattle.blocks.specs.declared.tuple.Tuple.{Tuple}
+use Rattle.blocks.specs.declared.outcome.Decision.{Decision}
+use Rattle.blocks.specs.declared.outcome.Decision.TheVariants.{NoSync, BitmapSync, FullSync}
+use Rattle.blocks.specs.SettingsRange.{IsInRange}
+use Rattle.model.specs.Contents.{BlockMap, Write, covers, overlay}
+use Rattle.model.specs.Stream.{Item, WriteItem, ResyncItem, SyncUuidItem, UuidsItem}
+use Rattle.model.specs.Frames.{Received, UuidsFrame, BarrierAckFrame}
+use Rattle.model.specs.Identifiers.{decision}
+use Rattle.model.specs.Marks.{marking}
+use Rattle.model.specs.Primary.{Waiting, OnDisk, Accepted, Outward, PrimaryHistory, no_outward, outward, last_index, change_last, with_outward, stands, local_map, accepted_frames, primary_opening, unreleased, is_released, is_confirmed, is_alone}
+use Rattle.model.specs.PrimarySteps.{appending, submission, submitted, with_outcome, receipted}
+use Rattle.model.specs.Acknowledgements.{begun_with}
+use Rattle.model.specs.LocalRuns.{PrimaryEvent, primary_run}
+use Rattle.model.specs.Headline.{is_marked, is_covered}
+use Rattle.laws.specs.Reflections.{FirstBegan, NoneBegan}
+use Rattle.laws.proofs.Lists.Beginnings.{begins-self, take-begins}
+use Rattle.laws.proofs.Lists.Elements.{get-left, get-more, get-end, same-at}
+use Rattle.laws.proofs.Lists.Last.{get-change, get-change-back, change-twice, get-last-changed}
+use Rattle.laws.proofs.Primary.Homes.{HasHomes, open-at}
+use Rattle.laws.proofs.Primary.Moves.{IsKeptByMoves, IsKeptByReleases, MaySubmit, both-kept, keeps-run, with_frame, pushing}
+use Rattle.laws.proofs.Primary.Ends.{stands-parts}
+use Rattle.laws.proofs.Primary.LastOpen.{IsLastOpen, open-is-last}
+use Rattle.laws.proofs.Primary.Releases.{done-releases, confirmed-releases}
+use Rattle.laws.proofs.Primary.InOrderMoves.{Ordered, OrderedAfter, in-order-kept}
+use Rattle.laws.proofs.Tracked.Released.{ordered-opening}
+use Rattle.laws.proofs.Accounted.{IsAccounted}
+use Rattle.laws.proofs.Accounted.Moves.{first-carries}
+use Rattle.laws.proofs.Accounted.Steps.{begun-change}
+use Rattle.laws.proofs.Accounted.Kept.{accounted-kept, accounted-opening}
+use Rattle.laws.proofs.Accounted.Reflected.{reflected, rest-marked}
+use Rattle.laws.proofs.Accounted.Released.{Both, BothAfter, both-released}
+use Rattle.laws.proofs.WriteOrder.Layers.{full_layer}
+use Rattle.laws.proofs.WriteOrder.Spans.{NoneFailed, left_by, WasBelow, IsSpan, Passes, below-passes, span-passes}
+use Rattle.laws.proofs.Accounted.{held-covers}
+use Rattle.laws.proofs.WriteOrder.Spans.{opening-below}
+use Rattle.laws.proofs.WriteOrder.SpanMoves.{HasSpans, SameOpening, KeepsFirst, passes-change, span-shut, last-end, spans-with, keeps-quiet}
+use Rattle.laws.proofs.WriteOrder.SpanKept.{grows-with, grows-item, spans-still, spans-end, spans-takes, spans-following}
+use Rattle.laws.proofs.WriteOrder.SpanSteps.{spans-done, spans-faults, spans-releasing}
+use Rattle.laws.proofs.WriteOrder.SpanBegins.{spans-clears, spans-closes, spans-refuses, spans-opens, local-full, spans-resyncs}
+
+-- over a stream that stands it gets the next place
+submits-connected : (h : PrimaryHistory) (write : Write) → HasHomes h → IsLastOpen h → stands (outward h) ≡ true → HasSpans h
+    → HasSpans (appending (WriteItem write) (record h { writes = h.writes ++ record { write = write; journal_length = length h.journal; home = Some (last_index h.connections, length (outward h).stream); outcome = Waiting } ∷ [] }))
+submits-connected h write homes last stood t = record {
+  spans = spans-with h later last passes (λ n k other b from there early home. elim (get-more h.writes new n b there) [
+    | inl old ↦ let within = slice_get_within h.writes n b old in omega arith
+    | inr added ↦ let index = (home-is k other b.home (ap (λ (x : Accepted). x.home) added.1) home).0 in omega arith
+  ]) (λ k d at begun late.
+      let end = last-end h later f refl k d at late in
+      let s = t.spans k (outward h) end.0 (stands-parts (outward h) stood).1 in
+      (s.0, suc s.1, subst (λ (x : Outward). IsSpan later k x s.0 (suc s.1)) (sym end.1) (one k s.0 s.1 end.0 s.2))) t;
+  quiet = λ none bitmap. absurd (
+      let there = open-at h standing in
+      let changed = get-last-changed f (no_outward h.tuple) h.connections (outward h) there refl in
+      both_ways (outward h).begun (none (length h.connections - 1) (f (outward h)) changed) (stands-parts (outward h) stood).1);
+}
+  where
+    new : Accepted
+    new = record { write = write; journal_length = length h.journal; home = Some (last_index h.connections, length (outward h).stream); outcome = Waiting }
+
+    f : Outward → Outward
+    f c = record c { stream = c.stream ++ WriteItem write ∷ [] }
+
+    later : PrimaryHistory
+    later = appending (WriteItem write) (record h { writes = h.writes ++ new ∷ [] })
+
+    standing : (outward h).closed ≡ false
+    standing = (stands-parts (outward h) stood).0
+
+    home-is : (k other : ℕ) (v : Option (ℕ × ℕ)) → v ≡ Some (last_index h.connections, length (outward h).stream) → v ≡ Some (k, other) → (last_index h.connections ≡ k) × (length (outward h).stream ≡ other)
+    home-is k other v is also =
+        let here : ℕ × ℕ = (last_index h.connections, length (outward h).stream) in
+        let there : ℕ × ℕ = (k, other) in
+        let same : here ≡ there = let e : Some here ≡ Some there = sym is ∙ also in cc in
+        (ap (λ (x : ℕ × ℕ). x.0) same, ap (λ (x : ℕ × ℕ). x.1) same)
+
+    front : Passes h (appending (WriteItem write) h)
+    front = passes-change h (appending (WriteItem write) h) f refl refl (refl, (refl, (refl, refl))) (λ decided. first-carries h (appending (WriteItem write) h) decided (begun-change h (appending (WriteItem write) h) f refl refl (begins-self (outward h).taken)) refl)
+
+    passes : Passes h later
+    passes = record {
+      map = refl;
+      tuple = refl;
+      marks = refl;
+      settings = refl;
+      over = λ count block within. ap (λ (l : List Accepted). overlay h.opening_map (map full_layer l) block) (sym (take-begins count h.writes (h.writes ++ new ∷ []) within (new ∷ [], refl)));
+      writes = λ i b less at. elim (get-more h.writes new i b at) [ inl old ↦ (b, old, refl, refl) | inr added ↦ absurd (let end = added.0 in omega arith) ];
+      count = let size = length-append h.writes (new ∷ []) in omega arith;
+      fine = λ fine n a at. fine n a (get-left h.writes (new ∷ []) n a at);
+      front = front.front;
+      back = front.back;
+      first = λ decided. first-carries h later decided (begun-change h later f refl refl (begins-self (outward h).taken)) refl;
+    }
+
+    one : (k older newer : ℕ) → slice_get h.connections k ≡ Some (outward h) → IsSpan h k (outward h) older newer → IsSpan later k (f (outward h)) older (suc newer)
+    one k older newer at s =
+        let size : length (h.writes ++ new ∷ []) ≡ length h.writes + 1 = length-append h.writes (new ∷ []) in
+        let still = s.still standing in
+        let within = slice_get_within h.connections k (outward h) at in
+        span-passes h later k (outward h) (f (outward h)) older newer (suc newer) passes at (record {
+          grows = grows-item (outward h) (WriteItem write);
+          unshut = λ is. is;
+          earlier = λ j e less there. passes.front j e (omega arith) there;
+          rising = omega arith;
+          bound = omega arith;
+          still = λ unshut. omega arith;
+          own = λ n b from less there. elim (get-more h.writes new n b there) [
+            | inl old ↦ absurd (let inside = slice_get_within h.writes n b old in omega arith)
+            | inr added ↦
+                let places = last-place k (outward h) at in
+                (length (outward h).stream, ap (λ (x : Accepted). x.home) added.1 ∙ ap (λ (m : ℕ). let pair : ℕ × ℕ = (m, length (outward h).stream) in Some pair) places)
+          ];
+          past = λ n place b from there home. let inside = slice_get_within (h.writes ++ new ∷ []) n b there in omega arith;
+          behind = λ n other b from there home. elim (get-more h.writes new n b there) [
+            | inl old ↦ absurd (let inside = slice_get_within h.writes n b old in omega arith)
+            | inr added ↦ let place = (home-is k other b.home (ap (λ (x : Accepted). x.home) added.1) home).1 in omega arith
+          ];
+        }) (λ fine unshut block inside unmarked. inl unmarked) (λ fine place block contents there. elim (get-more (outward h).stream (WriteItem write) place (ResyncItem block contents) there) [ inl old ↦ inl old | inr added ↦ absurd (let e = added.1 in cc) ])
+        (λ n tuple there. elim (get-more (outward h).stream (WriteItem write) n (UuidsItem tuple) there) [ inl old ↦ inl old | inr added ↦ absurd (let e = added.1 in cc) ]) s
+      where
+        last-place : (k : ℕ) (c : Outward) → slice_get h.connections k ≡ Some (outward h) → last_index h.connections ≡ k
+        last-place k c at = sym (open-is-last h k (outward h) last at standing).0
+
+-- without one it has no place
+submits-alone : (h : PrimaryHistory) (write : Write) → IsLastOpen h → IsAccounted h → stands (outward h) ≡ false → (not (stands (outward h)) && (h.tuple.bitmap == 0)) ≡ false → HasSpans h
+    → HasSpans (record h { writes = h.writes ++ record { write = write; journal_length = length h.journal; home = None; outcome = Waiting } ∷ []; marks = marking write h.marks })
+submits-alone h write last accounted rests connected t = record {
+  spans = λ k c at begun.
+      let s = t.spans k c at begun in (
+        s.0,
+        s.1,
+        span-shut h later k c s.0 s.1 passes at (shut k c at begun) (λ j e less there. there) (λ n other b from there home. elim (get-more h.writes new n b there) [
+          | inl old ↦ let within = slice_get_within h.writes n b old in omega arith
+          | inr added ↦ let e : None ≡ Some (k, other) = ap (λ (x : Accepted). x.home) (sym added.1) ∙ home in cc
+        ]) s.2,
+      );
+  quiet = λ none bitmap. absurd (elim accounted.began [
+    | inr first ↦ both_ways first.1.end.begun (none first.1.connection first.1.end first.1.at) first.1.begun
+    | inl nothing ↦
+        let zero_bitmap : h.tuple.bitmap ≡ 0 = ap (λ (x : Tuple). x.bitmap) nothing.tuple ∙ bitmap in
+        both_ways (not (stands (outward h)) && (h.tuple.bitmap == 0)) connected (and_from (not (stands (outward h))) (h.tuple.bitmap == 0) (ap not rests) (eq-eqb h.tuple.bitmap 0 zero_bitmap))
+  ]);
+}
+  where
+    new : Accepted
+    new = record { write = write; journal_length = length h.journal; home = None; outcome = Waiting }
+
+    later : PrimaryHistory
+    later = record h { writes = h.writes ++ new ∷ []; marks = marking write h.marks }
+
+    passes : Passes h later
+    passes = record {
+      map = refl;
+      tuple = refl;
+      marks = refl;
+      settings = refl;
+      over = λ count block within. ap (λ (l : List Accepted). overlay h.opening_map (map full_layer l) block) (sym (take-begins count h.writes (h.writes ++ new ∷ []) within (new ∷ [], refl)));
+      writes = λ i b less at. elim (get-more h.writes new i b at) [ inl old ↦ (b, old, refl, refl) | inr added ↦ absurd (let end = added.0 in omega arith) ];
+      count = let size = length-append h.writes (new ∷ []) in omega arith;
+      fine = λ fine n a at. fine n a (get-left h.writes (new ∷ []) n a at);
+      front = λ j c less at. at;
+      back = λ j c less at. at;
+      first = λ decided. first-carries h later decided (record { forward = λ k c at begun. (c, at, begun, begins-self c.taken); back = λ k d at. inl (d, at, refl) }) refl;
+    }
+
+    shut : (k : ℕ) (c : Outward) → slice_get h.connections k ≡ Some c → c.begun ≡ true → c.closed ≡ true
+    shut k c at begun = elim (cases_Bool c.closed) [
+      | inl is ↦ is
+      | inr unshut ↦ absurd (
+          let end : c ≡ outward h = (open-is-last h k c last at unshut).1 in
+          both_ways (stands (outward h)) rests (subst (λ (x : Outward). stands x ≡ true) end (and_from (not c.closed) c.begun (ap not unshut) begun)))
+    ]
+
+-- either way the spans are kept
+pub spans-submits : (h : PrimaryHistory) (first : ℕ) (contents : List (List ℕ)) → MaySubmit h first contents → HasHomes h → IsLastOpen h → IsAccounted h → HasSpans h → HasSpans (submitted h first contents)
+spans-submits h first contents may homes last accounted t = go (stands (outward h)) refl
+  where
+    go : (b : Bool) → stands (outward h) ≡ b → HasSpans (elim b as (λ _. PrimaryHistory) [
+      | true ↦ appending (WriteItem (submission h first contents)) (record h { writes = h.writes ++ record { write = submission h first contents; journal_length = length h.journal; home = Some (last_index h.connections, length (outward h).stream); outcome = Waiting } ∷ [] })
+      | false ↦ record h { writes = h.writes ++ record { write = submission h first contents; journal_length = length h.journal; home = None; outcome = Waiting } ∷ []; marks = marking (submission h first contents) h.marks }
+    ])
+    go true is = submits-connected h (submission h first contents) homes last is t
+    go false is = submits-alone h (submission h first contents) last accounted is may.connected t
