@@ -13,13 +13,13 @@ use Rattle.blocks.specs.declared.tuple.Tuple.{Tuple}
 use Rattle.model.specs.Contents.{BlockMap}
 use Rattle.model.specs.Stream.{Item, WriteItem, UuidsItem, IsBeginning, below, contents_of}
 use Rattle.model.specs.Frames.{Received, UuidsFrame}
-use Rattle.model.specs.Primary.{last_of, change_last, is_sync_start, is_sync_end, is_resync}
+use Rattle.model.specs.Primary.{change_last, is_sync_start, is_sync_end, is_resync}
 use Rattle.model.specs.Secondary.{Inward, SecondaryHistory, secondary_opening, no_inward, inward, with_inward, accepted_of, received_item, items_taken, is_in_resync, secondary_map}
 use Rattle.model.specs.SecondarySteps.{answering, barrier_answer, barriers_to_answer, opened_secondary, next_number, offsets_at, applied_answer, applying, failing, adopting}
 use Rattle.model.specs.LocalRuns.{SecondaryEvent, secondary_after, secondary_run}
 use Rattle.laws.proofs.Lists.Beginnings.{begins-self, get-beginning}
 use Rattle.laws.proofs.Lists.Elements.{get-left, get-more, get-end}
-use Rattle.laws.proofs.Lists.Last.{get-change, get-change-back, change-twice, last-at, get-last-changed, length-change}
+use Rattle.laws.proofs.Lists.Last.{get-change, get-change-back, change-twice, get-last-changed, length-change}
 use Rattle.laws.proofs.Lists.Picks.{pick-any}
 use Rattle.laws.proofs.Secondary.Good.{taking-more, items-refusing}
 use Rattle.laws.proofs.Secondary.Moves.{framed, receipting, refused_end, pushed_one, closed_end, IsPlain, after-kinds}

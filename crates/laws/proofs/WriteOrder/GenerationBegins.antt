@@ -1,24 +1,19 @@
 -- What becomes of a generation that was left where a stream begins.
-use Rattle.std.proofs.Common.{ℕ, suc, ◌≡◌, ◌-◌, ◌+◌, ◌<◌, ◌⊎◌, inl, inr, true, false, List, [], ◌∷◌, ◌++◌, length, Some, slice_get, Ok, refl, sym, ◌∙◌, ap, subst, arith, length-append}
+use Rattle.std.proofs.Common.{ℕ, suc, ◌≡◌, ◌-◌, ◌<◌, ◌⊎◌, inl, inr, true, false, List, [], ◌∷◌, ◌++◌, length, Some, slice_get, Ok, refl, sym, ◌∙◌, ap, subst, arith}
 use Rattle.std.proofs.lemmas.Bool.{both_ways}
 use Rattle.std.proofs.lemmas.Option.{slice_get_within}
 use Rattle.blocks.specs.declared.tuple.Tuple.{Tuple}
 use Rattle.blocks.specs.declared.outcome.Decision.{Decision}
 use Rattle.blocks.specs.declared.outcome.Decision.TheVariants.{NoSync}
-use Rattle.model.specs.Stream.{Item, BarrierItem, SyncUuidItem, UuidsItem, IsBeginning, last_epoch}
+use Rattle.model.specs.Stream.{SyncUuidItem, UuidsItem, IsBeginning}
 use Rattle.model.specs.Frames.{Received, UuidsFrame}
-use Rattle.model.specs.Identifiers.{are_fresh, stands_in, decision, lost, sync_end}
+use Rattle.model.specs.Identifiers.{stands_in, decision}
 use Rattle.model.specs.Primary.{Outward, PrimaryHistory, no_outward, outward, last_of, change_last}
-use Rattle.model.specs.PrimarySteps.{known_tuples, with_completions, resync_is_over, ending_resync, follows, opened}
-use Rattle.laws.proofs.Lists.Beginnings.{begins-self, get-beginning}
-use Rattle.laws.proofs.Lists.Elements.{get-left, get-more, get-end}
-use Rattle.laws.proofs.Lists.Last.{get-change-back, change-none, last-more, get-last-changed, length-change}
+use Rattle.laws.proofs.Lists.Elements.{get-end}
+use Rattle.laws.proofs.Lists.Last.{get-change-back, get-last-changed, length-change}
 use Rattle.laws.proofs.Primary.Homes.{open-at}
-use Rattle.laws.proofs.Primary.Moves.{following-from}
-use Rattle.laws.proofs.Primary.StaysClosed.{over-stands}
-use Rattle.laws.proofs.Primary.Ends.{stands-parts}
 use Rattle.laws.proofs.Accounted.{IsAccounted}
-use Rattle.laws.proofs.WriteOrder.Generations.{TakesOnly, IsResync, IsGone, IsLeft, outward-change, outward-none, KeepsLeft, resync-grows, left-change, takes-back, end-current, end-bitmap, lost-current, lost-fresh, not-current, fresh-loss, decided-same, decided-none}
+use Rattle.laws.proofs.WriteOrder.Generations.{TakesOnly, IsResync, IsLeft, outward-change, takes-back, not-current, decided-same, decided-none}
 use Rattle.laws.proofs.WriteOrder.GenerationMoves.{NoneBegun, IsFirst, HasLeft}
 
 -- What the begin of a stream does to its connection and the tuple.

@@ -3,22 +3,19 @@ use Rattle.std.proofs.Common.{ℕ, suc, ◌≡◌, ◌-◌, ◌+◌, ◌<◌, �
 use Rattle.std.proofs.lemmas.Bool.{both_ways}
 use Rattle.std.proofs.lemmas.Option.{slice_get_within}
 use Rattle.blocks.specs.declared.tuple.Tuple.{Tuple}
-use Rattle.blocks.specs.declared.outcome.Decision.{Decision}
-use Rattle.blocks.specs.declared.outcome.Decision.TheVariants.{NoSync}
-use Rattle.model.specs.Stream.{Item, BarrierItem, SyncUuidItem, UuidsItem, IsBeginning, last_epoch}
-use Rattle.model.specs.Frames.{Received, UuidsFrame}
-use Rattle.model.specs.Identifiers.{are_fresh, stands_in, decision, lost, sync_end}
+use Rattle.model.specs.Stream.{Item, BarrierItem, UuidsItem, IsBeginning, last_epoch}
+use Rattle.model.specs.Frames.{UuidsFrame}
+use Rattle.model.specs.Identifiers.{are_fresh, stands_in, lost, sync_end}
 use Rattle.model.specs.Primary.{Outward, PrimaryHistory, no_outward, outward, last_of, change_last}
 use Rattle.model.specs.PrimarySteps.{known_tuples, with_completions, resync_is_over, ending_resync, follows, opened}
 use Rattle.laws.proofs.Lists.Beginnings.{begins-self, get-beginning}
-use Rattle.laws.proofs.Lists.Elements.{get-left, get-more, get-end}
-use Rattle.laws.proofs.Lists.Last.{get-change-back, change-none, last-more, get-last-changed, length-change}
+use Rattle.laws.proofs.Lists.Elements.{get-left, get-more}
+use Rattle.laws.proofs.Lists.Last.{get-change-back, change-none, last-more, length-change}
 use Rattle.laws.proofs.Primary.Homes.{open-at}
 use Rattle.laws.proofs.Primary.Moves.{following-from}
 use Rattle.laws.proofs.Primary.StaysClosed.{over-stands}
 use Rattle.laws.proofs.Primary.Ends.{stands-parts}
-use Rattle.laws.proofs.Accounted.{IsAccounted}
-use Rattle.laws.proofs.WriteOrder.Generations.{TakesOnly, IsResync, IsGone, IsLeft, outward-change, outward-none, KeepsLeft, resync-grows, left-change, takes-back, end-current, end-bitmap, lost-current, lost-fresh, not-current, fresh-loss, decided-same, decided-none}
+use Rattle.laws.proofs.WriteOrder.Generations.{TakesOnly, IsResync, IsGone, IsLeft, outward-change, outward-none, KeepsLeft, resync-grows, left-change, takes-back, end-current, end-bitmap, lost-current, lost-fresh, not-current, fresh-loss}
 
 -- no stream began
 abbrev pub NoneBegun : PrimaryHistory → Type 0
@@ -162,6 +159,7 @@ left-ending g over t =
           inr (ap (λ (x : Tuple). x.current) is ∙ end-current g.tuple, (end-bitmap g.tuple, (parts.0, parts.1)))
     ]) t
 
+-- what follows an effect keeps it
 pub left-following : (h : PrimaryHistory) → HasLeft h → HasLeft (follows h).history
 left-following = following-from HasLeft HasLeft HasLeft (λ h t. left-still h (with_completions h) refl refl refl t)
     (λ g over t. left-appends g _ (BarrierItem (last_epoch (outward g).stream)) refl refl refl (λ tuple is. cc) t) (λ g on t. t) left-ending (λ g t. t)

@@ -24,7 +24,7 @@ use Rattle.laws.proofs.Accounted.{IsAccounted}
 use Rattle.laws.proofs.WriteOrder.SpanRuns.{Spanned, SpannedAfter, spans-kept, spans-released, spans-run}
 use Rattle.laws.proofs.WriteOrder.Generations.{outward-change, start-current}
 use Rattle.laws.proofs.WriteOrder.GenerationMoves.{HasLeft, left-still, left-with, left-appends, left-following, left-closes, left-opens}
-use Rattle.laws.proofs.WriteOrder.GenerationBegins.{BeginsHere, left-beginning}
+use Rattle.laws.proofs.WriteOrder.GenerationBegins.{left-beginning}
 
 left-submits : (h : PrimaryHistory) (first : ℕ) (contents : List (List ℕ)) → HasLeft h → HasLeft (submitted h first contents)
 left-submits h first contents t = go (stands (outward h))

@@ -121,6 +121,7 @@ history-bitmap word t = elim (t.bitmap == 0) as (λ b. (if b then record t { bit
 pub end-current : (t : Tuple) → (sync_end t).current ≡ t.current
 end-current t = history-current 0 t
 
+-- nor is there a bitmap's after it
 pub end-bitmap : (t : Tuple) → (sync_end t).bitmap ≡ 0
 end-bitmap t = history-bitmap 0 t
 

@@ -61,6 +61,7 @@ spans-closes h last t =
     spans-end h (closing h) f last refl refl (refl, (refl, (refl, refl))) refl (begins-self (outward h).taken)
     (keeps-quiet h (closing h) (f (outward h)) refl (λ k at. grows-with (outward h) (f (outward h)) refl (omega arith) (begins-self (accepted_frames (outward h)))) (λ is. absurd (cc)) refl (λ unshut block unmarked. absurd (cc))) t
 
+-- The same where it refuses a frame.
 pub spans-refuses : (h : PrimaryHistory) (frame : Received) (peer : Option Tuple) → HasHomes h → IsLastOpen h → (outward h).closed ≡ false → HasSpans h
     → HasSpans (closing (with_outward refusing (record (with_outward (with_frame frame) h) { peer = peer })))
 spans-refuses h frame peer homes last standing t =
@@ -110,6 +111,7 @@ spans-opens h sync loss last shut t = record {
 
 -- What the local disk holds.
 
+-- all elements of a list
 pub take-all : {X : Type 0} (xs : List X) → take (length xs) xs ≡ xs
 take-all xs = ap (take (length xs)) (sym (append-nil xs)) ∙ take-append_seam xs []
 

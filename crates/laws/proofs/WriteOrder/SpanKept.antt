@@ -104,6 +104,7 @@ unmarked-over g over block inside = false_from_ne_true (g.marks block) (λ marke
 abbrev pub Follows : PrimaryHistory → Type 0
 Follows h = IsLastOpen h × HasSpans h
 
+-- what follows an effect keeps both
 pub spans-following : (h : PrimaryHistory) → Follows h → Follows (follows h).history
 spans-following = following-from Follows Follows Follows
     (λ h t. (t.0, spans-still h (with_completions h) t.0 refl refl (refl, (refl, (refl, refl))) (λ block is. is) t.1))

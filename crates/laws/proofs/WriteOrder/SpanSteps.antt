@@ -96,9 +96,11 @@ none-failed-done h number homes waiting fine n a at = go (a.write.number == numb
         let same : found.1 ≡ a = same-at h.writes n found.1 a (subst (λ (m : ℕ). slice_get h.writes m ≡ Some found.1) index found.2) at in
         waits-not-failed a.outcome (subst (λ (x : Accepted). is_waiting x.outcome ≡ true) same parts.1)
 
+-- The local disk does a write.
 pub spans-done : (h : PrimaryHistory) (number : ℕ) → HasHomes h → IsLastOpen h → is_unfinished h number ≡ true → HasSpans h → HasSpans (with_outcome number OnDisk h)
 spans-done h number homes last waiting t = spans-outcome h (with_outcome number OnDisk h) number OnDisk last refl refl (refl, (refl, (refl, refl))) (none-failed-done h number homes waiting) (λ block unmarked. unmarked) t
 
+-- It fails one: that is no history without a failed write.
 pub spans-faults : (h : PrimaryHistory) (number : ℕ) (offsets : List ℕ) → IsLastOpen h → HasSpans h → HasSpans (faulted number offsets h)
 spans-faults h number offsets last t = go (accepted_at h number) refl
   where

@@ -1,49 +1,27 @@
 -- A write that is accepted goes to the span of the connection that stands.
-use Rattle.std.proofs.Common.{ℕ, zero, suc, ◌≡◌, ◌-◌, ◌+◌, ◌<◌, ◌≤◌, inl, inr, Bool, true, false, not, ◌&&◌, ◌||◌, ◌==◌, nat_lt, List, [], ◌∷◌, ◌++◌, length, map, Option, Some, None, slice_get, Ok, refl, sym, ◌∙◌, ap, subst, arith, length-append}
-use Rattle.std.specs.Prelude.{is_some}
-use Rattle.std.specs.List.{list_any}
-use Rattle.std.proofs.lemmas.Bool.{cases_Bool, cases_lt, both_ways, and_from, and_right, or_parts, eq-eqb, lt-ltb, false_from_ne_true}
+use Rattle.std.proofs.Common.{ℕ, suc, ◌≡◌, ◌-◌, ◌+◌, inl, inr, Bool, true, false, not, ◌&&◌, ◌==◌, List, [], ◌∷◌, ◌++◌, length, map, Option, Some, None, slice_get, refl, sym, ◌∙◌, ap, subst, arith, length-append}
+use Rattle.std.proofs.lemmas.Bool.{cases_Bool, both_ways, and_from, eq-eqb}
 use Rattle.std.proofs.lemmas.Option.{slice_get_within}
-use Rattle.blocks.specs.declared.settings.Settings.{Settings}
 use Rattle.blocks.specs.declared.tuple.Tuple.{Tuple}
-use Rattle.blocks.specs.declared.outcome.Decision.{Decision}
-use Rattle.blocks.specs.declared.outcome.Decision.TheVariants.{NoSync, BitmapSync, FullSync}
-use Rattle.blocks.specs.SettingsRange.{IsInRange}
-use Rattle.model.specs.Contents.{BlockMap, Write, covers, overlay}
-use Rattle.model.specs.Stream.{Item, WriteItem, ResyncItem, SyncUuidItem, UuidsItem}
-use Rattle.model.specs.Frames.{Received, UuidsFrame, BarrierAckFrame}
-use Rattle.model.specs.Identifiers.{decision}
+use Rattle.model.specs.Contents.{Write, overlay}
+use Rattle.model.specs.Stream.{WriteItem, ResyncItem, UuidsItem}
 use Rattle.model.specs.Marks.{marking}
-use Rattle.model.specs.Primary.{Waiting, OnDisk, Accepted, Outward, PrimaryHistory, no_outward, outward, last_index, change_last, with_outward, stands, local_map, accepted_frames, primary_opening, unreleased, is_released, is_confirmed, is_alone}
-use Rattle.model.specs.PrimarySteps.{appending, submission, submitted, with_outcome, receipted}
-use Rattle.model.specs.Acknowledgements.{begun_with}
-use Rattle.model.specs.LocalRuns.{PrimaryEvent, primary_run}
-use Rattle.model.specs.Headline.{is_marked, is_covered}
-use Rattle.laws.specs.Reflections.{FirstBegan, NoneBegan}
+use Rattle.model.specs.Primary.{Waiting, Accepted, Outward, PrimaryHistory, no_outward, outward, last_index, stands}
+use Rattle.model.specs.PrimarySteps.{appending, submission, submitted}
 use Rattle.laws.proofs.Lists.Beginnings.{begins-self, take-begins}
-use Rattle.laws.proofs.Lists.Elements.{get-left, get-more, get-end, same-at}
-use Rattle.laws.proofs.Lists.Last.{get-change, get-change-back, change-twice, get-last-changed}
+use Rattle.laws.proofs.Lists.Elements.{get-left, get-more}
+use Rattle.laws.proofs.Lists.Last.{get-last-changed}
 use Rattle.laws.proofs.Primary.Homes.{HasHomes, open-at}
-use Rattle.laws.proofs.Primary.Moves.{IsKeptByMoves, IsKeptByReleases, MaySubmit, both-kept, keeps-run, with_frame, pushing}
+use Rattle.laws.proofs.Primary.Moves.{MaySubmit}
 use Rattle.laws.proofs.Primary.Ends.{stands-parts}
 use Rattle.laws.proofs.Primary.LastOpen.{IsLastOpen, open-is-last}
-use Rattle.laws.proofs.Primary.Releases.{done-releases, confirmed-releases}
-use Rattle.laws.proofs.Primary.InOrderMoves.{Ordered, OrderedAfter, in-order-kept}
-use Rattle.laws.proofs.Tracked.Released.{ordered-opening}
 use Rattle.laws.proofs.Accounted.{IsAccounted}
 use Rattle.laws.proofs.Accounted.Moves.{first-carries}
 use Rattle.laws.proofs.Accounted.Steps.{begun-change}
-use Rattle.laws.proofs.Accounted.Kept.{accounted-kept, accounted-opening}
-use Rattle.laws.proofs.Accounted.Reflected.{reflected, rest-marked}
-use Rattle.laws.proofs.Accounted.Released.{Both, BothAfter, both-released}
 use Rattle.laws.proofs.WriteOrder.Layers.{full_layer}
-use Rattle.laws.proofs.WriteOrder.Spans.{NoneFailed, left_by, WasBelow, IsSpan, Passes, below-passes, span-passes}
-use Rattle.laws.proofs.Accounted.{held-covers}
-use Rattle.laws.proofs.WriteOrder.Spans.{opening-below}
-use Rattle.laws.proofs.WriteOrder.SpanMoves.{HasSpans, SameOpening, KeepsFirst, passes-change, span-shut, last-end, spans-with, keeps-quiet}
-use Rattle.laws.proofs.WriteOrder.SpanKept.{grows-with, grows-item, spans-still, spans-end, spans-takes, spans-following}
-use Rattle.laws.proofs.WriteOrder.SpanSteps.{spans-done, spans-faults, spans-releasing}
-use Rattle.laws.proofs.WriteOrder.SpanBegins.{spans-clears, spans-closes, spans-refuses, spans-opens, local-full, spans-resyncs}
+use Rattle.laws.proofs.WriteOrder.Spans.{IsSpan, Passes, span-passes}
+use Rattle.laws.proofs.WriteOrder.SpanMoves.{HasSpans, passes-change, span-shut, last-end, spans-with}
+use Rattle.laws.proofs.WriteOrder.SpanKept.{grows-item}
 
 -- over a stream that stands it gets the next place
 submits-connected : (h : PrimaryHistory) (write : Write) → HasHomes h → IsLastOpen h → stands (outward h) ≡ true → HasSpans h

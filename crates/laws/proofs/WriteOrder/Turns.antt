@@ -317,6 +317,7 @@ turns-kept settings bound =
       receipts = λ h number p. (order.receipts h number p.0, turns-same h _ refl (stay-same h.writes) refl p.1);
     }
 
+-- no release matters to it
 pub turns-released : (settings : Settings) → IsKeptByReleases (λ h. Ordered settings h × HasTurns h) (λ h. OrderedAfter settings h × HasTurns h)
 turns-released settings =
     let order = ordered-released settings in
