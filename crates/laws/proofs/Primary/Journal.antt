@@ -77,13 +77,13 @@ begins h FullSync all = all
 journal-kept : IsKeptByMoves JournalIsAccepted JournalIsAccepted
 journal-kept = record {
   following = following-from JournalIsAccepted JournalIsAccepted JournalIsAccepted completions (λ g over all. all) (λ g on all. all) (λ g over all. all) (λ g all. all);
-  opens = λ h sync loss closed all. all;
+  opens = λ h sync loss closed words all. all;
   submits = λ h first contents may all. submits h first contents all;
   writes = λ h number waiting all. outcomes h number OnDisk all;
   faults = λ h number offsets waiting all. faults h number offsets all;
   sends = λ h standing due all. all;
   greets = λ h frame standing new met all. all;
-  begins = λ h peer decided standing new late is all. begins _ decided all;
+  begins = λ h peer decided standing new late is words all. begins _ decided all;
   receives = λ h ack standing begun may all. all;
   applies = λ h ack standing begun may all. all;
   clears = λ h ack standing begun may all. all;
