@@ -1,5 +1,5 @@
 -- The blocks that the items of the last epoch have: for each block of the device whether one has it.
-use Rattle.std.specs.Prelude.{ℕ, ◌+◌, ◌==◌, Bool, false, ◌||◌, List, map, length, Option, Some, None, slice_get}
+use Rattle.std.specs.Prelude.{ℕ, ◌+◌, Bool, false, ◌||◌, List, map, length, Option, Some, None, slice_get}
 use Rattle.std.specs.List.{list_any}
 use Rattle.blocks.specs.Ranges.{is_between, below}
 
