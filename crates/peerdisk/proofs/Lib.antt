@@ -1,3 +1,4 @@
-pub mod Entries
-pub mod Calls
 pub mod Stamps
+pub mod Pendings
+pub mod InSlots
+pub mod Ends

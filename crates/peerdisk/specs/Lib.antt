@@ -1,3 +1,3 @@
 pub mod Blocks
 pub mod Pending
-pub mod Entries
+pub mod Slots

@@ -10,10 +10,11 @@ pub record Pending (X : Type 0) : Type 0 where
   pub epoch : ℕ
   pub item : X
 
--- how many items may be pending, and those that are, by rising place
+-- how many items may be pending, those that are, by rising place, and below which place there is room
 pub record PeerDiskState (X : Type 0) : Type 0 where
   pub limit : ℕ
   pub pending : List (Pending X)
+  pub reach : ℕ
 
 -- what was refused for want of memory
 abbrev pub is_starved : Result (Unit {0}) Refusal → Bool

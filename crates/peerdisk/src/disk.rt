@@ -1,69 +1,114 @@
 //! The items that wait for the secondary's disk.
-ghost use Rattle.std.specs.Prelude.{◌≡◌, ◌<◌, ◌≤◌, [], true, filter, nat_eq, nat_le, length, All, Some, Ok, Err, option_map, slice_get, MatchResult};
-ghost use Rattle.peerdisk.specs.Entries.{AreInOrder};
-ghost use Rattle.peerdisk.specs.Pending.{after_fault, is_pending, is_starved, item_at, next, put, start, without};
+ghost use Rattle.std.specs.Prelude.{◌≡◌, ◌+◌, ◌-◌, ◌<◌, ◌≤◌, [], true, false, nat_eq, length, get_or, All, None, Some, Ok, Err, OnOk, OnErr, IsOk, IfErr, is_some, option_map, slice_get, MatchResult};
+ghost use Rattle.std.specs.Option.{option_copied};
+ghost use Rattle.blocks.specs.declared.refusal.Refusal.TheVariants.{NoMemory};
+ghost use Rattle.peerdisk.specs.Pending.{after_fault, at_place, is_pending, is_starved, item_at, next, put, start, without};
+ghost use Rattle.peerdisk.specs.Slots.{of_entry};
 
+use crate::slots::{drop_holes, drop_later, put_holes};
 use blocks::Refusal;
 use std::alloc::Global;
-use std::collections::BTreeMap;
+use std::collections::VecDeque;
 use std::marker::Model;
 
 /// An item, and the epoch that it belongs to.
 #[derive(Drop)]
-struct Entry<T> {
-    epoch: u32,
-    item: T,
+pub(crate) struct Entry<T> {
+    pub(crate) epoch: u32,
+    pub(crate) item: T,
 }
 
 /// The items of a stream that a secondary has taken and not applied, by their places in the stream. A
 /// later place has the same epoch or a later one, and no item may start while one of an earlier epoch is
 /// not applied (this project's rule, after DRBD's write barriers).
 ///
-/// `put`, `next`, `start` and `done` take time logarithmic in the number of pending items, since the oldest
-/// epoch is that of the lowest place; so does `fault`, for each item that it drops.
+/// A place has its slot in a row, so an item is found by subtraction; an applied one leaves a hole until all
+/// before it are gone, and so do places that have no item. Each call takes constant time, but `put` for the
+/// places that it skips, `done` for the holes that it frees, and `fault` for the slots from the end down to
+/// the epoch that stays. What takes memory is `reserve`, now and then in time for the whole row.
 #[derive(Drop)]
 pub struct PeerDisk<T> {
     limit: usize,
-    pending: BTreeMap<u32, Entry<T>>,
+    // The place of the first slot, which is no hole.
+    first: u64,
+    slots: VecDeque<Option<Entry<T>>>,
+    count: usize,
 }
 
 impl<T> Model for PeerDisk<T> {
+    ghost use Rattle.std.specs.Prelude.{◌+◌};
+    ghost use Rattle.std.specs.VecDeque.{deque_len, deque_capacity};
     ghost use Rattle.peerdisk.specs.Pending.{PeerDiskState};
 
     ghost Value = { PeerDiskState T };
 
-    ghost use Rattle.peerdisk.specs.Entries.{pending_of, AreInOrder};
+    ghost use Rattle.peerdisk.specs.Slots.{pending_from, IsRow};
 
-    ghost view = { λ d. record { limit = d.limit; pending = pending_of d.pending.entries } };
+    ghost view = { λ d. record { limit = d.limit; pending = pending_from d.first d.slots.items; reach = d.first + deque_capacity d.slots } };
 
-    ghost invariant = { λ d. AreInOrder d.pending.entries };
+    ghost invariant = { λ d. IsRow d.first d.slots.items d.count (deque_len d.slots) (deque_capacity d.slots) };
 }
 
 impl<T: Drop> PeerDisk<T> {
     /// Nothing is pending, and no more than `limit` items may be. It takes no memory.
     pub fn new(alloc: Global, limit: u32) -> PeerDisk<T>
-        ensures { result ≡ record { limit = limit; pending = [] } }
+        ensures { result ≡ record { limit = limit; pending = []; reach = result.reach } }
     {
         PeerDisk {
             limit: limit as usize,
-            pending: BTreeMap::new(alloc),
+            first: 0,
+            slots: VecDeque::new(alloc),
+            count: 0,
         }
+    }
+
+    /// Makes room for an item of this place, which lies after all that are pending.
+    ///
+    /// `NoMemory` (7) comes where there is no memory. Then nothing changes.
+    pub fn reserve(&mut self, place: u32) -> Result<(), Refusal>
+        requires above { All (λ p. p.place < place) self.old.pending }
+        ensures same { self.new ≡ record self.old { reach = self.new.reach } }
+        ensures room { OnOk result (place < self.new.reach) }
+        ensures refused { IfErr result (λ e. e ≡ NoMemory) }
+        ensures unchanged { OnErr result (self.new ≡ self.old) }
+        ensures within { place < self.old.reach → IsOk result }
+    {
+        let place = u64::from(place);
+        let len = self.slots.len();
+        let first = if len == 0 { place } else { self.first };
+        let wanted = (place - first) as usize + 1;
+        if wanted > self.slots.capacity() {
+            // No less than twice as many, so that rows grow in time for their length.
+            self.slots.reserve_exact(wanted.max(len + len) - len)?;
+        }
+        self.first = first;
+        Ok(())
     }
 
     /// An item was taken: its place lies after all that are pending, and its epoch is none of theirs or the
     /// last.
     ///
     /// `PendingFull` (18) comes where as many items are pending as may be; else `NoMemory` (7), where there
-    /// is no memory. Then nothing changes, and the item is dropped.
+    /// is no memory, and never where there is room for the place. Then nothing changes, and the item is
+    /// dropped.
     pub fn put(&mut self, place: u32, epoch: u32, item: T) -> Result<(), Refusal>
         requires above { All (λ p. p.place < place) self.old.pending }
         requires no_earlier { All (λ p. p.epoch ≤ epoch) self.old.pending }
-        ensures { (result, self.new) ≡ put place epoch item (is_starved result) self.old }
+        ensures put { (result, self.new) ≡ put place epoch item (is_starved result) (record self.old { reach = self.new.reach }) }
+        ensures room { place < self.old.reach → is_starved result ≡ false }
     {
-        if self.pending.len() >= self.limit {
+        if self.count >= self.limit {
             return Err(Refusal::PendingFull);
         }
-        self.pending.insert(place, Entry { epoch, item })?;
+        self.reserve(place)?;
+        let place = u64::from(place);
+        if self.slots.is_empty() {
+            self.first = place;
+        }
+        let index = (place - self.first) as usize;
+        put_holes(&mut self.slots, index);
+        self.slots.push_back_reserved(Some(Entry { epoch, item }));
+        self.count += 1;
         Ok(())
     }
 
@@ -71,10 +116,10 @@ impl<T: Drop> PeerDisk<T> {
     pub fn next(&self) -> Result<u32, Refusal>
         ensures { result ≡ next self.now.pending }
     {
-        match self.pending.first_key_value() {
-            Some((place, _)) => Ok(*place),
-            None => Err(Refusal::NothingThere),
+        if self.slots.is_empty() {
+            return Err(Refusal::NothingThere);
         }
+        Ok(self.first as u32)
     }
 
     /// The item of a place, whose write to the disk may start. `UnknownJob` (16) comes where the place is
@@ -82,10 +127,12 @@ impl<T: Drop> PeerDisk<T> {
     pub fn start(&self, place: u32) -> Result<&T, Refusal>
         ensures { MatchResult result (λ item. start place self.now.pending ≡ Ok item.now) (λ e. start place self.now.pending ≡ Err e) }
     {
+        // What the fields keep says that later places have no earlier epochs.
+        let _ = &self.first;
         let Some(first) = self.first_epoch() else {
             return Err(Refusal::UnknownJob);
         };
-        let Some(entry) = self.pending.get(&place) else {
+        let Some(entry) = self.entry(place) else {
             return Err(Refusal::UnknownJob);
         };
         if first < entry.epoch {
@@ -98,11 +145,15 @@ impl<T: Drop> PeerDisk<T> {
     pub fn done(&mut self, place: u32) -> T
         requires { is_pending place self.old.pending ≡ true }
         ensures item { item_at place self.old.pending ≡ Some result }
-        ensures rest { self.new ≡ record self.old { pending = without place self.old.pending } }
+        ensures rest { self.new ≡ record self.old { pending = without place self.old.pending; reach = self.new.reach } }
+        ensures reach { self.old.reach ≤ self.new.reach }
     {
-        let Some(Entry { epoch: _, item }) = self.pending.remove(&place) else {
+        let index = (u64::from(place) - self.first) as usize;
+        let Some(Entry { epoch: _, item }) = self.slots[index].take() else {
             unreachable!()
         };
+        self.count -= 1;
+        self.first = drop_holes(&mut self.slots, self.first);
         item
     }
 
@@ -110,46 +161,52 @@ impl<T: Drop> PeerDisk<T> {
     /// It takes no memory.
     pub fn fault(&mut self, place: u32)
         requires { is_pending place self.old.pending ≡ true }
-        ensures { self.new ≡ record self.old { pending = after_fault place self.old.pending } }
+        ensures left { self.new ≡ record self.old { pending = after_fault place self.old.pending; reach = self.new.reach } }
+        ensures reach { self.old.reach ≤ self.new.reach }
     {
-        let Some(failed) = self.pending.remove(&place) else {
+        let index = (u64::from(place) - self.first) as usize;
+        let Some(failed) = self.slots[index].take() else {
             unreachable!()
         };
-        drop_later(&mut self.pending, failed.epoch);
+        self.count -= 1;
+        self.count -= drop_later(&mut self.slots, failed.epoch);
+        self.first = drop_holes(&mut self.slots, self.first);
     }
 
     /// Whether nothing is pending.
     pub fn is_empty(&self) -> bool
         ensures { result ≡ nat_eq (length self.now.pending) 0 }
     {
-        self.pending.is_empty()
+        self.count == 0
     }
 
     /// How many items are pending.
     pub fn len(&self) -> usize
         ensures { result ≡ length self.now.pending }
     {
-        self.pending.len()
+        self.count
     }
 
     /// The epoch of the lowest pending place: all items of the epochs before it are applied.
     pub fn first_epoch(&self) -> Option<u32>
         ensures { result ≡ option_map (λ p. p.epoch) (slice_get self.now.pending 0) }
     {
-        let (_, entry) = self.pending.first_key_value()?;
-        Some(entry.epoch)
+        let first = self.slots.front()?.as_ref()?;
+        Some(first.epoch)
     }
-}
 
-/// Drops the entries of later epochs, which stand last.
-fn drop_later<T: Drop>(pending: &mut BTreeMap<u32, Entry<T>>, epoch: u32)
-    requires { AreInOrder pending.old.entries }
-    ensures { pending.new.entries ≡ filter (λ e. nat_le e.1.epoch epoch) pending.old.entries }
-{
-    while let Some((_, last)) = pending.last_key_value() {
-        if last.epoch <= epoch {
-            return;
+    // What is pending at a place.
+    fn entry(&self, place: u32) -> Option<&Entry<T>>
+        ensures { option_map (of_entry place) (option_copied result) ≡ at_place place self.now.pending }
+    {
+        let place = u64::from(place);
+        if place < self.first {
+            return None;
         }
-        pending.pop_last();
+        let index = (place - self.first) as usize;
+        if index >= self.slots.len() {
+            return None;
+        }
+        self.slots[index].as_ref()
     }
 }

@@ -3,6 +3,7 @@
 
 mod disk;
 mod last_epoch;
+mod slots;
 
 pub use disk::PeerDisk;
 pub use last_epoch::LastEpoch;
