@@ -8,6 +8,7 @@ fn items_start_epoch_by_epoch(rt: HostRuntime) -> Result<(), Fail> {
     assert!(rt; disk.is_empty());
     disk.put(0, 1, 'a')?;
     disk.put(1, 1, 'b')?;
+    disk.reserve(3)?;
     disk.put(3, 2, 'c')?;
     assert_eq!(rt; disk.put(4, 2, 'd'), Err(Refusal::PendingFull));
     assert_eq!(rt; disk.next(), Ok(0));
