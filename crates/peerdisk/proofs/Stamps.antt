@@ -72,7 +72,7 @@ has-last [] x (suc k) is = absurd (omega arith)
 has-last (y ∷ xs) x zero is = absurd (omega arith)
 has-last (y ∷ xs) x (suc k) is = has-last xs x k (omega arith)
 
-length-flags : (n : ℕ) (f : ℕ → Bool) → length (flags n f) ≡ n
+pub length-flags : (n : ℕ) (f : ℕ → Bool) → length (flags n f) ≡ n
 length-flags n f = length-map (below n) f ∙ length-below n
 
 has-flags : (n : ℕ) (f : ℕ → Bool) (k : ℕ) → k < n → has (flags n f) k ≡ f k

@@ -1,0 +1,81 @@
+//! What is read off.
+ghost use Rattle.std.specs.Prelude.{◌≡◌, ◌==◌, length, is_some};
+ghost use Rattle.secondary_steps.specs.Core.{may_take, whole};
+
+use crate::state::SecondaryCore;
+use blocks::{Refusal, Tuple};
+
+/// How far a secondary's data may be used.
+#[derive(Clone, Copy, Debug, PartialEq, Eq)]
+pub struct Usage {
+    /// Whether its identifiers are those of its data.
+    pub consistent: bool,
+    /// The last epoch up to whose end every item is applied, and none of them failed.
+    pub whole: u32,
+    /// How many items are taken and not applied.
+    pub pending: u32,
+}
+
+impl SecondaryCore {
+    /// Whether a frame may be taken: `NotConnected` (9) comes where the end is closed, else `PendingFull`
+    /// (18) where as many items are pending as may be.
+    pub fn may_take(&self) -> Result<(), Refusal>
+        ensures { result ≡ may_take self.now.state }
+    {
+        if self.end.is_none() {
+            return Err(Refusal::NotConnected);
+        }
+        if self.disk.len() >= self.settings.pending as usize {
+            return Err(Refusal::PendingFull);
+        }
+        Ok(())
+    }
+
+    /// Whether nothing is pending.
+    pub fn is_drained(&self) -> bool
+        ensures { result ≡ (length self.now.state.pending == 0) }
+    {
+        self.disk.is_empty()
+    }
+
+    /// Whether the identifiers are those of the data.
+    pub fn is_consistent(&self) -> bool
+        ensures { result ≡ self.now.state.consistent }
+    {
+        self.is_consistent
+    }
+
+    /// The disk's generation identifiers.
+    pub fn tuple(&self) -> Tuple
+        ensures { result ≡ self.now.state.tuple }
+    {
+        self.tuple
+    }
+
+    /// Whether the end is open.
+    pub fn is_open(&self) -> bool
+        ensures { result ≡ is_some self.now.state.end }
+    {
+        self.end.is_some()
+    }
+
+    /// How far the data may be used.
+    pub fn usage(&self) -> Usage
+        ensures { result ≡ record { consistent = self.now.state.consistent; whole = whole self.now.state; pending = length self.now.state.pending } }
+    {
+        Usage {
+            consistent: self.is_consistent,
+            whole: self.whole(),
+            pending: self.disk.len() as u32,
+        }
+    }
+
+    fn whole(&self) -> u32
+        ensures { result ≡ whole self.now.state }
+    {
+        match (self.failed, self.disk.first_epoch()) {
+            (Some(epoch), _) | (None, Some(epoch)) => epoch.saturating_sub(1),
+            (None, None) => self.taken.barriers,
+        }
+    }
+}
