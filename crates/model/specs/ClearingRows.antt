@@ -40,6 +40,18 @@ pub record ClearedToTheEnd : Type 0 where
       ∷ frame command.BarrierAck ∷ with_sync (frame command.BarrierAck) ∷ item command.Uuids 4 ∷ []
   pub identifiers : tuples (after (over_both_marks ++ both_answered) two_marked) ≡ (words 7 0 9 1, words 9 0 0 0)
 
+-- The same writes, and one of their blocks is under way when their epoch is acknowledged.
+abbrev pub copied_meanwhile : List Event
+copied_meanwhile = AckInEvent ∷ AckInEvent ∷ ResyncEvent ∷ SendEvent ∷ ReceiveEvent ∷ AckOutEvent ∷ AckInEvent ∷ []
+
+-- the release clears the last mark, and the resync goes on until the block under way is acknowledged
+pub record ClearedUnderWay : Type 0 where
+  pub answers : replies (copied_meanwhile ++ SendEvent ∷ ReceiveEvent ∷ PeerEvent 4 ∷ AckOutEvent ∷ AckInEvent ∷ []) (after over_both_marks two_marked)
+      ≡ with_barrier 1 (completing 3 (frame command.WriteAck)) ∷ completing 4 (frame command.WriteAck) ∷ resynced 3 4 ∷ item command.Barrier 3 ∷ item command.Barrier 3
+      ∷ frame command.BarrierAck ∷ frame command.BarrierAck ∷ item command.RsDataReply 4 ∷ item command.RsDataReply 4 ∷ done ∷ frame command.RsWriteAck
+      ∷ with_sync (with_barrier 2 (frame command.RsWriteAck)) ∷ []
+  pub marks : marked (after (over_both_marks ++ copied_meanwhile) two_marked) ≡ []
+
 -- The same connection where each write ends its epoch, so that a BARRIER_ACK can come before the local disk is done.
 abbrev pub short_epochs_marked : PairHistory
 short_epochs_marked = after (written_alone ++ connect 9 11) (connected (record standard { max_epoch = 1 }))

@@ -5,7 +5,7 @@
 //! pair replies to a list of events, and what its disks, marks and identifiers then are.
 #![tactic(auto)]
 
-ghost use Rattle.model.specs.ClearingRows.{Cleared, ClearedToTheEnd, ClearedByTheLocalWrite, UnderALaterWrite, FailedClearsNothing};
+ghost use Rattle.model.specs.ClearingRows.{Cleared, ClearedToTheEnd, ClearedUnderWay, ClearedByTheLocalWrite, UnderALaterWrite, FailedClearsNothing};
 ghost use Rattle.model.specs.CloseRows.{LostLink, Reconnected, AcknowledgedFirst};
 ghost use Rattle.model.specs.DecisionRows.{Decisions, RefusedHello};
 ghost use Rattle.model.specs.DiskRows.{Ranges, OneSlot, LocalFault, LateFault, PeerFault};
@@ -63,6 +63,7 @@ pub fn resyncs()
 pub fn releases()
     ensures cleared { Cleared }
     ensures cleared_to_the_end { ClearedToTheEnd }
+    ensures cleared_under_way { ClearedUnderWay }
     ensures cleared_by_the_local_write { ClearedByTheLocalWrite }
     ensures under_a_later_write { UnderALaterWrite }
     ensures failed_clears_nothing { FailedClearsNothing }
