@@ -1,5 +1,5 @@
 -- The transitions of a primary: for each event its tests in order, its effect, and what follows.
-use Rattle.std.specs.Prelude.{ℕ, zero, suc, ◌-◌, nat_lt, nat_le, ◌==◌, Bool, true, false, ◌&&◌, ◌||◌, not, if◌then◌else◌, List, [], ◌∷◌, ◌++◌, length, drop, Option, Some, None, is_some, is_none, unwrap_or, option_map, slice_get, ok_or, Result, Ok, Err}
+use Rattle.std.specs.Prelude.{ℕ, zero, suc, ◌-◌, ◌*◌, ◌/◌, nat_lt, nat_le, ◌==◌, Bool, true, false, ◌&&◌, ◌||◌, not, if◌then◌else◌, List, [], ◌∷◌, ◌++◌, length, drop, Option, Some, None, is_some, is_none, unwrap_or, option_map, slice_get, ok_or, Result, Ok, Err}
 use Rattle.std.specs.List.{list_any}
 use Rattle.blocks.specs.declared.tuple.Tuple.{Tuple}
 use Rattle.blocks.specs.declared.refusal.Refusal.{Refusal}
@@ -49,6 +49,10 @@ open_end sync loss starved s = tested s (open_tests sync loss starved s) (λ _. 
 
 -- Submit.
 
+-- the blocks that these bytes are; none, where they are not whole blocks
+abbrev pub whole_blocks : List ℕ → List (List ℕ)
+whole_blocks bytes = if 4096 * (length bytes / 4096) == length bytes then blocks_of 4096 bytes else []
+
 -- when a submission is refused, in order
 abbrev pub submit_tests : ℕ → ℕ → Bool → PrimaryState → List Test
 submit_tests first count starved s =
@@ -63,7 +67,7 @@ abbrev pub submitted : ℕ → ℕ → List ℕ → PrimaryState → Done × Pri
 submitted first count bytes s =
     let accepted = log.accepting first count bytes s.log in
     let number = accepted.0.number in
-    let item = WriteItem (record { number = number; first = first; contents = blocks_of 4096 bytes }) in
+    let item = WriteItem (record { number = number; first = first; contents = whole_blocks bytes }) in
     let held : PrimaryState = record s {
       log = accepted.1;
       entries = s.entries ++ record { first = first; count = count; fate = Open; taken = false } ∷ [];
@@ -78,7 +82,7 @@ submitted first count bytes s =
 -- the primary accepts a write of these bytes
 abbrev pub submit : ℕ → List ℕ → Bool → PrimaryState → Result Done Refusal × PrimaryState
 submit first bytes starved s =
-    let count = length (blocks_of 4096 bytes) in
+    let count = length (whole_blocks bytes) in
     tested s (submit_tests first count starved s) (λ _. let after = submitted first count bytes s in (Ok after.0, after.1))
 
 -- The local disk.
