@@ -19,6 +19,7 @@ use Rattle.model.specs.Primary as history
 use Rattle.primary_steps.specs.Core.{Fate, Failed, Entry, PrimaryState, with_entry}
 use Rattle.primary_steps.specs.Transitions.{entry_at, told, is_given, take_completed}
 use Rattle.primary_steps.specs.Transitions as core
+use Rattle.primary_steps.proofs.Numbers.{AreNumberedFrom, numbered-rest, numbered-first, find-number, find-none, any-number, get-map, with-entry-map, any-some}
 use Rattle.primary_steps.specs.Leaves.{fate_in, fate_of, entry_of, LeavesEntries}
 use Rattle.primary_steps.specs.Steps.{SameAnswer, TellsReceipt}
 
@@ -28,103 +29,6 @@ pub record IsNumbered (h : PrimaryHistory) : Type 0 where
   pub numbered : (i : ℕ) (accepted : Accepted) → slice_get h.writes i ≡ Some accepted → accepted.write.number ≡ suc i
   pub on_disk : (i : ℕ) (accepted : Accepted) → slice_get h.writes i ≡ Some accepted → is_completed h accepted.write.number ≡ true → is_on_disk accepted.outcome ≡ true
   pub journal : JournalIsAccepted h
-
--- Numbers.
-
-same-number : (n : ℕ) → (n == n) ≡ true
-same-number n = eq-eqb n n refl
-
-other-number : (a b : ℕ) → a < b → (a == b) ≡ false
-other-number a b less = false_from_ne_true (a == b) (λ e. let is : a ≡ b = eqb-true a b e in omega arith)
-
--- writes numbered from a number on
-abbrev AreNumberedFrom : ℕ → List Accepted → Type 0
-AreNumberedFrom n xs = (i : ℕ) (accepted : Accepted) → slice_get xs i ≡ Some accepted → accepted.write.number ≡ n + i
-
-numbered-rest : (n : ℕ) (x : Accepted) (xs : List Accepted) → AreNumberedFrom n (x ∷ xs) → AreNumberedFrom (suc n) xs
-numbered-rest n x xs all i accepted at = all (suc i) accepted at ∙ omega arith
-
-numbered-first : (n : ℕ) (x : Accepted) (xs : List Accepted) → AreNumberedFrom n (x ∷ xs) → x.write.number ≡ n
-numbered-first n x xs all = all 0 x refl ∙ omega arith
-
--- the write of a number stands at its place
-find-number : (n k : ℕ) (xs : List Accepted) → AreNumberedFrom n xs → find (λ (a : Accepted). a.write.number == (n + k)) xs ≡ slice_get xs k
-find-number n k [] all = refl
-find-number n zero (x ∷ xs) all =
-    let first = numbered-first n x xs all in
-    let same : (x.write.number == (n + 0)) ≡ true = eq-eqb x.write.number (n + 0) (omega arith) in
-    rw same refl
-find-number n (suc k) (x ∷ xs) all =
-    let first = numbered-first n x xs all in
-    let other : (x.write.number == (n + suc k)) ≡ false = other-number x.write.number (n + suc k) (omega arith) in
-    let on : suc n + k ≡ n + suc k = omega arith in
-    rw other (ap (λ (m : ℕ). find (λ (a : Accepted). a.write.number == m) xs) (sym on) ∙ find-number (suc n) k xs (numbered-rest n x xs all))
-
-find-none : (m n : ℕ) (xs : List Accepted) → AreNumberedFrom n xs → m < n → find (λ (a : Accepted). a.write.number == m) xs ≡ None
-find-none m n [] all less = refl
-find-none m n (x ∷ xs) all less =
-    let first = numbered-first n x xs all in
-    let other : (x.write.number == m) ≡ false = false_from_ne_true (x.write.number == m) (λ e. let is : x.write.number ≡ m = eqb-true x.write.number m e in omega arith) in
-    rw other (find-none m (suc n) xs (numbered-rest n x xs all) (omega arith))
-
--- a test of the write of a number is that of the write at its place
-any-number : (n k : ℕ) (p : Accepted → Bool) (xs : List Accepted) → AreNumberedFrom n xs
-    → list_any (λ (a : Accepted). (a.write.number == (n + k)) && p a) xs ≡ elim (slice_get xs k) as (λ _. Bool) [ None ↦ false | Some a ↦ p a ]
-any-number n k p [] all = refl
-any-number n zero p (x ∷ xs) all =
-    let first = numbered-first n x xs all in
-    let same : (x.write.number == (n + 0)) ≡ true = eq-eqb x.write.number (n + 0) (omega arith) in
-    let none : list_any (λ (a : Accepted). (a.write.number == (n + 0)) && p a) xs ≡ false = none-behind (n + 0) (suc n) p xs (numbered-rest n x xs all) (omega arith) in
-    rw (same, none) (or-none (p x))
-  where
-    none-behind : (m n : ℕ) (p : Accepted → Bool) (xs : List Accepted) → AreNumberedFrom n xs → m < n → list_any (λ (a : Accepted). (a.write.number == m) && p a) xs ≡ false
-    none-behind m n p [] all less = refl
-    none-behind m n p (x ∷ xs) all less =
-        let first = numbered-first n x xs all in
-        let other : (x.write.number == m) ≡ false = false_from_ne_true (x.write.number == m) (λ e. let is : x.write.number ≡ m = eqb-true x.write.number m e in omega arith) in
-        rw other (none-behind m (suc n) p xs (numbered-rest n x xs all) (omega arith))
-
-    or-none : (b : Bool) → (b || false) ≡ b
-    or-none true = refl
-    or-none false = refl
-any-number n (suc k) p (x ∷ xs) all =
-    let first = numbered-first n x xs all in
-    let other : (x.write.number == (n + suc k)) ≡ false = other-number x.write.number (n + suc k) (omega arith) in
-    let on : suc n + k ≡ n + suc k = omega arith in
-    rw other (ap (λ (m : ℕ). list_any (λ (a : Accepted). (a.write.number == m) && p a) xs) (sym on) ∙ any-number (suc n) k p xs (numbered-rest n x xs all))
-
--- Entries.
-
--- the entry at a place is that of the write there
-get-map : {X Y : Type 0} (f : X → Y) (xs : List X) (n : ℕ) → slice_get (map f xs) n ≡ option_map f (slice_get xs n)
-get-map f [] n = refl
-get-map f (x ∷ xs) zero = refl
-get-map f (x ∷ xs) (suc n) = get-map f xs n
-
--- a change of the entry of one number, where a function of the writes changes so
-with-entry-map : (f g : Accepted → Entry) (change : Entry → Entry) (n k : ℕ) (xs : List Accepted) → AreNumberedFrom n xs → ((a : Accepted) → a.write.number ≡ n + k → change (f a) ≡ g a) → ((a : Accepted) → (a.write.number == (n + k)) ≡ false → f a ≡ g a)
-    → with_entry (suc k) change (map f xs) ≡ map g xs
-with-entry-map f g change n k [] all same others = refl
-with-entry-map f g change n zero (x ∷ xs) all same others =
-    let first = numbered-first n x xs all in
-    (λ i. same x (omega arith) i ∷ rest i)
-  where
-    rest : map f xs ≡ map g xs
-    rest = map-same xs (suc n) (numbered-rest n x xs all) (omega arith)
-      where
-        map-same : (ys : List Accepted) (m : ℕ) → AreNumberedFrom m ys → n < m → map f ys ≡ map g ys
-        map-same [] m all less = refl
-        map-same (y ∷ ys) m all less =
-            let first = numbered-first m y ys all in
-            let other : (y.write.number == (n + 0)) ≡ false = false_from_ne_true (y.write.number == (n + 0)) (λ e. let is : y.write.number ≡ n + 0 = eqb-true y.write.number (n + 0) e in omega arith) in
-            λ i. others y other i ∷ map-same ys (suc m) (numbered-rest m y ys all) (omega arith) i
-with-entry-map f g change n (suc k) (x ∷ xs) all same others =
-    let first = numbered-first n x xs all in
-    let other : (x.write.number == (n + suc k)) ≡ false = other-number x.write.number (n + suc k) (omega arith) in
-    let not_first : (suc (suc k) == 1) ≡ false = grind (arith, nat_tests) in
-    let on : suc n + k ≡ n + suc k = omega arith in
-    let one_less : suc (suc k) - 1 ≡ suc k = omega arith in
-    rw (not_first, one_less) (λ i. others x other i ∷ with-entry-map f g change (suc n) k xs (numbered-rest n x xs all) (λ a is. same a (is ∙ on)) (λ a no_number. others a (subst (λ (m : ℕ). (a.write.number == m) ≡ false) on no_number)) i)
 
 -- Receipts.
 
@@ -136,15 +40,6 @@ failed-open h known i a at failed = false_from_ne_true (is_completed h a.write.n
     both Waiting f d = absurd (cc)
     both OnDisk f d = absurd (cc)
     both (history.Failed offsets) f d = absurd (cc)
-
--- a test of a list finds something exactly where one passes
-any-some : {X : Type 0} (p : X → Bool) (xs : List X) → list_any p xs ≡ is_some (find p xs)
-any-some p [] = refl
-any-some {X} p (x ∷ xs) = go (any-some p xs) (p x)
-  where
-    go : list_any p xs ≡ is_some (find p xs) → (b : Bool) → (b || list_any p xs) ≡ is_some (cond b (Some x) (find p xs))
-    go rest true = refl
-    go rest false = rest
 
 -- what the model answers of a write that is there
 module _ (h : PrimaryHistory) (known : IsNumbered h) (n : ℕ) (a : Accepted) (at : slice_get h.writes n ≡ Some a) (s : PrimaryState) (left : LeavesEntries s h) where

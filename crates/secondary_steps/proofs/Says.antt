@@ -23,7 +23,7 @@ use Rattle.secondary_steps.proofs.Apart.{same-truth}
 use Rattle.secondary_steps.proofs.Starting.{starting}
 use Rattle.secondary_steps.proofs.Steps.Pushes.{due-same}
 use Rattle.secondary_steps.proofs.Tested.{length-map}
-use Rattle.secondary_steps.proofs.Waiting.{placed-back}
+use Rattle.laws.proofs.Streams.Places.{placed-back}
 
 -- How far it is whole.
 

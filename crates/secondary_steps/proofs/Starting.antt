@@ -13,7 +13,7 @@ use Rattle.model.specs.SecondarySteps as step
 use Rattle.laws.proofs.Lists.Picks.{pick-found, pick-filtered}
 use Rattle.peerdisk.specs.Pending.{Pending, at_place, epoch_at, item_at, has_earlier, start}
 use Rattle.secondary_steps.specs.Leaves.{pending_in}
-use Rattle.secondary_steps.proofs.Waiting.{placed-back}
+use Rattle.laws.proofs.Streams.Places.{placed-back}
 
 -- Lists.
 

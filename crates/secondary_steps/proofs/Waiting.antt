@@ -113,12 +113,6 @@ without-placed all p place start (x ∷ items) = go (without-placed all p place 
         let here : nat_eq place start ≡ false = eq-turned place start ∙ equal in
         rw (is, here, equal) (ap (λ l. pending_in all (start, x) ∷ l) rest)
 
--- an element of placed items
-pub placed-back : (start : ℕ) (items : List Item) (n : ℕ) (entry : ℕ × Item) → slice_get (placed_from start items) n ≡ Some entry → (entry.0 ≡ start + n) × (slice_get items n ≡ Some entry.1)
-placed-back start [] n entry at = absurd (cc)
-placed-back start (x ∷ items) zero entry at = let same : (start, x) ≡ entry = cc in (ap (λ (e : ℕ × Item). e.0) (sym same) ∙ omega arith, ap (λ (e : ℕ × Item). Some e.1) same)
-placed-back start (x ∷ items) (suc n) entry at = let rest = placed-back (suc start) items n entry at in (rest.0 ∙ omega arith, rest.1)
-
 -- a part more at one place leaves the other items as they were
 pub whole-elsewhere : (part : Part) (place : ℕ) (offsets : List ℕ) (other : ℕ) (item : Item) → (other == place) ≡ false → is_whole (part ++ offsets_at place offsets) other item ≡ is_whole part other item
 whole-elsewhere part place offsets other item apart = go (below (length (contents_of item)))

@@ -118,3 +118,9 @@ pub placed-at : (start : ℕ) (items : List Item) (n : ℕ) (item : Item) → sl
 placed-at start [] n item at = absurd (cc)
 placed-at start (x ∷ items) zero item at = let same : x ≡ item = cc in ap (λ (i : Item). Some (start, i)) same ∙ ap (λ (m : ℕ). Some (m, item)) (omega arith)
 placed-at start (x ∷ items) (suc n) item at = placed-at (suc start) items n item at ∙ ap (λ (m : ℕ). Some (m, item)) (omega arith)
+
+-- an element of placed items
+pub placed-back : (start : ℕ) (items : List Item) (n : ℕ) (entry : ℕ × Item) → slice_get (placed_from start items) n ≡ Some entry → (entry.0 ≡ start + n) × (slice_get items n ≡ Some entry.1)
+placed-back start [] n entry at = absurd (cc)
+placed-back start (x ∷ items) zero entry at = let same : (start, x) ≡ entry = cc in (ap (λ (e : ℕ × Item). e.0) (sym same) ∙ omega arith, ap (λ (e : ℕ × Item). Some e.1) same)
+placed-back start (x ∷ items) (suc n) entry at = let rest = placed-back (suc start) items n entry at in (rest.0 ∙ omega arith, rest.1)
