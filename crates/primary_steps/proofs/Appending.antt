@@ -56,9 +56,9 @@ way-more (Some way) c d item same stream plain left =
 abbrev pub queued : List Item → Bool → EndState → EndState
 queued items resync e = record e { unsent = e.unsent ++ items; resync = resync }
 
-pub end-more : (e : EndState) (c d : Outward) (item : Item) → SeesSame c d → d.stream ≡ c.stream ++ item ∷ [] → d.sync ≡ c.sync → d.loss ≡ c.loss → d.hello ≡ c.hello → is_resync item ≡ false
+pub end-more : (e : EndState) (c d : Outward) (item : Item) → SeesSame c d → d.stream ≡ c.stream ++ item ∷ [] → d.sync ≡ c.sync → d.loss ≡ c.loss → d.hello ≡ c.hello → d.begun ≡ true → is_resync item ≡ false
     → LeavesEnd e c → LeavesEnd (queued (item ∷ []) (resync_runs d) e) d
-end-more e c d item same stream sync loss hello plain l = record {
+end-more e c d item same stream sync loss hello begun plain l = record {
   stands = same.closed ∙ l.stands;
   plain = same.refused ∙ l.plain;
   sync = l.sync ∙ sym sync;
@@ -70,6 +70,11 @@ end-more e c d item same stream sync loss hello plain l = record {
   unsent = rw (same.pushed, stream) (ap (λ (u : List Item). u ++ item ∷ []) l.unsent ∙ sym (drop-append-le (c.pushed - 3) c.stream (item ∷ []) l.pushed));
   resync = refl;
   under_way = way-more e.under_way c d item same stream plain l.under_way;
+  unasked = λ place other later.
+      let longer : length d.stream ≡ length c.stream + 1 = ap length stream ∙ length-append c.stream (item ∷ []) in
+      let none = l.unasked place other (omega arith) in
+      rw (same.taken, same.refused) none;
+  unbegun = λ new epoch. absurd (both_ways d.begun new begun);
 }
 
 module _ (t : PrimaryState) (g : PrimaryHistory) (item : Item) (left : LeavesRest t g) (homes : HasHomes g) (on : stands (outward g) ≡ true) (plain : is_resync item ≡ false) where
@@ -98,7 +103,7 @@ module _ (t : PrimaryState) (g : PrimaryHistory) (item : Item) (left : LeavesRes
   ends None closed = absurd (both_ways (outward g).closed parts.0 closed)
   ends (Some e) l =
       end-more e (outward g) (outward (appending item g)) item (subst (SeesSame (outward g)) (sym outward-more) same) (ap (λ (c : Outward). c.stream) outward-more) (ap (λ (c : Outward). c.sync) outward-more)
-      (ap (λ (c : Outward). c.loss) outward-more) (ap (λ (c : Outward). c.hello) outward-more) plain l
+      (ap (λ (c : Outward). c.loss) outward-more) (ap (λ (c : Outward). c.hello) outward-more) (ap (λ (c : Outward). c.begun) outward-more ∙ parts.1) plain l
 
   -- The rest of the state is left, with the item waiting to be sent.
   pub rest-more : LeavesRest (record t { end = option_map (queued (item ∷ []) (resync_runs (outward (appending item g)))) t.end }) (appending item g)

@@ -1,6 +1,7 @@
 pub mod Appending
 pub mod Completing
 pub mod Connections
+pub mod Epochs
 pub mod Filters
 pub mod Freeing
 pub mod Numbers

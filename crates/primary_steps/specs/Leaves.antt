@@ -1,11 +1,11 @@
 -- Which histories leave a primary's state.
 use Rattle.std.specs.Prelude.{ℕ, zero, suc, ◌+◌, ◌-◌, ◌≡◌, ◌<◌, ◌≤◌, nat_lt, nat_le, ◌==◌, Bool, true, false, not, if◌then◌else◌, List, [], ◌∷◌, ◌++◌, length, take, drop, map, filter, find, min, Option, Some, None, slice_get}
-use Rattle.std.specs.List.{list_any, concat, sum}
+use Rattle.std.specs.List.{list_any, concat}
 use Rattle.blocks.specs.Ranges.{below}
 use Rattle.model.specs.Contents.{covers, extent_of}
 use Rattle.model.specs.Stream.{Item, WriteItem, ResyncItem, first_of, barriers_in, epoch_of, last_epoch, items_of_epoch, epoch_size}
 use Rattle.model.specs.Primary as history
-use Rattle.model.specs.Primary.{LocalOutcome, Accepted, Completion, Kind, Linked, Alone, Outward, PrimaryHistory, outward, last_index, stands, items_sent, barrier_acknowledged, is_answered_by, is_answered, is_alone, is_failed, is_completed, completes, unreleased, open_writes, is_resync, resync_runs, under_way}
+use Rattle.model.specs.Primary.{LocalOutcome, Accepted, Completion, Kind, Linked, Alone, Outward, PrimaryHistory, outward, last_index, stands, items_sent, barrier_acknowledged, is_answered_by, is_answered, is_alone, is_failed, is_completed, completes, unreleased, open_writes, is_resync, was_received, was_written, was_resynced, resync_runs, under_way}
 use Rattle.transferlog.specs.Log.{LogState}
 use Rattle.transferlog.specs.Writes.{LogWrite}
 use Rattle.transferlog.specs.declared.local.Local.{Local}
@@ -87,6 +87,11 @@ abbrev pub numbers_after : ℕ → ℕ → List ℕ
 numbers_after n zero = []
 numbers_after n (suc count) = suc n ∷ numbers_after (suc n) count
 
+-- all of these numbers together
+abbrev pub total : List ℕ → ℕ
+total [] = 0
+total (n ∷ ns) = n + total ns
+
 -- The epochs of a stream that stands, of which the first so many are acknowledged. The numbers of the writes up to the end of
 -- an epoch are those up to the confirmed one and the sizes of the epochs since.
 pub record LeavesEpochs (l : LogState) (c : Outward) : Type 0 where
@@ -99,9 +104,9 @@ pub record LeavesEpochs (l : LogState) (c : Outward) : Type 0 where
   pub size : l.epochs.size ≡ epoch_size c.stream (last_epoch c.stream)
   pub resync : l.epochs.resync ≡ list_any (λ entry. is_resync entry.1) (items_of_epoch c.stream (last_epoch c.stream))
   pub upto : (k place : ℕ) (write : _) → k ≤ length l.epochs.sizes → slice_get c.stream place ≡ Some (WriteItem write)
-      → nat_le write.number (l.confirmed + sum (take k l.epochs.sizes)) ≡ nat_le (epoch_of c.stream place) (acked + k)
-  pub newest : l.confirmed + sum l.epochs.sizes + l.epochs.size ≡ l.accepted
-  pub first : 0 < l.epochs.size → l.epochs.first ≡ suc (l.confirmed + sum l.epochs.sizes)
+      → nat_le write.number (l.confirmed + total (take k l.epochs.sizes)) ≡ nat_le (epoch_of c.stream place) (acked + k)
+  pub newest : l.confirmed + total l.epochs.sizes + l.epochs.size ≡ l.accepted
+  pub first : 0 < l.epochs.size → l.epochs.first ≡ suc (l.confirmed + total l.epochs.sizes)
   pub answered : (place : ℕ) (write : _) → slice_get c.stream place ≡ Some (WriteItem write) → epoch_of c.stream place ≤ acked
       → is_answered_by l.protocol c place (WriteItem write) ≡ true
 
@@ -171,6 +176,9 @@ pub record LeavesEnd (e : EndState) (c : Outward) : Type 0 where
   pub unsent : e.unsent ≡ drop (c.pushed - 3) c.stream
   pub resync : e.resync ≡ resync_runs c
   pub under_way : UnderWayLeft e.under_way c
+  -- no frame that was taken names an item to come
+  pub unasked : (place : ℕ) (item : Item) → length c.stream ≤ place → (was_received c place item ≡ false) × (was_written c place item ≡ false) × (was_resynced c place item ≡ false)
+  pub unbegun : c.begun ≡ false → (epoch : ℕ) → barrier_acknowledged c epoch ≡ false
 
 -- a closed end, or an open one
 abbrev pub EndLeft : Option EndState → Outward → Type 0
