@@ -3,6 +3,7 @@ pub mod Completing
 pub mod Connections
 pub mod Epochs
 pub mod Filters
+pub mod Following
 pub mod Freeing
 pub mod Numbers
 pub mod Seen
