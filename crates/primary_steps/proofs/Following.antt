@@ -19,6 +19,7 @@ use Rattle.model.specs.PrimarySteps.{Followed, newly_completed, with_completions
 use Rattle.transferlog.specs.Log as log
 use Rattle.transferlog.specs.Writes.{completed_of}
 use Rattle.epochs.specs.Epochs.{empty}
+use Rattle.laws.proofs.Lists.Last.{length-change}
 use Rattle.laws.proofs.Primary.Homes.{HasHomes}
 use Rattle.laws.proofs.Primary.HomesFollowing.{homes-completions, homes-parting}
 use Rattle.laws.proofs.Primary.Ends.{stands-parts}
@@ -296,6 +297,9 @@ module _ (s : PrimaryState) (barrier : Option ℕ) (h : PrimaryHistory) (due : I
         on = λ so. epochs-plain s.log (log.uuids_placed s.log).1 (outward (parted (with_completions h))) (outward (ending_resync (parted (with_completions h)))) (UuidsItem (sync_end (parted (with_completions h)).tuple)) (due.stream.on on)
             (subst (SeesSame (outward (parted (with_completions h)))) (sym (out ∙ ap (λ (c : Outward). record c { stream = c.stream ++ UuidsItem (sync_end (parted (with_completions h)).tuple) ∷ [] }) last)) (record { closed = refl; pushed = refl; taken = refl; refused = refl }))
             (ap (λ (c : Outward). c.stream) out ∙ ap (λ (c : Outward). c.stream ++ UuidsItem (sync_end (parted (with_completions h)).tuple) ∷ []) last) refl refl refl refl refl refl refl;
+        here = λ so i a at behind.
+            let place = due.stream.here on i a at behind in
+            (place.0, place.1 ∙ ap (λ m. Some (m - 1, place.0)) (sym (length-change (λ (c : Outward). record c { stream = c.stream ++ UuidsItem (sync_end (parted (with_completions h)).tuple) ∷ [] }) (parted (with_completions h)).connections)));
         off = λ none. absurd (both_ways (stands (outward (ending_resync (parted (with_completions h))))) none (ap stands out ∙ on-turned));
       }
 

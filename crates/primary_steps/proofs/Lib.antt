@@ -1,3 +1,4 @@
+pub mod Activity
 pub mod Appending
 pub mod Completing
 pub mod Connections
@@ -6,5 +7,6 @@ pub mod Filters
 pub mod Following
 pub mod Freeing
 pub mod Numbers
+pub mod Releasing
 pub mod Seen
 pub mod Telling

@@ -119,10 +119,12 @@ pub record LeavesLog (l : LogState) (h : PrimaryHistory) : Type 0 where
   pub writes : l.writes ≡ map (logged_of h) (unreleased h)
   pub latest : l.latest ≡ map (λ block. latest_in h.writes block 0) (below h.settings.blocks)
 
--- The log's epochs are those of the stream that stands.
+-- The log's epochs are those of the stream that stands, where each write behind the confirmed ones has its place.
 pub record LeavesStream (l : LogState) (h : PrimaryHistory) : Type 0 where
   pub max_epoch : l.epochs.max_epoch ≡ h.settings.max_epoch
   pub on : stands (outward h) ≡ true → LeavesEpochs l (outward h)
+  pub here : stands (outward h) ≡ true → (i : ℕ) (accepted : Accepted) → slice_get h.writes i ≡ Some accepted → l.confirmed < accepted.write.number
+      → (place : ℕ) × (accepted.home ≡ Some (last_index h.connections, place))
   pub off : stands (outward h) ≡ false → l.epochs ≡ empty h.settings.max_epoch
 
 -- What is held, and what is active.
