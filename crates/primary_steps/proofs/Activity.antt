@@ -80,7 +80,7 @@ ended-counts extent a slots count c = record {
     more other true some = omega arith
     more other false some = some
 
-counts-same : (a : ActivityState) (slots : ℕ) (count other : ℕ → ℕ) → ((extent : ℕ) → count extent ≡ other extent) → Counts a slots count → Counts a slots other
+pub counts-same : (a : ActivityState) (slots : ℕ) (count other : ℕ → ℕ) → ((extent : ℕ) → count extent ≡ other extent) → Counts a slots count → Counts a slots other
 counts-same a slots count other same c = record {
   limit = c.limit;
   counts = λ extent. c.counts extent ∙ same extent;

@@ -4,8 +4,10 @@ use Rattle.std.specs.Prelude.{if◌then◌else◌}
 use Rattle.std.specs.List.{list_any}
 use Rattle.std.proofs.lemmas.Bool.{cases_Bool, both_ways, and_parts, not-true, false_from_ne_true}
 use Rattle.blocks.specs.declared.settings.Protocol.{Protocol}
+use Rattle.std.proofs.lemmas.List.{length-map}
+use Rattle.blocks.specs.declared.settings.Settings.{Settings}
 use Rattle.blocks.specs.Ranges.{below}
-use Rattle.model.specs.Contents.{Write}
+use Rattle.model.specs.Contents.{Write, covers, extent_of}
 use Rattle.model.specs.Stream.{Item, WriteItem}
 use Rattle.model.specs.Primary.{Accepted, Outward, PrimaryHistory, outward, last_index, change_last, stands, is_waiting, is_failed, is_alone, is_confirmed, is_released, is_completed, is_open, completes, unreleased, is_answered_by, barrier_acknowledged, was_resynced}
 use Rattle.model.specs.PrimarySteps.{newly_completed, with_completions, epoch_is_over}
@@ -19,11 +21,10 @@ use Rattle.laws.proofs.Primary.Homes.{HasHomes}
 use Rattle.laws.proofs.Primary.LastOpen.{IsLastOpen}
 use Rattle.primary_steps.specs.Core.{PrimaryState, leaving}
 use Rattle.primary_steps.specs.Leaves.{logged_of, standing, latest_in, writes_in, LeavesLog, LeavesStream, LeavesActivity, Leaves}
-use Rattle.primary_steps.proofs.Activity.{Counts, counts-of, of-counts, leaving-counts, released_in, split-count}
+use Rattle.primary_steps.proofs.Activity.{counts-of, of-counts, counts-same, leaving-counts, released_in, split-count}
 use Rattle.primary_steps.proofs.Filters.{filter-at, map-at, any-at, filter-map, filter-twice, map-twice, any-map, any-filter}
 use Rattle.primary_steps.proofs.Releasing.{confirmed-number, released-seen, released-not-open}
 use Rattle.primary_steps.proofs.Seen.{completes-seen, open-seen, settled-seen, completes-not-failed}
-use Rattle.model.specs.Contents.{extent_of}
 use Rattle.transferlog.specs.declared.report.Released.{Released}
 
 -- What happens to the write of one number in the history, and to the last connection: what the log sees of it is the change `f`.
@@ -186,3 +187,61 @@ module _ (s : PrimaryState) (h h1 : PrimaryHistory) (n : ℕ) (f : LogWrite → 
       ∙ (seen-at completed_of (λ a. is_open h1 (g a) && completes h1 (g a))
       ∙ (sym (map-twice (λ a. completed_of (logged_of h1 a)) g (filter (λ a. is_open h1 (g a) && completes h1 (g a)) h.writes))
       ∙ ap (map (λ a. completed_of (logged_of h1 a))) (sym (filter-map (λ a. is_open h1 a && completes h1 a) g h.writes) ∙ ap (filter (λ a. is_open h1 a && completes h1 a)) (sym c.writes)))))))))
+
+  latest-then : (block number : ℕ) → latest_in h1.writes block number ≡ latest_in h.writes block number
+  latest-then block number = ap (λ (ws : List Accepted). latest_in ws block number) c.writes ∙ go h.writes number
+    where
+      go : (ws : List Accepted) (number : ℕ) → latest_in (map g ws) block number ≡ latest_in ws block number
+      go [] number = refl
+      go (a ∷ ws) number = go ws (if covers (g a).write block then (g a).write.number else number) ∙ ap (λ (w : Write). latest_in ws block (if covers w block then w.number else number)) (c.write a)
+
+  pub stands-then : stands (outward h1) ≡ stands (outward h)
+  stands-then = ap stands c.last ∙ λ i. not (c.closed i) && c.begun i
+
+  index-then : last_index h1.connections ≡ last_index h.connections
+  index-then = ap (λ (cs : List Outward). length cs - 1) c.connections ∙ ap (λ m. m - 1) (length-change k h.connections)
+
+  -- the log is left
+  pub log-then : LeavesLog (changing n f s.log).1 h1
+  log-then = record {
+    protocol = left.rest.log.protocol ∙ ap (λ (x : Settings). x.protocol) (sym c.settings);
+    backlog = left.rest.log.backlog ∙ ap (λ (x : Settings). x.backlog) (sym c.settings);
+    accepted = left.rest.log.accepted ∙ (sym (length-map h.writes g) ∙ ap length (sym c.writes));
+    connection = left.rest.log.connection ∙ sym (λ i. if stands-then i then Some (index-then i) else None);
+    writes = left-then;
+    latest = left.rest.log.latest ∙ ((λ i. map (λ block. sym (latest-then block 0) i) (below h.settings.blocks)) ∙ ap (λ (x : Settings). map (λ block. latest_in h1.writes block 0) (below x.blocks)) (sym c.settings));
+  }
+
+  -- the active extents are left
+  pub activity-then : LeavesActivity (leaving (changing n f s.log).1.released s.activity) h1.settings.slots (unreleased h1)
+  activity-then =
+      subst (λ (x : Settings). LeavesActivity (leaving (changing n f s.log).1.released s.activity) x.slots (unreleased h1)) (sym c.settings)
+      (of-counts (leaving (changing n f s.log).1.released s.activity) h.settings.slots (unreleased h1)
+      (counts-same (leaving (changing n f s.log).1.released s.activity) h.settings.slots (λ extent. writes_in extent (unreleased h) - released_in extent (changing n f s.log).1.released) (λ extent. writes_in extent (unreleased h1)) pointwise
+      (leaving-counts (changing n f s.log).1.released s.activity h.settings.slots (λ extent. writes_in extent (unreleased h)) (counts-of s.activity h.settings.slots (unreleased h) left.rest.activity))))
+    where
+      lies : ℕ → Accepted → Bool
+      lies extent a = extent == extent_of a.write.first
+
+      now : (extent : ℕ) → writes_in extent (unreleased h1) ≡ length (filter (lies extent) (filter (λ a. not (is_released h1 (g a))) h.writes))
+      now extent =
+          ap (λ (ws : List Accepted). length (filter (lies extent) (filter (λ a. not (is_released h1 a)) ws))) c.writes
+          ∙ (ap (λ (ws : List Accepted). length (filter (lies extent) ws)) (filter-map (λ a. not (is_released h1 a)) g h.writes)
+          ∙ (ap length (filter-map (lies extent) g (filter (λ a. not (is_released h1 (g a))) h.writes))
+          ∙ (length-map (filter (λ a. lies extent (g a)) (filter (λ a. not (is_released h1 (g a))) h.writes)) g
+          ∙ ap length (filter-at (λ a. lies extent (g a)) (lies extent) (filter (λ a. not (is_released h1 (g a))) h.writes) (λ i a at. ap (λ (w : Write). extent == extent_of w.first) (c.write a))))))
+
+      gone : (extent : ℕ) → released_in extent (changing n f s.log).1.released ≡ length (filter (lies extent) (filter (λ a. not (is_released h a) && is_released h1 (g a)) h.writes))
+      gone extent =
+          let some : List Accepted = filter (λ a. not (is_released h a) && is_released h1 (g a)) h.writes in
+          ap (released_in extent) released-is
+          ∙ (ap length (filter-map (λ (r : Released). extent == extent_of r.first) (λ a. released_of (logged_of h1 (g a))) some)
+          ∙ (length-map (filter (λ a. lies extent (g a)) some) (λ a. released_of (logged_of h1 (g a)))
+          ∙ ap length (filter-at (λ a. lies extent (g a)) (lies extent) some (λ i a at. ap (λ (w : Write). extent == extent_of w.first) (c.write a)))))
+
+      pointwise : (extent : ℕ) → writes_in extent (unreleased h) - released_in extent (changing n f s.log).1.released ≡ writes_in extent (unreleased h1)
+      pointwise extent =
+          let split = split-count (is_released h) (λ a. is_released h1 (g a)) (lies extent) h.writes released-stays in
+          let n1 = now extent in
+          let g1 = gone extent in
+          omega arith

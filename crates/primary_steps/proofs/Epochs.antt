@@ -294,3 +294,32 @@ module _ (l l' : LogState) (c d : Outward) (item : Item) (e : LeavesEpochs l c) 
           some : (n : ℕ) → (n == 0) ≡ false → 0 < n
           some zero is = absurd (cc)
           some (suc n) is = omega arith
+
+-- The stream stands as it was, and more of it may be answered.
+pub epochs-same : (l l' : LogState) (c d : Outward) → LeavesEpochs l c → d.stream ≡ c.stream → ((epoch : ℕ) → barrier_acknowledged d epoch ≡ barrier_acknowledged c epoch)
+    → ((asked : Protocol) (place : ℕ) (item : Item) → is_answered_by asked c place item ≡ true → is_answered_by asked d place item ≡ true)
+    → l'.protocol ≡ l.protocol → l'.confirmed ≡ l.confirmed → l'.accepted ≡ l.accepted → l'.epochs ≡ l.epochs → LeavesEpochs l' d
+epochs-same l l' c d e stream acknowledged answers protocol confirmed accepted epochs = record {
+  acked = e.acked;
+  acknowledged = λ epoch some. acknowledged epoch ∙ e.acknowledged epoch some;
+  within = subst (λ (s : List Item). e.acked ≤ barriers_in s) (sym stream) e.within;
+  places = ap (λ (x : EpochsState). x.places) epochs ∙ (e.places ∙ ap length (sym stream));
+  ended = ap (λ (x : EpochsState). x.ended) epochs ∙ (e.ended ∙ ap barriers_in (sym stream));
+  sizes = ap (λ (x : EpochsState). x.sizes) epochs ∙ (e.sizes ∙ ap (λ (s : List Item). map (epoch_size s) (numbers_after e.acked (barriers_in s - e.acked))) (sym stream));
+  size = ap (λ (x : EpochsState). x.size) epochs ∙ (e.size ∙ ap (λ (s : List Item). epoch_size s (last_epoch s)) (sym stream));
+  resync = ap (λ (x : EpochsState). x.resync) epochs ∙ (e.resync ∙ ap (λ (s : List Item). list_any (λ (entry : ℕ × Item). is_resync entry.1) (items_of_epoch s (last_epoch s))) (sym stream));
+  upto = λ k place write few at.
+      (λ i. nat_le write.number (confirmed i + total (take k (epochs i).sizes)))
+      ∙ (e.upto k place write (subst (λ (x : EpochsState). k ≤ length x.sizes) epochs few) (subst (λ (s : List Item). slice_get s place ≡ Some (WriteItem write)) stream at) ∙ ap (λ (s : List Item). nat_le (epoch_of s place) (e.acked + k)) (sym stream));
+  newest = (λ i. confirmed i + total (epochs i).sizes + (epochs i).size) ∙ (e.newest ∙ sym accepted);
+  first = λ some. ap (λ (x : EpochsState). x.first) epochs ∙ (e.first (subst (λ (x : EpochsState). 0 < x.size) epochs some) ∙ sym (λ i. suc (confirmed i + total (epochs i).sizes)));
+  answered = λ place write at upto. ap (λ (p : Protocol). is_answered_by p d place (WriteItem write)) protocol
+      ∙ answers l.protocol place (WriteItem write) (e.answered place write (subst (λ (s : List Item). slice_get s place ≡ Some (WriteItem write)) stream at) (subst (λ (s : List Item). epoch_of s place ≤ e.acked) stream upto));
+}
+
+-- as many sizes are kept as epochs are not acknowledged
+pub sizes-many : (l : LogState) (c : Outward) (e : LeavesEpochs l c) → e.acked + length l.epochs.sizes ≡ barriers_in c.stream
+sizes-many l c e =
+    let many : length l.epochs.sizes ≡ barriers_in c.stream - e.acked = ap length e.sizes ∙ (length-map (numbers_after e.acked (barriers_in c.stream - e.acked)) (epoch_size c.stream) ∙ length-numbers e.acked (barriers_in c.stream - e.acked)) in
+    let w = e.within in
+    omega arith
