@@ -8,6 +8,7 @@ pub mod Filters
 pub mod Following
 pub mod Freeing
 pub mod Numbers
+pub mod Parting
 pub mod Releasing
 pub mod Seen
 pub mod Telling
