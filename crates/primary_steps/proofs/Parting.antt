@@ -257,3 +257,92 @@ module _ (s : PrimaryState) (h h1 : PrimaryHistory) (n : ℕ) (f : LogWrite → 
           and-false : (b : Bool) → (b && false) ≡ false
           and-false true = refl
           and-false false = refl
+
+  ends-as : (b d : Bool) → closes_any (on n f) s.log ≡ b → is_in_last n s.log.epochs ≡ d → ended_by (closes_any (on n f) s.log) n s.log.epochs ≡ ended_if (b && d) s.log.epochs
+  ends-as true d closed in_it = ap (λ x. ended_by x n s.log.epochs) closed ∙ (ap (λ x. ended_if x s.log.epochs) in_it ∙ ended_cases d)
+    where
+      ended_cases : (d : Bool) → ended_if d s.log.epochs ≡ ended_if (true && d) s.log.epochs
+      ended_cases true = refl
+      ended_cases false = refl
+  ends-as false d stays in_it = ap (λ x. ended_by x n s.log.epochs) stays
+
+  -- what the log answers, and its epochs then
+  ended-is : ended_by (closes_any (on n f) s.log) n s.log.epochs ≡ ended_if (epoch_is_over (with_completions h1)) s.log.epochs
+  ended-is =
+      ends-as (closes_any (on n f) s.log) (is_in_last n s.log.epochs) refl refl
+      ∙ ap (λ b. ended_if b s.log.epochs) (sym over-is)
+
+  -- an end whose last epoch is over stands
+  over-stood : epoch_is_over (with_completions h1) ≡ true → stands (outward h1) ≡ true
+  over-stood over = (and_parts (stands (outward h1)) _ over).0
+
+  -- the log's answer is the history's barrier
+  pub barrier-then : (changing n f s.log).0 ≡ barrier_of (with_completions h1)
+  barrier-then = ap (λ x. x.0) ended-is ∙ go (epoch_is_over (with_completions h1)) refl
+    where
+      go : (b : Bool) → epoch_is_over (with_completions h1) ≡ b → (ended_if b s.log.epochs).0 ≡ (if b then Some (last_epoch (outward h1).stream) else None)
+      go false on_still = refl
+      go true over =
+          let standing : stands (outward h) ≡ true = sym (stands-then s h h1 n f g k left homes last c) ∙ over-stood over in
+          let e = left.stream.on standing in
+          let more : s.log.epochs.ended + 1 ≡ suc (barriers_in (outward h).stream) = let x = e.ended in omega arith in
+          ap (λ m. Some m) (more ∙ ap (λ (x : List Item). suc (barriers_in x)) (sym (ap (λ (x : Outward). x.stream) c.last ∙ c.stream)))
+
+  -- The log's epochs are left, with the barrier.
+  pub stream-then : LeavesStream (changing n f s.log).1 (parted (with_completions h1))
+  stream-then = go (epoch_is_over (with_completions h1)) refl (ap (λ x. x.1) ended-is)
+    where
+      -- the epochs before a barrier
+      before : (l : LogState) → l.protocol ≡ s.log.protocol → l.confirmed ≡ s.log.confirmed → l.accepted ≡ s.log.accepted → l.epochs ≡ s.log.epochs → stands (outward h) ≡ true → LeavesEpochs l (outward h1)
+      before l protocol confirmed accepted epochs standing =
+          subst (LeavesEpochs l) (sym c.last)
+          (epochs-same s.log l (outward h) (k (outward h)) (left.stream.on standing) c.stream c.acknowledged c.answered protocol confirmed accepted epochs)
+
+      stood : stands (outward h1) ≡ true → stands (outward h) ≡ true
+      stood so = sym (stands-then s h h1 n f g k left homes last c) ∙ so
+
+      index : last_index h1.connections ≡ last_index h.connections
+      index = ap (λ (cs : List Outward). length cs - 1) c.connections ∙ ap (λ m. m - 1) (length-change k h.connections)
+
+      -- a write behind the confirmed ones has its place
+      here : stands (outward h) ≡ true → (i : ℕ) (a : Accepted) → slice_get h1.writes i ≡ Some a → s.log.confirmed < a.write.number → (place : ℕ) × (a.home ≡ Some (last_index h.connections, place))
+      here standing i a at behind =
+          let of = pick-image g h.writes i a (subst (λ (ws : List Accepted). slice_get ws i ≡ Some a) c.writes at) in
+          let number : of.0.write.number ≡ a.write.number = ap (λ (w : Write). w.number) (sym (c.write of.0)) ∙ ap (λ (x : Accepted). x.write.number) of.2 in
+          let place = left.stream.here standing i of.0 of.1 (omega arith) in
+          (place.0, ap (λ (x : Accepted). x.home) (sym of.2) ∙ (c.home of.0 ∙ place.1))
+
+      go : (b : Bool) → epoch_is_over (with_completions h1) ≡ b → (changing n f s.log).1.epochs ≡ (ended_if b s.log.epochs).1
+          → LeavesStream (changing n f s.log).1 (elim b as (λ _. PrimaryHistory) [ true ↦ appending (BarrierItem (last_epoch (outward (with_completions h1)).stream)) (with_completions h1) | false ↦ with_completions h1 ])
+      go false still epochs = record {
+        max_epoch = ap (λ (x : EpochsState). x.max_epoch) epochs ∙ (left.stream.max_epoch ∙ ap (λ (x : Settings). x.max_epoch) (sym c.settings));
+        on = λ so. before (changing n f s.log).1 refl refl refl epochs (stood so);
+        here = λ so i a at behind. let place = here (stood so) i a at behind in (place.0, place.1 ∙ ap (λ m. Some (m, place.0)) (sym index));
+        off = λ none. epochs ∙ (left.stream.off (sym (stands-then s h h1 n f g k left homes last c) ∙ none) ∙ ap (λ (x : Settings). empty x.max_epoch) (sym c.settings));
+      }
+      go true over epochs = record {
+        max_epoch = ap (λ (x : EpochsState). x.max_epoch) epochs ∙ (left.stream.max_epoch ∙ ap (λ (x : Settings). x.max_epoch) (sym c.settings));
+        on = λ so. epochs-barrier s.log (changing n f s.log).1 (outward h1) (outward (appending (BarrierItem (last_epoch (outward h1).stream)) (with_completions h1))) (BarrierItem (last_epoch (outward h1).stream))
+            (before s.log refl refl refl refl standing) (subst (SeesSame (outward h1)) (sym out) (record { closed = refl; pushed = refl; taken = refl; refused = refl })) (ap (λ (x : Outward). x.stream) out) refl refl refl refl
+            (ap (λ (x : List Item). items_of_epoch x (last_epoch x)) (ap (λ (x : Outward). x.stream) out) ∙ barrier-empties (outward h1).stream (last_epoch (outward h1).stream)) refl epochs few;
+        here = λ so i a at behind.
+            let place = here standing i a at behind in
+            (place.0, place.1 ∙ ap (λ m. Some (m, place.0)) (sym (ap (λ m. m - 1) (length-change (λ (x : Outward). record x { stream = x.stream ++ BarrierItem (last_epoch (outward h1).stream) ∷ [] }) h1.connections) ∙ index)));
+        off = λ none. absurd (both_ways (stands (outward (appending (BarrierItem (last_epoch (outward h1).stream)) (with_completions h1)))) none (ap stands out ∙ over-stood over));
+      }
+        where
+          standing : stands (outward h) ≡ true
+          standing = stood (over-stood over)
+
+          out : outward (appending (BarrierItem (last_epoch (outward h1).stream)) (with_completions h1)) ≡ record (outward h1) { stream = (outward h1).stream ++ BarrierItem (last_epoch (outward h1).stream) ∷ [] }
+          out = last-changed (with_completions h1) (λ (x : Outward). record x { stream = x.stream ++ BarrierItem (last_epoch (outward h1).stream) ∷ [] }) (no_outward h1.tuple) (stands-parts (outward h1) (over-stood over)).0
+
+          few : (place : ℕ) (write : Write) → slice_get (outward h1).stream place ≡ Some (WriteItem write) → write.number ≤ s.log.accepted
+          few place write at =
+              let ended_at : slice_get h.connections (last_index h.connections) ≡ Some (outward h) = open-at h (stands-parts (outward h) standing).0 in
+              let found = homes.homed (last_index h.connections) place (outward h) write ended_at (subst (λ (x : List Item). slice_get x place ≡ Some (WriteItem write)) (ap (λ (x : Outward). x.stream) c.last ∙ c.stream) at) in
+              let number = homes.numbered found.0 found.1 found.2 in
+              let same : found.1.write.number ≡ write.number = ap (λ (w : Write). w.number) found.3 in
+              let within = slice_get_within h.writes found.0 found.1 found.2 in
+              let all = left.rest.log.accepted in
+              omega arith
