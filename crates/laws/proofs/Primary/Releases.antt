@@ -218,21 +218,16 @@ at-home h i a homes last at released connected = by-home a.home refl
           confirmed = subst (λ (c : Outward). barrier_acknowledged c (epoch_of c.stream home.1) ≡ true) ends.1 (sym (confirmed-at h a home was.0 is was.1) ∙ confirmed);
         }
 
+-- the write that clears a block is released by the step
+pub record IsClearing (h later : PrimaryHistory) (block : ℕ) : Type 0 where
+  pub cleared : IsCleared later block
+  pub new : IsNew h later cleared.index cleared.accepted
+
 -- What such a step clears is so.
-pub release-clears : (settings : Settings) (h later : PrimaryHistory) (block : ℕ) → Ordered settings h → HasHomes later → IsLastOpen later → IsRelease h later → is_cleared h later block ≡ true → IsCleared later block
-release-clears settings h later block p homes shut release cleared = record {
-  index = i;
-  accepted = a;
-  place = home.place;
-  at = at;
-  covered = covered;
-  done = parts.1.0;
-  home = home.home;
-  connected = home.connected;
-  standing = home.standing;
-  there = home.there;
-  confirmed = home.confirmed;
-  last = λ j b after atb. elim (cases_Bool (covers b.write block)) [ inr apart ↦ apart | inl its ↦ absurd (release.apart i j block a b after new (newer j b after atb its) covered its) ];
+pub release-clearing : (settings : Settings) (h later : PrimaryHistory) (block : ℕ) → Ordered settings h → HasHomes later → IsLastOpen later → IsRelease h later → is_cleared h later block ≡ true → IsClearing h later block
+release-clearing settings h later block p homes shut release cleared = record {
+  cleared = so;
+  new = new;
 }
   where
     clears : Accepted → Bool
@@ -306,3 +301,22 @@ release-clears settings h later block p homes shut release cleared = record {
             both_ways (is_released h before.0) before.2 (released-in-order settings h p i j block before.0 x after before.1 atx (subst (λ (w : Write). covers w block ≡ true) before.3 covered) (subst (λ (w : Write). covers w block ≡ true) same its) was))
       ];
     }
+
+    so : IsCleared later block
+    so = record {
+      index = i;
+      accepted = a;
+      place = home.place;
+      at = at;
+      covered = covered;
+      done = parts.1.0;
+      home = home.home;
+      connected = home.connected;
+      standing = home.standing;
+      there = home.there;
+      confirmed = home.confirmed;
+      last = λ j b after atb. elim (cases_Bool (covers b.write block)) [ inr apart ↦ apart | inl its ↦ absurd (release.apart i j block a b after new (newer j b after atb its) covered its) ];
+    }
+
+pub release-clears : (settings : Settings) (h later : PrimaryHistory) (block : ℕ) → Ordered settings h → HasHomes later → IsLastOpen later → IsRelease h later → is_cleared h later block ≡ true → IsCleared later block
+release-clears settings h later block p homes shut release cleared = (release-clearing settings h later block p homes shut release cleared).cleared
