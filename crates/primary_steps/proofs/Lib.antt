@@ -7,6 +7,7 @@ pub mod Epochs
 pub mod Filters
 pub mod Following
 pub mod Freeing
+pub mod Marks
 pub mod Numbers
 pub mod Parting
 pub mod Releasing
