@@ -40,8 +40,8 @@ pub record IsChange (h h1 : PrimaryHistory) (n : ℕ) (f : LogWrite → LogWrite
   pub logged : (i : ℕ) (a : Accepted) → slice_get h.writes i ≡ Some a → logged_of h1 (g a) ≡ on n f (logged_of h a)
   pub alone : (i : ℕ) (a : Accepted) → slice_get h.writes i ≡ Some a → is_alone h1 (g a) ≡ is_alone h a
   pub confirmed : (i : ℕ) (a : Accepted) → slice_get h.writes i ≡ Some a → is_confirmed h1 (g a) ≡ is_confirmed h a
-  pub settled : (a : Accepted) → is_waiting a.outcome ≡ false → is_waiting (g a).outcome ≡ false
-  pub failed : (a : Accepted) → is_failed a.outcome ≡ true → is_failed (g a).outcome ≡ true
+  pub settled : (i : ℕ) (a : Accepted) → slice_get h.writes i ≡ Some a → is_waiting a.outcome ≡ false → is_waiting (g a).outcome ≡ false
+  pub failed : (i : ℕ) (a : Accepted) → slice_get h.writes i ≡ Some a → is_failed a.outcome ≡ true → is_failed (g a).outcome ≡ true
   pub completed : (i : ℕ) (a : Accepted) → slice_get h.writes i ≡ Some a → completes h a ≡ true → completes h1 (g a) ≡ true
   pub stream : (k (outward h)).stream ≡ (outward h).stream
   pub closed : (k (outward h)).closed ≡ (outward h).closed
@@ -91,7 +91,7 @@ module _ (s : PrimaryState) (h h1 : PrimaryHistory) (n : ℕ) (f : LogWrite → 
   released-stays i a at is =
       let parts = and_parts (not (is_waiting a.outcome)) (is_confirmed h a || is_alone h a) is in
       let told : (is_confirmed h1 (g a) || is_alone h1 (g a)) ≡ true = (λ j. c.confirmed i a at j || c.alone i a at j) ∙ parts.1 in
-      let settled : is_waiting (g a).outcome ≡ false = c.settled a (not-true (is_waiting a.outcome) parts.0) in
+      let settled : is_waiting (g a).outcome ≡ false = c.settled i a at (not-true (is_waiting a.outcome) parts.0) in
       λ j. not (settled j) && told j
 
   -- which writes are left
@@ -154,7 +154,7 @@ module _ (s : PrimaryState) (h h1 : PrimaryHistory) (n : ℕ) (f : LogWrite → 
           unfailed = completes-not-failed h1 (g a) is
 
           unfailed-was : is_failed a.outcome ≡ false
-          unfailed-was = false_from_ne_true (is_failed a.outcome) (λ did. both_ways (is_failed (g a).outcome) unfailed (c.failed a did))
+          unfailed-was = false_from_ne_true (is_failed a.outcome) (λ did. both_ways (is_failed (g a).outcome) unfailed (c.failed i a at did))
 
           open-is : is_open h1 (g a) ≡ not (completes h a)
           open-is =

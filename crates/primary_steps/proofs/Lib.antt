@@ -1,5 +1,6 @@
 pub mod Activity
 pub mod Appending
+pub mod Changed
 pub mod Changing
 pub mod Completing
 pub mod Connections
