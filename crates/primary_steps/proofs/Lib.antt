@@ -8,9 +8,11 @@ pub mod Epochs
 pub mod Filters
 pub mod Following
 pub mod Freeing
+pub mod Known
 pub mod Marks
 pub mod Numbers
 pub mod Parting
 pub mod Releasing
+pub mod Reporting
 pub mod Seen
 pub mod Telling

@@ -21,7 +21,12 @@ use Rattle.primary_steps.specs.Transitions.{entry_at, told, is_given, take_compl
 use Rattle.primary_steps.specs.Transitions as core
 use Rattle.primary_steps.proofs.Numbers.{AreNumberedFrom, numbered-rest, numbered-first, find-number, find-none, any-number, get-map, with-entry-map, any-some}
 use Rattle.primary_steps.specs.Leaves.{fate_in, fate_of, entry_of, LeavesEntries}
-use Rattle.primary_steps.specs.Steps.{SameAnswer, TellsReceipt}
+use Rattle.primary_steps.specs.Steps.{SameAnswer}
+
+-- The transition tells what the model's step tells, and leaves its entries.
+pub record TellsEntries (number : ℕ) (s : PrimaryState) (h : PrimaryHistory) : Type 0 where
+  pub answer : SameAnswer number (take_completed number s).0 (model.take_completed number h).0
+  pub leaves : LeavesEntries (take_completed number s).1 (model.take_completed number h).1
 
 -- What is known of a history: writes are numbered by their places, a completed write is on the local disk, and the journal
 -- has accepted writes.
@@ -131,7 +136,7 @@ module _ (h : PrimaryHistory) (known : IsNumbered h) (n : ℕ) (a : Accepted) (a
       ((ap (λ (w : Write). w.number) same ∙ number-is, ap (λ (w : Write). w.first) (sym same), ap (λ (w : Write). length w.contents) (sym same), refl), receipted-left)
 
   -- the receipt of a write that is there
-  tells-there : TellsReceipt (suc n) s h
+  tells-there : TellsEntries (suc n) s h
   tells-there =
       let given : Bool = list_any (λ taken. taken == suc n) h.receipts in
       let found : Option Completion = find (λ (entry : Completion). entry.write.number == a.write.number) h.journal in
@@ -147,7 +152,7 @@ module _ (h : PrimaryHistory) (known : IsNumbered h) (n : ℕ) (a : Accepted) (a
       record { answer = both.0; leaves = both.1 }
 
 -- a number that no write has is refused
-tells-none : (h : PrimaryHistory) (number : ℕ) (s : PrimaryState) → LeavesEntries s h → accepted_at h number ≡ None → entry_at number s ≡ None → TellsReceipt number s h
+tells-none : (h : PrimaryHistory) (number : ℕ) (s : PrimaryState) → LeavesEntries s h → accepted_at h number ≡ None → entry_at number s ≡ None → TellsEntries number s h
 tells-none h number s left none nothing =
     let tests : model.take_completed_tests h number ≡ (true, UnknownJob) ∷ (list_any (λ (x : Accepted). (x.write.number == number) && is_open h x) h.writes, NotCompleted) ∷ [] =
     ap (λ (v : Option Accepted). (is_none v || list_any (λ taken. taken == number) h.receipts, UnknownJob) ∷ (list_any (λ (x : Accepted). (x.write.number == number) && is_open h x) h.writes, NotCompleted) ∷ []) none in
@@ -162,14 +167,14 @@ tells-none h number s left none nothing =
     }
 
 -- a receipt is told as the journal has it
-pub tells : (h : PrimaryHistory) → IsNumbered h → (number : ℕ) (s : PrimaryState) → LeavesEntries s h → TellsReceipt number s h
+pub tells : (h : PrimaryHistory) → IsNumbered h → (number : ℕ) (s : PrimaryState) → LeavesEntries s h → TellsEntries number s h
 tells h known zero s left = tells-none h 0 s left (find-none 0 1 h.writes (λ i accepted there. known.numbered i accepted there ∙ omega arith) (omega arith)) refl
 tells h known (suc n) s left = by-place (slice_get h.writes n) refl
   where
     from-first : AreNumberedFrom 1 h.writes
     from-first i accepted there = known.numbered i accepted there ∙ omega arith
 
-    by-place : (v : Option Accepted) → slice_get h.writes n ≡ v → TellsReceipt (suc n) s h
+    by-place : (v : Option Accepted) → slice_get h.writes n ≡ v → TellsEntries (suc n) s h
     by-place (Some a) at = tells-there h known n a at s left
     by-place None none = tells-none h (suc n) s left
         (ap (λ (m : ℕ). find (λ (x : Accepted). x.write.number == m) h.writes) (omega arith) ∙ (find-number 1 n h.writes from-first ∙ none))

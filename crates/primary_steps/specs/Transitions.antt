@@ -3,7 +3,7 @@ use Rattle.std.specs.Prelude.{ℕ, zero, suc, ◌-◌, ◌*◌, ◌/◌, nat_lt,
 use Rattle.std.specs.List.{list_any}
 use Rattle.blocks.specs.declared.tuple.Tuple.{Tuple}
 use Rattle.blocks.specs.declared.refusal.Refusal.{Refusal}
-use Rattle.blocks.specs.declared.refusal.Refusal.TheVariants.{BadRange, Conflict, LogFull, ActivityFull, JournalFull, StreamFull, NoMemory, LocalFault, NotCompleted, NothingToDo, LinkFull, NotConnected, NothingThere, UnknownJob, UsedIdentifier, NotDrained}
+use Rattle.blocks.specs.declared.refusal.Refusal.TheVariants.{BadRange, Conflict, LogFull, ActivityFull, JournalFull, StreamFull, NoMemory, LocalFault, NotCompleted, NothingToDo, LinkFull, NotConnected, NothingThere, ReadFault, UnknownJob, UsedIdentifier, NotDrained}
 use Rattle.blocks.specs.declared.outcome.Done.{Done}
 use Rattle.blocks.specs.declared.outcome.What.{What}
 use Rattle.blocks.specs.declared.outcome.What.TheVariants as what
@@ -238,4 +238,11 @@ resync_next disk starved s = elim s.end [
     | None ↦ (Err NothingToDo, s)
     | Some block ↦ let after = copying block (disk block) e s in (Ok after.0, after.1)
   ])
+]
+
+-- the local disk fails the read: nothing changes
+abbrev pub resync_fault : Bool → PrimaryState → Result Done Refusal × PrimaryState
+resync_fault starved s = elim s.end [
+  | None ↦ (Err NotConnected, s)
+  | Some e ↦ tested s (resync_tests starved e s) (λ _. (Err ReadFault, s))
 ]

@@ -1,7 +1,6 @@
 //! A primary's state in plain values, and its transitions. It has no code of a node.
 #![tactic(auto)]
 
-ghost use Rattle.primary_steps.specs.Steps.{ReceiptsAgree};
 ghost use Rattle.primary_steps.specs.Rows.{Synchronous, Asynchronous, Lost, Resynced, AmongWrites, Cleared, RefusedHello};
 
 /// Writes over a standing connection under each protocol, and a lost link: what the transitions answer, where the frames
@@ -22,10 +21,4 @@ pub fn resyncs()
 /// Hellos that are refused.
 pub fn hellos()
     ensures refused { RefusedHello }
-{}
-
-/// The transition by which a caller takes a receipt is the model's step: at any moment of any run, it is told what the
-/// journal has of its write, once; or the same refusal.
-pub fn receipts()
-    ensures { ReceiptsAgree }
 {}
