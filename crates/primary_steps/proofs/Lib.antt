@@ -16,3 +16,4 @@ pub mod Releasing
 pub mod Reporting
 pub mod Seen
 pub mod Telling
+pub mod Steps

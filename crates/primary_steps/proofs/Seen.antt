@@ -2,7 +2,7 @@
 use Rattle.std.proofs.Common.{ℕ, zero, suc, ◌≡◌, Bool, true, false, not, ◌&&◌, ◌||◌, List, length, Option, Some, None, slice_get, refl, sym, ◌∙◌, ap, nat_le, subst}
 use Rattle.std.proofs.lemmas.Bool.{both_ways, and_parts}
 use Rattle.model.specs.Primary as history
-use Rattle.model.specs.Primary.{LocalOutcome, Waiting, OnDisk, Failed, Accepted, Outward, PrimaryHistory, is_answered, is_alone, completes, is_failed, is_on_disk, is_completed, is_open}
+use Rattle.model.specs.Primary.{LocalOutcome, Waiting, OnDisk, Failed, Accepted, Outward, PrimaryHistory, is_answered, is_alone, completes, is_failed, is_on_disk, is_confirmed, is_released}
 use Rattle.transferlog.specs.declared.local.Local.{Local}
 use Rattle.transferlog.specs.Writes as log
 use Rattle.transferlog.specs.Writes.{LogWrite}
@@ -51,3 +51,7 @@ waiting-seen h a = ap not (settled-seen a.outcome) ∙ not-not (history.is_waiti
 -- what completes did not fail
 pub completes-not-failed : (h : PrimaryHistory) (a : Accepted) → completes h a ≡ true → is_failed a.outcome ≡ false
 completes-not-failed h a done = disk-not-failed a.outcome (and_parts (is_on_disk a.outcome) (is_answered h a || is_alone h a) done).0
+
+-- what waits for the local disk is not released
+pub waiting-not-released : (h : PrimaryHistory) (a : Accepted) → history.is_waiting a.outcome ≡ true → is_released h a ≡ false
+waiting-not-released h a waits = ap (λ b. not b && (is_confirmed h a || is_alone h a)) waits
