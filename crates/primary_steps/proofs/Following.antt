@@ -100,13 +100,13 @@ runs-more c d item stream on no_start no_end =
     λ i. on i && (((ap (list_any is_sync_start) stream ∙ (list_any-append is_sync_start c.stream (item ∷ []) ∙ (ap (λ b. list_any is_sync_start c.stream || (b || false)) no_start ∙ or-false (list_any is_sync_start c.stream)))) i)
     && not ((ap (list_any is_sync_end) stream ∙ (list_any-append is_sync_end c.stream (item ∷ []) ∙ (ap (λ b. list_any is_sync_end c.stream || (b || false)) no_end ∙ or-false (list_any is_sync_end c.stream)))) i))
 
-ends-with : (d : Outward) (items : List Item) (item : Item) → d.stream ≡ items ++ item ∷ [] → is_sync_end item ≡ true → resync_runs d ≡ false
+pub ends-with : (d : Outward) (items : List Item) (item : Item) → d.stream ≡ items ++ item ∷ [] → is_sync_end item ≡ true → resync_runs d ≡ false
 ends-with d items item stream ends =
     ap (λ b. stands d && (list_any is_sync_start d.stream && not b)) (ap (list_any is_sync_end) stream ∙ (list_any-append is_sync_end items (item ∷ []) ∙ (ap (λ b. list_any is_sync_end items || (b || false)) ends ∙ or-true (list_any is_sync_end items))))
     ∙ (ap (λ b. stands d && b) (and-false (list_any is_sync_start d.stream)) ∙ and-false (stands d))
 
 -- a resync that is over runs on a stream that stands
-over-stands : (p : PrimaryHistory) → resync_is_over p ≡ true → stands (outward p) ≡ true
+pub over-stands : (p : PrimaryHistory) → resync_is_over p ≡ true → stands (outward p) ≡ true
 over-stands p over = go (resync_runs (outward p)) refl over
   where
     go : (b : Bool) → resync_runs (outward p) ≡ b → elim b as (λ _. Bool) [ false ↦ false | true ↦ (length (marked_blocks p) == 0) && (length (under_way (outward p)) == 0) ] ≡ true → stands (outward p) ≡ true
@@ -145,7 +145,7 @@ over-same t p marks end = go t.end end
         cases false = refl
 
 -- the last connection, whatever the tuple is
-outward-other : (p : PrimaryHistory) (tuple : Tuple) → (outward p).closed ≡ false → outward (record p { tuple = tuple }) ≡ outward p
+pub outward-other : (p : PrimaryHistory) (tuple : Tuple) → (outward p).closed ≡ false → outward (record p { tuple = tuple }) ≡ outward p
 outward-other p tuple standing = go p.connections standing
   where
     go : (cs : List Outward) → (last_of (no_outward p.tuple) cs).closed ≡ false → last_of (no_outward tuple) cs ≡ last_of (no_outward p.tuple) cs

@@ -14,6 +14,7 @@ pub mod Numbers
 pub mod Parting
 pub mod Releasing
 pub mod Reporting
+pub mod Resting
 pub mod Seen
 pub mod Telling
 pub mod Steps
