@@ -1,16 +1,17 @@
 -- Between steps no resync is over, and a step that completes nothing is followed by nothing.
-use Rattle.std.proofs.Common.{ℕ, ◌≡◌, Bool, true, false, not, ◌&&◌, List, [], ◌∷◌, ◌++◌, length, map, filter, Option, Some, None, slice_get, refl, sym, ◌∙◌, ap, subst, ◌==◌}
+use Rattle.std.proofs.Common.{ℕ, ◌≡◌, Bool, true, false, not, ◌&&◌, List, [], ◌∷◌, ◌++◌, length, map, filter, Option, Some, None, slice_get, refl, sym, ◌∙◌, ap, subst, ◌==◌, ◌||◌, nat_le}
 use Rattle.std.specs.Prelude.{if◌then◌else◌}
+use Rattle.std.specs.List.{list_any}
 use Rattle.std.proofs.lemmas.Bool.{both_ways, and_parts, not-true}
 use Rattle.blocks.specs.declared.outcome.What.{What}
 use Rattle.blocks.specs.declared.outcome.Reply.{Reply}
 use Rattle.blocks.specs.declared.outcome.Reply.TheVariants as reply
 use Rattle.blocks.specs.SettingsRange.{IsInRange}
 use Rattle.model.specs.Refusals.{done_with}
-use Rattle.model.specs.Stream.{Item, BarrierItem, UuidsItem, last_epoch}
+use Rattle.model.specs.Stream.{Item, BarrierItem, UuidsItem, last_epoch, epoch_size, items_of_epoch}
 use Rattle.model.specs.Identifiers.{sync_end}
-use Rattle.model.specs.Primary.{Accepted, Completion, Outward, PrimaryHistory, no_outward, outward, stands, is_failed, is_completed, is_open, completes, resync_runs, under_way, marked_blocks}
-use Rattle.model.specs.PrimarySteps.{Followed, completion_of, newly_completed, with_completions, epoch_is_over, appending, resync_is_over, ending_resync, follows, succeeding}
+use Rattle.model.specs.Primary.{Accepted, Completion, Outward, PrimaryHistory, no_outward, outward, stands, is_failed, is_completed, is_open, completes, in_resync, resync_runs, under_way, marked_blocks}
+use Rattle.model.specs.PrimarySteps.{Followed, completion_of, newly_completed, with_completions, is_settled, epoch_is_over, appending, resync_is_over, ending_resync, follows, succeeding}
 use Rattle.model.specs.LocalRuns.{PrimaryEvent, primary_run}
 use Rattle.laws.proofs.Primary.Ends.{stands-parts}
 use Rattle.laws.proofs.Primary.LawfulMoves.{last-changed}
@@ -73,6 +74,13 @@ resting-kept = record {
 -- so between steps no resync is over
 pub reached-rests : (h : PrimaryHistory) → IsReached h → IsResting h
 reached-rests h r = subst IsResting r.is (keeps-run IsResting (λ h. Unit {0}) resting-kept (record { writes = λ h number waiting p q. tt; confirms = λ h number size standing begun turn p q. tt }) r.events _ refl)
+
+-- Where no stream stands, no epoch is over, and no resync.
+pub down-on : (h : PrimaryHistory) → stands (outward h) ≡ false → epoch_is_over h ≡ false
+down-on h none = ap (λ b. b && (list_any (is_settled h (outward h)) (items_of_epoch (outward h).stream (last_epoch (outward h).stream)) || nat_le h.settings.max_epoch (epoch_size (outward h).stream (last_epoch (outward h).stream)))) none
+
+pub down-rests : (h : PrimaryHistory) → stands (outward h) ≡ false → resync_is_over h ≡ false
+down-rests h none = not-running h (ap (λ b. b && in_resync (outward h).stream) none)
 
 -- Nothing to follow.
 
