@@ -11,6 +11,7 @@ pub mod Freeing
 pub mod Known
 pub mod Marks
 pub mod Numbers
+pub mod Owing
 pub mod Parting
 pub mod Releasing
 pub mod Reporting

@@ -2,3 +2,4 @@ pub mod Fault
 pub mod Local
 pub mod Opens
 pub mod Receipts
+pub mod Send
