@@ -10,6 +10,7 @@ pub mod Following
 pub mod Freeing
 pub mod Known
 pub mod Marks
+pub mod Moving
 pub mod Numbers
 pub mod Owing
 pub mod Parting
