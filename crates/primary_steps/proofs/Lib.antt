@@ -2,6 +2,7 @@ pub mod Activity
 pub mod Appending
 pub mod Changed
 pub mod Changing
+pub mod Closing
 pub mod Completing
 pub mod Connections
 pub mod Epochs
