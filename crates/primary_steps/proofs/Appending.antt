@@ -120,7 +120,7 @@ module _ (t : PrimaryState) (g : PrimaryHistory) (item : Item) (left : LeavesRes
       writes = left.log.writes ∙ sym (ap (map (logged_of (appending item g))) unreleased-more ∙ map-at (logged_of (appending item g)) (logged_of g) (unreleased g) (λ i a at. seen a));
       latest = left.log.latest;
     };
-    entries = record { entries = left.entries.entries };
+    entries = record { entries = left.entries.entries; receipts = left.entries.receipts };
     marks = left.marks;
     held = left.held ∙ λ i. map holding_item (if stands (sym outward-more i) then ways i else []) ++ map holding_write (open_writes g);
     activity = subst (LeavesActivity t.activity g.settings.slots) (sym unreleased-more) left.activity;

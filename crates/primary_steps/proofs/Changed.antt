@@ -1,8 +1,8 @@
 -- Something happened to one write: what that leaves, before what follows.
-use Rattle.std.proofs.Common.{ℕ, zero, suc, ◌≡◌, Bool, true, false, not, ◌&&◌, ◌||◌, List, [], ◌∷◌, ◌++◌, length, map, filter, Option, Some, None, slice_get, refl, sym, ◌∙◌, ap, subst, ◌==◌}
+use Rattle.std.proofs.Common.{ℕ, zero, suc, ◌≡◌, ◌≤◌, arith, Bool, true, false, not, ◌&&◌, ◌||◌, List, [], ◌∷◌, ◌++◌, length, map, filter, Option, Some, None, slice_get, refl, sym, ◌∙◌, ap, subst, ◌==◌}
 use Rattle.std.specs.Prelude.{find, if◌then◌else◌, option_map}
 use Rattle.std.specs.List.{list_any}
-use Rattle.std.proofs.lemmas.Option.{slice_get-map}
+use Rattle.std.proofs.lemmas.List.{length-map}
 use Rattle.blocks.specs.declared.settings.Settings.{Settings}
 use Rattle.model.specs.Contents.{Write}
 use Rattle.model.specs.Stream.{Item, placed}
@@ -75,10 +75,10 @@ module _ (s : PrimaryState) (h h1 : PrimaryHistory) (n : ℕ) (f : LogWrite → 
           holding_write_of w = record { number = w.number; first = w.first; count = length w.contents }
 
   -- All is there for what follows.
-  pub change-due : (entries : List Entry) (held : List Holding) (marks : List Bool) (end : Option EndState) → h1.tuple ≡ h.tuple → h1.peer ≡ h.peer
+  pub change-due : (entries : List Entry) (held : List Holding) (marks : List Bool) (end : Option EndState) → h1.tuple ≡ h.tuple → h1.peer ≡ h.peer → h1.receipts ≡ h.receipts
       → entries ≡ map (entry_of h1) h1.writes → held ≡ held_of h1 → unmarking (changing n f s.log).1.released (changing n f s.log).1.latest marks ≡ marks_in h1.settings.blocks h1.marks → EndLeft end (outward h1)
       → IsDue (record s { log = (changing n f s.log).1; entries = entries; held = held; marks = marks; end = end }) (changing n f s.log).0 h1
-  change-due entries held marks end tuple peer entries_are held_is marks_are end_left = record {
+  change-due entries held marks end tuple peer receipts entries_are held_is marks_are end_left = record {
     homes = homes1;
     done = done-then;
     settings = left.rest.settings ∙ sym c.settings;
@@ -90,6 +90,7 @@ module _ (s : PrimaryState) (h h1 : PrimaryHistory) (n : ℕ) (f : LogWrite → 
     barrier_is = barrier-then s h h1 n f g k left homes last quiet homes1 done-then c;
     stream = stream-then s h h1 n f g k left homes last quiet homes1 done-then c;
     entries = entries_are;
+    receipts = λ i number at. let few = left.rest.entries.receipts i number (subst (λ (r : List ℕ). slice_get r i ≡ Some number) receipts at) in let size : length h1.writes ≡ length h.writes = ap length c.writes ∙ length-map h.writes g in omega arith;
     held = held_is;
     marks = marks_are;
     activity = activity-then s h h1 n f g k left homes last c;

@@ -243,6 +243,7 @@ module _ (s : PrimaryState) (h h1 : PrimaryHistory) (k : Outward → Outward) (e
     barrier_is = sym (ap (λ b. if b then Some (last_epoch (outward h1).stream) else None) (down-on (with_completions h1) down));
     stream = drained-stream;
     entries = entries-are;
+    receipts = λ i number at. subst (λ (ws : List Accepted). number ≤ length ws) (sym c.writes) (left.rest.entries.receipts i number (subst (λ (r : List ℕ). slice_get r i ≡ Some number) c.receipts at));
     held = held-is;
     marks = marks-are;
     activity = moved-activity s h h1 writes.unlinking (λ a. a) s.log.confirmed left homes last closed-moved;

@@ -1,5 +1,5 @@
 -- What follows a step's effect: the journal, then the barrier, then the end of a resync.
-use Rattle.std.proofs.Common.{ℕ, zero, suc, ◌≡◌, ◌+◌, ◌-◌, inl, inr, Bool, true, false, not, ◌&&◌, ◌||◌, List, [], ◌∷◌, ◌++◌, length, map, filter, Option, Some, None, slice_get, Ok, refl, sym, ◌∙◌, ap, subst, arith, nat_lt, nat_le, ◌==◌}
+use Rattle.std.proofs.Common.{ℕ, zero, suc, ◌≡◌, ◌+◌, ◌-◌, ◌≤◌, inl, inr, Bool, true, false, not, ◌&&◌, ◌||◌, List, [], ◌∷◌, ◌++◌, length, map, filter, Option, Some, None, slice_get, Ok, refl, sym, ◌∙◌, ap, subst, arith, nat_lt, nat_le, ◌==◌}
 use Rattle.std.specs.Prelude.{option_map, is_none, if◌then◌else◌, min}
 use Rattle.std.specs.List.{list_any}
 use Rattle.std.proofs.lemmas.Bool.{both_ways, and_parts}
@@ -55,6 +55,7 @@ pub record IsDue (s : PrimaryState) (barrier : Option ℕ) (h : PrimaryHistory) 
   pub barrier_is : barrier ≡ barrier_of (with_completions h)
   pub stream : LeavesStream s.log (parted (with_completions h))
   pub entries : s.entries ≡ map (entry_of h) h.writes
+  pub receipts : (i number : ℕ) → slice_get h.receipts i ≡ Some number → number ≤ length h.writes
   pub held : s.held ≡ held_of h
   pub marks : unmarking s.log.released s.log.latest s.marks ≡ marks_in h.settings.blocks h.marks
   pub activity : LeavesActivity (leaving s.log.released s.activity) h.settings.slots (unreleased h)
@@ -167,7 +168,7 @@ module _ (s : PrimaryState) (barrier : Option ℕ) (h : PrimaryHistory) (due : I
     peer = due.peer;
     connections = due.connections;
     log = record { protocol = due.log.protocol; backlog = due.log.backlog; accepted = due.log.accepted; connection = due.log.connection; writes = due.log.writes; latest = due.log.latest };
-    entries = record { entries = (λ i. entering (due.completed i) (due.entries i)) ∙ entries-completed h may };
+    entries = record { entries = (λ i. entering (due.completed i) (due.entries i)) ∙ entries-completed h may; receipts = due.receipts };
     marks = due.marks;
     held = (λ i. freeing (due.completed i) (due.held i)) ∙ held-completed h may;
     activity = due.activity;
@@ -259,7 +260,7 @@ module _ (s : PrimaryState) (barrier : Option ℕ) (h : PrimaryHistory) (due : I
           writes = rest-parted.log.writes;
           latest = rest-parted.log.latest;
         };
-        entries = record { entries = rest-parted.entries.entries };
+        entries = record { entries = rest-parted.entries.entries; receipts = rest-parted.entries.receipts };
         marks = rest-parted.marks;
         held = rest-parted.held ∙ sym (held-last (outward (record (parted (with_completions h)) { tuple = sync_end (parted (with_completions h)).tuple })) (outward (parted (with_completions h))) last);
         activity = rest-parted.activity;

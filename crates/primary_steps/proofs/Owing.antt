@@ -187,7 +187,7 @@ module _ (s : PrimaryState) (h : PrimaryHistory) (e f : EndState) (left : Leaves
             ∙ map-at (logged_of (with_outward pushing h)) (logged_of h) (unreleased h) (λ i a at. let there = pick-filtered (λ x. not (is_released h x)) h.writes i a at in seen there.0 a there.1));
         latest = left.rest.log.latest;
       };
-      entries = record { entries = left.rest.entries.entries };
+      entries = record { entries = left.rest.entries.entries; receipts = left.rest.entries.receipts };
       marks = left.rest.marks;
       held = left.rest.held ∙ sym (λ i. map holding_item (if stands (out i) then under_way (out i) else []) ++ map holding_write (open_writes h));
       activity = subst (LeavesActivity s.activity h.settings.slots) (sym unreleased-same) left.rest.activity;

@@ -1,5 +1,5 @@
 -- A receipt is told as the journal has it.
-use Rattle.std.proofs.Common.{ℕ, zero, suc, ◌≡◌, ◌+◌, ◌-◌, ◌<◌, Bool, true, false, cond, not, ◌&&◌, ◌||◌, List, [], ◌∷◌, ◌++◌, length, map, Option, Some, None, slice_get, Result, Ok, Err, refl, sym, ◌∙◌, ap, subst, arith, ◌==◌}
+use Rattle.std.proofs.Common.{ℕ, zero, suc, ◌≡◌, ◌+◌, ◌-◌, ◌<◌, ◌≤◌, ◌⊎◌, inl, inr, Bool, true, false, cond, not, ◌&&◌, ◌||◌, List, [], ◌∷◌, ◌++◌, length, map, Option, Some, None, slice_get, Result, Ok, Err, refl, sym, ◌∙◌, ap, subst, arith, ◌==◌}
 use Rattle.std.specs.Prelude.{find, is_some, is_none, option_map, if◌then◌else◌}
 use Rattle.std.specs.List.{list_any}
 use Rattle.std.proofs.lemmas.Bool.{both_ways, eqb-true, eq-eqb, or_right, false_from_ne_true}
@@ -12,7 +12,8 @@ use Rattle.model.specs.Refusals.{Test, first_refusal}
 use Rattle.model.specs.PrimarySteps as model
 use Rattle.model.specs.PrimarySteps.{accepted_at, receipted}
 use Rattle.laws.proofs.Lists.Picks.{pick-found}
-use Rattle.laws.proofs.Lists.Elements.{same-at}
+use Rattle.std.proofs.lemmas.Option.{slice_get_within}
+use Rattle.laws.proofs.Lists.Elements.{get-more, same-at}
 use Rattle.laws.proofs.Primary.Journal.{JournalIsAccepted}
 use Rattle.model.specs.Contents.{Write}
 use Rattle.model.specs.Primary as history
@@ -79,6 +80,10 @@ module _ (h : PrimaryHistory) (known : IsNumbered h) (n : ℕ) (a : Accepted) (a
   -- the entries once the receipt is taken
   receipted-left : LeavesEntries (core.receipted (suc n) s) (receipted (suc n) h)
   receipted-left = record {
+    receipts = λ i number there. elim (get-more h.receipts (suc n) i number there) [
+      | inl old ↦ left.receipts i number old
+      | inr new ↦ let within = slice_get_within h.writes n a at in let is = new.1 in omega arith
+    ];
     entries =
         ap (with_entry (suc n) (λ entry. record entry { taken = true })) left.entries
         ∙ with-entry-map (entry_of h) (entry_of (receipted (suc n) h)) (λ entry. record entry { taken = true }) 1 n h.writes from-one

@@ -40,9 +40,10 @@ entry_of h accepted = record {
   taken = list_any (λ number. number == accepted.write.number) h.receipts;
 }
 
--- the entries are those of the accepted writes
+-- the entries are those of the accepted writes, and receipts were taken of such alone
 pub record LeavesEntries (s : PrimaryState) (h : PrimaryHistory) : Type 0 where
   pub entries : s.entries ≡ map (entry_of h) h.writes
+  pub receipts : (i number : ℕ) → slice_get h.receipts i ≡ Some number → number ≤ length h.writes
 
 -- The transfer log.
 

@@ -209,7 +209,7 @@ module _ (settings : Settings) (bound : 0 < settings.max_epoch) (s : PrimaryStat
       (log.local_failed number s.log).0 (with_outcome number (Failed (within (length the.accepted.write.contents) offsets)) (record h { marks = marking the.accepted.write h.marks }))
   fault-due =
       change-due s h (with_outcome number (Failed (within (length the.accepted.write.contents) offsets)) (record h { marks = marking the.accepted.write h.marks })) number writes.failing (set_outcome number (Failed (within (length the.accepted.write.contents) offsets))) (λ c. c) left homes ordered.1.0 ordered.1.1.0.1.on after.1.1.0.0 fault-change
-      (with_entry number (λ entry. record entry { fate = core.Failed }) s.entries) (without number s.held) (bits.marking (is_between the.accepted.write.first (length the.accepted.write.contents)) s.marks) s.end refl refl entries-are held-is marks-are left.rest.end
+      (with_entry number (λ entry. record entry { fate = core.Failed }) s.entries) (without number s.held) (bits.marking (is_between the.accepted.write.first (length the.accepted.write.contents)) s.marks) s.end refl refl refl entries-are held-is marks-are left.rest.end
 
   pub fault-follows : Agrees reply.Ok (Ok (transition.logged what.Nothing (log.local_failed number s.log) (transition.failing number s)).0, (transition.logged what.Nothing (log.local_failed number s.log) (transition.failing number s)).1)
       (step.succeeding what.Nothing (faulted number offsets h))

@@ -177,7 +177,7 @@ module _ (settings : Settings) (bound : 0 < settings.max_epoch) (s : PrimaryStat
   pub done-due : IsDue (record s { log = (log.local_done number s.log).1 }) (log.local_done number s.log).0 (releasing h (with_outcome number OnDisk h))
   done-due =
       change-due s h (releasing h (with_outcome number OnDisk h)) number writes.storing (set_outcome number OnDisk) (λ c. c) left ordered.1.1.0.0 ordered.1.0 ordered.1.1.0.1.on after-releasing.1.1.0.0 done-change
-      s.entries s.held s.marks s.end refl refl
+      s.entries s.held s.marks s.end refl refl refl
       (entries-stay s h (releasing h (with_outcome number OnDisk h)) number writes.storing (set_outcome number OnDisk) (λ c. c) left ordered.1.1.0.0 ordered.1.0 ordered.1.1.0.1.on after-releasing.1.1.0.0 done-change unfailed refl)
       (held-stays s h (releasing h (with_outcome number OnDisk h)) number writes.storing (set_outcome number OnDisk) (λ c. c) left ordered.1.1.0.0 ordered.1.0 ordered.1.1.0.1.on after-releasing.1.1.0.0 done-change unfailed)
       (ap (bits_unmarking) left.rest.marks ∙ marks)

@@ -41,7 +41,7 @@ fresh-is settings disk tuple marks = record {
     peer = refl;
     connections = refl;
     log = record { protocol = refl; backlog = refl; accepted = refl; connection = refl; writes = refl; latest = zeros settings.blocks };
-    entries = record { entries = refl };
+    entries = record { entries = refl; receipts = λ i number at. absurd (cc) };
     marks = refl;
     held = refl;
     activity = record { limit = refl; counts = λ extent. refl; active = λ extent some. absurd (omega arith); once = tt; few = omega arith };
@@ -124,7 +124,7 @@ module _ (sync loss : ℕ) (s : PrimaryState) (h : PrimaryHistory) (left : Leave
             ∙ map-at (logged_of (step.opened h sync loss)) (logged_of h) (unreleased h) (λ i a at. let there = pick-filtered (λ x. not (is_released h x)) h.writes i a at in seen-more h new homes there.0 a there.1));
         latest = left.rest.log.latest;
       };
-      entries = record { entries = left.rest.entries.entries };
+      entries = record { entries = left.rest.entries.entries; receipts = left.rest.entries.receipts };
       marks = left.rest.marks;
       held = left.rest.held ∙ (ap (λ b. map holding_item (if b then under_way (outward h) else []) ++ map holding_write (open_writes h)) none-before ∙ sym (ap (λ b. map holding_item (if b then under_way (outward (step.opened h sync loss)) else []) ++ map holding_write (open_writes h)) none-after));
       activity = subst (LeavesActivity s.activity h.settings.slots) (sym (unreleased-more h new homes)) left.rest.activity;

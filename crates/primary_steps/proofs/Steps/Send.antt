@@ -306,7 +306,7 @@ module _ (settings : Settings) (bound : 0 < settings.max_epoch) (s : PrimaryStat
   pub sent-due : s.end ≡ Some e → IsDue (record s { log = (log.sent write.number s.log).1; end = Some (record e { unsent = drop 1 e.unsent }) }) (log.sent write.number s.log).0 (with_outward pushing h)
   sent-due is =
       change-due s h (with_outward pushing h) write.number (writes.sending (answers_sent s.log.protocol)) (λ a. a) pushing left homes ordered.1.0 ordered.1.1.0.1.on after.1.1.0.0 sent-change
-      s.entries s.held s.marks (Some (record e { unsent = drop 1 e.unsent })) refl refl
+      s.entries s.held s.marks (Some (record e { unsent = drop 1 e.unsent })) refl refl refl
       (entries-stay s h (with_outward pushing h) write.number (writes.sending (answers_sent s.log.protocol)) (λ a. a) pushing left homes ordered.1.0 ordered.1.1.0.1.on after.1.1.0.0 sent-change (λ i a at. refl) refl)
       (held-stays s h (with_outward pushing h) write.number (writes.sending (answers_sent s.log.protocol)) (λ a. a) pushing left homes ordered.1.0 ordered.1.1.0.1.on after.1.1.0.0 sent-change (λ i a at. refl))
       (ap (core.unmarking (log.sent write.number s.log).1.released (log.sent write.number s.log).1.latest) left.rest.marks ∙ unmarking-none (log.sent write.number s.log).1.released (log.sent write.number s.log).1.latest h.settings.blocks h.marks clears-none)
