@@ -1,5 +1,6 @@
 pub mod Activity
 pub mod Appending
+pub mod Beginning
 pub mod Changed
 pub mod Changing
 pub mod Closing
