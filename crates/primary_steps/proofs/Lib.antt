@@ -1,4 +1,5 @@
 pub mod Activity
+pub mod Adding
 pub mod Appending
 pub mod Beginning
 pub mod Changed
