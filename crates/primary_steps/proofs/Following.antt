@@ -96,7 +96,7 @@ queued-none (Some e) = λ i. Some (record e { unsent = append-none e.unsent i })
 
 -- Streams.
 
-runs-more : (c d : Outward) (item : Item) → d.stream ≡ c.stream ++ item ∷ [] → stands d ≡ stands c → is_sync_start item ≡ false → is_sync_end item ≡ false → resync_runs d ≡ resync_runs c
+pub runs-more : (c d : Outward) (item : Item) → d.stream ≡ c.stream ++ item ∷ [] → stands d ≡ stands c → is_sync_start item ≡ false → is_sync_end item ≡ false → resync_runs d ≡ resync_runs c
 runs-more c d item stream on no_start no_end =
     λ i. on i && (((ap (list_any is_sync_start) stream ∙ (list_any-append is_sync_start c.stream (item ∷ []) ∙ (ap (λ b. list_any is_sync_start c.stream || (b || false)) no_start ∙ or-false (list_any is_sync_start c.stream)))) i)
     && not ((ap (list_any is_sync_end) stream ∙ (list_any-append is_sync_end c.stream (item ∷ []) ∙ (ap (λ b. list_any is_sync_end c.stream || (b || false)) no_end ∙ or-false (list_any is_sync_end c.stream)))) i))

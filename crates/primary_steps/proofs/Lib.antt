@@ -21,5 +21,7 @@ pub mod Releasing
 pub mod Reporting
 pub mod Resting
 pub mod Seen
+pub mod Submitting
+pub mod Taken
 pub mod Telling
 pub mod Steps

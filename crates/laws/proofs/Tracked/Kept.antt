@@ -31,7 +31,7 @@ abbrev pub HasNumbers : PrimaryHistory → Type 0
 HasNumbers h = ((n : ℕ) (entry : Completion) → slice_get h.journal n ≡ Some entry → entry.write.number ≤ length h.writes) × Once (λ (entry : Completion). entry.write.number) h.journal
 
 -- the next number is new to the journal
-fresh-number : (h : PrimaryHistory) → HasNumbers h → is_completed h (suc (length h.writes)) ≡ false
+pub fresh-number : (h : PrimaryHistory) → HasNumbers h → is_completed h (suc (length h.writes)) ≡ false
 fresh-number h numbers = elim (cases_Bool (is_completed h (suc (length h.writes)))) [
   | inl done ↦
       let entry = pick-any (λ (entry : Completion). entry.write.number == suc (length h.writes)) h.journal done in
