@@ -1,3 +1,4 @@
+pub mod Accepting
 pub mod Activity
 pub mod Adding
 pub mod Appending
@@ -12,6 +13,7 @@ pub mod Filters
 pub mod Following
 pub mod Freeing
 pub mod Known
+pub mod Marking
 pub mod Marks
 pub mod Moving
 pub mod Numbers
