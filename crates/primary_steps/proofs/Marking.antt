@@ -41,16 +41,16 @@ module _ (settings : Settings) (bound : 0 < settings.max_epoch) (s : PrimaryStat
   homes : HasHomes h
   homes = ordered.1.1.0.0
 
-  abbrev write : Write
+  abbrev pub write : Write
   write = submission h first (whole_blocks bytes)
 
-  abbrev new : Accepted
+  abbrev pub new : Accepted
   new = accepted_at h first (whole_blocks bytes) None
 
-  abbrev later : PrimaryHistory
+  abbrev pub later : PrimaryHistory
   later = record h { writes = h.writes ++ new ∷ []; marks = marking write h.marks }
 
-  submitted-is : submitted h first (whole_blocks bytes) ≡ later
+  pub submitted-is : submitted h first (whole_blocks bytes) ≡ later
   submitted-is = ap (λ b. elim b as (λ _. PrimaryHistory) [
     | true ↦ appending (WriteItem write) (record h { writes = h.writes ++ accepted_at h first (whole_blocks bytes) (Some (last_index h.connections, length (outward h).stream)) ∷ [] })
     | false ↦ later
@@ -68,7 +68,7 @@ module _ (settings : Settings) (bound : 0 < settings.max_epoch) (s : PrimaryStat
   connection-is : s.log.connection ≡ None
   connection-is = left.rest.log.connection ∙ ap (λ b. if b then Some (last_index h.connections) else None) down
 
-  abbrev l1 : LogState
+  abbrev pub l1 : LogState
   l1 = log.with_write (accepted_write first (length (whole_blocks bytes)) bytes None s.log) s.log.epochs s.log
 
   pub accepting-is : log.accepting first (length (whole_blocks bytes)) bytes s.log ≡ (record { number = s.log.accepted + 1; place = None; barrier = None }, l1)

@@ -4,3 +4,4 @@ pub mod Local
 pub mod Opens
 pub mod Receipts
 pub mod Send
+pub mod Submits

@@ -58,25 +58,25 @@ module _ (settings : Settings) (bound : 0 < settings.max_epoch) (s : PrimaryStat
   homes : HasHomes h
   homes = ordered.1.1.0.0
 
-  abbrev write : Write
+  abbrev pub write : Write
   write = submission h first (whole_blocks bytes)
 
-  abbrev item : Item
+  abbrev pub item : Item
   item = WriteItem (submission h first (whole_blocks bytes))
 
-  abbrev new : Accepted
+  abbrev pub new : Accepted
   new = accepted_at h first (whole_blocks bytes) (Some (last_index h.connections, length (outward h).stream))
 
-  abbrev longer : PrimaryHistory
+  abbrev pub longer : PrimaryHistory
   longer = record h { writes = h.writes ++ new ∷ [] }
 
-  abbrev later : PrimaryHistory
+  abbrev pub later : PrimaryHistory
   later = appending (WriteItem (submission h first (whole_blocks bytes))) (record h { writes = h.writes ++ new ∷ [] })
 
-  abbrev f : Outward → Outward
+  abbrev pub f : Outward → Outward
   f c = record c { stream = c.stream ++ WriteItem (submission h first (whole_blocks bytes)) ∷ [] }
 
-  submitted-is : submitted h first (whole_blocks bytes) ≡ later
+  pub submitted-is : submitted h first (whole_blocks bytes) ≡ later
   submitted-is = ap (λ b. elim b as (λ _. PrimaryHistory) [
     | true ↦ later
     | false ↦ record h { writes = h.writes ++ accepted_at h first (whole_blocks bytes) None ∷ []; marks = marking write h.marks }
@@ -162,10 +162,10 @@ module _ (settings : Settings) (bound : 0 < settings.max_epoch) (s : PrimaryStat
       go (Some e) is end = (e, is, end)
 
   -- the log then
-  abbrev placed-there : ℕ × (Option ℕ × EpochsState)
+  abbrev pub placed-there : ℕ × (Option ℕ × EpochsState)
   placed-there = placed (s.log.accepted + 1) s.log.epochs
 
-  abbrev l1 : LogState
+  abbrev pub l1 : LogState
   l1 = log.with_write (accepted_write first (length (whole_blocks bytes)) bytes (Some (last_index h.connections, length (outward h).stream)) s.log) (placed (s.log.accepted + 1) s.log.epochs).1.1 s.log
 
   home-is : home_in s.log.connection (s.log.accepted + 1) s.log.epochs ≡ (Some (last_index h.connections, length (outward h).stream), (placed (s.log.accepted + 1) s.log.epochs).1)
@@ -263,7 +263,7 @@ module _ (settings : Settings) (bound : 0 < settings.max_epoch) (s : PrimaryStat
   placed-is = ap (λ b. if b then (None, with_resync s.log.epochs) else write_placed (with_write (s.log.accepted + 1) s.log.epochs)) not-zero
 
   -- the log with the write, before a barrier
-  abbrev l0 : LogState
+  abbrev pub l0 : LogState
   l0 = record l1 { epochs = with_write (s.log.accepted + 1) s.log.epochs }
 
   e1 : LeavesEpochs l0 (outward later)
