@@ -2,6 +2,7 @@ pub mod Accepting
 pub mod Activity
 pub mod Adding
 pub mod Appending
+pub mod Awaiting
 pub mod Beginning
 pub mod Changed
 pub mod Changing

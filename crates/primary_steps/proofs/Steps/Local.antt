@@ -70,7 +70,7 @@ module _ (s : PrimaryState) (h : PrimaryHistory) (number : ℕ) (left : Leaves s
       same-at h.writes j a b (subst (λ n. slice_get h.writes n ≡ Some a) index ata) atb
 
   -- what the log finds of the number
-  found-is : write_at number s.log.writes ≡ option_map (logged_of h) (find named (unreleased h))
+  pub found-is : write_at number s.log.writes ≡ option_map (logged_of h) (find named (unreleased h))
   found-is = ap (find (has_number number)) left.rest.log.writes ∙ find-map (has_number number) (logged_of h) (unreleased h)
 
   pub waits-so : is_unfinished h number ≡ true → Waits s h number
