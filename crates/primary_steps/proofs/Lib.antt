@@ -1,6 +1,7 @@
 pub mod Accepting
 pub mod Activity
 pub mod Adding
+pub mod Answering
 pub mod Appending
 pub mod Awaiting
 pub mod Beginning
