@@ -13,6 +13,7 @@ pub mod Connections
 pub mod Epochs
 pub mod Filters
 pub mod Following
+pub mod Framing
 pub mod Freeing
 pub mod Known
 pub mod Marking

@@ -1,3 +1,4 @@
+pub mod Acks
 pub mod Closes
 pub mod Fault
 pub mod Local
