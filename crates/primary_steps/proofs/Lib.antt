@@ -24,4 +24,5 @@ pub mod Seen
 pub mod Submitting
 pub mod Taken
 pub mod Telling
+pub mod Unseen
 pub mod Steps
