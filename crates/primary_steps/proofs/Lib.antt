@@ -7,6 +7,7 @@ pub mod Changing
 pub mod Closing
 pub mod Completing
 pub mod Connections
+pub mod Copying
 pub mod Epochs
 pub mod Filters
 pub mod Following
