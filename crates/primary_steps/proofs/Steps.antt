@@ -3,4 +3,5 @@ pub mod Fault
 pub mod Local
 pub mod Opens
 pub mod Receipts
+pub mod Resync
 pub mod Send
