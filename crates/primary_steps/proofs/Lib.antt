@@ -12,6 +12,7 @@ pub mod Epochs
 pub mod Filters
 pub mod Following
 pub mod Freeing
+pub mod Greeting
 pub mod Known
 pub mod Marks
 pub mod Moving
