@@ -15,6 +15,7 @@ pub mod Freeing
 pub mod Greeting
 pub mod Known
 pub mod Marks
+pub mod Meeting
 pub mod Moving
 pub mod Numbers
 pub mod Owing
