@@ -1,5 +1,6 @@
 pub mod Closes
 pub mod Fault
+pub mod Hello
 pub mod Local
 pub mod Opens
 pub mod Receipts
