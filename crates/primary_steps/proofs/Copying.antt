@@ -1,8 +1,8 @@
 -- The block that a resync copies next goes to the end of the stream.
-use Rattle.std.proofs.Common.{ℕ, zero, suc, ◌≡◌, ◌+◌, ◌-◌, ◌<◌, ◌≤◌, inl, inr, Bool, true, false, cond, not, ◌&&◌, ◌||◌, List, [], ◌∷◌, ◌++◌, length, map, filter, drop, Option, Some, None, slice_get, refl, sym, ◌∙◌, ap, subst, arith, nat_lt, nat_le, ◌==◌}
+use Rattle.std.proofs.Common.{ℕ, zero, suc, ◌≡◌, ◌+◌, ◌-◌, ◌<◌, Bool, true, false, cond, not, ◌&&◌, ◌||◌, List, [], ◌∷◌, ◌++◌, length, map, filter, Some, None, slice_get, refl, sym, ◌∙◌, ap, subst, arith, nat_lt, nat_le}
 use Rattle.std.specs.Prelude.{find, unwrap_or, if◌then◌else◌}
 use Rattle.std.specs.List.{list_any}
-use Rattle.std.proofs.lemmas.Bool.{both_ways, and_parts, and_right, or_from, lt-ltb, lt-leb, le-leb, eq-eqb}
+use Rattle.std.proofs.lemmas.Bool.{both_ways, and_parts, and_right, or_from, lt-ltb, lt-leb, eq-eqb}
 use Rattle.std.proofs.lemmas.List.{drop-append-le, length-append}
 use Rattle.std.proofs.lemmas.List.Elements.{filter-append}
 use Rattle.std.proofs.lemmas.List.Folds.{list_any-append}
@@ -11,8 +11,8 @@ use Rattle.blocks.specs.Ranges.{below, is_between}
 use Rattle.bitmap.specs.Marks.{marked}
 use Rattle.epochs.specs.Epochs.{with_resync}
 use Rattle.model.specs.Contents.{covers}
-use Rattle.model.specs.Stream.{Item, ResyncItem, barriers_in, epoch_of, last_epoch, epoch_size, items_of_epoch, placed}
-use Rattle.model.specs.Primary.{Accepted, Outward, PrimaryHistory, no_outward, outward, last_index, stands, is_resync, was_resynced, under_way, resync_runs, in_resync, is_open, open_writes, free_block, marked_blocks, local_map}
+use Rattle.model.specs.Stream.{Item, ResyncItem, epoch_of, last_epoch, epoch_size, items_of_epoch, placed}
+use Rattle.model.specs.Primary.{Accepted, Outward, PrimaryHistory, outward, last_index, stands, is_resync, was_resynced, under_way, resync_runs, in_resync, is_open, open_writes, free_block, marked_blocks, local_map}
 use Rattle.model.specs.PrimarySteps.{is_settled, epoch_is_over, appending}
 use Rattle.overlap.specs.Holdings.{Holding, holding, holding_too}
 use Rattle.resync.specs.Next.{is_free, next_block}
@@ -24,7 +24,7 @@ use Rattle.laws.proofs.Primary.Homes.{HasHomes}
 use Rattle.laws.proofs.Primary.InOrderMoves.{Ordered, in-order-kept}
 use Rattle.laws.proofs.Primary.LastEpoch.{IsEndOpen, end-open}
 use Rattle.laws.proofs.Streams.Lawful.{epoch-end, epoch-items-grow, placed-append}
-use Rattle.primary_steps.specs.Core.{UnderWay, EndState, PrimaryState}
+use Rattle.primary_steps.specs.Core.{EndState, PrimaryState}
 use Rattle.primary_steps.specs.Leaves.{holding_item, holding_write, held_of, standing, marks_in, LeavesEnd, LeavesEpochs, LeavesStream, Leaves}
 use Rattle.primary_steps.proofs.Connections.{SeesSame, seen-same, released-same}
 use Rattle.primary_steps.proofs.Epochs.{barriers-more, size-more, epochs-resync}
@@ -32,7 +32,7 @@ use Rattle.primary_steps.proofs.Filters.{filter-at, find-at, any-map}
 use Rattle.primary_steps.proofs.Following.{IsDue, runs-more}
 use Rattle.primary_steps.proofs.Known.{outward-of}
 use Rattle.primary_steps.proofs.Marks.{length-marks, marked-in}
-use Rattle.primary_steps.proofs.Unseen.{IsUnseen, turned, unreported, unseen-due}
+use Rattle.primary_steps.proofs.Unseen.{IsUnseen, turned, unseen-due}
 
 -- What is held.
 

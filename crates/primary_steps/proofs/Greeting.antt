@@ -1,5 +1,5 @@
 -- An end whose stream has not begun takes a frame that is no acknowledgement.
-use Rattle.std.proofs.Common.{ℕ, zero, suc, ◌≡◌, ◌+◌, ◌-◌, ◌<◌, ◌≤◌, inl, inr, Bool, true, false, not, ◌&&◌, ◌||◌, List, [], ◌∷◌, ◌++◌, length, map, filter, Option, Some, None, slice_get, Result, Ok, Err, refl, sym, ◌∙◌, ap, subst, arith, nat_lt}
+use Rattle.std.proofs.Common.{ℕ, suc, ◌≡◌, inl, inr, Bool, true, false, not, ◌&&◌, ◌||◌, List, [], ◌∷◌, ◌++◌, length, map, filter, Option, Some, None, slice_get, Ok, refl, sym, ◌∙◌, ap, subst, arith, nat_lt}
 use Rattle.std.specs.Prelude.{min, if◌then◌else◌}
 use Rattle.std.specs.List.{list_any}
 use Rattle.std.proofs.lemmas.Bool.{cases_lt, both_ways, lt-ltb, le-ltb}
@@ -11,7 +11,7 @@ use Rattle.blocks.specs.declared.outcome.Reply.TheVariants as reply
 use Rattle.model.specs.Frames.{Acknowledged, Received, naming}
 use Rattle.model.specs.Refusals.{done_with}
 use Rattle.model.specs.Stream.{Item, WriteItem, epoch_of, placed}
-use Rattle.model.specs.Primary.{Accepted, Outward, PrimaryHistory, no_outward, outward, last_index, change_last, with_outward, stands, items_sent, accepted_frames, is_recv_ack, is_write_ack, is_rs_write_ack, is_barrier_ack, was_received, was_written, was_resynced, barrier_acknowledged, is_answered_by, is_answered, is_alone, is_confirmed, is_waiting, is_resync, in_resync, resync_runs, under_way, open_writes}
+use Rattle.model.specs.Primary.{Accepted, Outward, PrimaryHistory, no_outward, outward, last_index, change_last, with_outward, stands, items_sent, accepted_frames, is_recv_ack, is_write_ack, is_rs_write_ack, is_barrier_ack, was_received, was_written, was_resynced, barrier_acknowledged, is_answered_by, is_answered, is_alone, is_confirmed, is_waiting, is_resync, under_way, open_writes}
 use Rattle.model.specs.PrimarySteps as step
 use Rattle.laws.proofs.Lists.Last.{get-change}
 use Rattle.laws.proofs.Primary.Ends.{accepted-all}

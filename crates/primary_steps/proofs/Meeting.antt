@@ -1,10 +1,9 @@
 -- A stream begins.
-use Rattle.std.proofs.Common.{ℕ, zero, suc, ◌≡◌, ◌+◌, ◌-◌, ◌<◌, ◌≤◌, Bool, true, false, not, ◌&&◌, ◌||◌, List, [], ◌∷◌, ◌++◌, length, map, drop, take, Option, Some, None, slice_get, Result, Ok, Err, refl, sym, ◌∙◌, ap, subst, arith, nat_lt, nat_le}
-use Rattle.std.specs.Prelude.{min, if◌then◌else◌}
+use Rattle.std.proofs.Common.{ℕ, ◌≡◌, ◌+◌, ◌-◌, ◌<◌, ◌≤◌, Bool, true, false, not, ◌&&◌, ◌||◌, List, [], ◌∷◌, ◌++◌, length, map, drop, Some, None, slice_get, refl, sym, ◌∙◌, ap, subst, arith, nat_le}
+use Rattle.std.specs.Prelude.{if◌then◌else◌}
 use Rattle.std.specs.List.{list_any}
 use Rattle.std.proofs.lemmas.Bool.{both_ways, and_right, or_from, lt-ltb, lt-leb}
 use Rattle.std.proofs.lemmas.Option.{slice_get_within}
-use Rattle.blocks.specs.declared.settings.Settings.{Settings}
 use Rattle.blocks.specs.declared.tuple.Tuple.{Tuple}
 use Rattle.blocks.specs.Identifiers.{sync_start}
 use Rattle.bitmap.specs.Marks.{marking}
@@ -13,17 +12,16 @@ use Rattle.model.specs.Contents.{Write}
 use Rattle.model.specs.Frames.{Received}
 use Rattle.model.specs.Marks.{marking_all}
 use Rattle.model.specs.Stream.{Item, WriteItem, SyncUuidItem, barriers_in, last_epoch, epoch_size, items_of_epoch}
-use Rattle.model.specs.Primary.{Accepted, Outward, PrimaryHistory, outward, last_index, stands, barrier_acknowledged, is_resync, in_resync, resync_runs, under_way, open_writes}
+use Rattle.model.specs.Primary.{Accepted, Outward, PrimaryHistory, outward, last_index, stands, barrier_acknowledged, is_resync, in_resync, under_way, open_writes}
 use Rattle.model.specs.PrimarySteps.{is_settled, epoch_is_over}
 use Rattle.transferlog.specs.Log.{LogState}
 use Rattle.laws.proofs.Lists.Last.{length-change}
 use Rattle.laws.proofs.Lists.Picks.{any-none}
-use Rattle.laws.proofs.Primary.Ends.{stands-parts}
 use Rattle.laws.proofs.Primary.Homes.{HasHomes}
 use Rattle.laws.proofs.Primary.Moves.{with_frame}
 use Rattle.primary_steps.specs.Core.{EndState, PrimaryState}
 use Rattle.primary_steps.specs.Taking.{hearing}
-use Rattle.primary_steps.specs.Leaves.{numbers_after, total, holding_item, holding_write, held_of, standing, marks_in, LeavesEnd, LeavesEpochs, LeavesStream, Leaves}
+use Rattle.primary_steps.specs.Leaves.{numbers_after, total, holding_item, holding_write, marks_in, LeavesEnd, LeavesEpochs, LeavesStream, Leaves}
 use Rattle.primary_steps.proofs.Epochs.{epochs-plain}
 use Rattle.primary_steps.proofs.Following.{IsDue}
 use Rattle.primary_steps.proofs.Greeting.{IsNoAnswer, applied-same, unasked-same, heard-more, way-none, empty-way, unseen-new}
@@ -208,7 +206,7 @@ module _ (s : PrimaryState) (h : PrimaryHistory) (left : Leaves s h) (homes : Ha
   -- with a resync, which may mark more
   pub led-due : (such marks : ℕ → Bool) → marking such s.marks ≡ marks_in h.settings.blocks marks → HasHomes (turned (leading frame (outward h).sync) (sync_start (outward h).sync h.tuple) (Some peer) marks h)
       → IsDue (record s { tuple = sync_start e.sync s.tuple; peer = Some peer; log = unreported (Some (s.connections - 1)) s.log.accepted (uncounted (empty s.log.epochs.max_epoch)).1 s.log; marks = marking such s.marks; held = s.held; end = Some (led (hearing e)) }) None
-        (turned (leading frame (outward h).sync) (sync_start (outward h).sync h.tuple) (Some peer) marks h)
+      (turned (leading frame (outward h).sync) (sync_start (outward h).sync h.tuple) (Some peer) marks h)
   led-due such marks bits later =
       begun-due (leading frame (outward h).sync) (sync_start (outward h).sync h.tuple) marks (uncounted (empty s.log.epochs.max_epoch)).1 refl refl refl refl
       (epochs-plain (unreported (Some (s.connections - 1)) s.log.accepted (empty s.log.epochs.max_epoch) s.log) (unreported (Some (s.connections - 1)) s.log.accepted (uncounted (empty s.log.epochs.max_epoch)).1 s.log)

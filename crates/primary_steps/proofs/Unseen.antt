@@ -1,14 +1,14 @@
 -- The last end changes, and no write sees it.
-use Rattle.std.proofs.Common.{ℕ, ◌≡◌, Bool, true, false, not, ◌&&◌, ◌||◌, List, [], ◌∷◌, ◌++◌, length, map, filter, Option, Some, None, slice_get, refl, sym, ◌∙◌, ap, subst}
+use Rattle.std.proofs.Common.{ℕ, ◌≡◌, Bool, true, false, not, List, [], ◌++◌, length, map, Option, Some, None, slice_get, refl, sym, ◌∙◌, ap, subst}
 use Rattle.std.specs.Prelude.{if◌then◌else◌}
+use Rattle.std.proofs.lemmas.List.{append-nil}
 use Rattle.blocks.specs.declared.tuple.Tuple.{Tuple}
-use Rattle.model.specs.Primary.{Accepted, Outward, PrimaryHistory, outward, change_last, completes, is_completed, is_released, unreleased}
+use Rattle.model.specs.Primary.{Accepted, Outward, PrimaryHistory, outward, change_last, completes, is_released, unreleased}
 use Rattle.model.specs.Stream.{BarrierItem, last_epoch}
-use Rattle.model.specs.PrimarySteps.{completion_of, newly_completed, with_completions, epoch_is_over, appending}
+use Rattle.model.specs.PrimarySteps.{completion_of, with_completions, epoch_is_over, appending}
 use Rattle.transferlog.specs.Writes as log
 use Rattle.transferlog.specs.Writes.{LogWrite}
 use Rattle.transferlog.specs.Log.{LogState}
-use Rattle.transferlog.specs.declared.report.Completed.{Completed}
 use Rattle.transferlog.specs.Writes.{completed_of}
 use Rattle.epochs.specs.Epochs.{EpochsState}
 use Rattle.overlap.specs.Holdings.{Holding}
@@ -32,13 +32,9 @@ turned f tuple peer marks h = record h { connections = change_last f h.connectio
 abbrev pub unreported : Option ℕ → ℕ → EpochsState → LogState → LogState
 unreported connection confirmed epochs l = record l { connection = connection; confirmed = confirmed; epochs = epochs; released = []; completed = [] }
 
-append-none : {X : Type 0} (xs : List X) → xs ++ [] ≡ xs
-append-none [] = refl
-append-none (x ∷ xs) = ap (λ (l : List _). x ∷ l) (append-none xs)
-
 -- where nothing is completed, the journal stays
 pub journal-stays : (h : PrimaryHistory) → IsQuiet h → with_completions h ≡ h
-journal-stays h quiet = λ i. record h { journal = (ap (λ (l : List Accepted). h.journal ++ map (completion_of h) l) (quiet-none h quiet) ∙ append-none h.journal) i }
+journal-stays h quiet = λ i. record h { journal = (ap (λ (l : List Accepted). h.journal ++ map (completion_of h) l) (quiet-none h quiet) ∙ append-nil h.journal) i }
 
 -- No write sees the change.
 pub record IsUnseen (h later : PrimaryHistory) : Type 0 where

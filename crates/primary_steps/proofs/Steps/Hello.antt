@@ -1,10 +1,9 @@
 -- A primary takes a frame of its peer's hello.
-use Rattle.std.proofs.Common.{ℕ, zero, suc, ◌≡◌, ◌-◌, ◌<◌, Bool, true, false, ◌||◌, List, [], ◌∷◌, ◌++◌, length, Option, Some, None, Result, Ok, Err, refl, sym, ◌∙◌, ap, subst, arith, ◌==◌}
+use Rattle.std.proofs.Common.{ℕ, zero, suc, ◌≡◌, ◌-◌, ◌<◌, Bool, true, false, ◌||◌, [], ◌∷◌, length, Some, None, Result, Ok, Err, refl, sym, ◌∙◌, ap, subst, arith, ◌==◌}
 use Rattle.std.specs.Prelude.{min, if◌then◌else◌}
-use Rattle.std.proofs.lemmas.Bool.{or_parts, eqb-true}
+use Rattle.std.proofs.lemmas.Bool.{or_parts}
 use Rattle.blocks.specs.declared.tuple.Tuple.{Tuple}
 use Rattle.blocks.specs.declared.command.Command.TheVariants as command
-use Rattle.blocks.specs.declared.settings.Protocol.{Protocol}
 use Rattle.blocks.specs.declared.settings.Settings.{Settings}
 use Rattle.blocks.specs.declared.refusal.Refusal.{Refusal}
 use Rattle.blocks.specs.declared.refusal.Refusal.TheVariants.{BadCommand, OtherProtocol, OtherSize, UsedIdentifier}
@@ -19,11 +18,10 @@ use Rattle.model.specs.Acknowledgements as model
 use Rattle.model.specs.Acknowledgements.{same_protocol}
 use Rattle.model.specs.Frames.{Packet, DataFrame, RsDataReplyFrame, BarrierFrame, ProtocolFrame, UuidsFrame, SizesFrame, SyncUuidFrame, RecvAckFrame, WriteAckFrame, RsWriteAckFrame, BarrierAckFrame, Received}
 use Rattle.model.specs.Marks.{marking_all}
-use Rattle.model.specs.Primary.{Outward, PrimaryHistory, outward, change_last, with_outward}
+use Rattle.model.specs.Primary.{Outward, PrimaryHistory, outward, with_outward}
 use Rattle.model.specs.PrimarySteps as step
 use Rattle.model.specs.PrimarySteps.{resync_is_over}
-use Rattle.model.specs.Refusals.{done_with}
-use Rattle.model.specs.Stream.{Item, SyncUuidItem}
+use Rattle.model.specs.Stream.{SyncUuidItem}
 use Rattle.laws.proofs.Lists.Last.{change-twice}
 use Rattle.laws.proofs.Primary.Homes.{HasHomes, open-at}
 use Rattle.laws.proofs.Primary.InOrderMoves.{Ordered, in-order-kept}
@@ -33,7 +31,7 @@ use Rattle.primary_steps.specs.Taking as core
 use Rattle.primary_steps.specs.Taking.{hearing}
 use Rattle.primary_steps.specs.Leaves.{LeavesEnd, Leaves}
 use Rattle.primary_steps.specs.Steps.{Agrees}
-use Rattle.primary_steps.proofs.Following.{IsDue, follow}
+use Rattle.primary_steps.proofs.Following.{follow}
 use Rattle.primary_steps.proofs.Greeting.{IsNoAnswer, greeted-agrees}
 use Rattle.primary_steps.proofs.Known.{outward-of, from-follow}
 use Rattle.primary_steps.proofs.Meeting.{joining, leading, joined-due, led-due, all-marked, none-marked}
@@ -86,7 +84,7 @@ module _ (settings : Settings) (bound : 0 < settings.max_epoch) (s : PrimaryStat
 
     begins : (decided : Decision) → decision h.tuple peer ≡ Ok decided → stands_in (outward h).loss peer ≡ false
         → Agrees reply.Ok (Ok (following (what.Decided decided) None (core.begun_with decided (hearing e) (record s { peer = Some peer }))).0, (following (what.Decided decided) None (core.begun_with decided (hearing e) (record s { peer = Some peer }))).1)
-          (step.succeeding (what.Decided decided) (model.begun_with decided (record (with_outward (with_frame (Ok (UuidsFrame peer))) h) { peer = Some peer })))
+        (step.succeeding (what.Decided decided) (model.begun_with decided (record (with_outward (with_frame (Ok (UuidsFrame peer))) h) { peer = Some peer })))
     begins NoSync is unused =
         subst (λ (g : PrimaryHistory). Agrees reply.Ok (Ok (following (what.Decided NoSync) None (core.begun_with NoSync (hearing e) (record s { peer = Some peer }))).0, (following (what.Decided NoSync) None (core.begun_with NoSync (hearing e) (record s { peer = Some peer }))).1) (step.succeeding (what.Decided NoSync) g))
         (sym joined-is)

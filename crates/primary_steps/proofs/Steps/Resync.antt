@@ -8,7 +8,6 @@ use Rattle.blocks.specs.declared.outcome.Done.{Done}
 use Rattle.blocks.specs.declared.outcome.Reply.{Reply}
 use Rattle.blocks.specs.declared.outcome.Reply.TheVariants as reply
 use Rattle.blocks.specs.declared.outcome.What.TheVariants as what
-use Rattle.model.specs.Refusals.{Test, first_refusal}
 use Rattle.model.specs.Stream.{Item, ResyncItem}
 use Rattle.model.specs.Primary.{Outward, PrimaryHistory, outward, resync_runs, under_way, free_block, local_map}
 use Rattle.model.specs.PrimarySteps as step
@@ -22,7 +21,7 @@ use Rattle.primary_steps.specs.Leaves.{UnderWayLeft, LeavesEnd, EndLeft, Leaves}
 use Rattle.primary_steps.specs.Steps.{IsReached, Agrees, ResyncsAgree, ResyncFaultsAgree}
 use Rattle.primary_steps.proofs.Copying.{next-is, held-alone, copying-due}
 use Rattle.primary_steps.proofs.Following.{follow}
-use Rattle.primary_steps.proofs.Known.{IsOrdered, reached-ordered, refused-agrees, tested-agrees, from-follow}
+use Rattle.primary_steps.proofs.Known.{reached-ordered, refused-agrees, tested-agrees, from-follow}
 use Rattle.primary_steps.proofs.Owing.{places-are}
 
 -- whether a block is under way
@@ -73,12 +72,12 @@ module _ (starved : Bool) (s : PrimaryState) (h : PrimaryHistory) (e : EndState)
       tested-agrees reply.Ok s h (transition.resync_tests starved e s) ((not (resync_runs (outward h)) || (nat_lt 0 (length (under_way (outward h))) || is_none (free_block h)), NothingToDo) ∷ (nat_le 4294967288 (length (outward h).stream), StreamFull) ∷ (starved, NoMemory) ∷ [])
       (λ _. core-by (next_block s.marks s.held)) (λ _. model-by (free_block h)) resync-tests-same left
       (λ none.
-          let first = test-passed (not (resync_runs (outward h)) || (nat_lt 0 (length (under_way (outward h))) || is_none (free_block h))) NothingToDo ((nat_le 4294967288 (length (outward h).stream), StreamFull) ∷ (starved, NoMemory) ∷ []) none in
-          let parts = or_parts (not (resync_runs (outward h))) (nat_lt 0 (length (under_way (outward h))) || is_none (free_block h)) first.0 in
-          let more = or_parts (nat_lt 0 (length (under_way (outward h)))) (is_none (free_block h)) parts.1 in
-          let alone = way-same e.under_way (outward h) end.under_way ∙ more.0 in
-          subst (λ (v : Option ℕ). Agrees reply.Ok (core-by v) (model-by (free_block h))) (sym (next-same alone))
-          (go (free_block h) refl (not-false (resync_runs (outward h)) parts.0) (none-way e.under_way (outward h) end.under_way alone)))
+      let first = test-passed (not (resync_runs (outward h)) || (nat_lt 0 (length (under_way (outward h))) || is_none (free_block h))) NothingToDo ((nat_le 4294967288 (length (outward h).stream), StreamFull) ∷ (starved, NoMemory) ∷ []) none in
+      let parts = or_parts (not (resync_runs (outward h))) (nat_lt 0 (length (under_way (outward h))) || is_none (free_block h)) first.0 in
+      let more = or_parts (nat_lt 0 (length (under_way (outward h)))) (is_none (free_block h)) parts.1 in
+      let alone = way-same e.under_way (outward h) end.under_way ∙ more.0 in
+      subst (λ (v : Option ℕ). Agrees reply.Ok (core-by v) (model-by (free_block h))) (sym (next-same alone))
+      (go (free_block h) refl (not-false (resync_runs (outward h)) parts.0) (none-way e.under_way (outward h) end.under_way alone)))
     where
       core-by : Option ℕ → Result Done Refusal × PrimaryState
       core-by v = elim v [ None ↦ (Err NothingToDo, s) | Some block ↦ let after = copying block (disk block) e s in (Ok after.0, after.1) ]
