@@ -10,14 +10,17 @@ pub mod Changing
 pub mod Closing
 pub mod Completing
 pub mod Connections
+pub mod Copying
 pub mod Epochs
 pub mod Filters
 pub mod Following
 pub mod Framing
 pub mod Freeing
+pub mod Greeting
 pub mod Known
 pub mod Marking
 pub mod Marks
+pub mod Meeting
 pub mod Moving
 pub mod Numbers
 pub mod Owing
@@ -29,4 +32,5 @@ pub mod Seen
 pub mod Submitting
 pub mod Taken
 pub mod Telling
+pub mod Unseen
 pub mod Steps

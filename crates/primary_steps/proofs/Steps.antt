@@ -1,8 +1,10 @@
 pub mod Acks
 pub mod Closes
 pub mod Fault
+pub mod Hello
 pub mod Local
 pub mod Opens
 pub mod Receipts
+pub mod Resync
 pub mod Send
 pub mod Submits
