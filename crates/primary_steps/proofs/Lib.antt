@@ -29,8 +29,9 @@ pub mod Releasing
 pub mod Reporting
 pub mod Resting
 pub mod Seen
+pub mod Steps
 pub mod Submitting
 pub mod Taken
 pub mod Telling
+pub mod Turns
 pub mod Unseen
-pub mod Steps

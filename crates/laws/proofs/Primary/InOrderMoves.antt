@@ -186,7 +186,7 @@ found-first p (z ∷ xs) x is = elim (cases_Bool (p z)) [
     before z xs n fails rest (suc j) y less at = rest j y (omega arith) at
 
 -- in a lawful stream each epoch before that of the oldest barrier is acknowledged
-earlier-said : (max_epoch : ℕ) (c : Outward) (number : ℕ) → IsLawful max_epoch c.stream → is_barrier_of number (oldest_barrier c) ≡ true → (e : ℕ) → 0 < e → e < number → barrier_acknowledged c e ≡ true
+pub earlier-said : (max_epoch : ℕ) (c : Outward) (number : ℕ) → IsLawful max_epoch c.stream → is_barrier_of number (oldest_barrier c) ≡ true → (e : ℕ) → 0 < e → e < number → barrier_acknowledged c e ≡ true
 earlier-said max_epoch c number lawful is e low less = go (oldest_barrier c) refl is
   where
     go : (v : Option Item) → oldest_barrier c ≡ v → is_barrier_of number v ≡ true → barrier_acknowledged c e ≡ true
