@@ -9,6 +9,7 @@ pub mod Changed
 pub mod Changing
 pub mod Closing
 pub mod Completing
+pub mod Confirming
 pub mod Connections
 pub mod Copying
 pub mod Epochs

@@ -235,3 +235,134 @@ module _ (settings : Settings) (s : PrimaryState) (h : PrimaryHistory) (e : EndS
     pub turn-forth : is_in_turn h number size ≡ true
     turn-forth = λ i. ((ap (is_barrier_of number) oldest-is ∙ eq-eqb number number refl) i && eq-eqb size (epoch_size (outward h).stream number) (sized.1 ∙ ap (epoch_size (outward h).stream) (sym number_is)) i)
         && all-get (is_acknowledged h.settings.protocol (outward h)) (items_of_epoch (outward h).stream number) (λ n entry at. let stood = unlisted n entry number at in acknowledged-at entry.0 entry.1 stood.0 stood.1) i
+
+  -- where it is in its turn
+  module _ (turn : is_in_turn h number size ≡ true) where
+    turns : ((is_barrier_of number (oldest_barrier (outward h)) && (size == epoch_size (outward h).stream number)) ≡ true) × (list_all (is_acknowledged h.settings.protocol (outward h)) (items_of_epoch (outward h).stream number) ≡ true)
+    turns = and_parts (is_barrier_of number (oldest_barrier (outward h)) && (size == epoch_size (outward h).stream number)) (list_all (is_acknowledged h.settings.protocol (outward h)) (items_of_epoch (outward h).stream number)) turn
+
+    firsts : (is_barrier_of number (oldest_barrier (outward h)) ≡ true) × ((size == epoch_size (outward h).stream number) ≡ true)
+    firsts = and_parts (is_barrier_of number (oldest_barrier (outward h))) (size == epoch_size (outward h).stream number) turns.0
+
+    -- the barrier, sent and not acknowledged
+    pub its-barrier : (place : ℕ) × (place < items_sent (outward h)) × (slice_get (outward h).stream place ≡ Some (BarrierItem number)) × (epoch_of (outward h).stream place ≡ number) × (barrier_acknowledged (outward h) number ≡ false)
+    its-barrier = go (oldest_barrier (outward h)) refl firsts.0
+      where
+        go : (v : Option Item) → oldest_barrier (outward h) ≡ v → is_barrier_of number v ≡ true
+            → (place : ℕ) × (place < items_sent (outward h)) × (slice_get (outward h).stream place ≡ Some (BarrierItem number)) × (epoch_of (outward h).stream place ≡ number) × (barrier_acknowledged (outward h) number ≡ false)
+        go None is so = absurd (cc)
+        go (Some (WriteItem write)) is so = absurd (cc)
+        go (Some (ResyncItem block contents)) is so = absurd (cc)
+        go (Some (SyncUuidItem word)) is so = absurd (cc)
+        go (Some (UuidsItem tuple)) is so = absurd (cc)
+        go (Some (BarrierItem epoch)) is so =
+            let same : number ≡ epoch = eqb-true number epoch so in
+            let found = pick-found (is_unacknowledged (outward h)) (take (items_sent (outward h)) (outward h).stream) (BarrierItem epoch) is in
+            let front = get-front (items_sent (outward h)) (outward h).stream found.0 (BarrierItem epoch) found.1 in
+            let at : slice_get (outward h).stream found.0 ≡ Some (BarrierItem number) = front.1 ∙ ap (λ n. Some (BarrierItem n)) (sym same) in
+            (found.0, front.0, at, sym (lawful.barriers found.0 number at), ap (barrier_acknowledged (outward h)) same ∙ not-true (barrier_acknowledged (outward h) epoch) found.2)
+
+    some : 0 < number
+    some = let is = its-barrier.3 in omega arith
+
+    -- it is the next that is not acknowledged
+    pub next-is : number ≡ suc epochs.acked
+    next-is =
+        let late = leb-false number epochs.acked (sym (epochs.acknowledged number some) ∙ its-barrier.4) in
+        elim (cases_lt (suc epochs.acked) number) [
+          | inl later ↦ absurd (
+              let said = earlier-said settings.max_epoch (outward h) number lawful firsts.0 (suc epochs.acked) (omega arith) later in
+              let early = leb-true (suc epochs.acked) epochs.acked (sym (epochs.acknowledged (suc epochs.acked) (omega arith)) ∙ said) in
+              omega arith)
+          | inr upto ↦ omega arith
+        ]
+
+    pub ended-one : epochs.acked < barriers_in (outward h).stream
+    ended-one =
+        let within = slice_get_within (outward h).stream its-barrier.0 (BarrierItem number) its-barrier.2 in
+        let behind = behind-barrier (outward h).stream its-barrier.0 (length (outward h).stream) number within (omega arith) its-barrier.2 in
+        let whole : barriers_in (take (length (outward h).stream) (outward h).stream) ≡ barriers_in (outward h).stream = ap barriers_in (take-whole (outward h).stream) in
+        let epoch = its-barrier.3 in
+        let is = next-is in
+        omega arith
+      where
+        take-whole : {X : Type 0} (xs : List X) → take (length xs) xs ≡ xs
+        take-whole [] = refl
+        take-whole (x ∷ xs) = ap (λ (l : List _). x ∷ l) (take-whole xs)
+
+    pub size-is : size ≡ epoch_size (outward h).stream (suc epochs.acked)
+    size-is = eqb-true size (epoch_size (outward h).stream number) firsts.1 ∙ ap (epoch_size (outward h).stream) next-is
+
+    -- an item of the epoch has its answer
+    pub its-answer : (place : ℕ) (item : Item) → slice_get (outward h).stream place ≡ Some item → epoch_of (outward h).stream place ≡ number → is_acknowledged h.settings.protocol (outward h) (place, item) ≡ true
+    its-answer place item at is = let in_list = listed place item number at is in all-at (is_acknowledged h.settings.protocol (outward h)) (items_of_epoch (outward h).stream number) turns.1 in_list.0 (place, item) in_list.1
+
+    none-unsent : is_unsent number e.unsent ≡ false
+    none-unsent = false_from_ne_true (is_unsent number e.unsent) (λ waits.
+        let some_one = pick-any (λ item. elim item as (λ _. Bool) [ BarrierItem epoch ↦ epoch == number | _ ↦ false ]) e.unsent waits in
+        let at = get-behind (items_sent (outward h)) (outward h).stream some_one.0 some_one.1 (subst (λ (l : List Item). slice_get l some_one.0 ≡ Some some_one.1) end.unsent some_one.2) in
+        by-item some_one.0 some_one.1 at some_one.3)
+      where
+        by-item : (k : ℕ) (item : Item) → slice_get (outward h).stream (items_sent (outward h) + k) ≡ Some item → elim item as (λ _. Bool) [ BarrierItem epoch ↦ epoch == number | _ ↦ false ] ≡ true → ⊥
+        by-item k (BarrierItem epoch) at is =
+            let same = eqb-true epoch number is in
+            let within = slice_get_within (outward h).stream (items_sent (outward h) + k) (BarrierItem epoch) at in
+            let early = its-barrier.1 in
+            let rises = behind-barrier (outward h).stream its-barrier.0 (items_sent (outward h) + k) number (omega arith) (omega arith) its-barrier.2 in
+            let other = lawful.barriers (items_sent (outward h) + k) epoch at in
+            let own = its-barrier.3 in
+            omega arith
+        by-item k (WriteItem write) at is = absurd (cc)
+        by-item k (ResyncItem block contents) at is = absurd (cc)
+        by-item k (SyncUuidItem word) at is = absurd (cc)
+        by-item k (UuidsItem tuple) at is = absurd (cc)
+
+    none-way : is_in_epoch number e.under_way ≡ false
+    none-way = go e.under_way end.under_way
+      where
+        go : (v : Option UnderWay) → UnderWayLeft v (outward h) → is_in_epoch number v ≡ false
+        go None none = refl
+        go (Some way) one = false_from_ne_true (way.epoch == number) (λ same.
+            let at = under-way-at (outward h) way.place (ResyncItem way.block one.0) [] one.1 in
+            let answered = its-answer way.place (ResyncItem way.block one.0) at (one.2 ∙ eqb-true way.epoch number same) in
+            let first : slice_get (under_way (outward h)) 0 ≡ Some (way.place, ResyncItem way.block one.0) = ap (λ (l : List (ℕ × Item)). slice_get l 0) one.1 in
+            let waits = (pick-filtered (λ (x : ℕ × Item). is_resync x.1 && not (was_resynced (outward h) x.0 x.1)) (placed (outward h).stream) 0 (way.place, ResyncItem way.block one.0) first).2 in
+            both_ways (was_resynced (outward h) way.place (ResyncItem way.block one.0)) (not-true (was_resynced (outward h) way.place (ResyncItem way.block one.0)) waits) answered)
+
+    none-lacks : (asks_answers s.log.protocol && lacks_answer size s.log) ≡ false
+    none-lacks = false_from_ne_true (asks_answers s.log.protocol && lacks_answer size s.log) (λ both.
+        let halves = and_parts (asks_answers s.log.protocol) (lacks_answer size s.log) both in
+        let some_one = pick-any (λ a. is_between (s.log.confirmed + 1) size a.write.number && not (is_answered h a)) (unreleased h)
+            (sym (ap (list_any (λ w. is_between (s.log.confirmed + 1) size w.number && not w.answered)) left.rest.log.writes ∙ any-map (λ w. is_between (s.log.confirmed + 1) size w.number && not w.answered) (logged_of h) (unreleased h)) ∙ halves.1) in
+        let stood = pick-filtered (λ x. not (is_released h x)) h.writes some_one.0 some_one.1 some_one.2 in
+        by-write some_one.1 stood.0 stood.1 (and_parts (is_between (s.log.confirmed + 1) size some_one.1.write.number) (not (is_answered h some_one.1)) some_one.3) halves.0)
+      where
+        by-write : (a : Accepted) (i : ℕ) → slice_get h.writes i ≡ Some a → (is_between (s.log.confirmed + 1) size a.write.number ≡ true) × (not (is_answered h a) ≡ true) → asks_answers s.log.protocol ≡ true → ⊥
+        by-write a i at halves asks =
+            let bounds = and_parts (nat_le (s.log.confirmed + 1) a.write.number) (nat_lt a.write.number (s.log.confirmed + 1 + size)) halves.0 in
+            let low = leb-true (s.log.confirmed + 1) a.write.number bounds.0 in
+            let high = ltb-true a.write.number (s.log.confirmed + 1 + size) bounds.1 in
+            let place = left.stream.here on i a at (omega arith) in
+            let housed = ordered.1.1.0.0.housed i (last_index h.connections) place.0 a at place.1 in
+            let same : housed.0 ≡ outward h = same-at h.connections (last_index h.connections) housed.0 (outward h) housed.1 there in
+            let item : slice_get (outward h).stream place.0 ≡ Some (WriteItem a.write) = subst (λ (c : Outward). slice_get c.stream place.0 ≡ Some (WriteItem a.write)) same housed.2 in
+            let sums = first-total s.log (outward h) epochs ended-one in
+            let over : nat_le (epoch_of (outward h).stream place.0) (epochs.acked + 0) ≡ false = sym (epochs.upto 0 place.0 a.write (omega arith) item) ∙ lt-leb a.write.number (s.log.confirmed + 0) (omega arith) in
+            let under : nat_le (epoch_of (outward h).stream place.0) (epochs.acked + 1) ≡ true = sym (epochs.upto 1 place.0 a.write (let many = sums.0 in omega arith) item) ∙ le-leb a.write.number (s.log.confirmed + total (take 1 s.log.epochs.sizes)) (let sum = sums.1 in let is = size-is in omega arith) in
+            let above = leb-false (epoch_of (outward h).stream place.0) (epochs.acked + 0) over in
+            let upto = leb-true (epoch_of (outward h).stream place.0) (epochs.acked + 1) under in
+            let n = next-is in
+            let answer = its-answer place.0 (WriteItem a.write) item (omega arith) in
+            by-protocol h.settings.protocol refl place.0 (answered-here h a place.0 place.1 there) answer
+          where
+            by-protocol : (p : Protocol) → h.settings.protocol ≡ p → (place : ℕ) → is_answered h a ≡ is_answered_by h.settings.protocol (outward h) place (WriteItem a.write) → is_acknowledged h.settings.protocol (outward h) (place, WriteItem a.write) ≡ true → ⊥
+            by-protocol protocol.A asked place here answer = absurd (let no_answers : asks_answers s.log.protocol ≡ false = ap asks_answers (left.rest.log.protocol ∙ asked) in both_ways (asks_answers s.log.protocol) no_answers asks)
+            by-protocol protocol.B asked place here answer = both_ways (is_answered h a) (not-true (is_answered h a) halves.1) (here ∙ (ap (λ (p : Protocol). is_answered_by p (outward h) place (WriteItem a.write)) asked ∙ (ap (λ (p : Protocol). is_acknowledged p (outward h) (place, WriteItem a.write)) (sym asked) ∙ answer)))
+            by-protocol protocol.C asked place here answer = both_ways (is_answered h a) (not-true (is_answered h a) halves.1) (here ∙ (ap (λ (p : Protocol). is_answered_by p (outward h) place (WriteItem a.write)) asked ∙ (ap (λ (p : Protocol). is_acknowledged p (outward h) (place, WriteItem a.write)) (sym asked) ∙ answer)))
+
+    pub turn-back : ((is_unsent number e.unsent || is_in_epoch number e.under_way) ≡ false) × (may_confirm number size s.log ≡ true)
+    turn-back = (
+      λ i. none-unsent i || none-way i,
+      λ i. (eq-eqb (number + length s.log.epochs.sizes) (s.log.epochs.ended + 1) (let many = sizes-many s.log (outward h) epochs in let ended = epochs.ended in let n = next-is in omega arith) i
+      && (ap (λ n. begins_with n s.log.epochs.sizes) size-is ∙ sizes-first s.log (outward h) epochs ended-one) i) && not (none-lacks i),
+    )
