@@ -26,6 +26,7 @@ pub mod Moving
 pub mod Numbers
 pub mod Owing
 pub mod Parting
+pub mod Refusing
 pub mod Releasing
 pub mod Reporting
 pub mod Resting
