@@ -2,19 +2,19 @@
 use Rattle.std.proofs.Common.{ℕ, zero, suc, ◌≡◌, ◌+◌, ◌-◌, ◌<◌, ◌≤◌, Bool, true, false, not, ◌&&◌, ◌||◌, List, [], ◌∷◌, ◌++◌, length, map, filter, Option, Some, None, slice_get, Ok, refl, sym, ◌∙◌, ap, subst, arith, nat_lt, nat_le, ◌==◌}
 use Rattle.std.specs.Prelude.{set, if◌then◌else◌}
 use Rattle.std.specs.List.{list_any}
-use Rattle.std.proofs.lemmas.Bool.{both_ways, and_parts, and_from, or_parts, not-true, eqb-true, eq-eqb, lt-leb, false_from_ne_true}
+use Rattle.std.proofs.lemmas.Bool.{both_ways, and_parts, or_parts, not-true, eqb-true, eq-eqb, lt-leb, false_from_ne_true}
 use Rattle.std.proofs.lemmas.List.Elements.{filter-append}
 use Rattle.std.proofs.lemmas.Option.{slice_get_within}
 use Rattle.blocks.specs.declared.settings.Settings.{Settings}
 use Rattle.blocks.specs.declared.settings.Protocol.{Protocol}
 use Rattle.blocks.specs.declared.settings.Protocol.TheVariants as protocol
 use Rattle.blocks.specs.Ranges.{below}
-use Rattle.epochs.specs.Epochs.{EpochsState, empty, ended_if}
+use Rattle.epochs.specs.Epochs.{EpochsState, ended_if}
 use Rattle.model.specs.Contents.{Write}
-use Rattle.model.specs.Stream.{Item, WriteItem, ResyncItem, BarrierItem, is_write, number_of, barriers_in, epoch_of, last_epoch, epoch_size, items_of_epoch, placed}
+use Rattle.model.specs.Stream.{Item, WriteItem, ResyncItem, BarrierItem, barriers_in, epoch_of, last_epoch, epoch_size, items_of_epoch, placed}
 use Rattle.model.specs.Frames.{RsWriteAckFrame, Acknowledged, Received, naming}
 use Rattle.model.specs.Marks.{clearing}
-use Rattle.model.specs.Primary.{Accepted, Outward, PrimaryHistory, no_outward, outward, last_index, change_last, stands, items_sent, is_resync, is_recv_ack, is_write_ack, is_rs_write_ack, is_barrier_ack, same_naming, was_resynced, is_answered_by, is_answered, is_alone, is_confirmed, is_released, is_waiting, is_open, open_writes, barrier_acknowledged, under_way}
+use Rattle.model.specs.Primary.{Accepted, Outward, PrimaryHistory, no_outward, outward, last_index, change_last, stands, items_sent, is_resync, is_recv_ack, is_write_ack, is_rs_write_ack, is_barrier_ack, same_naming, was_resynced, is_answered_by, is_answered, is_alone, is_confirmed, is_waiting, is_open, open_writes, barrier_acknowledged, under_way}
 use Rattle.model.specs.PrimarySteps.{with_completions, is_settled, epoch_is_over, appending}
 use Rattle.overlap.specs.Holdings.{Holding, without}
 use Rattle.transferlog.specs.Log as log
@@ -22,26 +22,25 @@ use Rattle.transferlog.specs.Log.{LogState}
 use Rattle.transferlog.specs.Writes.{completed_of}
 use Rattle.laws.proofs.Lists.Last.{length-change}
 use Rattle.laws.proofs.Lists.Picks.{pick-filtered, pick-none}
-use Rattle.laws.proofs.Primary.Ends.{stands-parts}
-use Rattle.laws.proofs.Primary.Homes.{HasHomes, open-at}
+use Rattle.laws.proofs.Primary.Homes.{open-at}
 use Rattle.laws.proofs.Primary.InOrderMoves.{Ordered, OrderedAfter, in-order-kept}
 use Rattle.laws.proofs.Primary.LastEpoch.{IsEndOpen, end-open}
 use Rattle.laws.proofs.Primary.LawfulMoves.{last-changed, barrier-empties}
 use Rattle.laws.proofs.Primary.Moves.{with_frame}
 use Rattle.laws.proofs.Streams.Places.{placed-back}
 use Rattle.primary_steps.specs.Core.{EndState, PrimaryState, unmarking}
-use Rattle.primary_steps.specs.Leaves.{is_sent, logged_of, standing, holding_item, holding_write, held_of, marks_in, LeavesEpochs, LeavesEnd, LeavesStream, Leaves}
+use Rattle.primary_steps.specs.Leaves.{is_sent, logged_of, holding_item, holding_write, held_of, marks_in, LeavesEpochs, LeavesEnd, LeavesStream, Leaves}
 use Rattle.primary_steps.proofs.Answering.{any-frame}
 use Rattle.primary_steps.proofs.Connections.{SeesSame, look}
 use Rattle.primary_steps.proofs.Epochs.{epochs-same, epochs-barrier}
 use Rattle.primary_steps.proofs.Filters.{any-at, map-at, filter-map, filter-all, filter-none}
 use Rattle.primary_steps.proofs.Following.{IsDue, parted, barrier_of}
-use Rattle.primary_steps.proofs.Framing.{NamesNone, end-framed, other-place}
+use Rattle.primary_steps.proofs.Framing.{end-framed, other-place}
 use Rattle.primary_steps.proofs.Known.{outward-of}
 use Rattle.primary_steps.proofs.Marks.{get-below, length-below, unmarking-none}
 use Rattle.primary_steps.proofs.Naming.{NamesBlock, block-waits, block-sent, block-fresh, only-one}
 use Rattle.primary_steps.proofs.Resting.{quiet-none}
-use Rattle.primary_steps.proofs.Unseen.{IsUnseen, turned, journal-stays, unreleased-same, writes-same, quiet-same, connections-same, activity-same}
+use Rattle.primary_steps.proofs.Unseen.{IsUnseen, turned, journal-stays, writes-same, quiet-same, connections-same, activity-same}
 
 or-false : (b : Bool) → (b || false) ≡ b
 or-false true = refl
@@ -190,9 +189,9 @@ module _ (settings : Settings) (bound : 0 < settings.max_epoch) (s : PrimaryStat
       rest =
           filter-map (λ (x : Holding). not (x.number == 0)) holding_write (open_writes h)
           ∙ ap (map holding_write) (filter-all (λ a. not (a.write.number == 0)) (open_writes h) (λ i a at.
-              let stood = pick-filtered (is_open h) h.writes i a at in
-              let index = ordered.1.1.0.0.numbered stood.0 a stood.1 in
-              ap not (false_from_ne_true (a.write.number == 0) (λ e. let zero_is = eqb-true a.write.number 0 e in omega arith))))
+          let stood = pick-filtered (is_open h) h.writes i a at in
+          let index = ordered.1.1.0.0.numbered stood.0 a stood.1 in
+          ap not (false_from_ne_true (a.write.number == 0) (λ e. let zero_is = eqb-true a.write.number 0 e in omega arith))))
 
   -- The last epoch is over where it has a block: none of them was acknowledged before.
 

@@ -1,7 +1,7 @@
 -- An acknowledgement of a block: the end awaits it exactly where the history does.
-use Rattle.std.proofs.Common.{ℕ, zero, suc, ◌≡◌, ◌+◌, Bool, true, false, not, ◌&&◌, List, [], ◌∷◌, length, Option, Some, None, slice_get, refl, sym, ◌∙◌, ap, subst, arith, nat_lt, ◌==◌}
-use Rattle.std.proofs.lemmas.Bool.{both_ways, and_parts, and_from, not-true, eqb-true, eq-eqb}
-use Rattle.model.specs.Stream.{Item, ResyncItem, first_of, placed}
+use Rattle.std.proofs.Common.{ℕ, zero, suc, ◌≡◌, ◌+◌, Bool, true, false, not, ◌&&◌, List, [], ◌∷◌, Option, Some, None, slice_get, refl, sym, ◌∙◌, ap, subst, arith, nat_lt, ◌==◌}
+use Rattle.std.proofs.lemmas.Bool.{and_parts, and_from, not-true, eqb-true, eq-eqb}
+use Rattle.model.specs.Stream.{Item, ResyncItem, placed}
 use Rattle.model.specs.Frames.{Acknowledged, naming}
 use Rattle.model.specs.Primary.{Outward, items_sent, is_resync, was_resynced, same_naming, under_way}
 use Rattle.model.specs.Acknowledgements.{names_sent, was_named}
