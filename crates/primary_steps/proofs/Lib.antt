@@ -7,6 +7,7 @@ pub mod Awaiting
 pub mod Beginning
 pub mod Changed
 pub mod Changing
+pub mod Clearing
 pub mod Closing
 pub mod Completing
 pub mod Confirming
@@ -23,6 +24,7 @@ pub mod Marking
 pub mod Marks
 pub mod Meeting
 pub mod Moving
+pub mod Naming
 pub mod Numbers
 pub mod Owing
 pub mod Parting

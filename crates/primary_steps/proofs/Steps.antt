@@ -1,4 +1,5 @@
 pub mod Acks
+pub mod Blocks
 pub mod Closes
 pub mod Fault
 pub mod Hello
