@@ -1,13 +1,13 @@
 -- What is known of a history that a run leads to, and how tests agree.
 use Rattle.std.proofs.Common.{ℕ, ◌≡◌, ◌<◌, ◌⊎◌, inl, inr, Bool, true, false, not, List, [], ◌∷◌, Option, Some, None, Result, Ok, Err, refl, sym, ◌∙◌, ap, subst}
-use Rattle.std.specs.Prelude.{is_some, is_none}
+use Rattle.std.specs.Prelude.{is_some, is_none, if◌then◌else◌}
 use Rattle.std.proofs.lemmas.Bool.{both_ways, lt-ltb}
 use Rattle.blocks.specs.declared.settings.Settings.{Settings}
 use Rattle.blocks.specs.declared.refusal.Refusal.{Refusal}
 use Rattle.blocks.specs.declared.outcome.Done.{Done}
 use Rattle.blocks.specs.declared.outcome.Reply.{Reply}
 use Rattle.blocks.specs.declared.outcome.Reply.TheVariants as reply
-use Rattle.model.specs.Primary.{Outward, PrimaryHistory, no_outward, last_of, outward, change_last, with_outward, stands}
+use Rattle.model.specs.Primary.{Outward, PrimaryHistory, no_outward, last_of, last_index, outward, change_last, with_outward, stands}
 use Rattle.model.specs.PrimarySteps.{epoch_is_over}
 use Rattle.model.specs.PrimarySteps as step
 use Rattle.model.specs.Refusals.{Test, first_refusal}
@@ -15,6 +15,7 @@ use Rattle.laws.proofs.Lists.Last.{last-change}
 use Rattle.laws.proofs.Primary.Homes.{HasHomes}
 use Rattle.laws.proofs.Primary.InOrderMoves.{Ordered}
 use Rattle.laws.proofs.Tracked.Released.{ordered-run}
+use Rattle.primary_steps.specs.Core as core
 use Rattle.primary_steps.specs.Core.{EndState, PrimaryState, tested}
 use Rattle.primary_steps.specs.Leaves.{EndLeft, Leaves}
 use Rattle.primary_steps.specs.Steps.{IsReached, Agrees}
@@ -68,3 +69,11 @@ outward-of f h later connections standing = ap (last_of (no_outward later.tuple)
   | inl none ↦ absurd (both_ways (outward h).closed standing (ap (λ (l : List Outward). (last_of (no_outward h.tuple) l).closed) none))
   | inr last ↦ last
 ]
+
+-- a stream stands for the state where it stands for the history
+pub stands-same : (s : PrimaryState) (h : PrimaryHistory) → Leaves s h → core.stands s ≡ stands (outward h)
+stands-same s h left = ap is_some left.rest.log.connection ∙ go (stands (outward h))
+  where
+    go : (b : Bool) → is_some (if b then Some (last_index h.connections) else None) ≡ b
+    go true = refl
+    go false = refl

@@ -9,3 +9,4 @@ pub mod Receipts
 pub mod Resync
 pub mod Send
 pub mod Submits
+pub mod Takes
