@@ -1,55 +1,17 @@
 -- A write more among the entries and in the journal's eyes.
-use Rattle.std.proofs.Common.{ℕ, zero, suc, ◌≡◌, ◌+◌, ◌-◌, ◌<◌, ◌≤◌, inl, inr, Bool, true, false, cond, not, ◌&&◌, ◌||◌, List, [], ◌∷◌, ◌++◌, length, map, filter, Option, Some, None, slice_get, refl, sym, ◌∙◌, ap, subst, arith, nat_lt, nat_le, ◌==◌}
-use Rattle.std.specs.Prelude.{find, is_some, option_map, if◌then◌else◌}
-use Rattle.std.specs.List.{list_any, concat}
-use Rattle.std.proofs.lemmas.Bool.{cases_Bool, both_ways, and_parts, or_parts, or_from, eqb-true, eq-eqb, leb-true, ltb-true, le-leb, lt-leb, le-ltb, lt-ltb, false_from_ne_true}
-use Rattle.std.proofs.lemmas.Bool.Decides.{nat_tests}
-use Rattle.std.proofs.lemmas.List.{length-append, map-append}
-use Rattle.std.proofs.lemmas.List.Folds.{list_any-append}
-use Rattle.std.proofs.lemmas.Option.{slice_get_within}
+use Rattle.std.proofs.Common.{ℕ, suc, ◌≡◌, ◌+◌, ◌<◌, ◌≤◌, inl, inr, true, false, List, [], ◌∷◌, ◌++◌, length, map, Option, Some, None, slice_get, refl, sym, ◌∙◌, ap, subst, arith, ◌==◌}
+use Rattle.std.specs.Prelude.{find, is_some}
+use Rattle.std.specs.List.{list_any}
+use Rattle.std.proofs.lemmas.Bool.{both_ways, eqb-true, false_from_ne_true}
+use Rattle.std.proofs.lemmas.List.{map-append}
 use Rattle.blocks.specs.declared.settings.Settings.{Settings}
-use Rattle.blocks.specs.declared.settings.Protocol.{Protocol}
-use Rattle.blocks.specs.declared.settings.Protocol.TheVariants as protocol
-use Rattle.blocks.specs.Ranges.{below}
-use Rattle.model.specs.Contents.{Write, covers, extent_of}
-use Rattle.model.specs.Stream.{Item, WriteItem, BarrierItem, is_write, is_barrier, number_of, barriers_in, last_epoch, epoch_size, items_of_epoch}
-use Rattle.model.specs.Primary.{Waiting, Accepted, Completion, Outward, PrimaryHistory, no_outward, outward, last_index, change_last, with_outward, stands, items_sent, is_answered_by, is_answered, is_alone, is_on_disk, is_failed, is_completed, is_open, open_writes, completes, is_released, unreleased, is_resync, was_resynced, under_way, resync_runs}
-use Rattle.model.specs.PrimarySteps.{completion_of, newly_completed, with_completions, is_settled, epoch_is_over, appending, submission, submitted}
-use Rattle.epochs.specs.Epochs.{EpochsState, with_write, with_resync, write_placed, ended_if, ending, placed}
-use Rattle.transferlog.specs.Log as log
-use Rattle.transferlog.specs.Log.{LogState, home_in, accepted_write, with_latest}
-use Rattle.transferlog.specs.Writes.{LogWrite, completed_of}
-use Rattle.overlap.specs.Holdings.{Holding, holding, holding_too}
-use Rattle.activitylog.specs.Activity.{can_begin, begun}
-use Rattle.model.specs.Marks.{marking}
-use Rattle.transferlog.specs.declared.local.Local.TheVariants as local
-use Rattle.laws.proofs.Lists.Elements.{get-more, get-split}
-use Rattle.laws.proofs.Lists.Last.{length-change, get-last-changed}
-use Rattle.laws.proofs.Lists.Picks.{pick-any, pick-none, pick-filtered, pick-image}
-use Rattle.laws.proofs.Primary.Ends.{stands-parts}
-use Rattle.laws.proofs.Primary.Homes.{HasHomes, open-at, alone-at}
-use Rattle.laws.proofs.Primary.InOrderMoves.{Ordered, OrderedAfter, in-order-kept}
-use Rattle.laws.proofs.Primary.LastEpoch.{IsEndOpen, end-open}
-use Rattle.laws.proofs.Primary.LawfulMoves.{last-changed, barrier-empties}
-use Rattle.laws.proofs.Primary.Moves.{MaySubmit}
-use Rattle.laws.proofs.Streams.Lawful.{epoch-items-grow}
-use Rattle.laws.proofs.Streams.Places.{placed-back}
-use Rattle.laws.proofs.Tracked.Kept.{fresh-number}
-use Rattle.primary_steps.specs.Core as core
-use Rattle.primary_steps.specs.Core.{Fate, Failed, Open, Entry, EndState, PrimaryState, unmarking}
-use Rattle.primary_steps.specs.Transitions.{whole_blocks}
-use Rattle.primary_steps.specs.Leaves.{is_sent, logged_of, standing, fate_in, entry_of, latest_in, holding_item, holding_write, held_of, marks_in, LeavesLog, LeavesStream, LeavesEpochs, LeavesActivity, LeavesEnd, EndLeft, IsQuiet, Leaves}
-use Rattle.primary_steps.proofs.Adding.{concat-whole, latest-more, holding-end, filter-one}
-use Rattle.primary_steps.proofs.Appending.{end-more, queued, under-way-more}
-use Rattle.primary_steps.proofs.Beginning.{begins-activity}
-use Rattle.primary_steps.proofs.Connections.{SeesSame, seen-same, released-same, alone-same, answers-same}
-use Rattle.primary_steps.proofs.Epochs.{epochs-write, epochs-barrier, epochs-same, barriers-more}
-use Rattle.primary_steps.proofs.Filters.{filter-at, filter-none, map-at, any-at}
-use Rattle.primary_steps.proofs.Following.{IsDue, parted, barrier_of, runs-more}
-use Rattle.primary_steps.proofs.Marks.{unmarking-none}
+use Rattle.model.specs.Primary.{Waiting, Accepted, Completion, PrimaryHistory, is_failed, is_completed, completes}
+use Rattle.model.specs.PrimarySteps.{submission}
+use Rattle.laws.proofs.Lists.Elements.{get-more}
+use Rattle.laws.proofs.Lists.Picks.{pick-any}
+use Rattle.primary_steps.specs.Core.{Fate, Failed, Open, Entry, PrimaryState}
+use Rattle.primary_steps.specs.Leaves.{fate_in, entry_of, IsQuiet, Leaves}
 use Rattle.primary_steps.proofs.Numbers.{any-some}
-use Rattle.primary_steps.proofs.Owing.{places-are}
-use Rattle.primary_steps.proofs.Resting.{quiet-none}
 
 -- What a submission's tests say of its range.
 pub record HasRange (settings : Settings) (first count : ℕ) : Type 0 where

@@ -1,15 +1,14 @@
 -- The active extents as writes are released.
-use Rattle.std.proofs.Common.{ℕ, zero, suc, ◌≡◌, ◌+◌, ◌-◌, ◌<◌, ◌≤◌, Bool, true, false, cond, not, ◌&&◌, ◌||◌, List, [], ◌∷◌, length, map, filter, Some, slice_get, refl, sym, ◌∙◌, ap, subst, arith, ◌==◌}
+use Rattle.std.proofs.Common.{ℕ, suc, ◌≡◌, ◌+◌, ◌-◌, ◌<◌, ◌≤◌, Bool, true, false, not, ◌&&◌, ◌||◌, List, [], ◌∷◌, length, filter, Some, slice_get, refl, sym, ◌∙◌, ap, arith, ◌==◌}
 use Rattle.std.specs.Prelude.{if◌then◌else◌}
 use Rattle.std.specs.List.{list_any}
-use Rattle.std.proofs.lemmas.Bool.{both_ways, eqb-true, eq-eqb, or_parts, false_from_ne_true}
+use Rattle.std.proofs.lemmas.Bool.{both_ways, eqb-true, eq-eqb}
 use Rattle.model.specs.Contents.{extent_of}
 use Rattle.model.specs.Primary.{Accepted}
-use Rattle.activitylog.specs.Activity.{Active, ActivityState, is_active, writes_of, one_less, ended}
+use Rattle.activitylog.specs.Activity.{Active, ActivityState, writes_of, one_less, ended}
 use Rattle.transferlog.specs.declared.report.Released.{Released}
 use Rattle.primary_steps.specs.Core.{leaving}
 use Rattle.primary_steps.specs.Leaves.{AreOnce, writes_in, LeavesActivity}
-use Rattle.primary_steps.proofs.Filters.{filter-map}
 
 -- an extent has one write less
 less-at : (extent other : ℕ) (active : List Active) → writes_of other (one_less extent active) ≡ (if other == extent then writes_of other active - 1 else writes_of other active)

@@ -1,14 +1,14 @@
 -- A write is accepted: what it is in the log, in the lists, and in its epoch.
-use Rattle.std.proofs.Common.{ℕ, zero, suc, ◌≡◌, ◌+◌, ◌-◌, ◌*◌, ◌/◌, ◌<◌, ◌≤◌, inl, inr, Bool, true, false, cond, not, ◌&&◌, ◌||◌, List, [], ◌∷◌, ◌++◌, length, map, filter, take, drop, Option, Some, None, slice_get, refl, sym, ◌∙◌, ap, subst, arith, nat_lt, nat_le, ◌==◌}
+use Rattle.std.proofs.Common.{ℕ, zero, suc, ◌≡◌, ◌+◌, ◌*◌, ◌/◌, ◌<◌, ◌≤◌, Bool, true, false, ◌&&◌, List, [], ◌∷◌, ◌++◌, length, map, filter, take, drop, Some, slice_get, refl, sym, ◌∙◌, ap, arith, nat_lt, nat_le, ◌==◌}
 use Rattle.std.specs.Prelude.{replicate, if◌then◌else◌}
-use Rattle.std.specs.List.{list_any, concat}
-use Rattle.std.proofs.lemmas.Bool.{cases_Bool, both_ways, and_parts, or_parts, eqb-true, eq-eqb, le-leb, lt-leb, lt-ltb, le-ltb, false_from_ne_true, leb-true, ltb-true}
-use Rattle.std.proofs.lemmas.List.{length-append, take-append-drop, length-drop}
+use Rattle.std.specs.List.{concat}
+use Rattle.std.proofs.lemmas.Bool.{and_parts, eqb-true, le-leb, lt-leb, lt-ltb, le-ltb, false_from_ne_true, leb-true, ltb-true}
+use Rattle.std.proofs.lemmas.List.{take-append-drop, length-drop}
 use Rattle.std.proofs.lemmas.List.Elements.{filter-append}
 use Rattle.std.proofs.lemmas.Option.{slice_get_within}
 use Rattle.blocks.specs.Contents.{cut, blocks_of}
 use Rattle.blocks.specs.Ranges.{below, is_between}
-use Rattle.model.specs.Contents.{Write, covers}
+use Rattle.model.specs.Contents.{covers}
 use Rattle.model.specs.Primary.{Accepted}
 use Rattle.overlap.specs.Holdings.{Holding, holding_too}
 use Rattle.transferlog.specs.Log.{with_latest}
@@ -49,8 +49,8 @@ latest-front g x start (suc count) (y ∷ ys) few rising =
     let rest = latest-front g x (suc start) count ys (omega arith) (λ i b at. let is = rising (suc i) b at in omega arith) in
     (λ i. (if sym here i then x else g y) ∷ rest i)
     ∙ ap (λ (l : List ℕ). (if is_between start (suc count) y then x else g y) ∷ l) (map-at (λ b. if is_between (suc start) count b then x else g b) (λ b. if is_between start (suc count) b then x else g b) ys (λ i b at.
-        let behind = rising (suc i) b at in
-        ap (λ t. if t then x else g b) (both b (omega arith))))
+    let behind = rising (suc i) b at in
+    ap (λ t. if t then x else g b) (both b (omega arith))))
   where
     both : (b : ℕ) → start < b → is_between (suc start) count b ≡ is_between start (suc count) b
     both b behind = (λ i. le-leb (suc start) b (omega arith) i && nat_lt b (suc start + count)) ∙ (ap (λ n. nat_lt b n) (omega arith) ∙ sym (λ i. le-leb start b (omega arith) i && nat_lt b (start + suc count)))
@@ -80,12 +80,12 @@ pub latest-more : (blocks : ℕ) (ws : List Accepted) (new : Accepted) (number f
 latest-more blocks ws new number first count number_is first_is count_is inside =
     let size = length-below blocks in
     latest-map (λ block. latest_in ws block 0) number 0 first count (below blocks) (omega arith) (λ i b at.
-        let within = slice_get_within (below blocks) i b at in
-        let there = sym (get-below blocks i (omega arith)) ∙ at in
-        let same : i ≡ b = cc in
-        omega arith)
+    let within = slice_get_within (below blocks) i b at in
+    let there = sym (get-below blocks i (omega arith)) ∙ at in
+    let same : i ≡ b = cc in
+    omega arith)
     ∙ map-at (λ b. if is_between (0 + first) count b then number else latest_in ws b 0) (λ block. latest_in (ws ++ new ∷ []) block 0) (below blocks) (λ i b at.
-        (λ j. if is_between (start_is j) (count_is j) b then number_is j else latest_in ws b 0) ∙ sym (latest-end ws new b 0))
+    (λ j. if is_between (start_is j) (count_is j) b then number_is j else latest_in ws b 0) ∙ sym (latest-end ws new b 0))
   where
     start_is : 0 + first ≡ new.write.first
     start_is = let is = first_is in omega arith

@@ -1,12 +1,12 @@
 -- An item that is neither a write nor a block of a resync goes to the end of a stream that stands.
-use Rattle.std.proofs.Common.{ℕ, zero, suc, ◌≡◌, ◌+◌, ◌-◌, ◌<◌, ◌≤◌, inl, inr, Bool, true, false, not, ◌&&◌, ◌||◌, List, [], ◌∷◌, ◌++◌, length, map, filter, drop, Option, Some, None, slice_get, refl, sym, ◌∙◌, ap, subst, arith, nat_lt}
+use Rattle.std.proofs.Common.{ℕ, ◌≡◌, ◌+◌, ◌-◌, Bool, true, false, not, ◌&&◌, ◌||◌, List, [], ◌∷◌, ◌++◌, length, map, filter, Option, Some, None, slice_get, refl, sym, ◌∙◌, ap, subst, arith}
 use Rattle.std.specs.Prelude.{option_map, if◌then◌else◌}
-use Rattle.std.proofs.lemmas.Bool.{both_ways, and_parts}
+use Rattle.std.proofs.lemmas.Bool.{both_ways}
 use Rattle.std.proofs.lemmas.List.{drop-append-le, length-append}
 use Rattle.std.proofs.lemmas.List.Elements.{filter-append}
 use Rattle.std.proofs.lemmas.Option.{slice_get_within}
 use Rattle.model.specs.Stream.{Item, ResyncItem, placed, epoch_of}
-use Rattle.model.specs.Primary.{Accepted, Outward, PrimaryHistory, no_outward, last_of, outward, last_index, change_last, with_outward, stands, is_resync, was_resynced, under_way, resync_runs, is_released, is_on_disk, unreleased, open_writes}
+use Rattle.model.specs.Primary.{Accepted, Outward, PrimaryHistory, no_outward, outward, stands, is_resync, was_resynced, under_way, resync_runs, is_released, is_on_disk, unreleased, open_writes}
 use Rattle.model.specs.PrimarySteps.{appending}
 use Rattle.laws.proofs.Lists.Last.{length-change}
 use Rattle.laws.proofs.Lists.Picks.{pick-filtered}
@@ -16,7 +16,7 @@ use Rattle.laws.proofs.Primary.LawfulMoves.{last-changed}
 use Rattle.laws.proofs.Streams.Lawful.{placed-append}
 use Rattle.laws.proofs.Streams.Places.{epoch-grows, placed-back}
 use Rattle.primary_steps.specs.Core.{UnderWay, EndState, PrimaryState}
-use Rattle.primary_steps.specs.Leaves.{logged_of, standing, LeavesLog, LeavesActivity, LeavesRest, LeavesEnd, EndLeft, UnderWayLeft, holding_item, holding_write, held_of}
+use Rattle.primary_steps.specs.Leaves.{logged_of, LeavesActivity, LeavesRest, LeavesEnd, EndLeft, UnderWayLeft, holding_item, holding_write}
 use Rattle.primary_steps.proofs.Filters.{filter-at, map-at}
 use Rattle.primary_steps.proofs.Connections.{SeesSame, seen-same, released-same, alone-same, answers-same}
 

@@ -1,18 +1,16 @@
 -- An acknowledgement of a write: the log awaits it exactly where the history does.
-use Rattle.std.proofs.Common.{ℕ, zero, suc, ◌≡◌, ◌+◌, ◌-◌, ◌<◌, ◌≤◌, inl, inr, Bool, true, false, cond, not, ◌&&◌, ◌||◌, List, [], ◌∷◌, ◌++◌, length, map, filter, Option, Some, None, slice_get, refl, sym, ◌∙◌, ap, subst, arith, nat_lt, nat_le, ◌==◌}
+use Rattle.std.proofs.Common.{ℕ, ◌≡◌, inl, inr, Bool, true, false, not, ◌&&◌, ◌||◌, length, Option, Some, None, slice_get, refl, sym, ◌∙◌, ap, nat_lt, ◌==◌}
 use Rattle.std.specs.Prelude.{find, is_some, option_map}
 use Rattle.std.specs.List.{list_any}
-use Rattle.std.proofs.lemmas.Bool.{cases_Bool, both_ways, and_parts, and_from, or_cases, not-true, eqb-true, eq-eqb, false_from_ne_true}
-use Rattle.blocks.specs.declared.settings.Protocol.{Protocol}
+use Rattle.std.proofs.lemmas.Bool.{both_ways, and_parts, or_cases, not-true, eqb-true, eq-eqb, false_from_ne_true}
 use Rattle.model.specs.Contents.{Write}
-use Rattle.model.specs.Stream.{Item, WriteItem, ResyncItem, BarrierItem, SyncUuidItem, UuidsItem, is_write, epoch_of}
-use Rattle.model.specs.Frames.{Acknowledged, Received, naming}
+use Rattle.model.specs.Stream.{Item, WriteItem, ResyncItem, BarrierItem, SyncUuidItem, UuidsItem, is_write}
+use Rattle.model.specs.Frames.{Acknowledged, naming}
 use Rattle.model.specs.Primary.{Accepted, Outward, PrimaryHistory, outward, last_index, stands, items_sent, same_naming, is_answered_by, is_answered, is_alone, is_confirmed, is_released, is_waiting, unreleased}
 use Rattle.model.specs.Acknowledgements.{names_sent, was_named}
 use Rattle.transferlog.specs.Log.{awaits_in}
 use Rattle.transferlog.specs.Ring.{write_at}
-use Rattle.transferlog.specs.Writes.{LogWrite, awaits, is_at}
-use Rattle.laws.proofs.Lists.Elements.{same-at}
+use Rattle.transferlog.specs.Writes.{awaits, is_at}
 use Rattle.laws.proofs.Lists.Picks.{any-pick, pick-found, pick-filtered, filtered-pick}
 use Rattle.laws.proofs.Primary.Ends.{stands-parts}
 use Rattle.laws.proofs.Primary.Homes.{HasHomes, open-at, alone-at}
@@ -99,9 +97,9 @@ module _ (s : PrimaryState) (h : PrimaryHistory) (left : Leaves s h) (homes : Ha
           let unanswered : is_answered h n.accepted ≡ false = answered-here h n.accepted ack.place n.home last-there ∙ (sym (named-is (WriteItem n.accepted.write) n.there) ∙ unnamed) in
           let linked : is_alone h n.accepted ≡ false = alone-at h n.accepted (last_index h.connections, ack.place) (outward h) n.home last-there ∙ (stands-parts (outward h) on).0 in
           let held : is_released h n.accepted ≡ false = false_from_ne_true (is_released h n.accepted) (λ rel.
-              let told = (and_parts (not (is_waiting n.accepted.outcome)) (is_confirmed h n.accepted || is_alone h n.accepted) rel).1 in
-              let confirmed : is_confirmed h n.accepted ≡ true = elim (or_cases (is_confirmed h n.accepted) (is_alone h n.accepted) told) [ inl is ↦ is | inr alone ↦ absurd (both_ways (is_alone h n.accepted) linked alone) ] in
-              both_ways (is_answered h n.accepted) unanswered (confirmed-answered h s.log homes last left.rest.log.protocol left.stream.on n.index n.accepted n.at linked confirmed)) in
+          let told = (and_parts (not (is_waiting n.accepted.outcome)) (is_confirmed h n.accepted || is_alone h n.accepted) rel).1 in
+          let confirmed : is_confirmed h n.accepted ≡ true = elim (or_cases (is_confirmed h n.accepted) (is_alone h n.accepted) told) [ inl is ↦ is | inr alone ↦ absurd (both_ways (is_alone h n.accepted) linked alone) ] in
+          both_ways (is_answered h n.accepted) unanswered (confirmed-answered h s.log homes last left.rest.log.protocol left.stream.on n.index n.accepted n.at linked confirmed)) in
           let kept = filtered-pick (λ x. not (is_released h x)) h.writes n.index n.accepted n.at (ap not held) in
           let some : list_any (λ (x : Accepted). x.write.number == ack.number) (unreleased h) ≡ true = any-pick (λ (x : Accepted). x.write.number == ack.number) (unreleased h) kept.0 n.accepted kept.1 front.1 in
           ap (λ v. awaits_in v (named ack)) (found-is s h ack.number left homes)

@@ -1,19 +1,18 @@
 -- A write begins in an extent, where it may.
-use Rattle.std.proofs.Common.{ℕ, zero, suc, ◌≡◌, ◌+◌, ◌-◌, ◌<◌, ◌≤◌, ◌⊎◌, inl, inr, Bool, true, false, cond, not, ◌&&◌, ◌||◌, List, [], ◌∷◌, ◌++◌, length, map, filter, Some, slice_get, refl, sym, ◌∙◌, ap, subst, arith, nat_lt, nat_le, ◌==◌}
+use Rattle.std.proofs.Common.{ℕ, zero, suc, ◌≡◌, ◌+◌, ◌<◌, ◌≤◌, inl, inr, Bool, true, false, not, ◌&&◌, ◌||◌, List, [], ◌∷◌, ◌++◌, length, map, filter, Some, slice_get, refl, sym, ◌∙◌, ap, subst, arith, nat_lt, nat_le, ◌==◌}
 use Rattle.std.specs.Prelude.{if◌then◌else◌}
 use Rattle.std.specs.Cmp.{nat_eq_equiv}
 use Rattle.std.specs.List.{list_any, IsDistinct, AllByRecursion}
 use Rattle.std.proofs.lemmas.Map.Made.{length-le_from_is_member}
 use Rattle.std.proofs.lemmas.Option.{slice_get_within}
 use Rattle.laws.proofs.Lists.Elements.{get-there}
-use Rattle.std.proofs.lemmas.Bool.{cases_Bool, cases_lt, both_ways, and_parts, or_parts, or_cases, or_left, or_right, eqb-true, eq-eqb, lt-ltb, ltb-true, ltb-false, le-ltb, le-leb, lt-leb, leb-true, leb-false, false_from_ne_true}
+use Rattle.std.proofs.lemmas.Bool.{cases_Bool, both_ways, or_parts, or_cases, or_left, or_right, eqb-true, eq-eqb, ltb-true, ltb-false, le-leb, lt-leb, false_from_ne_true}
 use Rattle.std.proofs.lemmas.List.{length-map, length-append}
 use Rattle.std.proofs.lemmas.List.Elements.{filter-append}
 use Rattle.model.specs.Contents.{extent_of}
-use Rattle.model.specs.Primary.{Accepted, PrimaryHistory, active_extents_of, active_extents, unreleased}
-use Rattle.model.specs.PrimarySteps.{activity_is_full}
+use Rattle.model.specs.Primary.{Accepted, active_extents_of}
 use Rattle.activitylog.specs.Activity.{Active, ActivityState, is_active, writes_of, other_than, has_idle, without_oldest_idle, can_begin, staying, begun}
-use Rattle.laws.proofs.Lists.Picks.{pick-any, any-pick, pick-filtered, filtered-pick, pick-image}
+use Rattle.laws.proofs.Lists.Picks.{pick-filtered, filtered-pick}
 use Rattle.laws.proofs.Primary.Extents.{has, has-extent, extent-from, extents-bound}
 use Rattle.primary_steps.specs.Leaves.{AreOnce, writes_in, LeavesActivity}
 use Rattle.primary_steps.proofs.Activity.{Counts, counts-of, of-counts, counts-same}

@@ -1,14 +1,13 @@
 -- Something happened to one write: what that leaves, before what follows.
-use Rattle.std.proofs.Common.{ℕ, zero, suc, ◌≡◌, ◌≤◌, arith, Bool, true, false, not, ◌&&◌, ◌||◌, List, [], ◌∷◌, ◌++◌, length, map, filter, Option, Some, None, slice_get, refl, sym, ◌∙◌, ap, subst, ◌==◌}
-use Rattle.std.specs.Prelude.{find, if◌then◌else◌, option_map}
+use Rattle.std.proofs.Common.{ℕ, ◌≡◌, arith, Bool, true, false, not, ◌&&◌, List, [], ◌++◌, length, map, filter, Option, Some, slice_get, sym, ◌∙◌, ap, subst, ◌==◌}
+use Rattle.std.specs.Prelude.{find, if◌then◌else◌}
 use Rattle.std.specs.List.{list_any}
 use Rattle.std.proofs.lemmas.List.{length-map}
-use Rattle.blocks.specs.declared.settings.Settings.{Settings}
 use Rattle.model.specs.Contents.{Write}
 use Rattle.model.specs.Stream.{Item, placed}
-use Rattle.model.specs.Primary.{Accepted, Completion, Outward, PrimaryHistory, outward, change_last, stands, is_failed, is_completed, is_open, open_writes, completes, is_resync, was_resynced, under_way}
+use Rattle.model.specs.Primary.{Accepted, Completion, Outward, PrimaryHistory, outward, stands, is_failed, is_completed, is_open, open_writes, completes, is_resync, was_resynced, under_way}
 use Rattle.model.specs.PrimarySteps.{epoch_is_over}
-use Rattle.transferlog.specs.Log.{LogState, changing}
+use Rattle.transferlog.specs.Log.{changing}
 use Rattle.transferlog.specs.Writes.{LogWrite}
 use Rattle.laws.proofs.Lists.Last.{length-change}
 use Rattle.laws.proofs.Lists.Picks.{pick-image}

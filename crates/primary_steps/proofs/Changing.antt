@@ -1,32 +1,26 @@
 -- Something happens to one write: what the log makes of it, and what the history does.
-use Rattle.std.proofs.Common.{ℕ, zero, suc, ◌≡◌, ◌+◌, ◌-◌, ◌<◌, ◌≤◌, inl, inr, Bool, true, false, cond, not, ◌&&◌, ◌||◌, List, [], ◌∷◌, ◌++◌, length, map, filter, Option, Some, None, slice_get, refl, sym, ◌∙◌, ap, subst, arith, nat_lt, nat_le, ◌==◌}
+use Rattle.std.proofs.Common.{ℕ, ◌≡◌, ◌-◌, Bool, true, false, not, ◌&&◌, ◌||◌, List, length, map, filter, Some, None, slice_get, refl, sym, ◌∙◌, ap, nat_le}
 use Rattle.std.specs.Prelude.{if◌then◌else◌}
-use Rattle.std.specs.List.{list_any}
-use Rattle.std.proofs.lemmas.Bool.{cases_Bool, both_ways, and_parts, not-true, false_from_ne_true}
+use Rattle.std.proofs.lemmas.Bool.{and_parts, not-true}
 use Rattle.blocks.specs.declared.settings.Protocol.{Protocol}
 use Rattle.std.proofs.lemmas.List.{length-map}
 use Rattle.blocks.specs.declared.settings.Settings.{Settings}
 use Rattle.blocks.specs.Ranges.{below}
-use Rattle.model.specs.Contents.{Write, covers, extent_of}
-use Rattle.model.specs.Stream.{Item, WriteItem}
-use Rattle.model.specs.Primary.{Accepted, Outward, PrimaryHistory, outward, last_index, change_last, stands, is_waiting, is_failed, is_alone, is_confirmed, is_released, is_completed, is_open, completes, unreleased, is_answered_by, barrier_acknowledged, was_resynced}
-use Rattle.model.specs.PrimarySteps.{newly_completed, with_completions, epoch_is_over}
-use Rattle.transferlog.specs.Log.{LogState, changing, moved, closes_any, ended_by}
+use Rattle.model.specs.Stream.{Item}
+use Rattle.model.specs.Primary.{Accepted, Outward, PrimaryHistory, outward, last_index, change_last, stands, is_waiting, is_failed, is_alone, is_confirmed, is_released, completes, unreleased, is_answered_by, barrier_acknowledged, was_resynced}
+use Rattle.model.specs.PrimarySteps.{newly_completed}
+use Rattle.transferlog.specs.Log.{LogState, changing}
 use Rattle.transferlog.specs.Ring.{on}
 use Rattle.transferlog.specs.Writes as log
 use Rattle.transferlog.specs.Writes.{LogWrite, completed_of, released_of}
 use Rattle.laws.proofs.Lists.Last.{length-change}
-use Rattle.laws.proofs.Lists.Picks.{pick-filtered}
 use Rattle.laws.proofs.Primary.Homes.{HasHomes}
 use Rattle.laws.proofs.Primary.LastOpen.{IsLastOpen}
 use Rattle.primary_steps.specs.Core.{PrimaryState, leaving}
-use Rattle.primary_steps.specs.Leaves.{logged_of, standing, latest_in, writes_in, LeavesLog, LeavesStream, LeavesActivity, Leaves}
-use Rattle.primary_steps.proofs.Activity.{counts-of, of-counts, counts-same, leaving-counts, released_in, split-count}
-use Rattle.primary_steps.proofs.Filters.{filter-at, map-at, any-at, filter-map, filter-twice, map-twice, any-map, any-filter}
+use Rattle.primary_steps.specs.Leaves.{logged_of, latest_in, LeavesLog, LeavesActivity, Leaves}
 use Rattle.primary_steps.proofs.Moving.{IsMoved, left-then, latest-then, moved-released, moved-completed, moved-activity}
-use Rattle.primary_steps.proofs.Releasing.{confirmed-number, released-seen, released-not-open}
-use Rattle.primary_steps.proofs.Seen.{completes-seen, open-seen, settled-seen, completes-not-failed}
-use Rattle.transferlog.specs.declared.report.Released.{Released}
+use Rattle.primary_steps.proofs.Releasing.{confirmed-number, released-seen}
+use Rattle.primary_steps.proofs.Seen.{settled-seen}
 
 -- What happens to the write of one number in the history, and to the last connection: what the log sees of it is the change `f`.
 -- What the local disk did, what was answered and what was completed stays so.

@@ -1,8 +1,8 @@
 -- An end closes, by a call or by a protocol error: what that leaves.
-use Rattle.std.proofs.Common.{ℕ, zero, suc, ◌≡◌, ◌+◌, ◌-◌, ◌<◌, ◌≤◌, inl, inr, Bool, true, false, cond, not, ◌&&◌, ◌||◌, List, [], ◌∷◌, ◌++◌, length, map, filter, Option, Some, None, slice_get, refl, sym, ◌∙◌, ap, subst, arith, nat_lt, nat_le, ◌==◌}
+use Rattle.std.proofs.Common.{ℕ, ◌≡◌, ◌-◌, ◌≤◌, inl, inr, Bool, true, false, not, ◌&&◌, ◌||◌, List, [], ◌∷◌, ◌++◌, length, map, filter, Option, Some, None, slice_get, refl, sym, ◌∙◌, ap, subst, arith, nat_lt, ◌==◌}
 use Rattle.std.specs.Prelude.{find, is_some, if◌then◌else◌}
 use Rattle.std.specs.List.{list_any}
-use Rattle.std.proofs.lemmas.Bool.{both_ways, and_parts, eqb-true, eq-eqb, false_from_ne_true}
+use Rattle.std.proofs.lemmas.Bool.{both_ways, and_parts, eqb-true, false_from_ne_true}
 use Rattle.std.proofs.lemmas.List.{length-map}
 use Rattle.std.proofs.lemmas.List.Elements.{filter-append}
 use Rattle.blocks.specs.declared.tuple.Tuple.{Tuple}
@@ -12,35 +12,33 @@ use Rattle.blocks.specs.declared.settings.Protocol.TheVariants as protocol
 use Rattle.blocks.specs.declared.outcome.What.TheVariants as what
 use Rattle.blocks.specs.Identifiers.{lost}
 use Rattle.blocks.specs.Ranges.{below, is_between}
-use Rattle.model.specs.Contents.{Write, covers}
-use Rattle.model.specs.Stream.{Item, WriteItem, BarrierItem, last_epoch, epoch_of}
-use Rattle.model.specs.Frames.{Received, naming}
-use Rattle.model.specs.Marks.{Marks, marking_unreleased}
-use Rattle.model.specs.Primary.{LocalOutcome, Accepted, Completion, Outward, PrimaryHistory, no_outward, last_of, outward, last_index, change_last, stands, items_sent, accepted_frames, is_recv_ack, is_write_ack, is_answered_by, is_answered, is_alone, is_on_disk, is_failed, is_waiting, is_confirmed, is_released, is_completed, is_open, open_writes, completes, unreleased, under_way}
-use Rattle.model.specs.PrimarySteps.{Followed, newly_completed, with_completions, epoch_is_over, appending, resync_is_over, ending_resync, follows}
-use Rattle.transferlog.specs.Log as log
-use Rattle.transferlog.specs.Log.{LogState, moved, draining}
+use Rattle.model.specs.Contents.{covers}
+use Rattle.model.specs.Stream.{Item, WriteItem, BarrierItem, last_epoch}
+use Rattle.model.specs.Frames.{naming}
+use Rattle.model.specs.Marks.{marking_unreleased}
+use Rattle.model.specs.Primary.{Accepted, Completion, Outward, PrimaryHistory, no_outward, outward, last_index, change_last, stands, items_sent, accepted_frames, is_recv_ack, is_write_ack, is_answered_by, is_answered, is_alone, is_on_disk, is_failed, is_waiting, is_confirmed, is_released, is_completed, is_open, open_writes, completes, unreleased, under_way}
+use Rattle.model.specs.PrimarySteps.{Followed, newly_completed, with_completions, appending, resync_is_over, ending_resync, follows}
+use Rattle.transferlog.specs.Log.{draining}
 use Rattle.transferlog.specs.Writes as writes
 use Rattle.transferlog.specs.Writes.{LogWrite, completed_of, released_of}
 use Rattle.transferlog.specs.declared.report.Released.{Released}
-use Rattle.epochs.specs.Epochs.{EpochsState, empty}
+use Rattle.epochs.specs.Epochs.{empty}
 use Rattle.overlap.specs.Holdings.{Holding, without}
 use Rattle.bitmap.specs.Marks as bits
 use Rattle.laws.proofs.Lists.Last.{length-change, get-change, get-last-changed}
 use Rattle.laws.proofs.Lists.Picks.{pick-image, pick-filtered}
 use Rattle.laws.proofs.Primary.Homes.{HasHomes, open-at, alone-at, alone-homeless}
 use Rattle.laws.proofs.Primary.LastOpen.{IsLastOpen, open-is-last}
-use Rattle.primary_steps.specs.Core as core
-use Rattle.primary_steps.specs.Core.{Fate, Failed, EndState, PrimaryState, reporting, unmarking}
+use Rattle.primary_steps.specs.Core.{Fate, Failed, EndState, PrimaryState, unmarking}
 use Rattle.primary_steps.specs.Transitions as transition
-use Rattle.primary_steps.specs.Leaves.{local_of, is_sent, logged_of, standing, entry_of, fate_in, latest_in, holding_item, holding_write, held_of, marks_in, LeavesLog, LeavesStream, LeavesEnd, EndLeft, Leaves}
+use Rattle.primary_steps.specs.Leaves.{local_of, is_sent, logged_of, entry_of, fate_in, latest_in, holding_item, holding_write, held_of, marks_in, LeavesLog, LeavesStream, LeavesEnd, Leaves}
 use Rattle.primary_steps.proofs.Connections.{look}
-use Rattle.primary_steps.proofs.Filters.{filter-at, filter-map, filter-all, filter-none, map-at, any-map}
+use Rattle.primary_steps.proofs.Filters.{filter-map, filter-all, filter-none, map-at, any-map}
 use Rattle.primary_steps.proofs.Following.{IsDue, follow, parted, barrier_of}
 use Rattle.primary_steps.proofs.Marks.{unmarking-none, marking-in, marks-same}
-use Rattle.primary_steps.proofs.Moving.{IsMoved, left-then, latest-then, moved-released, moved-completed, moved-activity}
+use Rattle.primary_steps.proofs.Moving.{IsMoved, left-then, moved-released, moved-completed, moved-activity}
 use Rattle.primary_steps.proofs.Resting.{down-on}
-use Rattle.primary_steps.proofs.Seen.{completes-seen, settled-seen, disk-seen}
+use Rattle.primary_steps.proofs.Seen.{settled-seen}
 
 -- What a close does: the last end is closed, and nothing that a write sees of it changes but that; unreleased writes are marked, and
 -- the tuple goes by `lost` where a stream had begun.
@@ -186,9 +184,9 @@ module _ (s : PrimaryState) (h h1 : PrimaryHistory) (k : Outward → Outward) (e
       rest =
           filter-map (λ (x : Holding). not (x.number == 0)) holding_write (open_writes h)
           ∙ (ap (map holding_write) (filter-all (λ a. not (a.write.number == 0)) (open_writes h) (λ i a at.
-              let stood = pick-filtered (is_open h) h.writes i a at in
-              let index = homes.numbered stood.0 a stood.1 in
-              ap not (false_from_ne_true (a.write.number == 0) (λ e. let zero_is = eqb-true a.write.number 0 e in omega arith))))
+          let stood = pick-filtered (is_open h) h.writes i a at in
+          let index = homes.numbered stood.0 a stood.1 in
+          ap not (false_from_ne_true (a.write.number == 0) (λ e. let zero_is = eqb-true a.write.number 0 e in omega arith))))
           ∙ ap (map holding_write) (λ i. filter (λ a. not (list_any (λ (entry : Completion). entry.write.number == a.write.number) (sym c.journal i)) && not (is_failed a.outcome)) (sym c.writes i)))
 
   marks-are : unmarking (draining s.log).released (draining s.log).latest (bits.marking (transition.unreleased_blocks s.log.writes) s.marks) ≡ marks_in h1.settings.blocks h1.marks

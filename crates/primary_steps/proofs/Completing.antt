@@ -1,8 +1,8 @@
 -- What a step completes goes into the journal, and into the entries.
-use Rattle.std.proofs.Common.{ℕ, zero, suc, ◌≡◌, ◌+◌, ◌<◌, ◌⊎◌, inl, inr, Bool, true, false, cond, not, ◌&&◌, ◌||◌, List, [], ◌∷◌, ◌++◌, map, filter, Option, Some, None, slice_get, refl, sym, ◌∙◌, ap, subst, arith, ◌==◌}
+use Rattle.std.proofs.Common.{ℕ, zero, suc, ◌≡◌, ◌+◌, ◌<◌, ◌⊎◌, inl, inr, Bool, true, false, cond, not, ◌&&◌, ◌||◌, List, [], ◌∷◌, map, Option, Some, None, slice_get, refl, sym, ◌∙◌, ap, subst, arith, ◌==◌}
 use Rattle.std.specs.Prelude.{find, is_some, if◌then◌else◌}
 use Rattle.std.specs.List.{list_any}
-use Rattle.std.proofs.lemmas.Bool.{both_ways, and_parts, or_parts, eqb-true, eq-eqb, false_from_ne_true, or_cases}
+use Rattle.std.proofs.lemmas.Bool.{both_ways, and_parts, or_parts, eqb-true, eq-eqb, false_from_ne_true}
 use Rattle.std.proofs.lemmas.List.Folds.{list_any-append}
 use Rattle.model.specs.Primary.{Accepted, Completion, PrimaryHistory, is_answered, completes, is_failed, is_completed, is_open, Linked, Alone}
 use Rattle.model.specs.PrimarySteps.{newly_completed, completion_of, with_completions}
@@ -12,7 +12,7 @@ use Rattle.laws.proofs.Lists.Elements.{same-at}
 use Rattle.laws.proofs.Lists.Picks.{pick-any, any-pick, pick-filtered, filtered-pick, pick-image, pick-found}
 use Rattle.primary_steps.specs.Core.{Fate, Failed, Completed, Entry, with_entry, entering}
 use Rattle.primary_steps.specs.Leaves.{is_linked, fate_in, fate_of, entry_of, logged_of, IsQuiet}
-use Rattle.primary_steps.proofs.Filters.{map-at, any-map, find-append, find-map, map-twice}
+use Rattle.primary_steps.proofs.Filters.{map-at, any-map, find-append, find-map}
 use Rattle.primary_steps.proofs.Numbers.{AreNumberedFrom, with-entry-map, any-some}
 use Rattle.primary_steps.proofs.Seen.{completes-not-failed}
 

@@ -1,46 +1,43 @@
 -- The peer acknowledges an epoch: what that leaves, before what follows.
-use Rattle.std.proofs.Common.{ℕ, zero, suc, ◌≡◌, ◌+◌, ◌-◌, ◌<◌, ◌≤◌, ◌⊎◌, inl, inr, Bool, true, false, cond, not, ◌&&◌, ◌||◌, List, [], ◌∷◌, ◌++◌, length, map, filter, take, drop, Option, Some, None, slice_get, Result, Ok, Err, refl, sym, ◌∙◌, ap, subst, arith, nat_lt, nat_le, ◌==◌}
-use Rattle.std.specs.Prelude.{find, if◌then◌else◌}
+use Rattle.std.proofs.Common.{ℕ, zero, suc, ◌≡◌, ◌+◌, ◌-◌, ◌<◌, ◌≤◌, ◌⊎◌, inl, inr, Bool, true, false, not, ◌&&◌, ◌||◌, List, [], ◌∷◌, ◌++◌, length, map, filter, take, drop, Option, Some, None, slice_get, Result, Ok, Err, refl, sym, ◌∙◌, ap, subst, arith, nat_lt, nat_le, ◌==◌}
+use Rattle.std.specs.Prelude.{if◌then◌else◌}
 use Rattle.std.specs.List.{list_any}
-use Rattle.std.proofs.lemmas.Bool.{cases_Bool, cases_lt, both_ways, and_parts, or_cases, not-true, eqb-true, eq-eqb, lt-ltb, le-leb, lt-leb, leb-true, leb-false, false_from_ne_true}
+use Rattle.std.proofs.lemmas.Bool.{cases_lt, both_ways, and_parts, or_cases, eqb-true, eq-eqb, lt-ltb, le-leb, lt-leb, leb-true, false_from_ne_true}
 use Rattle.std.proofs.lemmas.Option.{slice_get_within}
 use Rattle.blocks.specs.declared.settings.Settings.{Settings}
 use Rattle.blocks.specs.declared.settings.Protocol.{Protocol}
 use Rattle.blocks.specs.declared.settings.Protocol.TheVariants as protocol
-use Rattle.blocks.specs.Ranges.{below}
 use Rattle.model.specs.Contents.{Write}
 use Rattle.model.specs.Stream.{Item, WriteItem, BarrierItem, is_write, number_of, placed, barriers_in, epoch_of, last_epoch, epoch_size, items_of_epoch}
-use Rattle.model.specs.Frames.{BarrierAckFrame, Received, Acknowledged, naming}
-use Rattle.model.specs.Marks.{is_cleared, releasing}
-use Rattle.model.specs.Primary.{Accepted, Completion, Outward, PrimaryHistory, no_outward, outward, last_index, change_last, with_outward, stands, items_sent, is_answered_by, is_answered, is_alone, is_confirmed, is_released, is_waiting, is_on_disk, is_failed, completes, is_recv_ack, is_write_ack, is_rs_write_ack, is_barrier_ack, barrier_acknowledged, was_resynced, unreleased, open_writes, under_way, is_resync}
+use Rattle.model.specs.Frames.{BarrierAckFrame, Received, naming}
+use Rattle.model.specs.Marks.{releasing}
+use Rattle.model.specs.Primary.{Accepted, Completion, Outward, PrimaryHistory, no_outward, outward, last_index, change_last, with_outward, stands, items_sent, is_answered_by, is_answered, is_alone, is_confirmed, is_released, is_waiting, is_on_disk, is_failed, is_recv_ack, is_write_ack, is_rs_write_ack, is_barrier_ack, barrier_acknowledged, was_resynced, unreleased, open_writes, under_way, is_resync}
 use Rattle.model.specs.PrimarySteps.{newly_completed, completion_of, with_completions, is_settled, epoch_is_over, appending}
 use Rattle.model.specs.Acknowledgements.{is_in_turn, is_acknowledged}
 use Rattle.blocks.specs.declared.refusal.Refusal.{Refusal}
 use Rattle.blocks.specs.declared.refusal.Refusal.TheVariants.{BadBarrierAck}
-use Rattle.transferlog.specs.Log.{LogState, moved, confirming, asks_answers, lacks_answer}
+use Rattle.transferlog.specs.Log.{LogState, confirming, asks_answers, lacks_answer}
 use Rattle.transferlog.specs.Writes as writes
 use Rattle.transferlog.specs.Writes.{LogWrite, completed_of, released_of}
-use Rattle.epochs.specs.Epochs.{EpochsState, is_awaited, begins_with, acknowledging}
+use Rattle.epochs.specs.Epochs.{EpochsState, is_awaited, acknowledging}
 use Rattle.laws.proofs.Lists.Last.{length-change, get-change, get-last-changed}
-use Rattle.laws.proofs.Primary.Ends.{stands-parts}
-use Rattle.laws.proofs.Primary.Homes.{HasHomes, open-at}
+use Rattle.laws.proofs.Primary.Homes.{HasHomes}
 use Rattle.laws.proofs.Primary.InOrderMoves.{Ordered, OrderedAfter, in-order-kept}
 use Rattle.laws.proofs.Primary.Moves.{with_frame}
 use Rattle.laws.proofs.Primary.Releases.{confirmed-releases}
 use Rattle.laws.proofs.Streams.Barriers.{behind-barrier}
 use Rattle.laws.proofs.Tracked.Released.{ordered-release}
-use Rattle.primary_steps.specs.Core as core
 use Rattle.primary_steps.specs.Core.{EndState, PrimaryState, unmarking, leaving}
-use Rattle.primary_steps.specs.Leaves.{numbers_after, total, is_sent, logged_of, standing, held_of, holding_item, holding_write, marks_in, LeavesLog, LeavesStream, LeavesEpochs, LeavesActivity, LeavesEnd, EndLeft, IsQuiet, Leaves}
-use Rattle.primary_steps.proofs.Answering.{any-frame, looked}
+use Rattle.primary_steps.specs.Leaves.{numbers_after, total, is_sent, logged_of, held_of, holding_item, holding_write, LeavesLog, LeavesStream, LeavesEpochs, LeavesActivity, LeavesEnd, EndLeft, IsQuiet, Leaves}
+use Rattle.primary_steps.proofs.Answering.{any-frame}
 use Rattle.primary_steps.proofs.Connections.{look}
 use Rattle.primary_steps.proofs.Filters.{filter-at, any-at}
-use Rattle.primary_steps.proofs.Following.{IsDue, parted, barrier_of}
-use Rattle.primary_steps.proofs.Framing.{NamesNone, end-framed, way-framed}
+use Rattle.primary_steps.proofs.Following.{IsDue, parted}
+use Rattle.primary_steps.proofs.Framing.{end-framed, way-framed}
 use Rattle.primary_steps.proofs.Known.{outward-of}
 use Rattle.primary_steps.proofs.Marks.{unmarking-is}
 use Rattle.primary_steps.proofs.Moving.{IsMoved, left-then, moved-released, moved-activity}
-use Rattle.primary_steps.proofs.Releasing.{IsHere, not-alone}
+use Rattle.primary_steps.proofs.Releasing.{not-alone}
 use Rattle.primary_steps.proofs.Reporting.{reports-of}
 use Rattle.primary_steps.proofs.Resting.{quiet-none}
 use Rattle.primary_steps.proofs.Seen.{settled-seen, not-not}

@@ -1,11 +1,11 @@
 -- A change of the last connection that the log does not see.
-use Rattle.std.proofs.Common.{ℕ, zero, suc, ◌≡◌, ◌≤◌, inl, inr, Bool, true, false, not, ◌&&◌, ◌||◌, List, [], ◌∷◌, ◌++◌, length, map, filter, Option, Some, None, slice_get, refl, sym, ◌∙◌, ap, subst, arith, nat_lt}
+use Rattle.std.proofs.Common.{ℕ, zero, suc, ◌≡◌, ◌≤◌, inl, inr, Bool, true, false, not, ◌&&◌, ◌||◌, List, [], ◌∷◌, ◌++◌, length, Option, Some, None, slice_get, refl, sym, ◌∙◌, ap, subst, arith, nat_lt}
 use Rattle.std.proofs.lemmas.Option.{slice_get_within}
 use Rattle.blocks.specs.declared.settings.Settings.{Settings}
 use Rattle.blocks.specs.declared.settings.Protocol.{Protocol}
 use Rattle.blocks.specs.declared.settings.Protocol.TheVariants as protocol
 use Rattle.model.specs.Stream.{Item, WriteItem, epoch_of}
-use Rattle.model.specs.Primary.{Accepted, Outward, PrimaryHistory, no_outward, last_of, outward, change_last, items_sent, is_answered_by, is_answered, is_alone, is_confirmed, barrier_acknowledged, is_waiting, is_released, unreleased}
+use Rattle.model.specs.Primary.{Accepted, Outward, PrimaryHistory, no_outward, last_of, outward, change_last, items_sent, is_answered_by, is_answered, is_alone, is_confirmed, barrier_acknowledged, is_waiting, is_released}
 use Rattle.laws.proofs.Lists.Last.{get-change}
 use Rattle.laws.proofs.Primary.Homes.{HasHomes, confirmed-at}
 use Rattle.laws.proofs.Streams.Places.{epoch-grows}

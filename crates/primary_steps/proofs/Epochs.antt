@@ -1,20 +1,19 @@
 -- The log's epochs as the stream goes on.
-use Rattle.std.proofs.Common.{ℕ, zero, suc, ◌≡◌, ◌+◌, ◌-◌, ◌<◌, ◌≤◌, ◌⊎◌, inl, inr, Bool, true, false, ◌||◌, List, [], ◌∷◌, ◌++◌, length, map, filter, take, drop, Some, slice_get, refl, sym, ◌∙◌, ap, subst, arith, nat_lt, nat_le, ◌==◌}
+use Rattle.std.proofs.Common.{ℕ, zero, suc, ◌≡◌, ◌+◌, ◌-◌, ◌<◌, ◌≤◌, ◌⊎◌, inl, inr, Bool, true, false, ◌||◌, List, [], ◌∷◌, ◌++◌, length, map, filter, take, Some, slice_get, refl, sym, ◌∙◌, ap, subst, arith, nat_le, ◌==◌}
 use Rattle.std.specs.Prelude.{if◌then◌else◌}
 use Rattle.std.specs.List.{list_any}
-use Rattle.std.proofs.lemmas.Bool.{cases_lt, eqb-true, eq-eqb, le-leb, lt-leb, leb-true, false_from_ne_true}
+use Rattle.std.proofs.lemmas.Bool.{cases_lt, eqb-true, eq-eqb, le-leb, lt-leb}
 use Rattle.std.proofs.lemmas.List.{length-append, length-map, map-append, take-append-le}
 use Rattle.std.proofs.lemmas.List.Elements.{filter-append}
 use Rattle.std.proofs.lemmas.List.Folds.{list_any-append}
 use Rattle.std.proofs.lemmas.Option.{slice_get_within}
 use Rattle.blocks.specs.declared.settings.Protocol.{Protocol}
 use Rattle.model.specs.Contents.{Write}
-use Rattle.model.specs.Stream.{Item, WriteItem, BarrierItem, is_write, is_barrier, barriers_in, epoch_of, last_epoch, epoch_size, items_of_epoch}
+use Rattle.model.specs.Stream.{Item, WriteItem, is_write, is_barrier, barriers_in, epoch_of, last_epoch, epoch_size, items_of_epoch}
 use Rattle.model.specs.Primary.{Outward, is_resync, barrier_acknowledged, is_answered_by}
 use Rattle.transferlog.specs.Log.{LogState}
 use Rattle.epochs.specs.Epochs.{EpochsState, uncounted, with_write, with_resync, ending}
 use Rattle.laws.proofs.Lists.Elements.{get-more}
-use Rattle.laws.proofs.Primary.LawfulMoves.{barrier-empties}
 use Rattle.laws.proofs.Streams.Lawful.{epoch-bound, epoch-end, epoch-items-grow, size-grow}
 use Rattle.laws.proofs.Streams.Places.{barriers-append, epoch-grows}
 use Rattle.primary_steps.specs.Leaves.{numbers_after, total, LeavesEpochs}
@@ -108,10 +107,10 @@ module _ (l l' : LogState) (c d : Outward) (item : Item) (e : LeavesEpochs l c) 
         let epoch = epoch-old place write was in
         answered-same asked c d place (WriteItem write) same ∙ (ap (λ (p : Protocol). is_answered_by p c place (WriteItem write)) is ∙ e.answered place write was (omega arith))
     | inr new ↦ absurd (
-      let place_is : place ≡ length c.stream = new.0 in
-      let epoch : epoch_of d.stream place ≡ last_epoch c.stream = ap (epoch_of d.stream) place_is ∙ epoch-new in
-      let within = e.within in
-      omega arith)
+        let place_is : place ≡ length c.stream = new.0 in
+        let epoch : epoch_of d.stream place ≡ last_epoch c.stream = ap (epoch_of d.stream) place_is ∙ epoch-new in
+        let within = e.within in
+        omega arith)
   ]
 
   -- An item that is no write, no block of a resync and no barrier.

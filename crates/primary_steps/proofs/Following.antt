@@ -1,31 +1,28 @@
 -- What follows a step's effect: the journal, then the barrier, then the end of a resync.
-use Rattle.std.proofs.Common.{ℕ, zero, suc, ◌≡◌, ◌+◌, ◌-◌, ◌≤◌, inl, inr, Bool, true, false, not, ◌&&◌, ◌||◌, List, [], ◌∷◌, ◌++◌, length, map, filter, Option, Some, None, slice_get, Ok, refl, sym, ◌∙◌, ap, subst, arith, nat_lt, nat_le, ◌==◌}
-use Rattle.std.specs.Prelude.{option_map, is_none, if◌then◌else◌, min}
+use Rattle.std.proofs.Common.{ℕ, ◌≡◌, ◌-◌, ◌≤◌, Bool, true, false, not, ◌&&◌, ◌||◌, List, [], ◌∷◌, ◌++◌, length, map, filter, Option, Some, None, slice_get, refl, sym, ◌∙◌, ap, subst, arith, ◌==◌}
+use Rattle.std.specs.Prelude.{option_map, is_none, if◌then◌else◌}
 use Rattle.std.specs.List.{list_any}
 use Rattle.std.proofs.lemmas.Bool.{both_ways, and_parts}
 use Rattle.std.proofs.lemmas.List.Folds.{list_any-append}
 use Rattle.blocks.specs.declared.tuple.Tuple.{Tuple}
-use Rattle.blocks.specs.declared.settings.Settings.{Settings}
 use Rattle.blocks.specs.declared.outcome.What.{What}
 use Rattle.blocks.specs.declared.outcome.Done.{Done}
 use Rattle.blocks.specs.declared.outcome.Reply.{Reply}
 use Rattle.blocks.specs.declared.outcome.Reply.TheVariants as reply
 use Rattle.blocks.specs.Identifiers.{sync_end}
 use Rattle.blocks.specs.Ranges.{below}
-use Rattle.model.specs.Contents.{Write}
-use Rattle.model.specs.Stream.{Item, WriteItem, BarrierItem, UuidsItem, last_epoch}
+use Rattle.model.specs.Stream.{Item, BarrierItem, UuidsItem, last_epoch}
 use Rattle.model.specs.Primary.{Accepted, Outward, PrimaryHistory, no_outward, last_of, outward, last_index, stands, is_completed, completes, unreleased, open_writes, in_resync, is_sync_start, is_sync_end, resync_runs, under_way, marked_blocks}
-use Rattle.model.specs.PrimarySteps.{Followed, newly_completed, with_completions, epoch_is_over, appending, resync_is_over, ending_resync, follows, succeeding}
+use Rattle.model.specs.PrimarySteps.{Followed, newly_completed, with_completions, epoch_is_over, appending, resync_is_over, ending_resync, succeeding}
 use Rattle.transferlog.specs.Log as log
 use Rattle.transferlog.specs.Writes.{completed_of}
-use Rattle.epochs.specs.Epochs.{empty}
 use Rattle.laws.proofs.Lists.Last.{length-change}
 use Rattle.laws.proofs.Primary.Homes.{HasHomes}
 use Rattle.laws.proofs.Primary.HomesFollowing.{homes-completions, homes-parting}
 use Rattle.laws.proofs.Primary.Ends.{stands-parts}
 use Rattle.primary_steps.specs.Core as core
 use Rattle.primary_steps.specs.Core.{UnderWay, EndState, PrimaryState, entering, freeing, leaving, unmarking, reporting, barrier_item, is_over, ending, done_of, following}
-use Rattle.primary_steps.specs.Leaves.{logged_of, entry_of, held_of, marks_in, standing, LeavesLog, LeavesStream, LeavesEpochs, LeavesActivity, LeavesEnd, EndLeft, UnderWayLeft, LeavesRest, Leaves, holding_item, holding_write}
+use Rattle.primary_steps.specs.Leaves.{logged_of, entry_of, held_of, marks_in, standing, LeavesLog, LeavesStream, LeavesActivity, EndLeft, UnderWayLeft, LeavesRest, Leaves, holding_item, holding_write}
 use Rattle.primary_steps.proofs.Filters.{any-map}
 use Rattle.primary_steps.proofs.Completing.{MayComplete, quiet-completed, entries-completed}
 use Rattle.primary_steps.proofs.Freeing.{held-completed}

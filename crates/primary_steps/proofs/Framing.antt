@@ -1,11 +1,10 @@
 -- An end that took a frame which is accepted, once its stream has begun.
-use Rattle.std.proofs.Common.{ℕ, suc, ◌≡◌, ◌+◌, ◌-◌, ◌<◌, ◌≤◌, Bool, true, false, not, ◌&&◌, ◌||◌, List, [], ◌∷◌, ◌++◌, length, filter, Option, Some, None, refl, sym, ◌∙◌, ap, subst, arith, ◌==◌}
-use Rattle.std.specs.Prelude.{min}
+use Rattle.std.proofs.Common.{ℕ, ◌≡◌, ◌<◌, ◌≤◌, Bool, true, false, not, ◌&&◌, ◌||◌, [], ◌∷◌, length, Option, Some, None, refl, ◌∙◌, ap, arith, ◌==◌}
 use Rattle.std.proofs.lemmas.Bool.{both_ways}
 use Rattle.std.proofs.lemmas.List.{length-append}
 use Rattle.model.specs.Stream.{Item, placed}
 use Rattle.model.specs.Frames.{Acknowledged, Received, naming}
-use Rattle.model.specs.Primary.{Outward, is_resync, is_recv_ack, is_write_ack, is_rs_write_ack, was_received, was_written, was_resynced, same_naming, under_way}
+use Rattle.model.specs.Primary.{Outward, is_resync, is_recv_ack, is_write_ack, is_rs_write_ack, was_resynced, same_naming, under_way}
 use Rattle.laws.proofs.Primary.Moves.{with_frame}
 use Rattle.primary_steps.specs.Core.{UnderWay, EndState}
 use Rattle.primary_steps.specs.Leaves.{UnderWayLeft, LeavesEnd}

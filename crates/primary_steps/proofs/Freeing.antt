@@ -1,9 +1,8 @@
 -- What completed writes held is free.
-use Rattle.std.proofs.Common.{ℕ, zero, suc, ◌≡◌, Bool, true, false, cond, not, ◌&&◌, ◌||◌, List, [], ◌∷◌, ◌++◌, map, filter, Some, slice_get, refl, sym, ◌∙◌, ap, arith, ◌==◌}
+use Rattle.std.proofs.Common.{ℕ, ◌≡◌, Bool, true, false, not, ◌&&◌, ◌||◌, List, [], ◌∷◌, ◌++◌, map, filter, Some, slice_get, refl, sym, ◌∙◌, ap, arith, ◌==◌}
 use Rattle.std.specs.Prelude.{if◌then◌else◌}
 use Rattle.std.specs.List.{list_any}
 use Rattle.std.proofs.lemmas.Bool.{both_ways, eqb-true, eq-eqb, false_from_ne_true}
-use Rattle.std.proofs.lemmas.List.{map-append}
 use Rattle.std.proofs.lemmas.List.Elements.{filter-append}
 use Rattle.model.specs.Stream.{Item}
 use Rattle.model.specs.Primary.{Accepted, PrimaryHistory, stands, outward, under_way, is_open, open_writes, completes, is_completed, is_failed}
@@ -11,10 +10,10 @@ use Rattle.model.specs.PrimarySteps.{newly_completed, with_completions}
 use Rattle.transferlog.specs.Writes.{completed_of}
 use Rattle.transferlog.specs.declared.report.Completed as report
 use Rattle.overlap.specs.Holdings.{Holding, without}
-use Rattle.laws.proofs.Lists.Picks.{pick-any, pick-image, pick-filtered, any-none}
+use Rattle.laws.proofs.Lists.Picks.{pick-any, pick-image, pick-filtered}
 use Rattle.primary_steps.specs.Core.{freeing}
 use Rattle.primary_steps.specs.Leaves.{logged_of, holding_item, holding_write, held_of}
-use Rattle.primary_steps.proofs.Filters.{filter-at, filter-map, filter-twice, filter-all, any-at}
+use Rattle.primary_steps.proofs.Filters.{filter-at, filter-map, filter-twice, filter-all}
 use Rattle.primary_steps.proofs.Completing.{MayComplete, any-report, journal-is}
 
 -- two numbers are the same in either order

@@ -1,5 +1,5 @@
 -- What is known of a history that a run leads to, and how tests agree.
-use Rattle.std.proofs.Common.{ℕ, ◌≡◌, ◌<◌, ◌⊎◌, inl, inr, Bool, true, false, not, List, [], ◌∷◌, Option, Some, None, Result, Ok, Err, refl, sym, ◌∙◌, ap, subst}
+use Rattle.std.proofs.Common.{◌≡◌, ◌<◌, inl, inr, Bool, true, false, not, List, Option, Some, None, Result, Ok, Err, refl, sym, ◌∙◌, ap, subst}
 use Rattle.std.specs.Prelude.{is_some, is_none, if◌then◌else◌}
 use Rattle.std.proofs.lemmas.Bool.{both_ways, lt-ltb}
 use Rattle.blocks.specs.declared.settings.Settings.{Settings}
@@ -7,12 +7,11 @@ use Rattle.blocks.specs.declared.refusal.Refusal.{Refusal}
 use Rattle.blocks.specs.declared.outcome.Done.{Done}
 use Rattle.blocks.specs.declared.outcome.Reply.{Reply}
 use Rattle.blocks.specs.declared.outcome.Reply.TheVariants as reply
-use Rattle.model.specs.Primary.{Outward, PrimaryHistory, no_outward, last_of, last_index, outward, change_last, with_outward, stands}
+use Rattle.model.specs.Primary.{Outward, PrimaryHistory, no_outward, last_of, last_index, outward, change_last, stands}
 use Rattle.model.specs.PrimarySteps.{epoch_is_over}
 use Rattle.model.specs.PrimarySteps as step
 use Rattle.model.specs.Refusals.{Test, first_refusal}
 use Rattle.laws.proofs.Lists.Last.{last-change}
-use Rattle.laws.proofs.Primary.Homes.{HasHomes}
 use Rattle.laws.proofs.Primary.InOrderMoves.{Ordered}
 use Rattle.laws.proofs.Tracked.Released.{ordered-run}
 use Rattle.primary_steps.specs.Core as core

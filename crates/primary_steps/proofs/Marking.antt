@@ -1,38 +1,35 @@
 -- A write is accepted without a connection: what that leaves, before what follows.
-use Rattle.std.proofs.Common.{ℕ, zero, suc, ◌≡◌, ◌+◌, ◌-◌, ◌<◌, ◌≤◌, inl, inr, Bool, true, false, cond, not, ◌&&◌, ◌||◌, List, [], ◌∷◌, ◌++◌, length, map, filter, Option, Some, None, slice_get, refl, sym, ◌∙◌, ap, subst, arith, nat_lt, nat_le, ◌==◌}
+use Rattle.std.proofs.Common.{ℕ, suc, ◌≡◌, ◌+◌, ◌<◌, true, false, not, ◌&&◌, List, [], ◌∷◌, ◌++◌, length, map, Some, None, slice_get, refl, sym, ◌∙◌, ap, subst, arith}
 use Rattle.std.specs.Prelude.{option_map, if◌then◌else◌}
-use Rattle.std.specs.List.{list_any, concat}
 use Rattle.std.proofs.lemmas.Bool.{both_ways}
 use Rattle.std.proofs.lemmas.List.{length-append, map-append}
 use Rattle.std.proofs.lemmas.Option.{slice_get_within}
 use Rattle.blocks.specs.declared.settings.Settings.{Settings}
-use Rattle.blocks.specs.Ranges.{below, is_between}
-use Rattle.model.specs.Contents.{Write, covers, extent_of}
-use Rattle.model.specs.Stream.{Item, WriteItem, BarrierItem, last_epoch}
+use Rattle.blocks.specs.Ranges.{is_between}
+use Rattle.model.specs.Contents.{Write, extent_of}
+use Rattle.model.specs.Stream.{WriteItem, BarrierItem, last_epoch}
 use Rattle.model.specs.Marks.{marking}
-use Rattle.model.specs.Primary.{Waiting, Accepted, Outward, PrimaryHistory, outward, last_index, stands, is_on_disk, is_completed, is_open, open_writes, completes, is_released, unreleased, under_way}
-use Rattle.model.specs.PrimarySteps.{newly_completed, with_completions, epoch_is_over, appending, submission, submitted}
+use Rattle.model.specs.Primary.{Accepted, PrimaryHistory, outward, last_index, stands, is_completed, is_open, open_writes, is_released, unreleased, under_way}
+use Rattle.model.specs.PrimarySteps.{with_completions, appending, submission, submitted}
 use Rattle.transferlog.specs.Log as log
 use Rattle.transferlog.specs.Log.{LogState, home_in, accepted_write, with_latest}
-use Rattle.transferlog.specs.Writes.{LogWrite, completed_of}
+use Rattle.transferlog.specs.Writes.{completed_of}
 use Rattle.transferlog.specs.declared.local.Local.TheVariants as local
 use Rattle.overlap.specs.Holdings.{Holding, holding, holding_too}
 use Rattle.activitylog.specs.Activity.{can_begin, begun}
 use Rattle.bitmap.specs.Marks as bits
-use Rattle.laws.proofs.Lists.Elements.{get-more, get-split}
 use Rattle.laws.proofs.Lists.Picks.{pick-filtered, pick-image}
 use Rattle.laws.proofs.Primary.Homes.{HasHomes}
 use Rattle.laws.proofs.Primary.InOrderMoves.{Ordered, OrderedAfter, in-order-kept}
 use Rattle.laws.proofs.Primary.Moves.{MaySubmit}
 use Rattle.laws.proofs.Tracked.Kept.{fresh-number}
-use Rattle.primary_steps.specs.Core as core
-use Rattle.primary_steps.specs.Core.{Open, Entry, EndState, PrimaryState, unmarking}
+use Rattle.primary_steps.specs.Core.{Open, PrimaryState, unmarking}
 use Rattle.primary_steps.specs.Transitions.{whole_blocks}
-use Rattle.primary_steps.specs.Leaves.{logged_of, standing, entry_of, holding_item, holding_write, held_of, marks_in, LeavesLog, LeavesStream, LeavesActivity, EndLeft, IsQuiet, Leaves}
+use Rattle.primary_steps.specs.Leaves.{logged_of, holding_item, holding_write, held_of, LeavesLog, LeavesStream, LeavesActivity, IsQuiet, Leaves}
 use Rattle.primary_steps.proofs.Accepting.{HasRange, accepted_at, entries-more, done-more}
 use Rattle.primary_steps.proofs.Adding.{concat-whole, latest-more, holding-end, filter-one}
 use Rattle.primary_steps.proofs.Beginning.{begins-activity}
-use Rattle.primary_steps.proofs.Following.{IsDue, parted, barrier_of}
+use Rattle.primary_steps.proofs.Following.{IsDue, parted}
 use Rattle.primary_steps.proofs.Marks.{unmarking-none, marking-in}
 use Rattle.primary_steps.proofs.Resting.{quiet-none, down-on}
 

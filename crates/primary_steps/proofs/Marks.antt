@@ -1,26 +1,26 @@
 -- The marks that released writes clear.
-use Rattle.std.proofs.Common.{ℕ, zero, suc, ◌≡◌, ◌+◌, ◌-◌, ◌<◌, ◌≤◌, inl, inr, Bool, true, false, not, ◌&&◌, ◌||◌, List, [], ◌∷◌, ◌++◌, length, map, filter, Option, Some, None, slice_get, refl, sym, ◌∙◌, ap, subst, arith, nat_lt, ◌==◌}
-use Rattle.std.specs.Prelude.{unwrap_or, option_map, if◌then◌else◌, set}
+use Rattle.std.proofs.Common.{ℕ, zero, suc, ◌≡◌, ◌+◌, ◌<◌, ◌≤◌, inl, inr, Bool, true, false, not, ◌&&◌, ◌||◌, List, [], ◌∷◌, ◌++◌, length, map, Option, Some, slice_get, refl, sym, ◌∙◌, ap, arith, nat_lt, ◌==◌}
+use Rattle.std.specs.Prelude.{unwrap_or, option_map, if◌then◌else◌}
 use Rattle.std.specs.List.{list_any}
-use Rattle.std.proofs.lemmas.Bool.{cases_Bool, cases_lt, both_ways, and_parts, and_from, not-true, eqb-true, eq-eqb, ltb-true, lt-ltb, false_from_ne_true}
+use Rattle.std.proofs.lemmas.Bool.{cases_lt, both_ways, and_parts, and_from, eqb-true, eq-eqb, ltb-true, false_from_ne_true}
 use Rattle.std.proofs.lemmas.List.{length-append, length-map}
 use Rattle.std.proofs.lemmas.Option.{slice_get_within, slice_get-map}
 use Rattle.blocks.specs.declared.settings.Settings.{Settings}
 use Rattle.blocks.specs.Ranges.{below, is_between}
-use Rattle.model.specs.Contents.{Write, covers}
+use Rattle.model.specs.Contents.{covers}
 use Rattle.model.specs.Marks.{is_releasing, is_under_later, is_cleared}
-use Rattle.model.specs.Primary.{Accepted, Outward, PrimaryHistory, outward, is_alone, is_on_disk, is_released, unreleased}
+use Rattle.model.specs.Primary.{Accepted, PrimaryHistory, outward, is_alone, is_released, unreleased}
 use Rattle.bitmap.specs.Marks.{marked, marking_from, marking}
 use Rattle.transferlog.specs.Log.{clears, is_number}
 use Rattle.transferlog.specs.Writes.{released_of}
 use Rattle.transferlog.specs.declared.report.Released.{Released}
-use Rattle.laws.proofs.Lists.Elements.{get-left, get-end, get-more, same-at}
+use Rattle.laws.proofs.Lists.Elements.{get-left, get-end}
 use Rattle.laws.proofs.Lists.Picks.{pick-any, any-pick, pick-filtered, pick-below}
 use Rattle.laws.proofs.Primary.Ends.{stands-parts}
 use Rattle.laws.proofs.Primary.Homes.{HasHomes, alone-at}
 use Rattle.laws.proofs.Primary.InOrderMoves.{Ordered}
 use Rattle.laws.proofs.Primary.LastOpen.{IsLastOpen}
-use Rattle.laws.proofs.Primary.Releases.{IsNew, IsRelease, IsCleared, release-clearing}
+use Rattle.laws.proofs.Primary.Releases.{IsNew, IsRelease, release-clearing}
 use Rattle.primary_steps.specs.Core.{unmarking}
 use Rattle.primary_steps.specs.Leaves.{logged_of, latest_in, marks_in}
 use Rattle.primary_steps.proofs.Filters.{map-at, any-at}

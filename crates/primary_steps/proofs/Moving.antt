@@ -1,30 +1,25 @@
 -- Something happens to the writes, and releases some: what the log makes of it, and what the history does.
-use Rattle.std.proofs.Common.{ℕ, zero, suc, ◌≡◌, ◌+◌, ◌-◌, ◌<◌, ◌≤◌, inl, inr, Bool, true, false, cond, not, ◌&&◌, ◌||◌, List, [], ◌∷◌, ◌++◌, length, map, filter, Option, Some, None, slice_get, refl, sym, ◌∙◌, ap, subst, arith, nat_lt, nat_le, ◌==◌}
+use Rattle.std.proofs.Common.{ℕ, ◌≡◌, ◌-◌, Bool, true, false, not, ◌&&◌, List, [], ◌∷◌, length, map, filter, Some, slice_get, refl, sym, ◌∙◌, ap, subst, arith, ◌==◌}
 use Rattle.std.specs.Prelude.{if◌then◌else◌}
 use Rattle.std.specs.List.{list_any}
-use Rattle.std.proofs.lemmas.Bool.{cases_Bool, both_ways, and_parts, not-true, false_from_ne_true}
-use Rattle.blocks.specs.declared.settings.Protocol.{Protocol}
+use Rattle.std.proofs.lemmas.Bool.{both_ways, false_from_ne_true}
 use Rattle.std.proofs.lemmas.List.{length-map}
 use Rattle.blocks.specs.declared.settings.Settings.{Settings}
-use Rattle.blocks.specs.Ranges.{below}
 use Rattle.model.specs.Contents.{Write, covers, extent_of}
-use Rattle.model.specs.Stream.{Item, WriteItem}
-use Rattle.model.specs.Primary.{Accepted, Outward, PrimaryHistory, outward, last_index, change_last, stands, is_waiting, is_failed, is_alone, is_confirmed, is_released, is_completed, is_open, completes, unreleased, is_answered_by, barrier_acknowledged, was_resynced}
-use Rattle.model.specs.PrimarySteps.{newly_completed, with_completions, epoch_is_over}
-use Rattle.transferlog.specs.Log.{LogState, changing, moved, closes_any, ended_by}
-use Rattle.transferlog.specs.Ring.{on}
+use Rattle.model.specs.Primary.{Accepted, PrimaryHistory, is_failed, is_released, is_completed, is_open, completes, unreleased}
+use Rattle.model.specs.PrimarySteps.{newly_completed}
+use Rattle.transferlog.specs.Log.{moved}
 use Rattle.transferlog.specs.Writes as log
 use Rattle.transferlog.specs.Writes.{LogWrite, completed_of, released_of}
-use Rattle.laws.proofs.Lists.Last.{length-change}
 use Rattle.laws.proofs.Lists.Picks.{pick-filtered}
 use Rattle.laws.proofs.Primary.Homes.{HasHomes}
 use Rattle.laws.proofs.Primary.LastOpen.{IsLastOpen}
 use Rattle.primary_steps.specs.Core.{PrimaryState, leaving}
-use Rattle.primary_steps.specs.Leaves.{logged_of, standing, latest_in, writes_in, LeavesLog, LeavesStream, LeavesActivity, Leaves}
+use Rattle.primary_steps.specs.Leaves.{logged_of, latest_in, writes_in, LeavesActivity, Leaves}
 use Rattle.primary_steps.proofs.Activity.{counts-of, of-counts, counts-same, leaving-counts, released_in, split-count}
-use Rattle.primary_steps.proofs.Filters.{filter-at, map-at, any-at, filter-map, filter-twice, map-twice, any-map, any-filter}
-use Rattle.primary_steps.proofs.Releasing.{confirmed-number, released-seen, released-not-open}
-use Rattle.primary_steps.proofs.Seen.{completes-seen, open-seen, settled-seen, completes-not-failed}
+use Rattle.primary_steps.proofs.Filters.{filter-at, map-at, filter-map, filter-twice, map-twice}
+use Rattle.primary_steps.proofs.Releasing.{released-not-open}
+use Rattle.primary_steps.proofs.Seen.{completes-seen, open-seen, completes-not-failed}
 use Rattle.transferlog.specs.declared.report.Released.{Released}
 
 -- What happens to the writes in the history: what the log sees of each is the move, and it releases those that the history does. What

@@ -1,50 +1,35 @@
 -- What a primary owes, and a frame that is pushed and that no write sees.
-use Rattle.std.proofs.Common.{ℕ, zero, suc, ◌≡◌, ◌+◌, ◌-◌, ◌<◌, ◌≤◌, ◌⊎◌, inl, inr, Bool, true, false, cond, not, ◌&&◌, ◌||◌, List, [], ◌∷◌, ◌++◌, length, map, filter, drop, Option, Some, None, slice_get, Result, Ok, Err, refl, sym, ◌∙◌, ap, subst, arith, nat_lt, nat_le, ◌==◌}
+use Rattle.std.proofs.Common.{ℕ, zero, suc, ◌≡◌, ◌+◌, ◌-◌, ◌<◌, ◌≤◌, inl, inr, Bool, true, false, not, ◌&&◌, ◌||◌, List, [], ◌∷◌, ◌++◌, length, map, drop, Option, Some, None, slice_get, Ok, refl, sym, ◌∙◌, ap, subst, arith, nat_lt, nat_le, ◌==◌}
 use Rattle.std.specs.Prelude.{min, option_map, if◌then◌else◌}
 use Rattle.std.specs.List.{list_any}
-use Rattle.std.proofs.lemmas.Bool.{cases_lt, both_ways, and_parts, ltb-true, lt-ltb, le-ltb, le-leb, lt-leb, eqb-true, eq-eqb, false_from_ne_true}
-use Rattle.std.proofs.lemmas.List.{length-append}
+use Rattle.std.proofs.lemmas.Bool.{cases_lt, ltb-true, lt-ltb, le-ltb, le-leb, lt-leb}
 use Rattle.std.proofs.lemmas.Option.{slice_get_within}
-use Rattle.blocks.specs.declared.settings.Settings.{Settings}
 use Rattle.blocks.specs.declared.settings.Protocol.{Protocol}
 use Rattle.blocks.specs.declared.settings.Protocol.TheVariants as protocol
-use Rattle.blocks.specs.declared.refusal.Refusal.{Refusal}
-use Rattle.blocks.specs.declared.refusal.Refusal.TheVariants.{NoMemory, LinkFull, NotConnected, NothingThere}
-use Rattle.blocks.specs.declared.outcome.Done.{Done}
 use Rattle.blocks.specs.declared.outcome.What.{What}
-use Rattle.blocks.specs.declared.outcome.What.TheVariants as what
-use Rattle.blocks.specs.declared.outcome.Reply.{Reply}
 use Rattle.blocks.specs.declared.outcome.Reply.TheVariants as reply
-use Rattle.model.specs.Contents.{Write}
-use Rattle.model.specs.Stream.{Item, WriteItem, is_write, number_of, epoch_of, last_epoch, epoch_size, items_of_epoch}
-use Rattle.model.specs.Frames.{Packet, command_of, frame_of, hello_of, frames_of, frames_from}
-use Rattle.model.specs.Refusals.{Test, first_refusal, done_with}
-use Rattle.model.specs.Primary.{Accepted, Outward, PrimaryHistory, no_outward, last_of, outward, last_index, change_last, with_outward, stands, items_sent, frames_due, is_answered_by, is_answered, is_alone, is_confirmed, is_released, is_waiting, barrier_acknowledged, unreleased, open_writes, completes, under_way, resync_runs, marked_blocks}
+use Rattle.model.specs.Stream.{Item, epoch_of, last_epoch, epoch_size, items_of_epoch}
+use Rattle.model.specs.Frames.{Packet, frame_of, hello_of, frames_of, frames_from}
+use Rattle.model.specs.Refusals.{done_with}
+use Rattle.model.specs.Primary.{Accepted, Outward, PrimaryHistory, no_outward, outward, last_index, change_last, with_outward, stands, items_sent, frames_due, is_answered_by, is_alone, is_confirmed, is_released, is_waiting, barrier_acknowledged, unreleased, open_writes, under_way, resync_runs, marked_blocks}
 use Rattle.model.specs.PrimarySteps as step
 use Rattle.model.specs.PrimarySteps.{is_settled, epoch_is_over, resync_is_over}
 use Rattle.epochs.specs.Epochs.{EpochsState}
-use Rattle.transferlog.specs.Log as log
-use Rattle.transferlog.specs.Log.{answers_sent}
-use Rattle.transferlog.specs.Ring.{on}
-use Rattle.transferlog.specs.Writes as writes
 use Rattle.transferlog.specs.Writes.{LogWrite, is_completed}
-use Rattle.laws.proofs.Lists.Elements.{get-there, same-at}
-use Rattle.laws.proofs.Lists.Last.{length-change, get-change, get-last-changed}
+use Rattle.laws.proofs.Lists.Elements.{get-there}
+use Rattle.laws.proofs.Lists.Last.{length-change}
 use Rattle.laws.proofs.Lists.Picks.{pick-filtered}
 use Rattle.laws.proofs.Primary.Homes.{HasHomes, open-at}
-use Rattle.laws.proofs.Primary.InOrderMoves.{Ordered, OrderedAfter, in-order-kept}
 use Rattle.laws.proofs.Primary.Moves.{pushing}
-use Rattle.primary_steps.specs.Core as core
 use Rattle.primary_steps.specs.Core.{EndState, PrimaryState}
-use Rattle.primary_steps.specs.Transitions as transition
-use Rattle.primary_steps.specs.Transitions.{owed, next_place, called, sent_from, pushed_item}
-use Rattle.primary_steps.specs.Leaves.{is_sent, logged_of, standing, holding_item, holding_write, LeavesActivity, LeavesEpochs, LeavesEnd, EndLeft, LeavesRest, LeavesStream, Leaves}
-use Rattle.primary_steps.specs.Steps.{Agrees, replied, SendsAgree}
+use Rattle.primary_steps.specs.Transitions.{owed, next_place}
+use Rattle.primary_steps.specs.Leaves.{logged_of, holding_item, holding_write, LeavesActivity, LeavesEpochs, LeavesEnd, Leaves}
+use Rattle.primary_steps.specs.Steps.{Agrees}
 use Rattle.primary_steps.proofs.Connections.{look}
 use Rattle.primary_steps.proofs.Epochs.{epochs-same}
 use Rattle.primary_steps.proofs.Filters.{filter-at, map-at}
-use Rattle.primary_steps.proofs.Known.{IsOrdered, reached-ordered, outward-of}
-use Rattle.primary_steps.proofs.Resting.{still, reached-rests}
+use Rattle.primary_steps.proofs.Known.{outward-of}
+use Rattle.primary_steps.proofs.Resting.{still}
 use Rattle.primary_steps.proofs.Seen.{completes-seen}
 
 -- What is owed.

@@ -1,19 +1,19 @@
 -- Where something happens to one write, the log ends the last epoch where the history does.
-use Rattle.std.proofs.Common.{ℕ, zero, suc, ◌≡◌, ◌+◌, ◌-◌, ◌<◌, ◌≤◌, ◌⊎◌, inl, inr, Bool, true, false, cond, not, ◌&&◌, ◌||◌, List, [], ◌∷◌, ◌++◌, length, map, filter, take, Option, Some, None, slice_get, refl, sym, ◌∙◌, ap, subst, arith, nat_lt, nat_le, ◌==◌}
+use Rattle.std.proofs.Common.{ℕ, zero, suc, ◌≡◌, ◌+◌, ◌-◌, ◌<◌, ◌≤◌, ◌⊎◌, inl, inr, Bool, true, false, not, ◌&&◌, ◌||◌, List, [], ◌∷◌, ◌++◌, length, map, filter, take, Some, None, slice_get, refl, sym, ◌∙◌, ap, subst, arith, nat_lt, nat_le, ◌==◌}
 use Rattle.std.specs.Prelude.{if◌then◌else◌, option_map}
 use Rattle.std.specs.List.{list_any}
-use Rattle.std.proofs.lemmas.Bool.{cases_Bool, cases_lt, both_ways, and_parts, and_from, or_left, or_right, or_parts, or_cases, not-true, false_from_ne_true, eqb-true, eq-eqb, le-leb, lt-ltb, ltb-true, leb-true, leb-false, lt-leb, le-ltb}
+use Rattle.std.proofs.lemmas.Bool.{cases_lt, both_ways, and_parts, and_from, or_left, or_right, or_cases, not-true, false_from_ne_true, eqb-true, eq-eqb, le-leb, lt-ltb, ltb-true, leb-false, lt-leb, le-ltb}
 use Rattle.std.proofs.lemmas.Option.{slice_get_within, slice_get-map}
 use Rattle.blocks.specs.declared.settings.Settings.{Settings}
 use Rattle.model.specs.Contents.{Write}
 use Rattle.model.specs.Stream.{Item, WriteItem, ResyncItem, BarrierItem, SyncUuidItem, UuidsItem, is_write, number_of, barriers_in, epoch_of, last_epoch, epoch_size, items_of_epoch, placed}
-use Rattle.model.specs.Primary.{Accepted, Outward, PrimaryHistory, no_outward, last_of, outward, last_index, change_last, stands, is_failed, is_completed, is_open, completes, is_released, is_resync, was_resynced}
+use Rattle.model.specs.Primary.{Accepted, Outward, PrimaryHistory, no_outward, outward, last_index, stands, is_failed, is_completed, is_open, completes, is_released, is_resync, was_resynced}
 use Rattle.model.specs.PrimarySteps.{with_completions, is_settled, epoch_is_over, appending}
 use Rattle.transferlog.specs.Log.{LogState, changing, closes_any, ended_by}
-use Rattle.transferlog.specs.Ring.{on, has_number}
+use Rattle.transferlog.specs.Ring.{on}
 use Rattle.transferlog.specs.Writes as log
 use Rattle.transferlog.specs.Writes.{LogWrite}
-use Rattle.epochs.specs.Epochs.{EpochsState, empty, is_in_last, ended_if, ending}
+use Rattle.epochs.specs.Epochs.{EpochsState, empty, is_in_last, ended_if}
 use Rattle.laws.proofs.Lists.Elements.{same-at}
 use Rattle.laws.proofs.Lists.Last.{length-change}
 use Rattle.laws.proofs.Lists.Picks.{pick-any, any-pick, pick-none, pick-filtered, filtered-pick, pick-image}
@@ -27,13 +27,13 @@ use Rattle.laws.proofs.Streams.Places.{placed-at, placed-back}
 use Rattle.primary_steps.specs.Core.{PrimaryState}
 use Rattle.primary_steps.specs.Leaves.{logged_of, total, LeavesEpochs, LeavesStream, Leaves}
 use Rattle.primary_steps.proofs.Changing.{IsChange, stands-then}
-use Rattle.primary_steps.proofs.Completing.{MayComplete, quiet-completed}
+use Rattle.primary_steps.proofs.Completing.{quiet-completed}
 use Rattle.primary_steps.proofs.Connections.{SeesSame}
-use Rattle.primary_steps.proofs.Epochs.{epochs-same, epochs-barrier, sizes-many, total-front}
+use Rattle.primary_steps.proofs.Epochs.{epochs-same, epochs-barrier, sizes-many}
 use Rattle.primary_steps.proofs.Filters.{any-at, any-map, any-filter}
 use Rattle.primary_steps.proofs.Following.{parted, barrier_of}
 use Rattle.primary_steps.proofs.Releasing.{released-not-open}
-use Rattle.primary_steps.proofs.Seen.{open-seen, completes-seen}
+use Rattle.primary_steps.proofs.Seen.{open-seen}
 
 -- all sizes together
 take-all : (xs : List ℕ) → take (length xs) xs ≡ xs

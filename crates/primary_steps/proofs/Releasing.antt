@@ -1,9 +1,9 @@
 -- When the log releases a write, and what a released write is.
-use Rattle.std.proofs.Common.{ℕ, zero, suc, ◌≡◌, ◌+◌, ◌-◌, ◌≤◌, inl, inr, Bool, true, false, not, ◌&&◌, ◌||◌, List, [], length, take, Option, Some, None, slice_get, refl, sym, ◌∙◌, ap, subst, arith, nat_le}
+use Rattle.std.proofs.Common.{ℕ, ◌≡◌, ◌+◌, inl, inr, Bool, true, false, not, ◌&&◌, ◌||◌, List, Option, Some, None, slice_get, refl, sym, ◌∙◌, ap, subst, arith, nat_le}
 use Rattle.std.proofs.lemmas.Bool.{cases_Bool, both_ways, and_parts, or_cases, leb-true}
 use Rattle.blocks.specs.declared.settings.Protocol.{Protocol}
 use Rattle.model.specs.Stream.{Item, WriteItem, epoch_of}
-use Rattle.model.specs.Primary.{LocalOutcome, Waiting, OnDisk, Failed, Accepted, Outward, PrimaryHistory, outward, last_index, stands, is_waiting, is_on_disk, is_failed, is_alone, is_answered, is_answered_by, is_confirmed, is_released, completes, barrier_acknowledged}
+use Rattle.model.specs.Primary.{LocalOutcome, Waiting, OnDisk, Failed, Accepted, Outward, PrimaryHistory, outward, last_index, stands, is_waiting, is_on_disk, is_failed, is_alone, is_answered, is_answered_by, is_confirmed, is_released, completes}
 use Rattle.transferlog.specs.Log.{LogState}
 use Rattle.transferlog.specs.Writes as log
 use Rattle.laws.proofs.Primary.Homes.{HasHomes, alone-at, alone-homeless, confirmed-at}

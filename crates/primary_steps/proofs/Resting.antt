@@ -1,21 +1,18 @@
 -- Between steps no resync is over, and a step that completes nothing is followed by nothing.
-use Rattle.std.proofs.Common.{ℕ, ◌≡◌, Bool, true, false, not, ◌&&◌, List, [], ◌∷◌, ◌++◌, length, map, filter, Option, Some, None, slice_get, refl, sym, ◌∙◌, ap, subst, ◌==◌, ◌||◌, nat_le}
+use Rattle.std.proofs.Common.{ℕ, ◌≡◌, Bool, true, false, not, ◌&&◌, List, [], ◌∷◌, ◌++◌, length, map, Some, None, slice_get, refl, ◌∙◌, ap, subst, ◌==◌, ◌||◌, nat_le}
 use Rattle.std.specs.Prelude.{if◌then◌else◌}
 use Rattle.std.specs.List.{list_any}
-use Rattle.std.proofs.lemmas.Bool.{both_ways, and_parts, not-true}
 use Rattle.blocks.specs.declared.outcome.What.{What}
 use Rattle.blocks.specs.declared.outcome.Reply.{Reply}
 use Rattle.blocks.specs.declared.outcome.Reply.TheVariants as reply
-use Rattle.blocks.specs.SettingsRange.{IsInRange}
 use Rattle.model.specs.Refusals.{done_with}
-use Rattle.model.specs.Stream.{Item, BarrierItem, UuidsItem, last_epoch, epoch_size, items_of_epoch}
+use Rattle.model.specs.Stream.{BarrierItem, UuidsItem, last_epoch, epoch_size, items_of_epoch}
 use Rattle.model.specs.Identifiers.{sync_end}
-use Rattle.model.specs.Primary.{Accepted, Completion, Outward, PrimaryHistory, no_outward, outward, stands, is_failed, is_completed, is_open, completes, in_resync, resync_runs, under_way, marked_blocks}
+use Rattle.model.specs.Primary.{Accepted, Outward, PrimaryHistory, no_outward, outward, stands, is_failed, is_open, completes, in_resync, resync_runs, under_way, marked_blocks}
 use Rattle.model.specs.PrimarySteps.{Followed, completion_of, newly_completed, with_completions, is_settled, epoch_is_over, appending, resync_is_over, ending_resync, follows, succeeding}
-use Rattle.model.specs.LocalRuns.{PrimaryEvent, primary_run}
 use Rattle.laws.proofs.Primary.Ends.{stands-parts}
 use Rattle.laws.proofs.Primary.LawfulMoves.{last-changed}
-use Rattle.laws.proofs.Primary.Moves.{IsKeptByMoves, IsKeptByReleases, keeps-run}
+use Rattle.laws.proofs.Primary.Moves.{IsKeptByMoves, keeps-run}
 use Rattle.primary_steps.specs.Leaves.{IsQuiet}
 use Rattle.primary_steps.specs.Steps.{IsReached}
 use Rattle.primary_steps.proofs.Filters.{filter-none}

@@ -1,9 +1,8 @@
 -- What the log says of a write, and what the history says of it.
-use Rattle.std.proofs.Common.{ℕ, zero, suc, ◌≡◌, Bool, true, false, not, ◌&&◌, ◌||◌, List, length, Option, Some, None, slice_get, refl, sym, ◌∙◌, ap, nat_le, subst}
-use Rattle.std.proofs.lemmas.Bool.{both_ways, and_parts}
+use Rattle.std.proofs.Common.{◌≡◌, Bool, true, false, not, ◌&&◌, ◌||◌, refl, ◌∙◌, ap}
+use Rattle.std.proofs.lemmas.Bool.{and_parts}
 use Rattle.model.specs.Primary as history
 use Rattle.model.specs.Primary.{LocalOutcome, Waiting, OnDisk, Failed, Accepted, Outward, PrimaryHistory, is_answered, is_alone, completes, is_failed, is_on_disk, is_confirmed, is_released}
-use Rattle.transferlog.specs.declared.local.Local.{Local}
 use Rattle.transferlog.specs.Writes as log
 use Rattle.transferlog.specs.Writes.{LogWrite}
 use Rattle.primary_steps.specs.Leaves.{local_of, logged_of}

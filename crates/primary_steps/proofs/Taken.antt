@@ -1,5 +1,5 @@
 -- When a frame is taken alike by the state and by the history.
-use Rattle.std.proofs.Common.{◌≡◌, Option, Result, Ok, Err}
+use Rattle.std.proofs.Common.{◌≡◌, Option, Ok, Err}
 use Rattle.blocks.specs.declared.tuple.Tuple.{Tuple}
 use Rattle.blocks.specs.declared.outcome.Reply.TheVariants as reply
 use Rattle.model.specs.Frames.{Received}

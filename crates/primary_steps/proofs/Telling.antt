@@ -1,9 +1,8 @@
 -- A receipt is told as the journal has it.
-use Rattle.std.proofs.Common.{ℕ, zero, suc, ◌≡◌, ◌+◌, ◌-◌, ◌<◌, ◌≤◌, ◌⊎◌, inl, inr, Bool, true, false, cond, not, ◌&&◌, ◌||◌, List, [], ◌∷◌, ◌++◌, length, map, Option, Some, None, slice_get, Result, Ok, Err, refl, sym, ◌∙◌, ap, subst, arith, ◌==◌}
+use Rattle.std.proofs.Common.{ℕ, zero, suc, ◌≡◌, ◌+◌, inl, inr, Bool, true, false, not, ◌&&◌, ◌||◌, List, [], ◌∷◌, ◌++◌, length, Option, Some, None, slice_get, Result, Ok, Err, refl, sym, ◌∙◌, ap, subst, arith, ◌==◌}
 use Rattle.std.specs.Prelude.{find, is_some, is_none, option_map, if◌then◌else◌}
 use Rattle.std.specs.List.{list_any}
 use Rattle.std.proofs.lemmas.Bool.{both_ways, eqb-true, eq-eqb, or_right, false_from_ne_true}
-use Rattle.std.proofs.lemmas.Bool.Decides.{nat_tests}
 use Rattle.std.proofs.lemmas.List.Folds.{list_any-append}
 use Rattle.blocks.specs.declared.refusal.Refusal.{Refusal}
 use Rattle.blocks.specs.declared.refusal.Refusal.TheVariants.{LocalFault, NotCompleted, UnknownJob}
@@ -20,7 +19,7 @@ use Rattle.model.specs.Primary as history
 use Rattle.primary_steps.specs.Core.{Fate, Failed, Entry, PrimaryState, with_entry}
 use Rattle.primary_steps.specs.Transitions.{entry_at, told, is_given, take_completed}
 use Rattle.primary_steps.specs.Transitions as core
-use Rattle.primary_steps.proofs.Numbers.{AreNumberedFrom, numbered-rest, numbered-first, find-number, find-none, any-number, get-map, with-entry-map, any-some}
+use Rattle.primary_steps.proofs.Numbers.{AreNumberedFrom, find-number, find-none, any-number, get-map, with-entry-map, any-some}
 use Rattle.primary_steps.specs.Leaves.{fate_in, fate_of, entry_of, LeavesEntries}
 use Rattle.primary_steps.specs.Steps.{SameAnswer}
 

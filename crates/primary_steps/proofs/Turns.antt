@@ -1,9 +1,7 @@
 -- A BARRIER_ACK: the log takes it exactly where the history finds it in its turn.
-use Rattle.std.proofs.Common.{ℕ, zero, suc, ◌≡◌, ◌+◌, ◌-◌, ◌<◌, ◌≤◌, ◌⊎◌, inl, inr, Bool, true, false, cond, not, ◌&&◌, ◌||◌, List, [], ◌∷◌, ◌++◌, length, map, filter, take, drop, Option, Some, None, slice_get, refl, sym, ◌∙◌, ap, subst, arith, nat_lt, nat_le, ◌==◌}
-use Rattle.std.specs.Prelude.{find, if◌then◌else◌}
+use Rattle.std.proofs.Common.{ℕ, zero, suc, ◌≡◌, ◌+◌, ◌-◌, ◌<◌, inl, inr, Bool, true, false, not, ◌&&◌, ◌||◌, List, [], ◌∷◌, length, map, take, drop, Option, Some, None, slice_get, refl, sym, ◌∙◌, ap, subst, arith, nat_lt, nat_le, ◌==◌}
 use Rattle.std.specs.List.{list_any, list_all}
-use Rattle.std.proofs.lemmas.Bool.{cases_Bool, cases_lt, both_ways, and_parts, and_from, or_parts, or_cases, not-true, eqb-true, eq-eqb, ltb-true, lt-ltb, le-leb, lt-leb, leb-true, leb-false, false_from_ne_true}
-use Rattle.std.proofs.lemmas.List.{take-append-drop}
+use Rattle.std.proofs.lemmas.Bool.{cases_Bool, cases_lt, both_ways, and_parts, not-true, eqb-true, eq-eqb, ltb-true, lt-ltb, le-leb, lt-leb, leb-true, leb-false, false_from_ne_true}
 use Rattle.std.proofs.lemmas.Option.{slice_get_within}
 use Rattle.blocks.specs.declared.settings.Settings.{Settings}
 use Rattle.blocks.specs.declared.settings.Protocol.{Protocol}
@@ -14,13 +12,11 @@ use Rattle.model.specs.Stream.{Item, WriteItem, ResyncItem, BarrierItem, SyncUui
 use Rattle.model.specs.Primary.{Accepted, Outward, PrimaryHistory, outward, last_index, stands, items_sent, is_answered_by, is_answered, is_alone, is_confirmed, is_released, is_waiting, unreleased, barrier_acknowledged, is_resync, was_resynced, under_way}
 use Rattle.model.specs.Acknowledgements.{is_acknowledged, is_unacknowledged, oldest_barrier, is_barrier_of, is_in_turn}
 use Rattle.transferlog.specs.Log.{LogState, may_confirm, lacks_answer, asks_answers}
-use Rattle.transferlog.specs.Writes.{LogWrite}
-use Rattle.epochs.specs.Epochs.{EpochsState, is_awaited, begins_with}
-use Rattle.laws.proofs.Lists.Elements.{get-there, same-at}
+use Rattle.epochs.specs.Epochs.{is_awaited, begins_with}
+use Rattle.laws.proofs.Lists.Elements.{same-at}
 use Rattle.laws.proofs.Lists.Fronts.{get-front, front-get, find-first, all-get}
-use Rattle.laws.proofs.Lists.Picks.{pick-any, any-pick, pick-found, pick-filtered, filtered-pick, pick-image}
-use Rattle.laws.proofs.Primary.Ends.{stands-parts}
-use Rattle.laws.proofs.Primary.Homes.{HasHomes, open-at, alone-at, confirmed-at}
+use Rattle.laws.proofs.Lists.Picks.{pick-any, any-pick, pick-found, pick-filtered, filtered-pick}
+use Rattle.laws.proofs.Primary.Homes.{open-at, alone-at, confirmed-at}
 use Rattle.laws.proofs.Primary.InOrderMoves.{Ordered, earlier-said}
 use Rattle.laws.proofs.Streams.Barriers.{barrier-of, behind-barrier}
 use Rattle.laws.proofs.Streams.Places.{placed-at, placed-back}
@@ -31,7 +27,6 @@ use Rattle.primary_steps.proofs.Appending.{under-way-at}
 use Rattle.primary_steps.proofs.Awaiting.{answered-here}
 use Rattle.primary_steps.proofs.Epochs.{sizes-many}
 use Rattle.primary_steps.proofs.Filters.{any-map}
-use Rattle.primary_steps.proofs.Releasing.{IsHere, not-alone, released-seen}
 
 -- what is dropped stands behind
 get-behind : {X : Type 0} (n : ℕ) (xs : List X) (k : ℕ) (x : X) → slice_get (drop n xs) k ≡ Some x → slice_get xs (n + k) ≡ Some x
@@ -133,10 +128,10 @@ module _ (settings : Settings) (s : PrimaryState) (h : PrimaryHistory) (e : EndS
     early = elim (cases_lt the-barrier.0 (items_sent (outward h))) [
       | inl so ↦ so
       | inr late ↦ absurd (
-        let k : ℕ = the-barrier.0 - items_sent (outward h) in
-        let index : items_sent (outward h) + k ≡ the-barrier.0 = omega arith in
-        let at : slice_get (drop (items_sent (outward h)) (outward h).stream) k ≡ Some (BarrierItem number) = behind-get (items_sent (outward h)) (outward h).stream k (BarrierItem number) (ap (slice_get (outward h).stream) index ∙ the-barrier.1) in
-        both_ways (is_unsent number e.unsent) unsent (any-pick (λ item. elim item as (λ _. Bool) [ BarrierItem epoch ↦ epoch == number | _ ↦ false ]) e.unsent k (BarrierItem number) (subst (λ (l : List Item). slice_get l k ≡ Some (BarrierItem number)) (sym end.unsent) at) (eq-eqb number number refl)))
+          let k : ℕ = the-barrier.0 - items_sent (outward h) in
+          let index : items_sent (outward h) + k ≡ the-barrier.0 = omega arith in
+          let at : slice_get (drop (items_sent (outward h)) (outward h).stream) k ≡ Some (BarrierItem number) = behind-get (items_sent (outward h)) (outward h).stream k (BarrierItem number) (ap (slice_get (outward h).stream) index ∙ the-barrier.1) in
+          both_ways (is_unsent number e.unsent) unsent (any-pick (λ item. elim item as (λ _. Bool) [ BarrierItem epoch ↦ epoch == number | _ ↦ false ]) e.unsent k (BarrierItem number) (subst (λ (l : List Item). slice_get l k ≡ Some (BarrierItem number)) (sym end.unsent) at) (eq-eqb number number refl)))
     ]
 
     oldest-is : oldest_barrier (outward h) ≡ Some (BarrierItem number)
@@ -218,8 +213,8 @@ module _ (settings : Settings) (s : PrimaryState) (h : PrimaryHistory) (e : EndS
           | inr not_yet ↦ absurd (
               let kept = filtered-pick (λ x. not (is_released h x)) h.writes found.0 found.1 found.2 (ap not held) in
               let lacks : lacks_answer size s.log ≡ true = ap (list_any (λ w. is_between (s.log.confirmed + 1) size w.number && not w.answered)) left.rest.log.writes
-                  ∙ (any-map (λ w. is_between (s.log.confirmed + 1) size w.number && not w.answered) (logged_of h) (unreleased h)
-                  ∙ any-pick (λ a. is_between (s.log.confirmed + 1) size a.write.number && not (is_answered h a)) (unreleased h) kept.0 found.1 kept.1 (λ i. between i && not (not_yet i))) in
+              ∙ (any-map (λ w. is_between (s.log.confirmed + 1) size w.number && not w.answered) (logged_of h) (unreleased h)
+              ∙ any-pick (λ a. is_between (s.log.confirmed + 1) size a.write.number && not (is_answered h a)) (unreleased h) kept.0 found.1 kept.1 (λ i. between i && not (not_yet i))) in
               both_ways (asks_answers s.log.protocol && lacks_answer size s.log) (not-true (asks_answers s.log.protocol && lacks_answer size s.log) parts.1) (λ i. asks i && lacks i))
         ]
 
@@ -333,7 +328,7 @@ module _ (settings : Settings) (s : PrimaryState) (h : PrimaryHistory) (e : EndS
     none-lacks = false_from_ne_true (asks_answers s.log.protocol && lacks_answer size s.log) (λ both.
         let halves = and_parts (asks_answers s.log.protocol) (lacks_answer size s.log) both in
         let some_one = pick-any (λ a. is_between (s.log.confirmed + 1) size a.write.number && not (is_answered h a)) (unreleased h)
-            (sym (ap (list_any (λ w. is_between (s.log.confirmed + 1) size w.number && not w.answered)) left.rest.log.writes ∙ any-map (λ w. is_between (s.log.confirmed + 1) size w.number && not w.answered) (logged_of h) (unreleased h)) ∙ halves.1) in
+        (sym (ap (list_any (λ w. is_between (s.log.confirmed + 1) size w.number && not w.answered)) left.rest.log.writes ∙ any-map (λ w. is_between (s.log.confirmed + 1) size w.number && not w.answered) (logged_of h) (unreleased h)) ∙ halves.1) in
         let stood = pick-filtered (λ x. not (is_released h x)) h.writes some_one.0 some_one.1 some_one.2 in
         by-write some_one.1 stood.0 stood.1 (and_parts (is_between (s.log.confirmed + 1) size some_one.1.write.number) (not (is_answered h some_one.1)) some_one.3) halves.0)
       where
@@ -364,5 +359,5 @@ module _ (settings : Settings) (s : PrimaryState) (h : PrimaryHistory) (e : EndS
     turn-back = (
       λ i. none-unsent i || none-way i,
       λ i. (eq-eqb (number + length s.log.epochs.sizes) (s.log.epochs.ended + 1) (let many = sizes-many s.log (outward h) epochs in let ended = epochs.ended in let n = next-is in omega arith) i
-      && (ap (λ n. begins_with n s.log.epochs.sizes) size-is ∙ sizes-first s.log (outward h) epochs ended-one) i) && not (none-lacks i),
+          && (ap (λ n. begins_with n s.log.epochs.sizes) size-is ∙ sizes-first s.log (outward h) epochs ended-one) i) && not (none-lacks i),
     )

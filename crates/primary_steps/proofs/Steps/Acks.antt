@@ -1,7 +1,7 @@
 -- The peer answers a write.
-use Rattle.std.proofs.Common.{ℕ, zero, suc, ◌≡◌, ◌+◌, ◌-◌, ◌<◌, ◌≤◌, Bool, true, false, cond, not, ◌&&◌, ◌||◌, List, [], ◌∷◌, length, Option, Some, None, slice_get, Result, Ok, Err, refl, sym, ◌∙◌, ap, subst, arith, ◌==◌}
+use Rattle.std.proofs.Common.{ℕ, ◌≡◌, ◌<◌, ◌≤◌, Bool, true, false, not, ◌&&◌, ◌||◌, length, Option, Some, None, Result, Ok, Err, refl, sym, ◌∙◌, ap, subst, arith, ◌==◌}
 use Rattle.std.specs.Prelude.{if◌then◌else◌}
-use Rattle.std.proofs.lemmas.Bool.{both_ways, and_parts, not-true, eqb-true, false_from_ne_true}
+use Rattle.std.proofs.lemmas.Bool.{eqb-true, false_from_ne_true}
 use Rattle.std.proofs.lemmas.Option.{slice_get_within}
 use Rattle.blocks.specs.declared.settings.Settings.{Settings}
 use Rattle.blocks.specs.declared.settings.Protocol.{Protocol}
@@ -12,20 +12,16 @@ use Rattle.blocks.specs.declared.outcome.What.{What}
 use Rattle.blocks.specs.declared.outcome.What.TheVariants as what
 use Rattle.blocks.specs.declared.command.Command.TheVariants as command
 use Rattle.model.specs.Stream.{Item, WriteItem, is_write}
-use Rattle.model.specs.Frames.{Packet, RecvAckFrame, WriteAckFrame, Acknowledged, Received, naming}
+use Rattle.model.specs.Frames.{RecvAckFrame, WriteAckFrame, Acknowledged, Received, naming}
 use Rattle.model.specs.Primary.{Outward, PrimaryHistory, outward, with_outward, stands, is_recv_ack, is_write_ack, is_rs_write_ack, is_barrier_ack, is_answered_by, was_received, was_written, was_resynced, barrier_acknowledged, same_naming}
-use Rattle.model.specs.PrimarySteps as step
 use Rattle.model.specs.Acknowledgements as model
 use Rattle.model.specs.Acknowledgements.{names_sent, was_named, is_protocol, same_protocol}
-use Rattle.transferlog.specs.Log as log
 use Rattle.transferlog.specs.Log.{LogState, changing, awaits_in, is_asked}
 use Rattle.transferlog.specs.Ring.{write_at}
 use Rattle.transferlog.specs.Writes as writes
-use Rattle.transferlog.specs.declared.report.Answer.{Answer}
 use Rattle.transferlog.specs.declared.report.Answer.TheVariants as answer
-use Rattle.laws.proofs.Primary.Ends.{stands-parts}
-use Rattle.laws.proofs.Primary.InOrderMoves.{Ordered, OrderedAfter, in-order-kept}
-use Rattle.laws.proofs.Primary.Moves.{with_frame, MayAcknowledge}
+use Rattle.laws.proofs.Primary.InOrderMoves.{Ordered, in-order-kept}
+use Rattle.laws.proofs.Primary.Moves.{with_frame}
 use Rattle.primary_steps.specs.Core.{EndState, PrimaryState}
 use Rattle.primary_steps.specs.Transitions as transition
 use Rattle.primary_steps.specs.Taking as core

@@ -1,5 +1,5 @@
 -- The primary closes its end.
-use Rattle.std.proofs.Common.{ℕ, ◌≡◌, Bool, true, false, not, ◌&&◌, List, [], ◌∷◌, length, Option, Some, None, Result, Ok, Err, refl, sym, ◌∙◌, ap, subst}
+use Rattle.std.proofs.Common.{ℕ, ◌≡◌, Bool, true, false, [], ◌∷◌, length, Option, Some, None, Result, Ok, Err, refl, sym, ap, subst}
 use Rattle.blocks.specs.declared.refusal.Refusal.{Refusal}
 use Rattle.blocks.specs.declared.refusal.Refusal.TheVariants.{NotConnected}
 use Rattle.blocks.specs.declared.outcome.Reply.{Reply}
@@ -7,13 +7,13 @@ use Rattle.blocks.specs.declared.outcome.Reply.TheVariants as reply
 use Rattle.model.specs.Primary.{Outward, PrimaryHistory, outward}
 use Rattle.model.specs.PrimarySteps as step
 use Rattle.model.specs.PrimarySteps.{closing, follows}
-use Rattle.laws.proofs.Primary.InOrderMoves.{Ordered, in-order-kept}
+use Rattle.laws.proofs.Primary.InOrderMoves.{in-order-kept}
 use Rattle.primary_steps.specs.Core.{EndState, PrimaryState}
 use Rattle.primary_steps.specs.Transitions as transition
-use Rattle.primary_steps.specs.Leaves.{LeavesEnd, EndLeft, Leaves}
+use Rattle.primary_steps.specs.Leaves.{EndLeft}
 use Rattle.primary_steps.specs.Steps.{Agrees, ClosesAgree}
 use Rattle.primary_steps.proofs.Closing.{IsClose, close-leaves, close-count}
-use Rattle.primary_steps.proofs.Known.{IsOrdered, reached-ordered, outward-of, refused-agrees}
+use Rattle.primary_steps.proofs.Known.{reached-ordered, outward-of, refused-agrees}
 
 -- the end is marked closed
 shutting : Outward → Outward

@@ -1,24 +1,20 @@
 -- The local disk fails a write.
-use Rattle.std.proofs.Common.{ℕ, zero, suc, ◌≡◌, ◌+◌, ◌-◌, ◌<◌, ◌≤◌, inl, inr, Bool, true, false, cond, not, ◌&&◌, ◌||◌, List, [], ◌∷◌, ◌++◌, length, map, filter, Option, Some, None, slice_get, Result, Ok, Err, refl, sym, ◌∙◌, ap, subst, arith, ◌==◌}
+use Rattle.std.proofs.Common.{ℕ, suc, ◌≡◌, ◌+◌, ◌<◌, Bool, true, false, not, ◌&&◌, ◌||◌, List, [], ◌∷◌, ◌++◌, length, map, filter, Option, Some, None, slice_get, Ok, refl, sym, ◌∙◌, ap, subst, arith, ◌==◌}
 use Rattle.std.specs.Prelude.{find, if◌then◌else◌}
-use Rattle.std.specs.List.{list_any}
 use Rattle.std.proofs.lemmas.Bool.{both_ways, and_parts, not-false, eqb-true, eq-eqb, false_from_ne_true}
 use Rattle.std.proofs.lemmas.List.Elements.{filter-append}
 use Rattle.blocks.specs.declared.settings.Settings.{Settings}
 use Rattle.blocks.specs.declared.refusal.Refusal.TheVariants.{UnknownJob}
 use Rattle.blocks.specs.declared.outcome.What.TheVariants as what
-use Rattle.blocks.specs.declared.outcome.Reply.{Reply}
 use Rattle.blocks.specs.declared.outcome.Reply.TheVariants as reply
 use Rattle.blocks.specs.Ranges.{is_between}
-use Rattle.model.specs.Contents.{Write, covers}
 use Rattle.model.specs.Stream.{Item, within}
 use Rattle.model.specs.Marks.{marking}
-use Rattle.model.specs.Primary.{LocalOutcome, Waiting, OnDisk, Failed, Accepted, Completion, Outward, PrimaryHistory, outward, is_waiting, is_on_disk, is_failed, is_alone, is_answered, is_confirmed, is_released, is_completed, is_open, open_writes, completes, stands, under_way}
+use Rattle.model.specs.Primary.{LocalOutcome, Waiting, OnDisk, Failed, Accepted, PrimaryHistory, outward, is_waiting, is_on_disk, is_failed, is_alone, is_answered, is_confirmed, is_released, is_completed, is_open, open_writes, completes, stands, under_way}
 use Rattle.model.specs.PrimarySteps as step
 use Rattle.model.specs.PrimarySteps.{is_unfinished, set_outcome, with_outcome, accepted_at, faulted}
 use Rattle.transferlog.specs.Log as log
 use Rattle.transferlog.specs.Log.{changing}
-use Rattle.transferlog.specs.Ring.{on}
 use Rattle.transferlog.specs.Writes as writes
 use Rattle.transferlog.specs.Writes.{LogWrite, released_of}
 use Rattle.transferlog.specs.declared.report.Released.{Released}
@@ -32,16 +28,15 @@ use Rattle.laws.proofs.Primary.InOrderMoves.{Ordered, OrderedAfter, in-order-kep
 use Rattle.primary_steps.specs.Core as core
 use Rattle.primary_steps.specs.Core.{Fate, Entry, PrimaryState, with_entry}
 use Rattle.primary_steps.specs.Transitions as transition
-use Rattle.primary_steps.specs.Leaves.{logged_of, entry_of, fate_in, holding_item, holding_write, held_of, marks_in, Leaves}
-use Rattle.primary_steps.specs.Steps.{Agrees, IsReached, FaultsAgree}
-use Rattle.primary_steps.proofs.Changed.{change-due, zeros-stay}
+use Rattle.primary_steps.specs.Leaves.{logged_of, entry_of, holding_item, holding_write, held_of, marks_in, Leaves}
+use Rattle.primary_steps.specs.Steps.{Agrees, FaultsAgree}
+use Rattle.primary_steps.proofs.Changed.{change-due}
 use Rattle.primary_steps.proofs.Changing.{IsChange, released-is}
 use Rattle.primary_steps.proofs.Filters.{filter-at, filter-map, filter-twice, filter-all, map-at, map-twice}
 use Rattle.primary_steps.proofs.Following.{IsDue, follow}
-use Rattle.primary_steps.proofs.Known.{IsOrdered, reached-ordered, from-follow, tested-agrees}
+use Rattle.primary_steps.proofs.Known.{reached-ordered, from-follow, tested-agrees}
 use Rattle.primary_steps.proofs.Marks.{unmarking-none, marking-in}
 use Rattle.primary_steps.proofs.Numbers.{AreNumberedFrom, find-number, with-entry-map}
-use Rattle.primary_steps.proofs.Seen.{disk-seen}
 use Rattle.primary_steps.proofs.Steps.Local.{Waits, one, waits-so, unfinished-same}
 
 module _ (settings : Settings) (bound : 0 < settings.max_epoch) (s : PrimaryState) (h : PrimaryHistory) (number : ℕ) (offsets : List ℕ) (left : Leaves s h) (ordered : Ordered settings h) (unfinished : is_unfinished h number ≡ true) where

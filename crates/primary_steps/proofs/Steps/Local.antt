@@ -1,20 +1,14 @@
 -- The local disk does a write, or fails it.
-use Rattle.std.proofs.Common.{ℕ, zero, suc, ◌≡◌, ◌+◌, ◌-◌, ◌<◌, ◌≤◌, inl, inr, Bool, true, false, cond, not, ◌&&◌, ◌||◌, List, [], ◌∷◌, ◌++◌, length, map, filter, Option, Some, None, slice_get, Result, Ok, Err, refl, sym, ◌∙◌, ap, subst, arith, ◌==◌}
+use Rattle.std.proofs.Common.{ℕ, ◌≡◌, ◌<◌, Bool, true, false, not, ◌&&◌, ◌||◌, List, [], ◌∷◌, Option, Some, None, slice_get, Ok, refl, sym, ◌∙◌, ap, subst, arith, ◌==◌}
 use Rattle.std.specs.Prelude.{find, is_some, option_map, if◌then◌else◌}
 use Rattle.std.specs.List.{list_any}
-use Rattle.std.proofs.lemmas.Bool.{cases_Bool, both_ways, and_parts, and_from, not-true, not-false, eqb-true, eq-eqb, false_from_ne_true}
-use Rattle.std.proofs.lemmas.List.Elements.{filter-append}
-use Rattle.std.proofs.lemmas.Option.{slice_get_within}
+use Rattle.std.proofs.lemmas.Bool.{both_ways, and_parts, and_from, not-false, eqb-true, false_from_ne_true}
 use Rattle.blocks.specs.declared.settings.Settings.{Settings}
 use Rattle.blocks.specs.declared.refusal.Refusal.TheVariants.{UnknownJob}
 use Rattle.blocks.specs.declared.outcome.What.TheVariants as what
 use Rattle.blocks.specs.declared.outcome.Reply.TheVariants as reply
-use Rattle.blocks.specs.Ranges.{is_between}
-use Rattle.model.specs.Contents.{Write, covers}
-use Rattle.model.specs.Stream.{Item, within}
-use Rattle.model.specs.Marks.{marking, releasing, is_cleared}
-use Rattle.model.specs.Primary as history
-use Rattle.model.specs.Primary.{LocalOutcome, Waiting, OnDisk, Failed, Accepted, Completion, Outward, PrimaryHistory, outward, is_waiting, is_on_disk, is_failed, is_alone, is_answered, is_confirmed, is_released, is_completed, is_open, open_writes, completes, unreleased, stands, under_way}
+use Rattle.model.specs.Marks.{releasing}
+use Rattle.model.specs.Primary.{LocalOutcome, Waiting, OnDisk, Failed, Accepted, PrimaryHistory, is_waiting, is_on_disk, is_failed, is_alone, is_answered, is_confirmed, is_released, completes, unreleased}
 use Rattle.model.specs.PrimarySteps as step
 use Rattle.model.specs.PrimarySteps.{is_unfinished, set_outcome, with_outcome, accepted_at, faulted}
 use Rattle.transferlog.specs.Log as log
@@ -22,13 +16,10 @@ use Rattle.transferlog.specs.Log.{changing}
 use Rattle.transferlog.specs.Ring.{on, has_number, write_at}
 use Rattle.transferlog.specs.Writes as writes
 use Rattle.transferlog.specs.Writes.{LogWrite, released_of}
-use Rattle.transferlog.specs.declared.report.Released.{Released}
-use Rattle.overlap.specs.Holdings.{Holding, without}
-use Rattle.bitmap.specs.Marks as bits
 use Rattle.laws.proofs.Lists.Elements.{same-at}
 use Rattle.laws.proofs.Lists.Last.{change-none}
 use Rattle.laws.proofs.Lists.Tests.{test-passed}
-use Rattle.laws.proofs.Lists.Picks.{pick-any, any-pick, pick-found, pick-filtered, filtered-pick, pick-image}
+use Rattle.laws.proofs.Lists.Picks.{pick-any, any-pick, pick-found, pick-filtered, filtered-pick}
 use Rattle.laws.proofs.Primary.Homes.{HasHomes, outcome-write, outcome-home}
 use Rattle.laws.proofs.Primary.InOrderMoves.{Ordered, OrderedAfter, in-order-kept}
 use Rattle.laws.proofs.Primary.Releases.{done-releases}
@@ -36,15 +27,15 @@ use Rattle.laws.proofs.Tracked.Released.{ordered-release}
 use Rattle.primary_steps.specs.Core as core
 use Rattle.primary_steps.specs.Core.{Fate, Entry, PrimaryState, with_entry}
 use Rattle.primary_steps.specs.Transitions as transition
-use Rattle.primary_steps.specs.Leaves.{logged_of, entry_of, fate_of, holding_item, holding_write, held_of, marks_in, Leaves}
-use Rattle.primary_steps.specs.Steps.{Agrees, IsReached, WritesAgree, FaultsAgree}
+use Rattle.primary_steps.specs.Leaves.{logged_of, marks_in, Leaves}
+use Rattle.primary_steps.specs.Steps.{WritesAgree}
 use Rattle.primary_steps.proofs.Changed.{change-due, entries-stay, held-stays}
 use Rattle.primary_steps.proofs.Changing.{IsChange, released-is, log-then}
 use Rattle.primary_steps.proofs.Filters.{find-map}
 use Rattle.primary_steps.proofs.Following.{IsDue, follow}
-use Rattle.primary_steps.proofs.Known.{IsOrdered, reached-ordered, from-follow, tested-agrees}
-use Rattle.primary_steps.proofs.Marks.{unmarking-is, unmarking-none, marking-in}
-use Rattle.primary_steps.proofs.Numbers.{AreNumberedFrom, find-number, with-entry-map, any-some}
+use Rattle.primary_steps.proofs.Known.{reached-ordered, from-follow, tested-agrees}
+use Rattle.primary_steps.proofs.Marks.{unmarking-is}
+use Rattle.primary_steps.proofs.Numbers.{any-some}
 use Rattle.primary_steps.proofs.Reporting.{reports-of}
 use Rattle.primary_steps.proofs.Seen.{waiting-seen, waiting-not-released}
 
@@ -211,5 +202,5 @@ writes-agree number s h reached left =
     (λ _. step.succeeding what.Nothing (releasing h (with_outcome number OnDisk h)))
     (ap (λ b. (not b, UnknownJob) ∷ []) (unfinished-same s h number left known.ordered.1.1.0.0)) left
     (λ none.
-        let unfinished = not-false (is_unfinished h number) (test-passed (not (is_unfinished h number)) UnknownJob [] none).0 in
-        from-follow _ _ (follow (record s { log = (log.local_done number s.log).1 }) (log.local_done number s.log).0 (releasing h (with_outcome number OnDisk h)) (done-due known.settings known.bound s h number left known.ordered unfinished) what.Nothing))
+    let unfinished = not-false (is_unfinished h number) (test-passed (not (is_unfinished h number)) UnknownJob [] none).0 in
+    from-follow _ _ (follow (record s { log = (log.local_done number s.log).1 }) (log.local_done number s.log).0 (releasing h (with_outcome number OnDisk h)) (done-due known.settings known.bound s h number left known.ordered unfinished) what.Nothing))

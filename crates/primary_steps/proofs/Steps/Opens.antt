@@ -1,20 +1,17 @@
 -- A new primary, and a primary that opens its end.
-use Rattle.std.proofs.Common.{ℕ, zero, suc, ◌≡◌, ◌+◌, ◌-◌, ◌<◌, ◌≤◌, inl, inr, Bool, true, false, cond, not, ◌&&◌, ◌||◌, List, [], ◌∷◌, ◌++◌, length, map, filter, Option, Some, None, slice_get, Result, Ok, Err, refl, sym, ◌∙◌, ap, subst, arith, nat_lt, nat_le, ◌==◌}
-use Rattle.std.specs.Prelude.{is_some, replicate, if◌then◌else◌}
-use Rattle.std.proofs.lemmas.Bool.{both_ways, and_parts}
+use Rattle.std.proofs.Common.{ℕ, zero, suc, ◌≡◌, Bool, true, false, not, ◌&&◌, ◌||◌, List, [], ◌∷◌, ◌++◌, length, map, Option, Some, None, slice_get, Ok, refl, sym, ◌∙◌, ap, subst, arith, nat_lt, nat_le}
+use Rattle.std.specs.Prelude.{replicate, if◌then◌else◌}
+use Rattle.std.proofs.lemmas.Bool.{both_ways}
 use Rattle.std.proofs.lemmas.List.{length-append}
 use Rattle.blocks.specs.declared.tuple.Tuple.{Tuple}
-use Rattle.blocks.specs.declared.settings.Settings.{Settings}
 use Rattle.blocks.specs.declared.refusal.Refusal.TheVariants.{NoMemory, StreamFull, UsedIdentifier, NotDrained}
 use Rattle.blocks.specs.declared.outcome.What.TheVariants as what
-use Rattle.blocks.specs.declared.outcome.Reply.{Reply}
 use Rattle.blocks.specs.declared.outcome.Reply.TheVariants as reply
 use Rattle.blocks.specs.Identifiers.{are_fresh}
 use Rattle.blocks.specs.Ranges.{below}
-use Rattle.model.specs.Contents.{BlockMap}
-use Rattle.model.specs.Stream.{Item, WriteItem, epoch_of}
-use Rattle.model.specs.Refusals.{Test, done_with}
-use Rattle.model.specs.Primary.{Accepted, Outward, PrimaryHistory, no_outward, last_of, outward, last_index, stands, items_sent, is_answered_by, is_answered, is_alone, is_confirmed, is_released, is_waiting, is_on_disk, barrier_acknowledged, unreleased, open_writes, completes, under_way, resync_runs, in_resync}
+use Rattle.model.specs.Stream.{WriteItem, epoch_of}
+use Rattle.model.specs.Refusals.{done_with}
+use Rattle.model.specs.Primary.{Accepted, Outward, PrimaryHistory, no_outward, outward, last_index, stands, items_sent, is_answered_by, is_answered, is_alone, is_confirmed, is_released, is_waiting, is_on_disk, barrier_acknowledged, unreleased, open_writes, under_way}
 use Rattle.model.specs.PrimarySteps as step
 use Rattle.model.specs.PrimarySteps.{epoch_is_over, resync_is_over}
 use Rattle.laws.proofs.Lists.Elements.{get-left}
@@ -22,10 +19,9 @@ use Rattle.laws.proofs.Lists.Last.{last-more}
 use Rattle.laws.proofs.Lists.Tests.{test-passed}
 use Rattle.laws.proofs.Lists.Picks.{pick-filtered}
 use Rattle.laws.proofs.Primary.Homes.{HasHomes}
-use Rattle.activitylog.specs.Activity.{Active}
-use Rattle.primary_steps.specs.Core.{EndState, PrimaryState}
+use Rattle.primary_steps.specs.Core.{PrimaryState}
 use Rattle.primary_steps.specs.Transitions as transition
-use Rattle.primary_steps.specs.Leaves.{is_sent, logged_of, standing, holding_item, holding_write, held_of, LeavesActivity, LeavesEnd, EndLeft, LeavesRest, Leaves}
+use Rattle.primary_steps.specs.Leaves.{is_sent, logged_of, holding_item, holding_write, LeavesActivity, EndLeft, Leaves}
 use Rattle.primary_steps.specs.Steps.{Agrees, plainly, FreshIsOpening, OpensAgree}
 use Rattle.primary_steps.proofs.Filters.{filter-at, map-at}
 use Rattle.primary_steps.proofs.Known.{reached-ordered, tested-agrees, end-open}

@@ -1,10 +1,9 @@
 -- A caller takes a receipt.
-use Rattle.std.proofs.Common.{ℕ, ◌≡◌, Bool, true, false, cond, List, [], ◌++◌, ◌∷◌, Option, Some, None, Result, Ok, Err, refl, sym, ◌∙◌, ap, subst, ◌==◌}
+use Rattle.std.proofs.Common.{ℕ, Bool, true, false, List, [], ◌++◌, ◌∷◌, Option, Some, None, Result, Ok, Err, subst, ◌==◌}
 use Rattle.std.specs.Prelude.{find, if◌then◌else◌}
 use Rattle.blocks.specs.declared.refusal.Refusal.{Refusal}
 use Rattle.blocks.specs.declared.refusal.Refusal.TheVariants.{LocalFault}
 use Rattle.model.specs.Primary.{Completion, PrimaryHistory}
-use Rattle.model.specs.PrimarySteps as step
 use Rattle.model.specs.PrimarySteps.{receipted, take_completed_tests}
 use Rattle.model.specs.Refusals.{first_refusal}
 use Rattle.laws.proofs.Primary.Journal.{journal-run, JournalIsAccepted}
@@ -12,7 +11,7 @@ use Rattle.primary_steps.specs.Core.{Entry, PrimaryState}
 use Rattle.primary_steps.specs.Transitions as transition
 use Rattle.primary_steps.specs.Transitions.{take_completed, told, entry_at, is_given}
 use Rattle.primary_steps.specs.Leaves.{LeavesEntries, Leaves}
-use Rattle.primary_steps.specs.Steps.{IsReached, ReceiptsAgree}
+use Rattle.primary_steps.specs.Steps.{ReceiptsAgree}
 use Rattle.primary_steps.proofs.Known.{reached-ordered}
 use Rattle.laws.proofs.Tracked.Kept.{IsKnown}
 use Rattle.primary_steps.proofs.Telling.{TellsEntries, tells}

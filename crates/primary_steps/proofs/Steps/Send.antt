@@ -1,9 +1,7 @@
 -- The primary sends the next frame that it owes.
-use Rattle.std.proofs.Common.{ℕ, zero, suc, ◌≡◌, ◌+◌, ◌-◌, ◌<◌, ◌≤◌, ◌⊎◌, inl, inr, Bool, true, false, cond, not, ◌&&◌, ◌||◌, List, [], ◌∷◌, ◌++◌, length, map, filter, drop, Option, Some, None, slice_get, Result, Ok, Err, refl, sym, ◌∙◌, ap, subst, arith, nat_lt, nat_le, ◌==◌}
-use Rattle.std.specs.Prelude.{min, option_map, if◌then◌else◌}
-use Rattle.std.specs.List.{list_any}
-use Rattle.std.proofs.lemmas.Bool.{cases_lt, both_ways, and_parts, ltb-true, lt-ltb, le-ltb, le-leb, lt-leb, eqb-true, eq-eqb, false_from_ne_true}
-use Rattle.std.proofs.lemmas.List.{length-append}
+use Rattle.std.proofs.Common.{ℕ, suc, ◌≡◌, ◌-◌, ◌<◌, ◌≤◌, inl, inr, Bool, true, false, not, ◌&&◌, ◌||◌, List, [], ◌∷◌, length, map, filter, drop, Option, Some, None, slice_get, Result, Ok, Err, refl, sym, ◌∙◌, ap, subst, arith, nat_lt, nat_le, ◌==◌}
+use Rattle.std.specs.Prelude.{option_map, if◌then◌else◌}
+use Rattle.std.proofs.lemmas.Bool.{cases_lt, both_ways, and_parts, ltb-true, lt-ltb, le-ltb, eqb-true, eq-eqb}
 use Rattle.std.proofs.lemmas.Option.{slice_get_within}
 use Rattle.blocks.specs.declared.settings.Settings.{Settings}
 use Rattle.blocks.specs.declared.settings.Protocol.{Protocol}
@@ -16,33 +14,29 @@ use Rattle.blocks.specs.declared.outcome.What.TheVariants as what
 use Rattle.blocks.specs.declared.outcome.Reply.{Reply}
 use Rattle.blocks.specs.declared.outcome.Reply.TheVariants as reply
 use Rattle.model.specs.Contents.{Write}
-use Rattle.model.specs.Stream.{Item, WriteItem, ResyncItem, BarrierItem, SyncUuidItem, UuidsItem, is_write, number_of, epoch_of, last_epoch, epoch_size, items_of_epoch}
-use Rattle.model.specs.Frames.{Packet, command_of, frame_of, hello_of, frames_of, frames_from}
-use Rattle.model.specs.Refusals.{Test, first_refusal, done_with}
-use Rattle.model.specs.Primary.{Accepted, Outward, PrimaryHistory, no_outward, last_of, outward, last_index, change_last, with_outward, stands, items_sent, frames_due, is_answered_by, is_answered, is_alone, is_confirmed, is_released, is_waiting, is_on_disk, barrier_acknowledged, unreleased, open_writes, completes, under_way, resync_runs, marked_blocks}
+use Rattle.model.specs.Stream.{Item, WriteItem, ResyncItem, BarrierItem, SyncUuidItem, UuidsItem, is_write, epoch_of}
+use Rattle.model.specs.Frames.{Packet, command_of, frame_of}
+use Rattle.model.specs.Refusals.{Test, done_with}
+use Rattle.model.specs.Primary.{Accepted, Outward, PrimaryHistory, no_outward, outward, last_index, change_last, with_outward, items_sent, frames_due, is_answered_by, is_answered, is_alone, is_confirmed, is_released, is_waiting, is_on_disk, barrier_acknowledged, completes}
 use Rattle.model.specs.PrimarySteps as step
 use Rattle.model.specs.PrimarySteps.{is_settled, epoch_is_over, resync_is_over}
-use Rattle.epochs.specs.Epochs.{EpochsState}
 use Rattle.transferlog.specs.Log as log
 use Rattle.transferlog.specs.Log.{answers_sent}
 use Rattle.transferlog.specs.Ring.{on}
 use Rattle.transferlog.specs.Writes as writes
 use Rattle.transferlog.specs.Writes.{LogWrite, is_completed}
-use Rattle.laws.proofs.Lists.Elements.{get-there, same-at}
-use Rattle.laws.proofs.Lists.Last.{length-change, get-change, get-last-changed}
+use Rattle.laws.proofs.Lists.Elements.{same-at}
+use Rattle.laws.proofs.Lists.Last.{get-change, get-last-changed}
 use Rattle.laws.proofs.Lists.Picks.{pick-filtered}
 use Rattle.laws.proofs.Primary.Homes.{HasHomes, open-at}
 use Rattle.laws.proofs.Primary.InOrderMoves.{Ordered, OrderedAfter, in-order-kept}
 use Rattle.laws.proofs.Primary.Moves.{pushing}
 use Rattle.primary_steps.specs.Core as core
 use Rattle.primary_steps.specs.Core.{UnderWay, EndState, PrimaryState}
-use Rattle.primary_steps.specs.Transitions as transition
 use Rattle.primary_steps.specs.Transitions.{owed, next_place, called, sent_from, pushed_item}
-use Rattle.primary_steps.specs.Leaves.{is_sent, logged_of, standing, holding_item, holding_write, LeavesActivity, LeavesEpochs, LeavesEnd, EndLeft, UnderWayLeft, LeavesRest, LeavesStream, Leaves}
-use Rattle.primary_steps.specs.Steps.{Agrees, replied, SendsAgree}
+use Rattle.primary_steps.specs.Leaves.{is_sent, logged_of, LeavesEnd, EndLeft, UnderWayLeft, Leaves}
+use Rattle.primary_steps.specs.Steps.{Agrees, SendsAgree}
 use Rattle.primary_steps.proofs.Connections.{look}
-use Rattle.primary_steps.proofs.Epochs.{epochs-same}
-use Rattle.primary_steps.proofs.Filters.{filter-at, map-at}
 use Rattle.transferlog.specs.Writes.{released_of}
 use Rattle.transferlog.specs.declared.report.Released.{Released}
 use Rattle.laws.proofs.Lists.Picks.{pick-image}
@@ -51,7 +45,7 @@ use Rattle.primary_steps.proofs.Changing.{IsChange, released-is}
 use Rattle.primary_steps.proofs.Following.{IsDue, follow}
 use Rattle.primary_steps.proofs.Marks.{unmarking-none}
 use Rattle.primary_steps.proofs.Known.{IsOrdered, reached-ordered, outward-of, from-follow, tested-agrees, refused-agrees}
-use Rattle.primary_steps.proofs.Resting.{still, reached-rests}
+use Rattle.primary_steps.proofs.Resting.{reached-rests}
 use Rattle.primary_steps.proofs.Seen.{completes-seen, disk-seen}
 use Rattle.primary_steps.proofs.Owing.{get-drop, drop-more, place-is, owed-is, owed-late, none-owed, some-owed, said-early, said-late, pushed-agrees}
 
@@ -384,9 +378,9 @@ module _ (settings : Settings) (bound : 0 < settings.max_epoch) (s : PrimaryStat
       by-stream : 3 ≤ (outward h).pushed → (v : Option Item) → slice_get (outward h).stream (items_sent (outward h)) ≡ v → Agrees reply.Ok (Ok (sent_from e (step.sending h) s).0, (sent_from e (step.sending h) s).1) (step.succeeding (step.sending h) (with_outward pushing h))
       by-stream late (Some item) at = by-item (step.sending h) late item at
       by-stream late None none = absurd (
-        let owed_none : owed e s ≡ None = owed-late s h e left ordered.1.1.0.0 end late ∙ ap (option_map (frame_of (items_sent (outward h)))) none in
-        let some : owed e s ≡ Some packet = owed-is s h e left ordered.1.1.0.0 end ∙ due in
-        cc)
+          let owed_none : owed e s ≡ None = owed-late s h e left ordered.1.1.0.0 end late ∙ ap (option_map (frame_of (items_sent (outward h)))) none in
+          let some : owed e s ≡ Some packet = owed-is s h e left ordered.1.1.0.0 end ∙ due in
+          cc)
 
 -- the primary sends a frame
 pub sends-agree : SendsAgree

@@ -1,46 +1,39 @@
 -- The primary accepts a write.
-use Rattle.std.proofs.Common.{ℕ, zero, suc, ◌≡◌, ◌+◌, ◌-◌, ◌<◌, ◌≤◌, inl, inr, Bool, true, false, cond, not, ◌&&◌, ◌||◌, List, [], ◌∷◌, ◌++◌, length, map, filter, Option, Some, None, slice_get, Result, Ok, Err, refl, sym, ◌∙◌, ap, subst, arith, nat_lt, nat_le, ◌==◌}
+use Rattle.std.proofs.Common.{ℕ, suc, ◌≡◌, ◌+◌, ◌-◌, inl, inr, Bool, true, false, not, ◌&&◌, List, [], ◌∷◌, ◌++◌, length, map, filter, Option, Some, None, slice_get, Ok, refl, sym, ◌∙◌, ap, subst, arith, nat_lt, nat_le, ◌==◌}
 use Rattle.std.specs.Prelude.{find, is_some, unwrap_or, option_map, if◌then◌else◌}
 use Rattle.std.specs.List.{list_any}
 use Rattle.std.proofs.lemmas.Bool.{cases_Bool, both_ways, and_parts, not-false, ltb-true, leb-true, lt-ltb, le-leb, false_from_ne_true}
 use Rattle.std.proofs.lemmas.List.{length-map}
-use Rattle.blocks.specs.declared.settings.Settings.{Settings}
-use Rattle.blocks.specs.declared.refusal.Refusal.{Refusal}
 use Rattle.blocks.specs.declared.refusal.Refusal.TheVariants.{BadRange, Conflict, LogFull, ActivityFull, JournalFull, StreamFull, NoMemory, NotConnected}
 use Rattle.blocks.specs.declared.outcome.Done.{Done}
 use Rattle.blocks.specs.declared.outcome.What.TheVariants as what
-use Rattle.blocks.specs.declared.outcome.Reply.{Reply}
 use Rattle.blocks.specs.declared.outcome.Reply.TheVariants as reply
 use Rattle.blocks.specs.Ranges.{is_between, ranges_meet}
 use Rattle.model.specs.Contents.{Write, covers, overlap, is_range, extent_of}
 use Rattle.model.specs.Stream.{Item, WriteItem, ResyncItem, BarrierItem, SyncUuidItem, UuidsItem, first_of, placed}
-use Rattle.model.specs.Marks.{marking}
 use Rattle.model.specs.Refusals.{Test, first_refusal}
-use Rattle.model.specs.Primary.{Accepted, Outward, PrimaryHistory, outward, last_index, stands, is_resync, was_resynced, under_way, open_writes, unreleased, active_extents}
+use Rattle.model.specs.Primary.{Accepted, PrimaryHistory, outward, last_index, stands, is_resync, was_resynced, under_way, open_writes, unreleased}
 use Rattle.model.specs.PrimarySteps as step
 use Rattle.model.specs.PrimarySteps.{appending, conflict, activity_is_full, submission, submitted}
-use Rattle.epochs.specs.Epochs.{EpochsState}
 use Rattle.overlap.specs.Holdings as held
 use Rattle.overlap.specs.Holdings.{Holding, holding, meets}
 use Rattle.activitylog.specs.Activity.{can_begin, begun}
 use Rattle.bitmap.specs.Marks as bits
 use Rattle.transferlog.specs.Log.{LogState}
 use Rattle.transferlog.specs.declared.report.Accepted as report
-use Rattle.transferlog.specs.Log as log
 use Rattle.laws.proofs.Lists.Picks.{pick-filtered}
 use Rattle.laws.proofs.Lists.Tests.{test-passed}
-use Rattle.laws.proofs.Primary.InOrderMoves.{Ordered}
 use Rattle.laws.proofs.Primary.Moves.{MaySubmit}
 use Rattle.primary_steps.specs.Core as core
 use Rattle.primary_steps.specs.Core.{PrimaryState}
 use Rattle.primary_steps.specs.Transitions as transition
 use Rattle.primary_steps.specs.Transitions.{whole_blocks, submit_tests}
-use Rattle.primary_steps.specs.Leaves.{holding_item, holding_write, held_of, Leaves}
+use Rattle.primary_steps.specs.Leaves.{holding_item, holding_write, Leaves}
 use Rattle.primary_steps.specs.Steps.{Agrees, SubmitsAgree}
-use Rattle.primary_steps.proofs.Accepting.{HasRange, accepted_at}
+use Rattle.primary_steps.proofs.Accepting.{HasRange}
 use Rattle.primary_steps.proofs.Beginning.{can-begin-is}
 use Rattle.primary_steps.proofs.Filters.{any-at, any-map, find-append, find-map}
-use Rattle.primary_steps.proofs.Following.{Follows, follow}
+use Rattle.primary_steps.proofs.Following.{follow}
 use Rattle.primary_steps.proofs.Known.{IsOrdered, reached-ordered, from-follow, tested-agrees}
 use Rattle.primary_steps.proofs.Marking as alone
 use Rattle.primary_steps.proofs.Numbers.{any-some}
