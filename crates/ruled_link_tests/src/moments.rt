@@ -26,11 +26,11 @@ fn is_empty_and_then_full<M: Moment, R: Wait + Copy>(
     let Err(second) = outward.push(Piece::new(b"second")) else {
         return Err(Fail::from("two pieces stand in a row for one"));
     };
-    assert_eq!(abort; second.bytes(), b"second");
+    assert_eq!(abort; second.bytes(), b"second".as_slice());
     let Some(first) = inward.pop() else {
         return Err(Fail::from("a piece is missing"));
     };
-    assert_eq!(abort; first.bytes(), b"first");
+    assert_eq!(abort; first.bytes(), b"first".as_slice());
     assert!(abort; inward.pop().is_none());
     assert!(abort; outward.push(second).is_ok());
     Ok(())
