@@ -71,11 +71,15 @@ impl Held {
         lowest_holder(self.by_first.range(..=last), range.first.0)
     }
 
-    /// Whether the number holds a range.
+    /// Whether the number holds a range. For a number above all that do, as a new write's is, nothing is
+    /// searched for.
     pub fn is_held(&self, number: u64) -> bool
         ensures { result ≡ is_held number self.now }
     {
-        self.by_number.contains_key(&number)
+        let Some((highest, _)) = self.by_number.last_key_value() else {
+            return false;
+        };
+        number <= *highest && self.by_number.contains_key(&number)
     }
 
     /// The number holds the range from now on. The number holds nothing yet, and nobody holds a block of the range.
