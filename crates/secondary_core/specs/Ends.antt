@@ -23,6 +23,6 @@ abbrev pub IsEnd : Inside → Type 0
 IsEnd e = e.answered + length e.sizes.items < 2 ^ 32
 
 -- the end is open, and its hello is done: it has taken three frames, and pushed three
-abbrev pub is_greeted : Option EndState → Bool
-is_greeted None = false
-is_greeted (Some e) = nat_le 3 e.heard && nat_le 3 e.said
+abbrev pub is_hello_done : Option EndState → Bool
+is_hello_done None = false
+is_hello_done (Some e) = nat_le 3 e.heard && nat_le 3 e.said

@@ -88,7 +88,7 @@ impl End {
     }
 
     /// Whether the peer's hello was taken.
-    pub(crate) fn is_greeted(&self) -> bool
+    pub(crate) fn has_heard(&self) -> bool
         ensures { result ≡ nat_le 3 self.now.state.heard }
     {
         self.heard >= HELLO_FRAMES

@@ -32,12 +32,12 @@ impl SecondaryCore {
     /// Takes a frame: a packet, or the fault that stands in its place (20 to 23).
     ///
     /// Each refusal is a protocol error: the frame counts as taken, and the end closes. Of the hello these
-    /// are `OtherProtocol` (34), `OtherSize` (35), and `BadCommand` (21) for every other frame than the next.
-    /// After it `BadCommand` comes for a frame that is no item; and `BadField` (23) for an item that may not
-    /// stand at the next place: it names another place, its blocks are none of a write's on this device, or
-    /// share a block with an item of its epoch, its number does not rise, a barrier is not the next, a
-    /// resync begins at another place than the first or with the identifier 0, or an item of a resync comes
-    /// where none goes on (this project's rules). It takes no memory.
+    /// are `OtherProtocol` (34), `OtherSize` (35), and `BadCommand` (21) for every frame but the next one.
+    /// After it `BadCommand` comes for a frame that is no item, and `BadField` (23) for an item that may not
+    /// stand at the next place: it names another place; its blocks are not 1 to 32 of the device and of one
+    /// extent, or the last epoch has one of them; the number of a write does not rise; a barrier is not the
+    /// next; a resync begins elsewhere than at place 0, or with the identifier 0; or what belongs to a
+    /// resync comes where none goes on (this project's rules). It takes no memory.
     pub fn take(&mut self, frame: Result<Packet, Refusal>) -> Result<Done, Refusal>
         requires may_take { IsOk (may_take self.old.state) }
         requires ready { self.old.is_ready ≡ true }
@@ -64,7 +64,7 @@ impl SecondaryCore {
         ensures { (result, self.new.state) ≡ judged_at (received frame) self.old.state.end self.old.state }
     {
         let packet = frame?;
-        if self.end.is_greeted() {
+        if self.end.has_heard() {
             return self.item(packet);
         }
         let what = self.greet(&packet)?;
@@ -156,6 +156,7 @@ impl SecondaryCore {
         let epoch = self.taken.epoch();
         self.end.owe(item.receipt(self.settings.protocol, place));
         self.taken.item(&item);
+        // The disk has room for it.
         let _ = self.disk.put(place, epoch, item);
         self.is_ready = false;
     }

@@ -1,7 +1,7 @@
 //! What is read off.
 ghost use Rattle.std.specs.Prelude.{◌≡◌, ◌==◌, length, is_some};
 ghost use Rattle.secondary_steps.specs.Core.{may_take, whole};
-ghost use Rattle.secondary_core.specs.Ends.{is_greeted};
+ghost use Rattle.secondary_core.specs.Ends.{is_hello_done};
 
 use crate::state::SecondaryCore;
 use blocks::{Refusal, Settings, Tuple};
@@ -61,10 +61,10 @@ impl SecondaryCore {
     }
 
     /// Whether the hello is done: the end is open, and has taken three frames and pushed three.
-    pub fn is_greeted(&self) -> bool
-        ensures { result ≡ is_greeted self.now.state.end }
+    pub fn is_hello_done(&self) -> bool
+        ensures { result ≡ is_hello_done self.now.state.end }
     {
-        self.is_open && self.end.is_greeted() && self.end.has_said()
+        self.is_open && self.end.has_heard() && self.end.has_said()
     }
 
     /// The number of the last connection, 0 before the first.

@@ -8,11 +8,11 @@ use Rattle.secondary_core.specs.State.{core_of, standing}
 use Rattle.secondary_core.proofs.Checks.{judged-hello, judged-item, open-is}
 use Rattle.secondary_core.proofs.state.SecondaryCore.judge.Goals as goal
 
-pub returns-then-is_greeted : goal.returns-then-is_greeted
-returns-then-is_greeted c =
+pub returns-then-has_heard : goal.returns-then-has_heard
+returns-then-has_heard c =
     let s = c.self.inside in
     let e = s.end.state in
-    let late : nat_lt e.heard 3 ≡ false = grind (arith, nat_tests, c.is_greeted.ensures, c.if-is_greeted.true) in
+    let late : nat_lt e.heard 3 ≡ false = grind (arith, nat_tests, c.has_heard.ensures, c.if-has_heard.true) in
     let stands : standing s.is_open e ≡ Some e = ap (λ b. standing b e) (open-is s.is_open e (ap (λ s. is_some s.state.end) c.self.view_is ∙ c.requires.may.is_open)) in
     rw (c.in_ok-packet.was) (c.item.ensures ∙ rw (← c.self.view_is) (judged-item (core_of s).state e (meaning c.in_ok-packet.packet) stands late))
 
@@ -21,7 +21,7 @@ returns-in_err-what c =
     let s = c.self.inside in
     let e = s.end.state in
     let packet = meaning c.in_ok-packet.packet in
-    let early : nat_lt e.heard 3 ≡ true = grind (arith, nat_tests, c.is_greeted.ensures, c.if-is_greeted.false) in
+    let early : nat_lt e.heard 3 ≡ true = grind (arith, nat_tests, c.has_heard.ensures, c.if-has_heard.false) in
     let stands : standing s.is_open e ≡ Some e = ap (λ b. standing b e) (open-is s.is_open e (ap (λ s. is_some s.state.end) c.self.view_is ∙ c.requires.may.is_open)) in
     let refused : c.from_residual-in_err-what.result ≡ Err c.in_err-what.field-0.0 = search rules in
     let greeted = rw (← c.self.view_is, stands, c.in_err-what.was) at c.greet.ensures in
@@ -32,7 +32,7 @@ returns c =
     let s = c.self.inside in
     let e = s.end.state in
     let packet = meaning c.in_ok-packet.packet in
-    let early : nat_lt e.heard 3 ≡ true = grind (arith, nat_tests, c.is_greeted.ensures, c.if-is_greeted.false) in
+    let early : nat_lt e.heard 3 ≡ true = grind (arith, nat_tests, c.has_heard.ensures, c.if-has_heard.false) in
     let is_open : s.is_open ≡ true = open-is s.is_open e (ap (λ s. is_some s.state.end) c.self.view_is ∙ c.requires.may.is_open) in
     let stands : standing s.is_open e ≡ Some e = ap (λ b. standing b e) is_open in
     let greeted = rw (← c.self.view_is, stands, c.in_ok-what.was) at c.greet.ensures in
