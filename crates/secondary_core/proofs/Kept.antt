@@ -1,15 +1,14 @@
 -- What is always true of a secondary stays so.
-use Rattle.std.proofs.Common.{ℕ, suc, ◌≡◌, ◌+◌, ◌<◌, ◌≤◌, Bool, true, false, List, [], ◌∷◌, ◌++◌, length, Option, Some, None, refl, sym, ◌∙◌, ap, subst, arith}
+use Rattle.std.proofs.Common.{ℕ, suc, ◌≡◌, ◌+◌, ◌<◌, ◌≤◌, true, false, List, [], ◌∷◌, ◌++◌, length, Option, Some, None, refl, sym, ◌∙◌, ap, subst, arith}
 use Rattle.std.specs.Prelude.{option_to_list}
 use Rattle.std.specs.List.{AllByRecursion}
-use Rattle.std.proofs.lemmas.List.{append-nil, length-append}
+use Rattle.std.proofs.lemmas.List.{length-append}
 use Rattle.model.specs.Frames.{Packet}
 use Rattle.model.specs.Stream.{Item, WriteItem, ResyncItem, BarrierItem, SyncUuidItem, UuidsItem, contents_of, first_of}
-use Rattle.peerdisk.specs.Blocks.{adding, none_of}
 use Rattle.peerdisk.specs.Pending.{PeerDiskState, Pending, is_pending, without}
 use Rattle.peerdisk.proofs.Pendings.{all-push, all-without}
 use Rattle.peerdisk.proofs.Stamps.{length-flags}
-use Rattle.secondary_steps.specs.Core.{EndState, Intake, and_item, answering, owing}
+use Rattle.secondary_steps.specs.Core.{Intake, and_item, answering, owing}
 use Rattle.secondary_core.specs.Ends.{EndRoom}
 use Rattle.secondary_core.specs.State.{HasRoom, IsCore, IsOf}
 use Rattle.secondary_core.specs.declared.state.SecondaryCore.TheInside.{Inside}

@@ -1,12 +1,12 @@
 -- What an acknowledgement that is due stands for.
-use Rattle.std.specs.Prelude.{ℕ, List, [], Option}
+use Rattle.std.specs.Prelude.{ℕ, List, []}
 use Rattle.blocks.specs.declared.settings.Protocol.{Protocol}
 use Rattle.packets.specs.declared.packet.Packet.{Packet}
 use Rattle.packets.specs.declared.packet.Packet.TheVariants as packet
 use Rattle.packets.specs.Spelling.{IsSpellable}
 use Rattle.endpoint.specs.Meaning.{meaning}
 use Rattle.model.specs.Frames as frames
-use Rattle.model.specs.Stream.{Item, WriteItem, ResyncItem}
+use Rattle.model.specs.Stream.{Item, WriteItem}
 use Rattle.secondary_steps.specs.Core.{receipt}
 use Rattle.secondary_core.specs.declared.answer.Told.{Told}
 use Rattle.secondary_core.specs.declared.answer.Told.TheVariants as told

@@ -1,4 +1,4 @@
-use Rattle.std.proofs.Common.{suc, ◌≡◌, ◌∙◌, ◌+◌, ◌≤◌, ◌∷◌, [], sym, ap, arith, length, nat_le, true, add-one}
+use Rattle.std.proofs.Common.{suc, ◌≡◌, ◌∙◌, ◌∷◌, [], sym, ap, arith, length, nat_le, true, add-one}
 use Rattle.std.proofs.lemmas.Bool.{le-leb}
 use Rattle.std.proofs.lemmas.List.{length-append}
 use Rattle.secondary_steps.specs.Core.{is_applied_to}

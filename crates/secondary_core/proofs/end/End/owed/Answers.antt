@@ -1,4 +1,4 @@
-use Rattle.std.proofs.Common.{◌≡◌, ◌≤◌, false, nat_lt, arith}
+use Rattle.std.proofs.Common.{◌≡◌, false, nat_lt, arith}
 use Rattle.std.proofs.lemmas.Bool.{le-ltb}
 use Rattle.std.proofs.lemmas.Option.{slice_get_past}
 use Rattle.secondary_core.proofs.end.End.owed.Goals as goal

@@ -1,5 +1,4 @@
-use Rattle.std.proofs.Common.{◌≡◌, refl, ap, arith, length}
-use Rattle.model.specs.Stream.{contents_of, first_of}
+use Rattle.std.proofs.Common.{refl}
 use Rattle.secondary_core.proofs.Counted.{count-is, first-is}
 use Rattle.secondary_core.proofs.item.Item.naming.Goals as goal
 

@@ -1,5 +1,5 @@
-use Rattle.std.proofs.Common.{suc, ◌≡◌, ◌∙◌, ◌+◌, ◌<◌, ◌≤◌, ◌++◌, ◌∷◌, [], Ok, refl, sym, length, ap, arith, false, option_to_list}
-use Rattle.peerdisk.specs.Pending.{Pending, PeerDiskState, is_starved, put}
+use Rattle.std.proofs.Common.{◌≡◌, ◌∙◌, ◌<◌, ◌++◌, ◌∷◌, [], sym, length, ap, arith, false, option_to_list}
+use Rattle.peerdisk.specs.Pending.{Pending, is_starved, put}
 use Rattle.peerdisk.proofs.Pendings.{put-room}
 use Rattle.model.specs.Stream.{Item}
 use Rattle.secondary_core.specs.State.{HasRoom}

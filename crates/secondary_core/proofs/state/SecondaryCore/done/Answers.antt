@@ -1,4 +1,4 @@
-use Rattle.std.proofs.Common.{◌≡◌, ◌∙◌, ◌++◌, [], ◌≤◌, length, refl, sym, ap, arith, true, option_to_list}
+use Rattle.std.proofs.Common.{◌≡◌, [], refl, ap, arith, true, option_to_list}
 use Rattle.std.proofs.lemmas.List.{append-nil}
 use Rattle.peerdisk.specs.Pending.{is_pending}
 use Rattle.secondary_core.specs.State.{IsCore}

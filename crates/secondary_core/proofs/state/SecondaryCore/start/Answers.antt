@@ -1,4 +1,3 @@
-use Rattle.std.proofs.Common.{ap}
 use Rattle.secondary_core.proofs.Places.{started-inside}
 use Rattle.secondary_core.proofs.state.SecondaryCore.start.Goals as goal
 
