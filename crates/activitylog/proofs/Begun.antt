@@ -1,12 +1,21 @@
 -- A write begins in an extent that is active, that finds a free slot, or for which another makes room.
-use Rattle.std.proofs.Common.{ℕ, ◌≡◌, ◌+◌, ◌<◌, ◌≤◌, Bool, true, false, ◌||◌, List, ◌∷◌, length, Some, None, refl, sym, ◌∙◌, ap, arith, nat_eq, nat_lt}
-use Rattle.std.specs.Prelude.{is_some, unwrap_or}
+use Rattle.std.proofs.Common.{ℕ, ◌≡◌, ◌+◌, ◌<◌, ◌≤◌, Bool, true, false, ◌||◌, List, ◌∷◌, length, Option, Some, None, refl, sym, ◌∙◌, ap, arith, nat_eq, nat_lt}
+use Rattle.std.specs.Prelude.{is_some, unwrap_or, MatchOption}
 use Rattle.std.specs.List.{IsDistinct}
 use Rattle.std.specs.Map.{keys_of, lookup, remove_entry}
 use Rattle.std.proofs.lemmas.Bool.{eqb-true, lt-ltb, le-ltb}
 use Rattle.activitylog.specs.Activity.{ActivityState, begun, can_begin, is_active, writes_of}
 use Rattle.activitylog.specs.Entries.{active_of, oldest_idle}
 use Rattle.activitylog.proofs.Entries.{active-lookup, active-remove, active-remove_oldest, is_some-oldest, length-active, oldest-active, writes-lookup}
+
+-- by the answer, whether the extent was active
+pub when_known : (o : Option ℕ) (r : Bool) (P : Type 0) (Q : ℕ → Type 0) → MatchOption o ((r ≡ false) × P) (λ w. (r ≡ true) × Q w) → r ≡ true → (w : ℕ) × (o ≡ Some w) × Q w
+when_known None r P Q told is = absurd (let no = told.0 in cc)
+when_known (Some w) r P Q told is = (w, refl, told.1)
+
+pub when_unknown : (o : Option ℕ) (r : Bool) (P : Type 0) (Q : ℕ → Type 0) → MatchOption o ((r ≡ false) × P) (λ w. (r ≡ true) × Q w) → r ≡ false → (o ≡ None) × P
+when_unknown None r P Q told is = (refl, told.1)
+when_unknown (Some w) r P Q told is = absurd (let yes = told.0 in cc)
 
 abbrev pub state : ℕ → List (ℕ × ℕ) → ActivityState
 state slots es = record { slots = slots; active = active_of es }

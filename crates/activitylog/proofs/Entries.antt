@@ -7,7 +7,7 @@ use Rattle.std.proofs.lemmas.Map.Keys.{IsDistinct-head, IsDistinct-tail}
 use Rattle.std.proofs.lemmas.Bool.{eqb-true, eq-eqb}
 use Rattle.std.proofs.lemmas.Bool.Decides.{nat_tests}
 use Rattle.std.proofs.lemmas.List.{take_all}
-use Rattle.lru.specs.LruCache.{LruCache, put_entries}
+use Rattle.lru.specs.LruCache.{LruCache, promoted, put_entries}
 use Rattle.activitylog.specs.Activity.{Active, has_idle, is_active, one_less, other_than, without_oldest_idle, writes_of}
 use Rattle.activitylog.specs.Entries.{active_of, oldest_idle}
 
@@ -87,6 +87,13 @@ put-new c k v slots cap few none = rw (entry-none k c.entries none) (ap (λ es. 
 
 pub put-known : (c : LruCache ℕ ℕ) (k v w : ℕ) → lookup (nat_eq k) c.entries ≡ Some w → put_entries nat_eq c k v ≡ (k, v) ∷ remove_entry (nat_eq k) c.entries
 put-known c k v w some = rw (entry-some k w c.entries some) refl
+
+-- What is written to an entry that was brought to the front.
+pub mut-known : (k v w : ℕ) (es : List (ℕ × ℕ)) → lookup (nat_eq k) es ≡ Some w → set_value (nat_eq k) (promoted (nat_eq k) es) v ≡ (k, v) ∷ remove_entry (nat_eq k) es
+mut-known k v w es some = let same : nat_eq k k ≡ true = eq-eqb k k refl in rw (entry-some k w es some, same) refl
+
+pub mut-unknown : (k : ℕ) (es : List (ℕ × ℕ)) → lookup (nat_eq k) es ≡ None → promoted (nat_eq k) es ≡ es
+mut-unknown k es none = rw (entry-none k es none) refl
 
 -- The one that makes room.
 abbrev pub later_idle : Option ℕ → ℕ × ℕ → Option ℕ

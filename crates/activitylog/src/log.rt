@@ -1,5 +1,7 @@
 //! The active extents, by their last use.
-ghost use Rattle.std.specs.Prelude.{◌≡◌, ◌+◌, ◌<◌, ◌≤◌, ◌^◌, ◌⊎◌, ◌↔◌, [], false, length, Err, IfOk, IfErr, OnOk, OnErr};
+ghost use Rattle.std.specs.Prelude.{◌≡◌, ◌+◌, ◌<◌, ◌≤◌, ◌^◌, ◌⊎◌, ◌↔◌, [], ◌∷◌, false, true, length, nat_eq, Err, IfOk, IfErr, IfSome, MatchOption, OnOk, OnErr};
+ghost use Rattle.std.specs.Map.{lookup, remove_entry};
+ghost use Rattle.lru.specs.LruCache.{lru_cache};
 ghost use Rattle.activitylog.specs.Activity.{begun, can_begin, ended, writes_of};
 ghost use Rattle.activitylog.specs.Entries.{active_of, oldest_idle};
 ghost use Rattle.blocks.specs.declared.refusal.Refusal.TheVariants.{ActivityFull, NoMemory};
@@ -75,9 +77,7 @@ impl ActivityLog {
         ensures full { (result ≡ Err ActivityFull) ↔ (can_begin extent.0 self.old ≡ false) }
         ensures refused { IfErr result (λ e. (e ≡ ActivityFull) ⊎ (e ≡ NoMemory)) }
     {
-        let was = self.active.peek(&extent.0).copied();
-        if let Some(writes) = was {
-            self.active.put(extent.0, writes + 1)?;
+        if one_more(&mut self.active, extent.0) {
             return Ok(());
         }
         if self.active.len() < self.slots {
@@ -116,6 +116,21 @@ impl ActivityLog {
     {
         self.active.len()
     }
+}
+
+/// Where the extent is active, it has one more unreleased write and is the most recently begun. Answers
+/// whether it is active.
+fn one_more(active: &mut LruCache<u64, u32>, extent: u64) -> bool
+    requires { IfSome (lookup (nat_eq extent) active.old.entries) (λ writes. writes + 1 < 2 ^ 32) }
+    ensures { MatchOption (lookup (nat_eq extent) active.old.entries)
+        ((result ≡ false) × (active.new ≡ active.old))
+        (λ writes. (result ≡ true) × (active.new ≡ lru_cache ((extent, writes + 1) ∷ remove_entry (nat_eq extent) active.old.entries) active.old.cap)) }
+{
+    let Some(writes) = active.get_mut(&extent) else {
+        return false;
+    };
+    *writes += 1;
+    true
 }
 
 /// The extent that was least recently begun and has no unreleased write, if there is one.

@@ -1,5 +1,6 @@
 //! The taking side.
 ghost use Rattle.std.specs.Prelude.{◌≡◌, ◌<◌, ◌≤◌, ◌↔◌, [], true, IsErr, OnOk, OnErr, IfOk, IfErr, IfSome};
+ghost use Rattle.packets.specs.Spelling.{IsSpellable};
 ghost use Rattle.endpoint.specs.Meaning.{received};
 ghost use Rattle.endpoint.specs.Incoming.{incoming, hello_after, with_received, taking_anew, SameRow};
 ghost use Rattle.blocks.specs.declared.refusal.Refusal.TheVariants.{NoMemory, NothingThere};
@@ -51,11 +52,13 @@ impl<I: FrameIn> Incoming<I> {
 
     /// Takes the next frame, and gives its packet, or the fault that stands in its place (20 to 23). While
     /// the hello goes on, a frame of another command than the hello's next one is 21 before its fields are
-    /// judged. `NothingThere` (13) where there is no frame. It takes no memory.
+    /// judged. `NothingThere` (13) where there is no frame. A packet has a spelling, so its fields are as
+    /// those of a frame have to be. It takes no memory.
     pub fn take(&mut self) -> Result<Result<Packet, Refusal>, Refusal>
         requires { self.old.is_ready ≡ true }
         ensures taken { IfOk result (λ read.
             self.new ≡ with_received (received read) self.new.frames self.new.is_ready self.old) }
+        ensures spellable { IfOk result (λ read. IfOk read IsSpellable) }
         // Where the link knows its queue, there is nothing only where it is empty.
         ensures exact { IfSome self.old.queued (λ frames. IsErr result ↔ (frames ≡ [])) }
         ensures row { SameRow self.old self.new }

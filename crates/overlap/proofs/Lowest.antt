@@ -1,18 +1,13 @@
 -- The lowest number of those that hold a block from `first` on.
-use Rattle.std.proofs.Common.{ℕ, ◌≡◌, ◌<◌, ◌≤◌, ◌-◌, ◌⊎◌, inl, inr, nat_lt, nat_le, Bool, true, false, ◌||◌, List, [], ◌∷◌, Option, Some, None, refl, arith}
-use Rattle.std.specs.Prelude.{fold, if◌then◌else◌}
+use Rattle.std.proofs.Common.{ℕ, ◌≡◌, ◌<◌, ◌≤◌, ◌⊎◌, inl, inr, Bool, true, false, List, [], ◌∷◌, ◌++◌, Option, Some, None, refl, ap, ◌∙◌, arith}
+use Rattle.std.specs.Prelude.{fold}
+use Rattle.std.specs.List.{AllByRecursion}
 use Rattle.std.proofs.lemmas.Bool.{cases_lt}
+use Rattle.std.proofs.lemmas.Bool.Decides.{nat_tests}
 use Rattle.overlap.specs.Holdings.{lower_of}
+use Rattle.overlap.specs.Maps.{AreApart, EndsBefore, lowest_with, reaches}
 use Rattle.overlap.specs.declared.held.Holder.{Holder}
 use Rattle.overlap.proofs.Among.{Among}
-
--- whether the holder has a block from `first` on
-abbrev pub reaches : ℕ → ℕ × Holder → Bool
-reaches first e = nat_le first e.0 || nat_lt (first - e.0) e.1.count
-
--- one holder more
-abbrev pub lowest_with : ℕ → Option ℕ → ℕ × Holder → Option ℕ
-lowest_with first lowest e = if reaches first e then Some (lower_of lowest e.1.number) else lowest
 
 step-none : (first : ℕ) (a : Option ℕ) (e : ℕ × Holder) → lowest_with first a e ≡ None → (a ≡ None) × (reaches first e ≡ false)
 step-none first a e none = go (reaches first e) refl
@@ -93,3 +88,43 @@ fold-least first a (b ∷ bs) n some =
         let le = below (lower_of a b.1.number) (rw here refl) in
         rw same (omega (arith, le, lower-le_number a b.1.number))
     cases below rest e (inr among) reached = rest e among reached
+
+-- Two holders may be looked at in either order.
+lower-swap : (a : Option ℕ) (m n : ℕ) → lower_of (Some (lower_of a m)) n ≡ lower_of (Some (lower_of a n)) m
+lower-swap None m n = omega arith
+lower-swap (Some other) m n = omega arith
+
+with-swap : (first : ℕ) (a : Option ℕ) (b e : ℕ × Holder) → lowest_with first (lowest_with first a b) e ≡ lowest_with first (lowest_with first a e) b
+with-swap first a b e = go (reaches first b) (reaches first e) refl refl
+  where
+    go : (p q : Bool) → reaches first b ≡ p → reaches first e ≡ q → lowest_with first (lowest_with first a b) e ≡ lowest_with first (lowest_with first a e) b
+    go true true here there = rw (here, there) (ap Some (lower-swap a b.1.number e.1.number))
+    go true false here there = rw (here, there) refl
+    go false true here there = rw (here, there) refl
+    go false false here there = rw (here, there) refl
+
+last-of : (b : ℕ × Holder) (t : List (ℕ × Holder)) (e : ℕ × Holder) → AllByRecursion (EndsBefore b) (t ++ e ∷ []) → EndsBefore b e
+last-of b [] e all = all.0
+last-of b (x ∷ t) e all = last-of b t e all.1
+
+front-of : (b : ℕ × Holder) (t : List (ℕ × Holder)) (e : ℕ × Holder) → AllByRecursion (EndsBefore b) (t ++ e ∷ []) → AllByRecursion (EndsBefore b) t
+front-of b [] e all = tt
+front-of b (x ∷ t) e all = (all.0, front-of b t e all.1)
+
+-- So the last may be looked at first.
+pub fold-last : (first : ℕ) (a : Option ℕ) (t : List (ℕ × Holder)) (e : ℕ × Holder) → fold (lowest_with first) a (t ++ e ∷ []) ≡ fold (lowest_with first) (lowest_with first a e) t
+fold-last first a [] e = refl
+fold-last first a (b ∷ t) e = fold-last first (lowest_with first a b) t e ∙ ap (λ o. fold (lowest_with first) o t) (with-swap first a b e)
+
+-- Those that end before one that begins at or before `first` have no block from there on.
+pub fold-short : (first : ℕ) (a : Option ℕ) (t : List (ℕ × Holder)) (e : ℕ × Holder) → AreApart (t ++ e ∷ []) → e.0 ≤ first → fold (lowest_with first) a t ≡ a
+fold-short first a [] e apart low = refl
+fold-short first a (b ∷ t) e apart low =
+    let before = last-of b t e apart.0 in
+    let short : reaches first b ≡ false = grind (arith, nat_tests, before.0, before.1, low) in
+    rw short (fold-short first a t e apart.1 low)
+
+-- the holdings but the last are apart too
+pub apart-front : (t : List (ℕ × Holder)) (e : ℕ × Holder) → AreApart (t ++ e ∷ []) → AreApart t
+apart-front [] e apart = tt
+apart-front (b ∷ t) e apart = (front-of b t e apart.0, apart-front t e apart.1)

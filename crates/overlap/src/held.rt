@@ -1,11 +1,13 @@
 //! The ranges of the writes that are not completed.
 ghost use Rattle.std.specs.Prelude.{◌≡◌, ◌↔◌, [], false, All, None, IfSome, IfErr, OnOk, OnErr};
 ghost use Rattle.overlap.specs.Holdings.{conflict, holding, holding_too, is_held, lower_of, meets, without, IsLowestConflict};
+ghost use Rattle.overlap.specs.Maps.{AreApart, lowest_of, lowest_with};
 ghost use Rattle.blocks.specs.declared.refusal.Refusal.TheVariants.{NoMemory};
 
-use blocks::{MAX_RANGE, Range, Refusal};
+use blocks::{Range, Refusal};
 use std::alloc::Global;
 use std::collections::BTreeMap;
+use std::collections::btree_map::Range as Entries;
 use std::marker::Model;
 
 /// The blocks that one number holds.
@@ -25,9 +27,9 @@ struct Holder {
 /// The ranges that are held, each by a number of its own, and no two with a block in common (DRBD's
 /// overlap check). A number above 0 is a write's; 0 stands for the block that a resync has under way.
 ///
-/// Proofs see the holdings as a list by rising number. `conflict`, `hold` and `release` take time
-/// logarithmic in the number of holdings, since a range has at most 32 blocks; `clear` takes time linear
-/// in it.
+/// Proofs see the holdings as a list by rising number. `hold` and `release` take time logarithmic in the
+/// number of holdings, and so does `conflict`, which then looks at each holding that begins in the range and
+/// at the last one before it; `clear` takes time linear in it.
 #[derive(Drop)]
 pub struct Held {
     by_number: BTreeMap<u64, Span>,
@@ -65,26 +67,19 @@ impl Held {
         ensures lowest { IfSome result (λ n. IsLowestConflict range.first.0 range.count self.now n) }
         ensures none { (result ≡ None) ↔ All (λ h. meets range.first.0 range.count h ≡ false) self.now }
     {
-        let first = range.first.0;
-        let last = first + (range.count - 1);
-        let mut lowest = None;
-        // A holding that meets the range begins fewer than 32 blocks before it, or in it.
-        for (start, holder) in self
-            .by_first
-            .range(first.saturating_sub(MAX_RANGE - 1)..=last)
-        {
-            if first <= *start || first - *start < holder.count {
-                lowest = Some(lower(lowest, holder.number));
-            }
-        }
-        lowest
+        let last = range.first.0 + (range.count - 1);
+        lowest_holder(self.by_first.range(..=last), range.first.0)
     }
 
-    /// Whether the number holds a range.
+    /// Whether the number holds a range. For a number above all that do, as a new write's is, nothing is
+    /// searched for.
     pub fn is_held(&self, number: u64) -> bool
         ensures { result ≡ is_held number self.now }
     {
-        self.by_number.contains_key(&number)
+        let Some((highest, _)) = self.by_number.last_key_value() else {
+            return false;
+        };
+        number <= *highest && self.by_number.contains_key(&number)
     }
 
     /// The number holds the range from now on. The number holds nothing yet, and nobody holds a block of the range.
@@ -127,6 +122,32 @@ impl Held {
         self.by_number.clear();
         self.by_first.clear();
     }
+}
+
+/// The lowest number of those holdings that have a block from `first` on. Of holdings that are apart, one
+/// that begins at or before this block ends all before it, so none of these is looked at.
+fn lowest_holder(mut holdings: Entries<'_, u64, Holder>, first: u64) -> Option<u64>
+    requires { AreApart holdings }
+    ensures { result ≡ lowest_of first holdings.entry }
+{
+    let mut lowest = None;
+    while let Some((start, holder)) = holdings.next_back() {
+        lowest = with_holder(lowest, first, *start, holder);
+        if *start <= first {
+            return lowest;
+        }
+    }
+    lowest
+}
+
+/// One holder more, which counts where it has a block from `first` on.
+fn with_holder(lowest: Option<u64>, first: u64, start: u64, holder: &Holder) -> Option<u64>
+    ensures { result ≡ lowest_with first lowest (start, holder.now) }
+{
+    if first <= start || first - start < holder.count {
+        return Some(lower(lowest, holder.number));
+    }
+    lowest
 }
 
 /// The lower of the numbers, of which the first may be missing.

@@ -40,7 +40,8 @@ pub fn decode(frame: Frame) -> Result<Packet, Refusal>
 /// command, a frame of another command with a field that it may not have is `BadCommand` (21), since that
 /// comes before its fields are judged (this project's rule). It takes no memory.
 pub fn read(frame: Frame, hello: Option<Command>) -> Result<Packet, Refusal>
-    ensures { result ≡ in_hello hello frame (frame_read frame) }
+    ensures is { result ≡ in_hello hello frame (frame_read frame) }
+    ensures spellable { IfOk result IsSpellable }
 {
     let is_expected = hello.is_none_or(|command| is_named(command, &frame));
     match packet_in(frame) {

@@ -17,7 +17,7 @@ fn items_start_epoch_by_epoch(rt: HostRuntime) -> Result<(), Fail> {
     assert_eq!(rt; disk.start(2).copied(), Err(Refusal::UnknownJob));
     assert_eq!(rt; disk.done(0), 'a');
     assert_eq!(rt; disk.start(3).copied(), Err(Refusal::EpochOpen));
-    disk.fault(1);
+    assert_eq!(rt; disk.fault(1), 1);
     assert_eq!(rt; disk.len(), 0);
     assert_eq!(rt; disk.next(), Err(Refusal::NothingThere));
     Ok(())

@@ -17,7 +17,7 @@ pending-is {X} k (p ∷ ps) = go (pending-is k ps) (nat_eq k p.place) refl
     go rest false is = rw is rest
 
 -- The order stays.
-all-without : {X : Type 0} (P : Pending X → Type 0) (k : ℕ) (ps : List (Pending X)) → AllByRecursion P ps → AllByRecursion P (without k ps)
+pub all-without : {X : Type 0} (P : Pending X → Type 0) (k : ℕ) (ps : List (Pending X)) → AllByRecursion P ps → AllByRecursion P (without k ps)
 all-without P k [] all = tt
 all-without {X} P k (p ∷ ps) all = go (all-without P k ps all.1) (nat_eq k p.place) refl
   where
@@ -33,7 +33,7 @@ order-without {X} k (p ∷ ps) order = go (order-without k ps order.1) (nat_eq k
     go rest true is = rw is order.1
     go rest false is = rw is (all-without (λ later. p.epoch ≤ later.epoch) k ps order.0, rest)
 
-all-filter : {X : Type 0} (P : Pending X → Type 0) (test : Pending X → Bool) (ps : List (Pending X)) → AllByRecursion P ps → AllByRecursion P (filter test ps)
+pub all-filter : {X : Type 0} (P : Pending X → Type 0) (test : Pending X → Bool) (ps : List (Pending X)) → AllByRecursion P ps → AllByRecursion P (filter test ps)
 all-filter P test [] all = tt
 all-filter {X} P test (p ∷ ps) all = go (all-filter P test ps all.1) (test p) refl
   where
@@ -53,7 +53,7 @@ order-filter {X} test (p ∷ ps) order = go (order-filter test ps order.1) (test
 tail_all : {X : Type 0} (P : Pending X → Type 0) (p : Pending X) (ps : List (Pending X)) → All P (p ∷ ps) → All P ps
 tail_all P p ps all k d within = all (suc k) d (omega arith)
 
-all-push : {X : Type 0} (P : Pending X → Type 0) (p : Pending X) (ps : List (Pending X)) → AllByRecursion P ps → P p → AllByRecursion P (ps ++ p ∷ [])
+pub all-push : {X : Type 0} (P : Pending X → Type 0) (p : Pending X) (ps : List (Pending X)) → AllByRecursion P ps → P p → AllByRecursion P (ps ++ p ∷ [])
 all-push P p [] all last = (last, tt)
 all-push P p (q ∷ ps) all last = (all.0, all-push P p ps all.1 last)
 

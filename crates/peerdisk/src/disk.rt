@@ -2,7 +2,7 @@
 ghost use Rattle.std.specs.Prelude.{◌≡◌, ◌+◌, ◌-◌, ◌<◌, ◌≤◌, [], true, false, nat_eq, length, get_or, All, None, Some, Ok, Err, OnOk, OnErr, IsOk, IfErr, is_some, option_map, slice_get, MatchResult};
 ghost use Rattle.std.specs.Option.{option_copied};
 ghost use Rattle.blocks.specs.declared.refusal.Refusal.TheVariants.{NoMemory};
-ghost use Rattle.peerdisk.specs.Pending.{after_fault, at_place, is_pending, is_starved, item_at, next, put, start, without};
+ghost use Rattle.peerdisk.specs.Pending.{after_fault, at_place, epoch_at, is_pending, is_starved, item_at, next, put, start, without};
 ghost use Rattle.peerdisk.specs.Slots.{of_entry};
 
 use crate::slots::{drop_holes, drop_later, put_holes};
@@ -158,9 +158,10 @@ impl<T: Drop> PeerDisk<T> {
     }
 
     /// The disk failed to write the item of a pending place: it and all items of later epochs are dropped.
-    /// It takes no memory.
-    pub fn fault(&mut self, place: u32)
+    /// Answers the epoch of that item. It takes no memory.
+    pub fn fault(&mut self, place: u32) -> u32
         requires { is_pending place self.old.pending ≡ true }
+        ensures epoch { result ≡ epoch_at place self.old.pending }
         ensures left { self.new ≡ record self.old { pending = after_fault place self.old.pending; reach = self.new.reach } }
         ensures reach { self.old.reach ≤ self.new.reach }
     {
@@ -171,6 +172,7 @@ impl<T: Drop> PeerDisk<T> {
         self.count -= 1;
         self.count -= drop_later(&mut self.slots, failed.epoch);
         self.first = drop_holes(&mut self.slots, self.first);
+        failed.epoch
     }
 
     /// Whether nothing is pending.

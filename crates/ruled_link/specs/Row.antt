@@ -1,8 +1,10 @@
 -- The rule of a row: what was pushed is what was taken and then what the row holds. One pass at most may push, and it
--- has the list of what was pushed; and one at most may take, and has the list of what was taken.
+-- has the list of what was pushed; and one at most may take, and has the list of what was taken. A fact of the pieces
+-- pushed and the pieces taken is kept.
 use Rattle.std.specs.Prelude.{◌≡◌, ℕ, Bool, true, List, ◌++◌}
 use mathlib.Core.Option.{some}
 use lib.ListN.{get_elem?}
+use Rattle.ruled_link.specs.Moments.{Fact}
 use Rattle.ruled_link.specs.Pieces.{PieceState}
 use Rattle.ruled_link.specs.declared.pieces.Log.{Log}
 
@@ -14,7 +16,11 @@ log pushes takes pushed taken = record { pushes = pushes; takes = takes; pushed 
 abbrev pub Fits : ℕ → ℕ → List PieceState → List PieceState → ℕ → Log → Type 0
 Fits writer reader pushed taken port v = (v.pushes ≡ true → (port ≡ writer) × (v.pushed ≡ pushed)) × (v.takes ≡ true → (port ≡ reader) × (v.taken ≡ taken))
 
--- the pieces taken, and then those in the row, are the pieces pushed
-abbrev pub InOrder : List PieceState → List Log → Type 0
-InOrder pieces views = (writer : ℕ) × (reader : ℕ) × (pushed : List PieceState) × (taken : List PieceState) × (pushed ≡ taken ++ pieces)
-    × ((port : ℕ) (v : Log) → get_elem? views port ≡ some v → Fits writer reader pushed taken port v)
+-- the pieces taken, and then those in the row, are the pieces pushed, and the fact holds of them
+abbrev pub InOrder : Fact → List PieceState → List Log → Type 0
+InOrder holds pieces views = (writer : ℕ) × (reader : ℕ) × (pushed : List PieceState) × (taken : List PieceState) × (pushed ≡ taken ++ pieces)
+    × ((port : ℕ) (v : Log) → get_elem? views port ≡ some v → Fits writer reader pushed taken port v) × holds pushed taken
+
+-- where these were pushed and these are there, others were taken, and the fact holds of them
+abbrev pub PushedAt : Fact → List PieceState → List PieceState → Type 0
+PushedAt holds pushed pieces = (taken : List PieceState) × (pushed ≡ taken ++ pieces) × holds pushed taken

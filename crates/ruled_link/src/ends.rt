@@ -1,10 +1,10 @@
 //! A link between two nodes in threads of their own.
-ghost use Rattle.std.specs.Prelude.{◌≡◌, ◌<◌, [], true, None, IfOk, IfErr};
+ghost use Rattle.std.specs.Prelude.{◌≡◌, ◌<◌, ◌*◌, [], true, None, IfOk, IfErr};
 ghost use Rattle.blocks.specs.declared.refusal.Refusal.TheVariants.{NoMemory};
 ghost use Rattle.ruled_link.specs.Joined.{IsJoined};
 
-use crate::pieces::{join_pieces, row};
-use crate::{RuledIn, RuledOut};
+use crate::pieces::{join_pieces, watched_row};
+use crate::{Moment, RuledIn, RuledOut, Unwatched};
 use blocks::Refusal;
 use std::alloc::Global;
 use std::sync::Wait;
@@ -38,15 +38,51 @@ pub fn ruled<R: Wait + Copy>(
       front = [];
       rest = None;
     }) }
+    ensures room { IfOk result (λ ends. ends.0.row.slots ≡ 94 * link) }
     ensures refused { IfErr result (λ e. e ≡ NoMemory) }
 {
-    let (outward, inward) = row(rt, alloc, FRAME_PIECES * link as usize)?;
+    watched::<R, Unwatched>(rt, alloc, link)
+}
+
+/// One direction of a link, as `ruled` makes it, of the moments of whose row a fact is kept.
+pub fn watched<R: Wait + Copy, M: Moment>(
+    rt: R,
+    alloc: Global,
+    link: u32,
+) -> Result<(RuledOut<R, M>, RuledIn<R, M>), Refusal>
+    requires some { 0 < link }
+    requires first { M.holds [] [] }
+    ensures outward { IfOk result (λ ends. ends.0 ≡ record {
+      row = ends.0.row;
+      pieces = [];
+      sent = [];
+      number = 1;
+      past = [];
+      partly = None;
+    }) }
+    ensures inward { IfOk result (λ ends. ends.1 ≡ record {
+      row = ends.0.row;
+      pieces = [];
+      taken = [];
+      number = 1;
+      past = [];
+      is_ready = true;
+      front = [];
+      rest = None;
+    }) }
+    ensures room { IfOk result (λ ends. ends.0.row.slots ≡ 94 * link) }
+    ensures refused { IfErr result (λ e. e ≡ NoMemory) }
+{
+    let (outward, inward) = watched_row::<R, M>(rt, alloc, FRAME_PIECES * link as usize)?;
     Ok((RuledOut::new(outward), RuledIn::new(alloc, inward)?))
 }
 
 /// The two ends of one direction, as they were: whoever holds both knows that on each connection the frames
 /// taken begin the frames sent. It takes no memory.
-pub fn join_ends<R: Wait>(outward: RuledOut<R>, inward: RuledIn<R>) -> (RuledOut<R>, RuledIn<R>)
+pub fn join_ends<R: Wait, M: Moment>(
+    outward: RuledOut<R, M>,
+    inward: RuledIn<R, M>,
+) -> (RuledOut<R, M>, RuledIn<R, M>)
     requires { outward.row ≡ inward.row }
     ensures ends { (result.0 ≡ outward) × (result.1 ≡ inward) }
     ensures begins { IsJoined outward inward }

@@ -1,14 +1,15 @@
 //! The taking end of a link between threads.
-ghost use Rattle.std.specs.Prelude.{◌≡◌, ◌<◌, ◌≤◌, [], ◌∷◌, ◌++◌, length, true, None, IfOk, OnOk, OnErr, IfErr, IfNone, MatchOption};
+ghost use Rattle.std.specs.Prelude.{◌≡◌, ◌<◌, ◌≤◌, [], ◌∷◌, ◌++◌, length, true, false, None, IfOk, OnOk, OnErr, IfErr, IfNone, MatchOption};
 ghost use Rattle.link.specs.Past.{ended};
 ghost use Rattle.packets.specs.Cutting.{IsCut};
 ghost use Rattle.ruled_link.specs.Carried.{BeginsNoCut};
+ghost use Rattle.ruled_link.specs.Moments.{WasEmpty};
 ghost use Rattle.ruled_link.specs.Inward.{in_hand, is_later, later_of, not_before, rest_on, taking};
 ghost use Rattle.blocks.specs.declared.refusal.Refusal.TheVariants.{NoMemory, NothingThere};
 
-use crate::PieceIn;
 use crate::gathered::Gathered;
 use crate::rest::Rest;
+use crate::{Moment, PieceIn, Unwatched};
 use blocks::Refusal;
 use link::Trail;
 use link::connected::FrameIn;
@@ -20,8 +21,8 @@ use std::sync::Wait;
 /// The taking end of one direction of a link whose two ends may be in two threads. It puts frames together
 /// from pieces that are cut in any way.
 #[derive(Drop)]
-pub struct RuledIn<R: Wait> {
-    pub(crate) pieces: PieceIn<R>,
+pub struct RuledIn<R: Wait, M: Moment = Unwatched> {
+    pub(crate) pieces: PieceIn<R, M>,
     pub(crate) number: u32,
     pub(crate) taken: Trail,
     // The bytes of the next frame, as far as they came.
@@ -30,7 +31,7 @@ pub struct RuledIn<R: Wait> {
     pub(crate) rest: Option<Rest>,
 }
 
-impl<R: Wait> Model for RuledIn<R> {
+impl<R: Wait, M: Moment> Model for RuledIn<R, M> {
     ghost use Rattle.ruled_link.specs.Inward.{InwardState, Takes, inward_state};
 
     ghost Value = { InwardState };
@@ -40,10 +41,10 @@ impl<R: Wait> Model for RuledIn<R> {
     ghost invariant = { λ e. Takes (inward_state e.pieces e.taken.went e.number e.front e.rest) };
 }
 
-impl<R: Wait> RuledIn<R> {
+impl<R: Wait, M: Moment> RuledIn<R, M> {
     /// An end that pops its pieces here, on a first connection. `NoMemory` (7) where the buffer for the
     /// longest frame cannot be had.
-    pub fn new(alloc: Global, pieces: PieceIn<R>) -> Result<RuledIn<R>, Refusal>
+    pub fn new(alloc: Global, pieces: PieceIn<R, M>) -> Result<RuledIn<R, M>, Refusal>
     where
         R: Drop,
         requires { pieces.pieces ≡ [] }
@@ -94,6 +95,7 @@ impl<R: Wait> RuledIn<R> {
         requires { rest_on self.old.number self.old.rest ≡ [] }
         ensures more { OnOk result (length (in_hand self.old) < length (in_hand self.new)) }
         ensures none { OnErr result (in_hand self.new ≡ in_hand self.old) }
+        ensures empty { OnErr result (is_later self.new.number self.new.rest ≡ false → WasEmpty M.holds self.new.pieces) }
         ensures refused { IfErr result (λ e. e ≡ NothingThere) }
         ensures same { self.new ≡ record self.old { pieces = self.new.pieces; rest = self.new.rest } }
     {
@@ -122,7 +124,7 @@ impl<R: Wait> RuledIn<R> {
     }
 }
 
-impl<R: Wait> FrameIn for RuledIn<R> {
+impl<R: Wait, M: Moment> FrameIn for RuledIn<R, M> {
     ghost state = { λ e. taking e };
 
     fn ready(&mut self) -> Result<(), Refusal>
@@ -147,6 +149,8 @@ impl<R: Wait> FrameIn for RuledIn<R> {
         ensures refused { IfErr result (λ e. e ≡ NothingThere) }
         // What is in hand then begins no whole frame.
         ensures nothing { OnErr result (BeginsNoCut (in_hand self.new)) }
+        // The row was empty at a moment, but where a piece of a later connection is in hand.
+        ensures empty { OnErr result (is_later self.new.number self.new.rest ≡ false → WasEmpty M.holds self.new.pieces) }
         ensures unchanged { OnErr result (self.new ≡ record self.old {
           pieces = self.new.pieces;
           front = self.new.front;

@@ -5,6 +5,7 @@
 mod ends;
 mod gathered;
 mod inward;
+mod moment;
 mod named_in;
 mod named_out;
 mod names;
@@ -13,11 +14,12 @@ mod piece;
 mod pieces;
 mod rest;
 
-pub use ends::{join_ends, ruled};
+pub use ends::{join_ends, ruled, watched};
 pub use inward::RuledIn;
+pub use moment::{Moment, Unwatched};
 pub use named_in::NamedIn;
 pub use named_out::NamedOut;
 pub use names::Named;
 pub use outward::RuledOut;
 pub use piece::{PIECE_BYTES, Piece};
-pub use pieces::{PieceIn, PieceOut, join_pieces, row};
+pub use pieces::{PieceIn, PieceOut, join_pieces, row, watched_row};

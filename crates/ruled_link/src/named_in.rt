@@ -1,13 +1,14 @@
 //! A taking end that has a name.
-ghost use Rattle.std.specs.Prelude.{◌≡◌, ◌<◌, ◌≤◌, [], ◌∷◌, ◌++◌, length, true, IfOk, OnOk, OnErr, IfErr};
+ghost use Rattle.std.specs.Prelude.{◌≡◌, ◌<◌, ◌≤◌, [], ◌∷◌, ◌++◌, length, true, false, IfOk, OnOk, OnErr, IfErr};
 ghost use Rattle.link.specs.Past.{ended};
 ghost use Rattle.packets.specs.Cutting.{IsCut};
 ghost use Rattle.ruled_link.specs.Carried.{BeginsNoCut};
-ghost use Rattle.ruled_link.specs.Inward.{in_hand, not_before, taking};
+ghost use Rattle.ruled_link.specs.Moments.{WasEmpty};
+ghost use Rattle.ruled_link.specs.Inward.{in_hand, is_later, not_before, taking};
 ghost use Rattle.ruled_link.specs.Names.{row_of};
 ghost use Rattle.blocks.specs.declared.refusal.Refusal.TheVariants.{NoMemory, NothingThere};
 
-use crate::{Named, RuledIn};
+use crate::{Moment, Named, RuledIn, Unwatched};
 use blocks::Refusal;
 use link::connected::FrameIn;
 use packets::Frame;
@@ -16,12 +17,12 @@ use std::sync::Wait;
 
 /// The taking end of the direction that has this name, which no call changes.
 #[derive(Drop)]
-pub struct NamedIn<R: Wait, N: Named> {
-    end: RuledIn<R>,
+pub struct NamedIn<R: Wait, N: Named, M: Moment = Unwatched> {
+    end: RuledIn<R, M>,
     of: PhantomData<N>,
 }
 
-impl<R: Wait, N: Named> Model for NamedIn<R, N> {
+impl<R: Wait, N: Named, M: Moment> Model for NamedIn<R, N, M> {
     ghost use Rattle.std.specs.Prelude.{◌≡◌};
     ghost use Rattle.ruled_link.specs.Names.{row_of};
     ghost use Rattle.ruled_link.specs.Inward.{InwardState};
@@ -33,9 +34,9 @@ impl<R: Wait, N: Named> Model for NamedIn<R, N> {
     ghost invariant = { λ e. e.end.row ≡ row_of N.link N.direction };
 }
 
-impl<R: Wait> RuledIn<R> {
+impl<R: Wait, M: Moment> RuledIn<R, M> {
     /// The end under the name of its direction.
-    pub fn named<N: Named>(self) -> NamedIn<R, N>
+    pub fn named<N: Named>(self) -> NamedIn<R, N, M>
         requires { self.row ≡ row_of N.link N.direction }
         ensures { result ≡ self }
     {
@@ -46,9 +47,9 @@ impl<R: Wait> RuledIn<R> {
     }
 }
 
-impl<R: Wait, N: Named> NamedIn<R, N> {
+impl<R: Wait, N: Named, M: Moment> NamedIn<R, N, M> {
     /// The end without its name.
-    pub fn into_end(self) -> RuledIn<R>
+    pub fn into_end(self) -> RuledIn<R, M>
         ensures same { result ≡ self }
         ensures name { result.row ≡ row_of N.link N.direction }
     {
@@ -56,7 +57,7 @@ impl<R: Wait, N: Named> NamedIn<R, N> {
     }
 }
 
-impl<R: Wait, N: Named> FrameIn for NamedIn<R, N> {
+impl<R: Wait, N: Named, M: Moment> FrameIn for NamedIn<R, N, M> {
     ghost state = { λ e. taking e };
 
     fn ready(&mut self) -> Result<(), Refusal>
@@ -81,6 +82,8 @@ impl<R: Wait, N: Named> FrameIn for NamedIn<R, N> {
         ensures refused { IfErr result (λ e. e ≡ NothingThere) }
         // What is in hand then begins no whole frame.
         ensures nothing { OnErr result (BeginsNoCut (in_hand self.new)) }
+        // The row was empty at a moment, but where a piece of a later connection is in hand.
+        ensures empty { OnErr result (is_later self.new.number self.new.rest ≡ false → WasEmpty M.holds self.new.pieces) }
         ensures unchanged { OnErr result (self.new ≡ record self.old {
           pieces = self.new.pieces;
           front = self.new.front;

@@ -2,10 +2,11 @@
 ghost use Rattle.std.specs.Prelude.{◌≡◌, ◌<◌, [], ◌∷◌, ◌++◌, None, Some, OnOk, OnErr, IfErr, IfSome};
 ghost use Rattle.link.specs.Past.{ended};
 ghost use Rattle.packets.specs.Cutting.{IsCut};
+ghost use Rattle.ruled_link.specs.Moments.{WasFull};
 ghost use Rattle.ruled_link.specs.Names.{row_of};
 ghost use Rattle.ruled_link.specs.Outward.{sending};
 
-use crate::{Named, RuledOut};
+use crate::{Moment, Named, RuledOut, Unwatched};
 use link::Offered;
 use link::connected::FrameOut;
 use packets::Frame;
@@ -14,12 +15,12 @@ use std::sync::Wait;
 
 /// The sending end of the direction that has this name, which no call changes.
 #[derive(Drop)]
-pub struct NamedOut<R: Wait, N: Named> {
-    end: RuledOut<R>,
+pub struct NamedOut<R: Wait, N: Named, M: Moment = Unwatched> {
+    end: RuledOut<R, M>,
     of: PhantomData<N>,
 }
 
-impl<R: Wait, N: Named> Model for NamedOut<R, N> {
+impl<R: Wait, N: Named, M: Moment> Model for NamedOut<R, N, M> {
     ghost use Rattle.std.specs.Prelude.{◌≡◌};
     ghost use Rattle.ruled_link.specs.Names.{row_of};
     ghost use Rattle.ruled_link.specs.Outward.{OutwardState};
@@ -31,9 +32,9 @@ impl<R: Wait, N: Named> Model for NamedOut<R, N> {
     ghost invariant = { λ e. e.end.row ≡ row_of N.link N.direction };
 }
 
-impl<R: Wait> RuledOut<R> {
+impl<R: Wait, M: Moment> RuledOut<R, M> {
     /// The end under the name of its direction.
-    pub fn named<N: Named>(self) -> NamedOut<R, N>
+    pub fn named<N: Named>(self) -> NamedOut<R, N, M>
         requires { self.row ≡ row_of N.link N.direction }
         ensures { result ≡ self }
     {
@@ -44,9 +45,9 @@ impl<R: Wait> RuledOut<R> {
     }
 }
 
-impl<R: Wait, N: Named> NamedOut<R, N> {
+impl<R: Wait, N: Named, M: Moment> NamedOut<R, N, M> {
     /// The end without its name.
-    pub fn into_end(self) -> RuledOut<R>
+    pub fn into_end(self) -> RuledOut<R, M>
         ensures same { result ≡ self }
         ensures name { result.row ≡ row_of N.link N.direction }
     {
@@ -54,7 +55,7 @@ impl<R: Wait, N: Named> NamedOut<R, N> {
     }
 }
 
-impl<R: Wait, N: Named> FrameOut for NamedOut<R, N> {
+impl<R: Wait, N: Named, M: Moment> FrameOut for NamedOut<R, N, M> {
     ghost state = { λ e. sending e };
 
     fn offer(&mut self, frame: Frame) -> Result<(), Offered>
@@ -70,6 +71,7 @@ impl<R: Wait, N: Named> FrameOut for NamedOut<R, N> {
           pieces = self.new.pieces;
           partly = Some frame;
         }) }
+        ensures full { OnErr result (WasFull M.holds self.new.row self.new.pieces) }
     {
         self.end.offer(frame)
     }

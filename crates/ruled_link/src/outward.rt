@@ -2,9 +2,10 @@
 ghost use Rattle.std.specs.Prelude.{◌≡◌, ◌<◌, ◌≤◌, [], ◌∷◌, ◌++◌, length, None, Some, OnOk, OnErr, IfErr, IfSome};
 ghost use Rattle.link.specs.Past.{ended};
 ghost use Rattle.packets.specs.Cutting.{IsCut};
+ghost use Rattle.ruled_link.specs.Moments.{WasFull};
 ghost use Rattle.ruled_link.specs.Outward.{IsPushed, sending};
 
-use crate::{PIECE_BYTES, Piece, PieceOut};
+use crate::{Moment, PIECE_BYTES, Piece, PieceOut, Unwatched};
 use link::connected::FrameOut;
 use link::{Offered, Trail};
 use packets::Frame;
@@ -14,8 +15,8 @@ use std::sync::Wait;
 /// The sending end of one direction of a link whose two ends may be in two threads. A frame goes as pieces of
 /// 1,400 bytes, the last of them shorter, and is sent once its last piece is pushed.
 #[derive(Drop)]
-pub struct RuledOut<R: Wait> {
-    pub(crate) pieces: PieceOut<R>,
+pub struct RuledOut<R: Wait, M: Moment = Unwatched> {
+    pub(crate) pieces: PieceOut<R, M>,
     pub(crate) number: u32,
     pub(crate) sent: Trail,
     // The frame that was offered in part, and how many of its bytes were pushed.
@@ -23,7 +24,7 @@ pub struct RuledOut<R: Wait> {
     pub(crate) pushed: usize,
 }
 
-impl<R: Wait> Model for RuledOut<R> {
+impl<R: Wait, M: Moment> Model for RuledOut<R, M> {
     ghost use Rattle.ruled_link.specs.Outward.{OutwardState, Sends, outward_state};
 
     ghost Value = { OutwardState };
@@ -33,9 +34,9 @@ impl<R: Wait> Model for RuledOut<R> {
     ghost invariant = { λ e. Sends (outward_state e.pieces e.sent.went e.number e.part.went.frames) e.pushed };
 }
 
-impl<R: Wait> RuledOut<R> {
+impl<R: Wait, M: Moment> RuledOut<R, M> {
     /// An end that pushes its pieces here, on a first connection.
-    pub fn new(pieces: PieceOut<R>) -> RuledOut<R>
+    pub fn new(pieces: PieceOut<R, M>) -> RuledOut<R, M>
         requires { pieces.pieces ≡ [] }
         ensures { result ≡ record {
           row = pieces.row;
@@ -56,7 +57,7 @@ impl<R: Wait> RuledOut<R> {
     }
 }
 
-impl<R: Wait> FrameOut for RuledOut<R> {
+impl<R: Wait, M: Moment> FrameOut for RuledOut<R, M> {
     ghost state = { λ e. sending e };
 
     fn offer(&mut self, frame: Frame) -> Result<(), Offered>
@@ -72,6 +73,7 @@ impl<R: Wait> FrameOut for RuledOut<R> {
           pieces = self.new.pieces;
           partly = Some frame;
         }) }
+        ensures full { OnErr result (WasFull M.holds self.new.row self.new.pieces) }
     {
         let whole = frame.as_slice();
         let pushed = push_from(&mut self.pieces, self.number, whole, self.pushed);
@@ -104,11 +106,17 @@ impl<R: Wait> FrameOut for RuledOut<R> {
 
 /// Pushes the bytes from a place on as pieces of a connection, until the row is full or they are through, and
 /// answers how far it came.
-fn push_from<R: Wait>(pieces: &mut PieceOut<R>, number: u32, bytes: &[u8], from: usize) -> usize
+fn push_from<R: Wait, M: Moment>(
+    pieces: &mut PieceOut<R, M>,
+    number: u32,
+    bytes: &[u8],
+    from: usize,
+) -> usize
     requires { from ≤ length bytes.now }
     ensures row { pieces.new.row ≡ pieces.old.row }
     ensures within { (from ≤ result) × (result ≤ length bytes.now) }
     ensures pushed { IsPushed number bytes.now from result pieces.old.pieces pieces.new.pieces }
+    ensures full { result < length bytes.now → WasFull M.holds pieces.new.row pieces.new.pieces }
 {
     let mut at = from;
     while at < bytes.len() {

@@ -1,14 +1,15 @@
 //! The row of pieces of one direction, and its two ends.
-ghost use Rattle.std.specs.Prelude.{◌≡◌, ◌<◌, ◌≤◌, List, [], ◌∷◌, ◌++◌, OnOk, OnErr, IfOk, IfErr, MatchOption};
+ghost use Rattle.std.specs.Prelude.{◌≡◌, ◌<◌, ◌≤◌, List, [], ◌∷◌, ◌++◌, OnOk, OnErr, IfNone, IfOk, IfErr, MatchOption};
+ghost use Rattle.ruled_link.specs.Moments.{WasEmpty, WasFull};
 ghost use Rattle.ruled_link.specs.Pieces.{PieceState};
 ghost use Rattle.ruled_link.specs.Inward.{IsDropped};
 
-use crate::Piece;
+use crate::{Moment, Piece, Unwatched};
 use crossbeam_queue::protocol::{Join, Lesson, Outcome, Protocol, Split};
 use crossbeam_queue::{Pass, RuledArrayQueue};
 use std::alloc::{AllocError, Global};
 use std::collections::LinkedList;
-use std::marker::Model;
+use std::marker::{Model, PhantomData};
 use std::sync::{Arc, Wait};
 
 /// What a pass may do, and what it has pushed and taken. No value of it is made.
@@ -19,15 +20,17 @@ pub struct Log {
     pub taken: LinkedList<Piece>,
 }
 
-/// The rule of a row.
-struct InOrder;
+/// The rule of a row of whose moments a fact is kept.
+struct InOrder<M: Moment> {
+    of: PhantomData<M>,
+}
 
-impl Protocol<Piece, Log> for InOrder {
+impl<M: Moment> Protocol<Piece, Log> for InOrder<M> {
     ghost use Rattle.std.specs.Prelude.{true, []};
     ghost use Rattle.ruled_link.specs.Row.{log};
     ghost use Rattle.ruled_link.specs.Row as row;
 
-    ghost holds = { row.InOrder };
+    ghost holds = { row.InOrder M.holds };
 
     ghost first = { log true true [] [] };
 }
@@ -61,47 +64,51 @@ impl Lesson<Piece, Log> for Whole {
     ghost fact = { λ v pieces. v.pushed ≡ v.taken ++ pieces };
 }
 
-struct Pushed;
+struct Pushed<M: Moment> {
+    of: PhantomData<M>,
+}
 
-impl Outcome<Piece, Log> for Pushed {
+impl<M: Moment> Outcome<Piece, Log> for Pushed<M> {
     ghost use Rattle.std.specs.Prelude.{◌≡◌, [], ◌∷◌, ◌++◌};
     ghost use Rattle.ruled_link.specs.Row.{log};
 
     ghost then = { λ v x w. w ≡ log v.pushes v.takes (v.pushed ++ x ∷ []) v.taken };
 }
 
-impl Lesson<Piece, Log> for Pushed {
-    ghost use Rattle.std.specs.Prelude.{⊤};
+impl<M: Moment> Lesson<Piece, Log> for Pushed<M> {
+    ghost use Rattle.ruled_link.specs.Row.{PushedAt};
 
-    ghost fact = { λ v pieces. ⊤ };
+    ghost fact = { λ v pieces. PushedAt M.holds v.pushed pieces };
 }
 
-struct Taken;
+struct Taken<M: Moment> {
+    of: PhantomData<M>,
+}
 
-impl Outcome<Piece, Log> for Taken {
+impl<M: Moment> Outcome<Piece, Log> for Taken<M> {
     ghost use Rattle.std.specs.Prelude.{◌≡◌, [], ◌∷◌, ◌++◌};
     ghost use Rattle.ruled_link.specs.Row.{log};
 
     ghost then = { λ v x w. w ≡ log v.pushes v.takes v.pushed (v.taken ++ x ∷ []) };
 }
 
-impl Lesson<Piece, Log> for Taken {
-    ghost use Rattle.std.specs.Prelude.{⊤};
+impl<M: Moment> Lesson<Piece, Log> for Taken<M> {
+    ghost use Rattle.std.specs.Prelude.{◌++◌};
 
-    ghost fact = { λ v pieces. ⊤ };
+    ghost fact = { λ v pieces. M.holds (v.taken ++ pieces) v.taken };
 }
 
-type Row = RuledArrayQueue<Piece, Log, InOrder>;
+type Row<M> = RuledArrayQueue<Piece, Log, InOrder<M>>;
 
 /// The end of a row that pushes.
 #[derive(Drop)]
-pub struct PieceOut<R: Wait> {
+pub struct PieceOut<R: Wait, M: Moment = Unwatched> {
     rt: R,
-    row: Arc<Row, Global>,
+    row: Arc<Row<M>, Global>,
     pass: Pass<Piece, Log>,
 }
 
-impl<R: Wait> Model for PieceOut<R> {
+impl<R: Wait, M: Moment> Model for PieceOut<R, M> {
     ghost use Rattle.std.specs.Prelude.{◌≡◌, true, false, []};
     ghost use Rattle.crossbeam_queue.specs.Passes as passes;
     ghost use Rattle.ruled_link.specs.Pieces.{EndState};
@@ -117,13 +124,13 @@ impl<R: Wait> Model for PieceOut<R> {
 
 /// The end of a row that takes.
 #[derive(Drop)]
-pub struct PieceIn<R: Wait> {
+pub struct PieceIn<R: Wait, M: Moment = Unwatched> {
     rt: R,
-    row: Arc<Row, Global>,
+    row: Arc<Row<M>, Global>,
     pass: Pass<Piece, Log>,
 }
 
-impl<R: Wait> Model for PieceIn<R> {
+impl<R: Wait, M: Moment> Model for PieceIn<R, M> {
     ghost use Rattle.std.specs.Prelude.{◌≡◌, true, false, []};
     ghost use Rattle.crossbeam_queue.specs.Passes as passes;
     ghost use Rattle.ruled_link.specs.Pieces.{EndState};
@@ -144,9 +151,24 @@ pub fn row<R: Wait + Copy>(
     capacity: usize,
 ) -> Result<(PieceOut<R>, PieceIn<R>), AllocError>
     requires { 0 < capacity }
-    ensures { IfOk result (λ ends. (ends.0.pieces ≡ []) × (ends.1.pieces ≡ []) × (ends.0.row ≡ ends.1.row)) }
+    ensures ends { IfOk result (λ ends. (ends.0.pieces ≡ []) × (ends.1.pieces ≡ []) × (ends.0.row ≡ ends.1.row)) }
+    ensures room { IfOk result (λ ends. ends.0.row.slots ≡ capacity) }
 {
-    let (queue, mut pass) = Row::ruled(alloc, capacity)?;
+    watched_row::<R, Unwatched>(rt, alloc, capacity)
+}
+
+/// A row for so many pieces of whose moments a fact is kept, and its two ends.
+pub fn watched_row<R: Wait + Copy, M: Moment>(
+    rt: R,
+    alloc: Global,
+    capacity: usize,
+) -> Result<(PieceOut<R, M>, PieceIn<R, M>), AllocError>
+    requires some { 0 < capacity }
+    requires first { M.holds [] [] }
+    ensures ends { IfOk result (λ ends. (ends.0.pieces ≡ []) × (ends.1.pieces ≡ []) × (ends.0.row ≡ ends.1.row)) }
+    ensures room { IfOk result (λ ends. ends.0.row.slots ≡ capacity) }
+{
+    let (queue, mut pass) = Row::<M>::ruled(alloc, capacity)?;
     let taker = queue.another::<Ends>(&mut pass);
     let row = Arc::new(alloc, queue)?;
     let other = Arc::try_clone(&row)?;
@@ -160,33 +182,36 @@ pub fn row<R: Wait + Copy>(
     ))
 }
 
-impl<R: Wait> PieceOut<R> {
+impl<R: Wait, M: Moment> PieceOut<R, M> {
     /// Pushes a piece at the end of the row, or hands it back where the row was full at some moment of the
     /// call. It takes no memory.
     pub fn push(&mut self, piece: Piece) -> Result<(), Piece>
         ensures pushed { OnOk result (self.new ≡ record self.old { pieces = self.old.pieces ++ piece ∷ [] }) }
         ensures handed_back { IfErr result (λ back. back ≡ piece) }
         ensures unchanged { OnErr result (self.new ≡ self.old) }
+        ensures full { OnErr result (WasFull M.holds self.old.row self.old.pieces) }
     {
         self.row
-            .push_as::<Pushed, R>(&self.rt, &mut self.pass, piece)
+            .push_as::<Pushed<M>, R>(&self.rt, &mut self.pass, piece)
     }
 }
 
-impl<R: Wait> PieceIn<R> {
+impl<R: Wait, M: Moment> PieceIn<R, M> {
     /// Takes the first piece of the row, or nothing where the row was empty at some moment of the call. It
     /// takes no memory.
     pub fn pop(&mut self) -> Option<Piece>
-        ensures { MatchOption result (self.new ≡ self.old) (λ piece.
+        ensures first { MatchOption result (self.new ≡ self.old) (λ piece.
             self.new ≡ record self.old { pieces = self.old.pieces ++ piece ∷ [] }) }
+        ensures empty { IfNone result (WasEmpty M.holds self.old.pieces) }
     {
-        self.row.pop_as::<Taken, R>(&self.rt, &mut self.pass)
+        self.row.pop_as::<Taken<M>, R>(&self.rt, &mut self.pass)
     }
 
     /// Takes the first piece of this connection or a later one. Pieces of earlier ones before it are dropped.
     pub(crate) fn pop_from(&mut self, number: u32) -> Option<Piece>
-        ensures { MatchOption result (IsDropped number self.old self.new [])
+        ensures next { MatchOption result (IsDropped number self.old self.new [])
             (λ piece. (number ≤ piece.number) × IsDropped number self.old self.new (piece ∷ [])) }
+        ensures empty { IfNone result (WasEmpty M.holds self.new.pieces) }
     {
         for _ in 0..u64::MAX {
             let piece = self.pop()?;
@@ -194,7 +219,9 @@ impl<R: Wait> PieceIn<R> {
                 return Some(piece);
             }
         }
-        None
+        // No run drops so many pieces.
+        for _ in self.rt.forever() {}
+        unreachable!()
     }
 
     /// The runtime that its calls wait by.
@@ -205,7 +232,10 @@ impl<R: Wait> PieceIn<R> {
 
 /// The two ends of one row, as they were: whoever holds both knows that the pieces taken begin the pieces
 /// pushed. It takes no memory.
-pub fn join_pieces<R: Wait>(outward: PieceOut<R>, inward: PieceIn<R>) -> (PieceOut<R>, PieceIn<R>)
+pub fn join_pieces<R: Wait, M: Moment>(
+    outward: PieceOut<R, M>,
+    inward: PieceIn<R, M>,
+) -> (PieceOut<R, M>, PieceIn<R, M>)
     requires { outward.row ≡ inward.row }
     ensures ends { (result.0 ≡ outward) × (result.1 ≡ inward) }
     ensures begins { (rest : List PieceState) × (inward.pieces ++ rest ≡ outward.pieces) }

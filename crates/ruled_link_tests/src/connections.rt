@@ -22,7 +22,7 @@ pub(crate) fn spelled(alloc: Global, packet: &Packet) -> Result<Frame, Refusal>
 }
 
 /// The frame of a write of block 2.
-fn one_block(alloc: Global) -> Result<Frame, Refusal>
+pub(crate) fn one_block(alloc: Global) -> Result<Frame, Refusal>
     ensures { IfOk result (λ frame. IsCut frame) }
 {
     spelled(

@@ -4,6 +4,8 @@
 #[cfg(test)]
 mod connections;
 #[cfg(test)]
+mod moments;
+#[cfg(test)]
 mod names;
 #[cfg(test)]
 mod pieces;

@@ -1,10 +1,10 @@
 -- The blocks of an item, by its bytes.
 use Rattle.std.proofs.Common.{ℕ, zero, suc, ◌≡◌, ◌*◌, ◌/◌, ◌≤◌, List, [], ◌∷◌, length, take, refl, sym, ◌∙◌, ap, arith}
 use Rattle.blocks.specs.Contents.{blocks_of, cut}
-use Rattle.model.specs.Stream.{contents_of}
+use Rattle.model.specs.Stream.{contents_of, first_of}
 use Rattle.secondary_core.specs.declared.item.Kind.{Kind}
 use Rattle.secondary_core.specs.declared.item.Kind.TheVariants as kind
-use Rattle.secondary_core.specs.Items.{IsCounted, item_as}
+use Rattle.secondary_core.specs.Items.{IsNamed, item_as}
 
 length-cut : (size n : ℕ) (bytes : List ℕ) → length (cut size n bytes) ≡ n
 length-cut size zero bytes = refl
@@ -21,10 +21,18 @@ one-block bytes long =
     let one : length bytes / 4096 ≡ 1 = omega (arith, long) in
     rw one (ap (λ (b : List ℕ). b ∷ []) (take-all 4096 bytes (omega (arith, long))))
 
-pub contents-are : (k : Kind) (first count : ℕ) (bytes : List ℕ) → length bytes ≡ 4096 * count → IsCounted k count → blocks_of 4096 bytes ≡ contents_of (item_as k first bytes)
-contents-are (kind.Write number) first count bytes long counted = refl
-contents-are kind.Resync first count bytes long counted = one-block bytes (omega (arith, long, counted))
+pub contents-are : (k : Kind) (first count : ℕ) (bytes : List ℕ) → length bytes ≡ 4096 * count → IsNamed k count → blocks_of 4096 bytes ≡ contents_of (item_as k first bytes)
+contents-are (kind.Write number) first count bytes long named = refl
+contents-are kind.Resync first count bytes long named = one-block bytes (omega (arith, long, named))
 
-pub count-is : (k : Kind) (first count : ℕ) (bytes : List ℕ) → length bytes ≡ 4096 * count → IsCounted k count → count ≡ length (contents_of (item_as k first bytes))
-count-is (kind.Write number) first count bytes long counted = let n : length bytes / 4096 ≡ count = omega (arith, long) in sym (length-cut 4096 (length bytes / 4096) bytes ∙ n)
-count-is kind.Resync first count bytes long counted = counted
+pub count-is : (k : Kind) (first count : ℕ) (bytes : List ℕ) → length bytes ≡ 4096 * count → IsNamed k count → count ≡ length (contents_of (item_as k first bytes))
+count-is (kind.Write number) first count bytes long named = let n : length bytes / 4096 ≡ count = omega (arith, long) in sym (length-cut 4096 (length bytes / 4096) bytes ∙ n)
+count-is kind.Resync first count bytes long named = named
+
+pub first-is : (k : Kind) (first : ℕ) (bytes : List ℕ) → first_of (item_as k first bytes) ≡ first
+first-is (kind.Write number) first bytes = refl
+first-is kind.Resync first bytes = refl
+
+-- how many blocks bytes have
+pub blocks-length : (bytes : List ℕ) → length (blocks_of 4096 bytes) ≡ length bytes / 4096
+blocks-length bytes = length-cut 4096 (length bytes / 4096) bytes

@@ -1,1 +1,5 @@
+pub mod Barriers
+pub mod Checks
 pub mod Counted
+pub mod Kept
+pub mod Places

@@ -1,5 +1,5 @@
 -- What the fields of an item stand for.
-use Rattle.std.specs.Prelude.{ℕ, ◌≡◌, ◌*◌, List, length}
+use Rattle.std.specs.Prelude.{ℕ, ◌≡◌, ◌==◌, ◌*◌, ◌<◌, ◌^◌, Bool, true, false, List, length}
 use Rattle.blocks.specs.Contents.{blocks_of}
 use Rattle.model.specs.Stream.{Item, WriteItem, ResyncItem}
 use Rattle.secondary_core.specs.declared.item.Kind.{Kind}
@@ -15,12 +15,19 @@ item_as kind.Resync first bytes = ResyncItem first bytes
 abbrev pub item_of : Inside → Item
 item_of i = item_as i.kind i.range.first.0 i.contents
 
--- a resync's item has one block
-abbrev pub IsCounted : Kind → ℕ → Type 0
-IsCounted (kind.Write number) count = Unit {0}
-IsCounted kind.Resync count = count ≡ 1
+-- a write has a number, and a resync's item one block
+abbrev pub IsNamed : Kind → ℕ → Type 0
+IsNamed (kind.Write number) count = 0 < number
+IsNamed kind.Resync count = count ≡ 1
 
--- the contents are whole blocks, as many as the range has
+-- the item is a write of this number, or a block of a resync
+abbrev pub is_kind : Kind → Item → Bool
+is_kind (kind.Write number) (WriteItem write) = number == write.number
+is_kind kind.Resync (ResyncItem block contents) = true
+is_kind k item = false
+
+-- the first block has a sector number, and the contents are whole blocks, as many as the range has
 pub record IsItem (i : Inside) : Type 0 where
+  pub small : 8 * i.range.first.0 < 2 ^ 64
   pub whole : length i.contents ≡ 4096 * i.range.count
-  pub counted : IsCounted i.kind i.range.count
+  pub named : IsNamed i.kind i.range.count

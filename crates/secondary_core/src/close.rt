@@ -6,14 +6,14 @@ use crate::state::SecondaryCore;
 use blocks::Refusal;
 
 impl SecondaryCore {
-    /// Closes the end; its items stay. `NotConnected` (9) comes where it is closed.
+    /// Closes the end; its items stay. `NotConnected` (12) comes where it is closed.
     pub fn close(&mut self) -> Result<(), Refusal>
         ensures { (result, self.new.state) ≡ close_end self.old.state }
     {
-        if self.end.is_none() {
+        if !self.is_open {
             return Err(Refusal::NotConnected);
         }
-        self.end = None;
+        self.is_open = false;
         Ok(())
     }
 }

@@ -1,16 +1,22 @@
 //! What waits for the secondary's disk.
-ghost use Rattle.std.specs.Prelude.{◌≡◌, length};
+ghost use Rattle.std.specs.Prelude.{◌≡◌, ◌*◌, ◌<◌, ◌≤◌, ◌^◌, length, option_to_list, true};
 ghost use Rattle.blocks.specs.Contents.{blocks_of};
-ghost use Rattle.model.specs.Stream.{contents_of, first_of};
+ghost use Rattle.model.specs.Stream.{WriteItem, ResyncItem, contents_of, first_of};
+ghost use Rattle.model.specs.SecondarySteps.{applied_answer};
+ghost use Rattle.endpoint.specs.Meaning.{named};
+ghost use Rattle.secondary_core.specs.Answers.{receipt_of};
+ghost use Rattle.secondary_core.specs.Items.{is_kind};
 
-use blocks::Range;
+use crate::answer::Answer;
+use blocks::{Protocol, Range};
 use bytes::Bytes;
+use packets::Acknowledgement;
 use std::marker::Model;
 
 /// Where an item comes from.
-#[derive(Clone, Copy, Debug, PartialEq, Eq)]
-pub enum Kind {
-    /// A write, with its number.
+#[derive(Clone, Copy)]
+pub(crate) enum Kind {
+    /// A write, with its number, which is not 0.
     Write(u64),
     /// A block of a resync.
     Resync,
@@ -34,11 +40,47 @@ impl Model for Item {
 
     ghost view = { item_of };
 
-    // Its contents are as many whole blocks as its range has, and a resync's is one block.
+    // Its contents are as many whole blocks as its range has, a write has a number, and a resync's item is
+    // one block.
     ghost invariant = { IsItem };
 }
 
 impl Item {
+    /// A write of these bytes.
+    pub(crate) fn write(number: u64, range: Range, contents: Bytes) -> Item
+        requires numbered { 0 < number }
+        requires small { 8 * range.first.0 < 2 ^ 64 }
+        requires whole { length contents ≡ 4096 * range.count }
+        ensures { result ≡ WriteItem (record { number = number; first = range.first.0; contents = blocks_of 4096 contents }) }
+    {
+        Item {
+            kind: Kind::Write(number),
+            range,
+            contents,
+        }
+    }
+
+    /// A block of a resync.
+    pub(crate) fn resync(range: Range, contents: Bytes) -> Item
+        requires one { range.count ≡ 1 }
+        requires small { 8 * range.first.0 < 2 ^ 64 }
+        requires whole { length contents ≡ 4096 }
+        ensures { result ≡ ResyncItem range.first.0 contents }
+    {
+        Item {
+            kind: Kind::Resync,
+            range,
+            contents,
+        }
+    }
+
+    /// Where it comes from.
+    pub(crate) fn kind(&self) -> Kind
+        ensures { is_kind result self.now ≡ true }
+    {
+        self.kind
+    }
+
     /// The blocks that it covers.
     pub fn range(&self) -> Range
         ensures first { result.first.0 ≡ first_of self.now }
@@ -49,8 +91,51 @@ impl Item {
 
     /// What it writes, whole blocks of 4,096 bytes.
     pub fn contents(&self) -> &Bytes
-        ensures { blocks_of 4096 result.now ≡ contents_of self.now }
+        ensures blocks { blocks_of 4096 result.now ≡ contents_of self.now }
+        ensures whole { length result.now ≡ 4096 * length (contents_of self.now) }
     {
         &self.contents
+    }
+
+    /// The acknowledgement that is due once it is taken: under protocol B a write's RECV_ACK.
+    pub(crate) fn receipt(&self, protocol: Protocol, place: u32) -> Option<Answer>
+        ensures { option_to_list result ≡ receipt_of protocol place self.now }
+    {
+        match (self.kind, protocol) {
+            (Kind::Write(number), Protocol::B) => {
+                Some(Answer::received(self.naming(number, place)))
+            }
+            _ => None,
+        }
+    }
+
+    /// The acknowledgement that is due once it is on the disk: under protocol C a write's WRITE_ACK, and a
+    /// block's RS_WRITE_ACK under each.
+    pub(crate) fn answer(&self, protocol: Protocol, place: u32) -> Option<Answer>
+        ensures { option_to_list result ≡ applied_answer protocol place self.now }
+    {
+        match (self.kind, protocol) {
+            (Kind::Write(number), Protocol::C) => {
+                Some(Answer::written(self.naming(number, place)))
+            }
+            (Kind::Write(_), _) => None,
+            (Kind::Resync, _) => Some(Answer::resynced(self.naming(0, place))),
+        }
+    }
+
+    // How an acknowledgement names it.
+    fn naming(&self, number: u64, place: u32) -> Acknowledgement
+        ensures named { named result ≡ record { first = first_of self.now; number = number; count = length (contents_of self.now); place = place } }
+        ensures small { 8 * result.first.0 < 2 ^ 64 }
+        ensures some { 0 < result.count }
+        ensures few { result.count ≤ 32 }
+        ensures number { result.number ≡ number }
+    {
+        Acknowledgement {
+            first: self.range.first,
+            number,
+            count: self.range.count as u32,
+            place,
+        }
     }
 }

@@ -4,44 +4,24 @@ ghost use Rattle.blocks.specs.SettingsRange.{IsInRange};
 ghost use Rattle.blocks.specs.declared.refusal.Refusal.TheVariants.{BadSetting, NoMemory};
 ghost use Rattle.secondary_steps.specs.Core.{fresh};
 
+use crate::end::End;
 use crate::item::Item;
+use crate::taken::Taken;
 use blocks::{Refusal, Settings, Tuple};
-use packets::Packet;
-use peerdisk::{LastEpoch, PeerDisk};
+use peerdisk::PeerDisk;
 use std::alloc::Global;
-use std::collections::VecDeque;
 use std::marker::Model;
 
-/// What is kept of the stream that was taken: how many items, the highest number of a write, the barriers,
-/// of the last epoch how many writes it has and which blocks its items have; and whether a resync goes on.
-#[derive(Drop)]
-pub(crate) struct Taken {
-    pub(crate) places: u32,
-    pub(crate) highest: u64,
-    pub(crate) barriers: u32,
-    pub(crate) writes: u32,
-    pub(crate) blocks: LastEpoch,
-    pub(crate) is_resync: bool,
-}
-
-/// An open end: the tuple that its hello names, how many frames of the peer's hello were taken and of its
-/// own pushed, 3 at most, and how many epochs are acknowledged, or about to be.
-#[derive(Clone, Copy)]
-pub(crate) struct End {
-    pub(crate) hello: Tuple,
-    pub(crate) heard: u32,
-    pub(crate) said: u32,
-    pub(crate) answered: u32,
-}
-
-/// The secondary without its disk and its link. Its pending items and its epochs are as the settings say.
+/// The secondary without its disk and its link. Its pending items and its epochs are as the settings say,
+/// and there is always room for what the pending items and the barriers that were taken ask to acknowledge.
 ///
-/// An item's life:
+/// An item's life, by the calls that bring the events:
 ///
 /// | the item is | `take` | `done` | `failed` | `close` |
 /// |---|---|---|---|---|
-/// | a frame | pending | | | |
-/// | pending | | applied | dropped | pending |
+/// | a frame | pending; under protocol B a write's RECV_ACK is due | | | |
+/// | pending | | applied; RS_WRITE_ACK, or under protocol C WRITE_ACK, is due | dropped | pending, and nothing is due for it any more |
+/// | a barrier | its BARRIER_ACK is due at once where every item before it is applied | it is due with the last such item | it is never due | it is never due |
 /// | applied, with an answer due | | | no answer | no answer |
 #[derive(Drop)]
 pub struct SecondaryCore {
@@ -52,10 +32,8 @@ pub struct SecondaryCore {
     pub(crate) taken: Taken,
     pub(crate) disk: PeerDisk<Item>,
     pub(crate) failed: Option<u32>,
-    pub(crate) end: Option<End>,
-    // What an open end owes. They keep their room while it is closed.
-    pub(crate) due: VecDeque<Packet>,
-    pub(crate) sizes: VecDeque<u32>,
+    pub(crate) is_open: bool,
+    pub(crate) end: End,
     pub(crate) is_ready: bool,
 }
 
@@ -84,19 +62,11 @@ impl SecondaryCore {
             tuple,
             is_consistent: tuple.current != 0,
             number: 0,
-            taken: Taken {
-                places: 0,
-                highest: 0,
-                barriers: 0,
-                writes: 0,
-                blocks: LastEpoch::new(alloc, settings.blocks)?,
-                is_resync: false,
-            },
+            taken: Taken::new(alloc, settings.blocks)?,
             disk: PeerDisk::new(alloc, settings.pending),
             failed: None,
-            end: None,
-            due: VecDeque::new(alloc),
-            sizes: VecDeque::new(alloc),
+            is_open: false,
+            end: End::new(alloc, tuple),
             is_ready: false,
         })
     }

@@ -1,9 +1,10 @@
 //! What is read off.
 ghost use Rattle.std.specs.Prelude.{◌≡◌, ◌==◌, length, is_some};
 ghost use Rattle.secondary_steps.specs.Core.{may_take, whole};
+ghost use Rattle.secondary_core.specs.Ends.{is_hello_done};
 
 use crate::state::SecondaryCore;
-use blocks::{Refusal, Tuple};
+use blocks::{Refusal, Settings, Tuple};
 
 /// How far a secondary's data may be used.
 #[derive(Clone, Copy, Debug, PartialEq, Eq)]
@@ -17,12 +18,12 @@ pub struct Usage {
 }
 
 impl SecondaryCore {
-    /// Whether a frame may be taken: `NotConnected` (9) comes where the end is closed, else `PendingFull`
+    /// Whether a frame may be taken: `NotConnected` (12) comes where the end is closed, else `PendingFull`
     /// (18) where as many items are pending as may be.
     pub fn may_take(&self) -> Result<(), Refusal>
         ensures { result ≡ may_take self.now.state }
     {
-        if self.end.is_none() {
+        if !self.is_open {
             return Err(Refusal::NotConnected);
         }
         if self.disk.len() >= self.settings.pending as usize {
@@ -56,7 +57,35 @@ impl SecondaryCore {
     pub fn is_open(&self) -> bool
         ensures { result ≡ is_some self.now.state.end }
     {
-        self.end.is_some()
+        self.is_open
+    }
+
+    /// Whether the hello is done: the end is open, and has taken three frames and pushed three.
+    pub fn is_hello_done(&self) -> bool
+        ensures { result ≡ is_hello_done self.now.state.end }
+    {
+        self.is_open && self.end.has_heard() && self.end.has_said()
+    }
+
+    /// The number of the last connection, 0 before the first.
+    pub fn number(&self) -> u32
+        ensures { result ≡ self.now.state.number }
+    {
+        self.number
+    }
+
+    /// How many items of the last connection's stream were taken.
+    pub fn items_taken(&self) -> u32
+        ensures { result ≡ self.now.state.intake.places }
+    {
+        self.taken.places()
+    }
+
+    /// The settings.
+    pub fn settings(&self) -> Settings
+        ensures { result ≡ self.now.state.settings }
+    {
+        self.settings
     }
 
     /// How far the data may be used.
@@ -75,7 +104,7 @@ impl SecondaryCore {
     {
         match (self.failed, self.disk.first_epoch()) {
             (Some(epoch), _) | (None, Some(epoch)) => epoch.saturating_sub(1),
-            (None, None) => self.taken.barriers,
+            (None, None) => self.taken.barriers(),
         }
     }
 }

@@ -15,7 +15,7 @@ returns-clause-taken g c =
     let frame : List ℕ = c.in_ok-frame.frame in
     let took : new ≡ with_taken frame new.is_ready old = c.in_ok-frame.ensures.next in
     let expected : c.hello_after-hello.result ≡ hello_after (length old.taken) = c.hello_after-hello.ensures ∙ ap hello_after c.self.invariant ∙ hello_least (length old.taken) in
-    let read : received c.read.result ≡ received_after (length old.taken) frame = ap received (c.read.ensures ∙ ap (λ h. in_hello h frame (frame_read frame)) expected) in
+    let read : received c.read.result ≡ received_after (length old.taken) frame = ap received (c.read.ensures.is ∙ ap (λ h. in_hello h frame (frame_read frame)) expected) in
     ap incoming took ∙ taken_in old frame new.is_ready
     ∙ ap (λ (r : Received). with_received r (with_taken frame new.is_ready old).taken new.is_ready (incoming old)) (sym read)
     ∙ ap (λ (s : InEnd). with_received (received c.read.result) s.taken new.is_ready (incoming old)) (sym took)

@@ -7,7 +7,7 @@ use Rattle.overlap.specs.Holdings.{is_held}
 use Rattle.overlap.specs.Maps.{holdings}
 use Rattle.overlap.specs.declared.held.Span.{Span}
 use Rattle.overlap.proofs.Lists.{is_held-holdings, holdings-insert}
-use Rattle.overlap.proofs.Tied.{updated, updated_back, tied-same, tied-hold, absent}
+use Rattle.overlap.proofs.Tied.{updated, updated_back, tied-same, tied-hold, absent, clear-of}
 use Rattle.overlap.proofs.held.Held.hold.Goals as goal
 
 -- what holds after an `Ok`
@@ -35,7 +35,8 @@ invariant_of-self-else-is_err c =
     let failed : is_err c.insert-2.result ≡ false = cc in
     let put = on_ok c.insert-2.result _ failed c.insert-2.ensures.updates in
     tied-hold c.self.inside.by_number c.self.inside.by_first c.self.invariant c.insert-2.new.self c.insert.new.self c.args.number (record { first = c.args.range.first.0; count = c.args.range.count })
-    c.insert-2.ensures.ordered c.args.range.some c.args.range.few (no_key c.self.inside.by_number c.args.number (rw c.self.view_is c.requires.new)) none
+    c.insert-2.ensures.ordered c.args.range.some (no_key c.self.inside.by_number c.args.number (rw c.self.view_is c.requires.new)) none
+    (clear-of c.self.inside.by_number c.self.inside.by_first c.self.invariant c.args.range.first.0 c.args.range.count c.args.range.some (rw c.self.view_is c.requires.apart))
     (λ q. updated c.args.number q _ _ _ (put.0 q)) (λ q. updated c.args.range.first.0 q _ _ _ (c.in_ok-insert.ensures.updates.0 q))
 
 pub returns-clause-held : goal.returns-clause-held

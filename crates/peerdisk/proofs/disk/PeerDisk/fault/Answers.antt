@@ -89,3 +89,13 @@ returns-clause-left g c =
     ap (λ (o : Option (Pending _)). unwrap_or (option_map (λ p. p.epoch) o) 0) (at-slot c.args.place s.first i s.slots.items at ∙ ap (option_map (of_entry c.args.place)) is) in
     let all = left ∙ ap (λ n. filter (λ p. nat_le p.epoch n) (without c.args.place (pending_from s.first s.slots.items))) (sym at_epoch) in
     rw (← c.self.view_is) (rw all refl)
+
+pub returns-clause-epoch : goal.returns-clause-epoch
+returns-clause-epoch g c =
+    let s = c.self.inside in
+    let i = c.from.result - s.first in
+    let there : Within c.args.place s.first s.slots.items = within c.args.place s.first s.slots.items (rw (ap (λ s. s.pending) c.self.view_is) c.requires) in
+    let inside : i < length s.slots.items = omega (arith, there.from, there.to, c.from.ensures) in
+    let at : c.args.place ≡ s.first + i = omega (arith, there.from, c.from.ensures) in
+    let is = sym (get_or_read s.slots.items i c.index_mut.result.now inside c.index_mut.ensures.value None) ∙ (sym c.take.ensures.value ∙ c.in-Some.is) in
+    rw (← c.self.view_is) (sym (ap (λ (o : Option (Pending _)). unwrap_or (option_map (λ p. p.epoch) o) 0) (at-slot c.args.place s.first i s.slots.items at ∙ ap (option_map (of_entry c.args.place)) is)))

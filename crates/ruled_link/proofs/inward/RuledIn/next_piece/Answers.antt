@@ -13,7 +13,7 @@ pub invariant_of-self : goal.invariant_of-self
 invariant_of-self g c =
     let e = c.self.inside in
     takes_none e.pieces c.pop_from.new.self e.taken.went e.number e.front e.rest c.self.invariant
-    (apart _ c.args.self.now c.holds_later.result c.self.view_is c.if-holds_later.false c.holds_later.ensures) c.in_default.ensures
+    (apart _ c.args.self.now c.holds_later.result c.self.view_is c.if-holds_later.false c.holds_later.ensures) c.in_default.ensures.next
 
 pub invariant_of-self-then-is_later : goal.invariant_of-self-then-is_later
 invariant_of-self-then-is_later g c =
@@ -21,7 +21,7 @@ invariant_of-self-then-is_later g c =
     takes_piece e.pieces c.pop_from.new.self e.taken.went e.number e.front e.rest c.new.result c.self.invariant
     (apart _ c.args.self.now c.holds_later.result c.self.view_is c.if-holds_later.false c.holds_later.ensures)
     (ap (λ (s : InwardState). rest_on s.number s.rest) c.self.view_is ∙ c.requires)
-    (subst (λ (p : PieceState). IsDropped e.number e.pieces c.pop_from.new.self (p ∷ [])) (sym c.new.ensures.whole) c.in-Some.ensures.1)
+    (subst (λ (p : PieceState). IsDropped e.number e.pieces c.pop_from.new.self (p ∷ [])) (sym c.new.ensures.whole) c.in-Some.ensures.next.1)
 
 pub invariant_of-self-2 : goal.invariant_of-self-2
 invariant_of-self-2 g c =
@@ -29,4 +29,4 @@ invariant_of-self-2 g c =
     takes_piece e.pieces c.pop_from.new.self e.taken.went e.number e.front e.rest c.new.result c.self.invariant
     (apart _ c.args.self.now c.holds_later.result c.self.view_is c.if-holds_later.false c.holds_later.ensures)
     (ap (λ (s : InwardState). rest_on s.number s.rest) c.self.view_is ∙ c.requires)
-    (subst (λ (p : PieceState). IsDropped e.number e.pieces c.pop_from.new.self (p ∷ [])) (sym c.new.ensures.whole) c.in-Some.ensures.1)
+    (subst (λ (p : PieceState). IsDropped e.number e.pieces c.pop_from.new.self (p ∷ [])) (sym c.new.ensures.whole) c.in-Some.ensures.next.1)

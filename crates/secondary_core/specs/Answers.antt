@@ -1,0 +1,33 @@
+-- What an acknowledgement that is due stands for.
+use Rattle.std.specs.Prelude.{ℕ, List, []}
+use Rattle.blocks.specs.declared.settings.Protocol.{Protocol}
+use Rattle.packets.specs.declared.packet.Packet.{Packet}
+use Rattle.packets.specs.declared.packet.Packet.TheVariants as packet
+use Rattle.packets.specs.Spelling.{IsSpellable}
+use Rattle.endpoint.specs.Meaning.{meaning}
+use Rattle.model.specs.Frames as frames
+use Rattle.model.specs.Stream.{Item, WriteItem}
+use Rattle.secondary_steps.specs.Core.{receipt}
+use Rattle.secondary_core.specs.declared.answer.Told.{Told}
+use Rattle.secondary_core.specs.declared.answer.Told.TheVariants as told
+use Rattle.secondary_core.specs.declared.answer.Answer.TheInside.{Inside}
+
+-- the packet that says it
+abbrev pub packet_of : Told → Packet
+packet_of (told.Received ack) = packet.RecvAck ack
+packet_of (told.Written ack) = packet.WriteAck ack
+packet_of (told.Resynced ack) = packet.RsWriteAck ack
+packet_of (told.Whole epoch writes) = packet.BarrierAck epoch writes
+
+-- what the packet means
+abbrev pub answer_of : Inside → frames.Packet
+answer_of a = meaning (packet_of a.told)
+
+-- the packet has a spelling
+abbrev pub IsAnswer : Inside → Type 0
+IsAnswer a = IsSpellable (packet_of a.told)
+
+-- what is acknowledged when an item with blocks is taken: a write under B
+abbrev pub receipt_of : Protocol → ℕ → Item → List frames.Packet
+receipt_of protocol place (WriteItem write) = receipt protocol place (WriteItem write)
+receipt_of protocol place item = []

@@ -1,0 +1,96 @@
+//! An acknowledgement that is due.
+ghost use Rattle.std.specs.Prelude.{◌≡◌};
+ghost use Rattle.packets.specs.Spelling.{IsSpellable, NamesResync, NamesWrite};
+ghost use Rattle.model.specs.Frames.{BarrierAckFrame, RecvAckFrame, RsWriteAckFrame, WriteAckFrame};
+ghost use Rattle.endpoint.specs.Meaning.{meaning, named};
+
+use packets::{Acknowledgement, Packet};
+use std::marker::Model;
+
+/// What is acknowledged, and how.
+#[derive(Clone, Copy)]
+pub(crate) enum Told {
+    /// A write is in memory.
+    Received(Acknowledgement),
+    /// A write is on the disk.
+    Written(Acknowledgement),
+    /// A block of a resync is on the disk.
+    Resynced(Acknowledgement),
+    /// All items up to the end of an epoch, which has so many writes, are on the disk.
+    Whole { epoch: u32, writes: u32 },
+}
+
+/// An acknowledgement that is due. Proofs see its packet, which has a spelling.
+#[derive(Drop)]
+pub(crate) struct Answer {
+    told: Told,
+}
+
+impl Model for Answer {
+    ghost use Rattle.model.specs.Frames.{Packet as Denoted};
+
+    ghost Value = { Denoted };
+
+    ghost use Rattle.secondary_core.specs.Answers.{answer_of, IsAnswer};
+
+    ghost view = { answer_of };
+
+    ghost invariant = { IsAnswer };
+}
+
+impl Answer {
+    /// A write is in memory: RECV_ACK.
+    pub(crate) fn received(of: Acknowledgement) -> Answer
+        requires { NamesWrite of }
+        ensures { result ≡ RecvAckFrame (named of) }
+    {
+        Answer {
+            told: Told::Received(of),
+        }
+    }
+
+    /// A write is on the disk: WRITE_ACK.
+    pub(crate) fn written(of: Acknowledgement) -> Answer
+        requires { NamesWrite of }
+        ensures { result ≡ WriteAckFrame (named of) }
+    {
+        Answer {
+            told: Told::Written(of),
+        }
+    }
+
+    /// A block of a resync is on the disk: RS_WRITE_ACK.
+    pub(crate) fn resynced(of: Acknowledgement) -> Answer
+        requires { NamesResync of }
+        ensures { result ≡ RsWriteAckFrame (named of) }
+    {
+        Answer {
+            told: Told::Resynced(of),
+        }
+    }
+
+    /// All items up to the end of an epoch are on the disk: BARRIER_ACK.
+    pub(crate) fn whole(epoch: u32, writes: u32) -> Answer
+        ensures { result ≡ BarrierAckFrame epoch writes }
+    {
+        Answer {
+            told: Told::Whole { epoch, writes },
+        }
+    }
+
+    /// Its packet.
+    pub(crate) fn packet(&self) -> Packet
+        ensures means { meaning result ≡ self.now }
+        ensures spellable { IsSpellable result }
+    {
+        match self.told {
+            Told::Received(of) => Packet::RecvAck(of),
+            Told::Written(of) => Packet::WriteAck(of),
+            Told::Resynced(of) => Packet::RsWriteAck(of),
+            Told::Whole { epoch, writes } => Packet::BarrierAck {
+                number: epoch,
+                size: writes,
+            },
+        }
+    }
+}
