@@ -18,6 +18,11 @@ pub record EpochsState : Type 0 where
   pub first : ℕ
   pub resync : Bool
 
+-- a stream's epochs, and for how many more that end there is room
+pub record EpochsValue : Type 0 where
+  pub state : EpochsState
+  pub spare : ℕ
+
 -- a stream with no item
 abbrev pub empty : ℕ → EpochsState
 empty max_epoch = record { max_epoch = max_epoch; places = 0; ended = 0; sizes = []; size = 0; first = 0; resync = false }
