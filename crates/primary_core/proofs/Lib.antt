@@ -1,0 +1,5 @@
+pub mod Entries
+pub mod SoundLog
+pub mod Epochs
+pub mod Sound
+pub mod Reports

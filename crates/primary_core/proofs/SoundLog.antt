@@ -1,0 +1,79 @@
+-- A log stays sound, whatever step it makes.
+use Rattle.std.proofs.Common.{ℕ, ◌≡◌, ◌+◌, ◌≤◌, Bool, not, List, [], ◌∷◌, length, ◌∙◌, arith, length-append, length-take, length-drop}
+use Rattle.std.specs.Prelude.{map}
+use Rattle.std.proofs.lemmas.List.{length-replicate}
+use Rattle.blocks.specs.declared.settings.Settings.{Settings}
+use Rattle.epochs.specs.Epochs.{EpochsState}
+use Rattle.transferlog.specs.Log.{LogState, changing, accepting, with_latest, quiet, connecting, confirming, draining, accepted_write, home_in}
+use Rattle.transferlog.specs.Ring.{Each, on}
+use Rattle.transferlog.specs.Writes.{LogWrite, is_released, sending, answering, storing, failing, unlinking}
+use Rattle.transferlog.proofs.Moves.{each_filter, each_changed}
+use Rattle.transferlog.proofs.Waiting.{each_pushed}
+use Rattle.primary_core.specs.Kept.{IsInside, IsSoundLog}
+
+-- what happens to a write leaves its number and its blocks
+abbrev pub KeepsRange : (LogWrite → LogWrite) → Type 0
+KeepsRange f = (blocks : ℕ) (w : LogWrite) → IsInside blocks w → IsInside blocks (f w)
+
+pub keeps-sending : (answers : Bool) → KeepsRange (sending answers)
+keeps-sending answers blocks w is = record { numbered = is.numbered; inside = is.inside }
+
+pub keeps-answering : KeepsRange answering
+keeps-answering blocks w is = record { numbered = is.numbered; inside = is.inside }
+
+pub keeps-storing : KeepsRange storing
+keeps-storing blocks w is = record { numbered = is.numbered; inside = is.inside }
+
+pub keeps-failing : KeepsRange failing
+keeps-failing blocks w is = record { numbered = is.numbered; inside = is.inside }
+
+keeps-unlinking : KeepsRange unlinking
+keeps-unlinking blocks w is = record { numbered = is.numbered; inside = is.inside }
+
+-- what holds of each holds of each after a change that leaves it
+pub each_map : (P : LogWrite → Type 0) (f : LogWrite → LogWrite) (ws : List LogWrite) → ((w : LogWrite) → P w → P (f w)) → Each P ws → Each P (map f ws)
+each_map P f [] keeps each = tt
+each_map P f (w ∷ ws) keeps each = (keeps w each.0, each_map P f ws keeps each.1)
+
+-- something happens to one write
+pub sound-changing : (s : Settings) (number : ℕ) (f : LogWrite → LogWrite) (l : LogState) → KeepsRange f → IsSoundLog s l → IsSoundLog s (changing number f l).1
+sound-changing s number f l keeps is = record {
+  backlog = is.backlog;
+  latest = is.latest;
+  writes = each_filter (IsInside s.blocks) (λ w. not (is_released l.confirmed w)) (map (on number f) l.writes) (each_changed (IsInside s.blocks) number f l.writes (keeps s.blocks) is.writes);
+}
+
+length-latest : (number first count : ℕ) (latest : List ℕ) → first + count ≤ length latest → length (with_latest number first count latest) ≡ length latest
+length-latest number first count latest inside = simp (length-append, length-take, length-replicate, length-drop) (omega arith)
+
+-- a write is accepted
+pub sound-accepting : (s : Settings) (first count : ℕ) (contents : List ℕ) (l : LogState) → first + count ≤ s.blocks → IsSoundLog s l → IsSoundLog s (accepting first count contents l).1
+sound-accepting s first count contents l inside is = record {
+  backlog = is.backlog;
+  latest = length-latest (l.accepted + 1) first count l.latest (omega (arith, is.latest)) ∙ is.latest;
+  writes = each_pushed (IsInside s.blocks) l.writes (accepted_write first count contents (home_in l.connection (l.accepted + 1) l.epochs).0 l) is.writes (record { numbered = omega arith; inside = inside });
+}
+
+-- the stream's epochs change
+pub sound-quiet : (s : Settings) (e : EpochsState) (l : LogState) → IsSoundLog s l → IsSoundLog s (quiet e l)
+sound-quiet s e l is = record { backlog = is.backlog; latest = is.latest; writes = is.writes }
+
+-- a stream begins
+pub sound-connecting : (s : Settings) (connection : ℕ) (l : LogState) → IsSoundLog s l → IsSoundLog s (connecting connection l)
+sound-connecting s connection l is = record { backlog = is.backlog; latest = is.latest; writes = is.writes }
+
+-- an epoch is acknowledged
+pub sound-confirming : (s : Settings) (number size : ℕ) (l : LogState) → IsSoundLog s l → IsSoundLog s (confirming number size l)
+sound-confirming s number size l is = record {
+  backlog = is.backlog;
+  latest = is.latest;
+  writes = each_filter (IsInside s.blocks) (λ w. not (is_released (l.confirmed + size) w)) l.writes is.writes;
+}
+
+-- the connection is closed
+pub sound-draining : (s : Settings) (l : LogState) → IsSoundLog s l → IsSoundLog s (draining l)
+sound-draining s l is = record {
+  backlog = is.backlog;
+  latest = is.latest;
+  writes = each_filter (IsInside s.blocks) (λ w. not (is_released l.confirmed w)) (map unlinking l.writes) (each_map (IsInside s.blocks) unlinking l.writes (keeps-unlinking s.blocks) is.writes);
+}

@@ -1,0 +1,5 @@
+pub mod Entries
+pub mod Items
+pub mod Kept
+pub mod Starved
+pub mod State

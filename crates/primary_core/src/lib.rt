@@ -1,0 +1,12 @@
+//! What a primary is without its link and its disk: a state machine that takes and gives packets, numbers and shared bytes.
+#![tactic(auto)]
+
+mod entry;
+mod item;
+mod open;
+mod receipts;
+mod state;
+mod usage;
+
+pub use entry::{Entry, Fate};
+pub use state::PrimaryCore;
