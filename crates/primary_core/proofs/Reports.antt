@@ -10,7 +10,7 @@ use Rattle.transferlog.specs.declared.report.Released.{Released}
 use Rattle.primary_steps.specs.Core.{PrimaryState, leaving, unmarking, reporting}
 use Rattle.primary_core.specs.Kept.{IsSound, IsCounted}
 
-length-below : (n : ℕ) → length (below n) ≡ n
+pub length-below : (n : ℕ) → length (below n) ≡ n
 length-below zero = refl
 length-below (suc n) = simp length-append (omega (arith, length-below n))
 

@@ -5,15 +5,16 @@ use Rattle.primary_steps.specs.Core.{EndState, PrimaryState}
 use Rattle.primary_core.specs.Kept.{IsSound, IsSoundLog, owing, places_owing, appended}
 use Rattle.primary_core.proofs.Epochs.{Appends}
 
--- where the same stream goes on, no more is due than before, beside the barrier that was appended
+-- where the same stream goes on, no more is due than before, with the barrier that was appended
 pub owing-after : (end : Option EndState) (l m : LogState) (barrier : Option ℕ) → m.connection ≡ l.connection → Appends l.epochs m.epochs barrier
-    → appended barrier + owing end m ≤ owing end l + appended barrier
+    → owing barrier end m ≤ owing None end l
 owing-after None l m barrier same appends = omega arith
 owing-after (Some e) l m barrier same appends = rw same (omega (arith, appends.due))
 
--- the same, where an end is open
-pub owing-open : (e : EndState) (l m : LogState) (barrier : Option ℕ) → m.connection ≡ l.connection → Appends l.epochs m.epochs barrier → appended barrier + owing (Some e) m ≤ owing (Some e) l
-owing-open e l m barrier same appends = rw same (omega (arith, appends.due))
+-- less is due without the barrier
+pub owing-less : (end : Option EndState) (l : LogState) (barrier : Option ℕ) → owing None end l ≤ owing barrier end l
+owing-less None l barrier = omega arith
+owing-less (Some e) l barrier = omega arith
 
 pub places-after : (end : Option EndState) (l m : LogState) (barrier : Option ℕ) → m.connection ≡ l.connection → Appends l.epochs m.epochs barrier
     → l.epochs.places + places_owing end l ≤ 4294967290 → m.epochs.places + places_owing end m ≤ 4294967290

@@ -71,7 +71,7 @@ core_of c = record { state = state_of c; stream_room = deque_capacity c.unsent -
 pub record IsCore (c : Inside) : Type 0 where
   pub sound : IsSound (state_of c)
   pub writers : AllByRecursion (IsWriter c.log.state.accepted) c.held
-  pub room : owing (state_of c).end c.log.state ≤ deque_capacity c.unsent - deque_len c.unsent
+  pub room : owing None (state_of c).end c.log.state ≤ deque_capacity c.unsent - deque_len c.unsent
 
 -- a primary may begin with these: the settings are in their ranges, each block has its mark or none, and the data have a
 -- generation

@@ -2,9 +2,11 @@
 #![tactic(auto)]
 
 mod entry;
+mod follow;
 mod item;
 mod open;
 mod receipts;
+mod report;
 mod state;
 mod usage;
 
