@@ -1,7 +1,10 @@
 pub mod Entries
 pub mod SoundLog
 pub mod Epochs
+pub mod Found
 pub mod Held
 pub mod Sound
+pub mod Logged
+pub mod Marking
 pub mod Reports
 pub mod Unmarked

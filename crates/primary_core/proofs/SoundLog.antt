@@ -1,5 +1,5 @@
 -- A log stays sound, whatever step it makes.
-use Rattle.std.proofs.Common.{ℕ, ◌≡◌, ◌+◌, ◌≤◌, Bool, not, List, [], ◌∷◌, length, ◌∙◌, arith, length-append, length-take, length-drop}
+use Rattle.std.proofs.Common.{ℕ, ◌≡◌, ◌+◌, ◌*◌, ◌≤◌, Bool, not, List, [], ◌∷◌, length, ◌∙◌, arith, length-append, length-take, length-drop}
 use Rattle.std.specs.Prelude.{filter, map}
 use Rattle.std.specs.List.{AllByRecursion}
 use Rattle.std.proofs.lemmas.List.{length-replicate}
@@ -17,19 +17,19 @@ abbrev pub KeepsRange : (LogWrite → LogWrite) → Type 0
 KeepsRange f = (blocks : ℕ) (w : LogWrite) → IsInside blocks w → IsInside blocks (f w)
 
 pub keeps-sending : (answers : Bool) → KeepsRange (sending answers)
-keeps-sending answers blocks w is = record { numbered = is.numbered; inside = is.inside }
+keeps-sending answers blocks w is = record { numbered = is.numbered; inside = is.inside; whole = is.whole }
 
 pub keeps-answering : KeepsRange answering
-keeps-answering blocks w is = record { numbered = is.numbered; inside = is.inside }
+keeps-answering blocks w is = record { numbered = is.numbered; inside = is.inside; whole = is.whole }
 
 pub keeps-storing : KeepsRange storing
-keeps-storing blocks w is = record { numbered = is.numbered; inside = is.inside }
+keeps-storing blocks w is = record { numbered = is.numbered; inside = is.inside; whole = is.whole }
 
 pub keeps-failing : KeepsRange failing
-keeps-failing blocks w is = record { numbered = is.numbered; inside = is.inside }
+keeps-failing blocks w is = record { numbered = is.numbered; inside = is.inside; whole = is.whole }
 
 keeps-unlinking : KeepsRange unlinking
-keeps-unlinking blocks w is = record { numbered = is.numbered; inside = is.inside }
+keeps-unlinking blocks w is = record { numbered = is.numbered; inside = is.inside; whole = is.whole }
 
 -- what holds of each holds of each after a change that leaves it
 pub each_map : (P : LogWrite → Type 0) (f : LogWrite → LogWrite) (ws : List LogWrite) → ((w : LogWrite) → P w → P (f w)) → Each P ws → Each P (map f ws)
@@ -68,11 +68,11 @@ length-latest : (number first count : ℕ) (latest : List ℕ) → first + count
 length-latest number first count latest inside = simp (length-append, length-take, length-replicate, length-drop) (omega arith)
 
 -- a write is accepted
-pub sound-accepting : (s : Settings) (first count : ℕ) (contents : List ℕ) (l : LogState) → first + count ≤ s.blocks → IsSoundLog s l → IsSoundLog s (accepting first count contents l).1
-sound-accepting s first count contents l inside is = record {
+pub sound-accepting : (s : Settings) (first count : ℕ) (contents : List ℕ) (l : LogState) → first + count ≤ s.blocks → length contents ≡ 4096 * count → IsSoundLog s l → IsSoundLog s (accepting first count contents l).1
+sound-accepting s first count contents l inside whole is = record {
   backlog = is.backlog;
   latest = length-latest (l.accepted + 1) first count l.latest (omega (arith, is.latest)) ∙ is.latest;
-  writes = each_pushed (IsInside s.blocks) l.writes (accepted_write first count contents (home_in l.connection (l.accepted + 1) l.epochs).0 l) is.writes (record { numbered = omega arith; inside = inside });
+  writes = each_pushed (IsInside s.blocks) l.writes (accepted_write first count contents (home_in l.connection (l.accepted + 1) l.epochs).0 l) is.writes (record { numbered = omega arith; inside = inside; whole = whole });
   completed = tt;
   released = tt;
 }

@@ -137,7 +137,7 @@ unmark-step rs i d latest first old new inside size all rest so =
       (rw so.same parts.1, unmark-next (get_or rs i d) (drop (suc i) rs) latest old new so ∙ (sym (ap (λ (more : List Released). unmarking more latest old) split) ∙ rest)),
     )
 
-nothing-left : (rs : List Released) (i : ℕ) → length rs ≤ i → drop i rs ≡ []
+pub nothing-left : {X : Type 0} (rs : List X) (i : ℕ) → length rs ≤ i → drop i rs ≡ []
 nothing-left [] zero past = refl
 nothing-left [] (suc i) past = refl
 nothing-left (r ∷ rs) zero past = absurd (omega arith)

@@ -1,5 +1,5 @@
 -- What is kept about a primary's state, whatever steps it made.
-use Rattle.std.specs.Prelude.{ℕ, ◌≡◌, ◌+◌, ◌<◌, ◌≤◌, nat_lt, Bool, true, ◌&&◌, ◌||◌, not, if◌then◌else◌, List, length, Option, Some, None}
+use Rattle.std.specs.Prelude.{ℕ, ◌≡◌, ◌+◌, ◌*◌, ◌<◌, ◌≤◌, nat_lt, Bool, true, ◌&&◌, ◌||◌, not, if◌then◌else◌, List, length, Option, Some, None}
 use Rattle.std.specs.List.{AllByRecursion}
 use Rattle.blocks.specs.declared.settings.Settings.{Settings}
 use Rattle.blocks.specs.SettingsRange.{IsInRange}
@@ -14,10 +14,11 @@ use Rattle.overlap.specs.Holdings.{Holding}
 use Rattle.activitylog.specs.Activity.{Active}
 use Rattle.primary_steps.specs.Core.{EndState, PrimaryState, stands}
 
--- a write of a device of so many blocks
+-- a write of a device of so many blocks, with the bytes of its blocks
 pub record IsInside (blocks : ℕ) (w : LogWrite) : Type 0 where
   pub numbered : 0 < w.number
   pub inside : w.first + w.count ≤ blocks
+  pub whole : length w.contents ≡ 4096 * w.count
 
 -- the number of an accepted write holds the range
 pub record IsWriter (accepted : ℕ) (h : Holding) : Type 0 where

@@ -1,5 +1,6 @@
 pub mod Entries
 pub mod Items
 pub mod Kept
+pub mod Local
 pub mod Starved
 pub mod State
