@@ -68,3 +68,17 @@ writers-too accepted new (h ∷ held) is all = inserted accepted (nat_lt new.num
 -- the next write holds its blocks
 pub writers-next : (accepted first count : ℕ) (held : List Holding) → AllByRecursion (IsWriter accepted) held → AllByRecursion (IsWriter (accepted + 1)) (holding_too (holding (accepted + 1) first count) held)
 writers-next accepted first count held all = writers-too (accepted + 1) (holding (accepted + 1) first count) held (record { numbered = omega arith; known = omega arith }) (writer-later accepted held all)
+
+-- The block under way holds nothing more.
+
+without-zero : (accepted : ℕ) (held : List Holding) → AllByRecursion (IsWriter accepted) held → without 0 held ≡ held
+without-zero accepted [] all = refl
+without-zero accepted (h ∷ held) all = rw (higher_number h.number 0 all.0.numbered) (ap (λ more. h ∷ more) (without-zero accepted held all.1))
+
+without-under : (accepted : ℕ) (way : Option UnderWay) (held : List Holding) → AllByRecursion (IsWriter accepted) held → without 0 (held_with way held) ≡ held
+without-under accepted None held all = without-zero accepted held all
+without-under accepted (Some w) held all = without-zero accepted held all
+
+pub without-block : (accepted : ℕ) (end : Option End) (held : List Holding) → AllByRecursion (IsWriter accepted) held → without 0 (held_at end held) ≡ held
+without-block accepted None held all = without-zero accepted held all
+without-block accepted (Some e) held all = without-under accepted e.under_way held all

@@ -6,5 +6,6 @@ pub mod Held
 pub mod Sound
 pub mod Logged
 pub mod Marking
+pub mod Ends
 pub mod Reports
 pub mod Unmarked

@@ -1,3 +1,4 @@
+pub mod Close
 pub mod Entries
 pub mod Items
 pub mod Kept

@@ -1,7 +1,7 @@
 use Rattle.std.proofs.Common.{◌≡◌, drop, length}
 use Rattle.bitmap.specs.Marks.{marking}
 use Rattle.primary_steps.specs.Transitions.{unreleased_blocks}
-use Rattle.primary_core.proofs.close.mark_unreleased.Given as goal
+use Rattle.primary_core.proofs.close.mark_all.Given as goal
 
 -- what the writes to come mark is what all mark of the first marks
 abbrev pub invariant-loop-index : goal.invariant-loop-index
