@@ -8,4 +8,6 @@ pub mod Logged
 pub mod Marking
 pub mod Ends
 pub mod Reports
+pub mod Submission
+pub mod Accepted
 pub mod Unmarked

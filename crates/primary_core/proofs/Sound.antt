@@ -18,7 +18,7 @@ owing-less (Some e) l barrier = omega arith
 
 pub places-after : (end : Option EndState) (l m : LogState) (barrier : Option ℕ) → m.connection ≡ l.connection → Appends l.epochs m.epochs barrier
     → l.epochs.places + places_owing end l ≤ 4294967290 → m.epochs.places + places_owing end m ≤ 4294967290
-places-after None l m barrier same appends few = omega (arith, appends.due, appends.places)
+places-after None l m barrier same appends few = rw same (omega (arith, appends.due, appends.places))
 places-after (Some e) l m barrier same appends few = rw same (omega (arith, appends.due, appends.places))
 
 -- a step of the log that accepts nothing

@@ -54,7 +54,7 @@ owing barrier (Some e) l = appended barrier + (barriers_due l.epochs + identifie
 
 -- for how many items that come unasked a stream has to have places; where no end is open, for those before it begins
 abbrev pub places_owing : Option EndState → LogState → ℕ
-places_owing None l = barriers_due l.epochs + 2
+places_owing None l = barriers_due l.epochs + (elim l.connection [ None ↦ 2 | Some connection ↦ 0 ])
 places_owing (Some e) l = barriers_due l.epochs + identifiers_due e l
 
 -- a write that was completed has a number

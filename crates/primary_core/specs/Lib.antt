@@ -5,3 +5,4 @@ pub mod Kept
 pub mod Local
 pub mod Starved
 pub mod State
+pub mod Submit

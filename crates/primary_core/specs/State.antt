@@ -37,6 +37,11 @@ end_of unsent e = record {
   under_way = option_map way_of e.under_way;
 }
 
+-- the block under way of an end, where one is open
+abbrev pub way_in : Option EndState → Option core.UnderWay
+way_in None = None
+way_in (Some e) = e.under_way
+
 -- what the block under way holds, with what the writes hold
 abbrev pub held_with : Option UnderWay → List Holding → List Holding
 held_with None held = held

@@ -10,6 +10,7 @@ mod open;
 mod receipts;
 mod report;
 mod state;
+mod submit;
 mod usage;
 
 pub use entry::{Entry, Fate};

@@ -1,9 +1,10 @@
 //! What is read off.
-ghost use Rattle.std.specs.Prelude.{◌≡◌, is_some, length};
+ghost use Rattle.std.specs.Prelude.{◌≡◌, is_some, length, option_map};
 ghost use Rattle.bitmap.specs.Marks.{count, marked};
+ghost use Rattle.primary_core.specs.State.{way_in, way_of};
 ghost use Rattle.primary_steps.specs.Core.{stands};
 
-use crate::state::PrimaryCore;
+use crate::state::{PrimaryCore, UnderWay};
 use blocks::{Block, Settings, Tuple};
 
 impl PrimaryCore {
@@ -68,6 +69,13 @@ impl PrimaryCore {
         ensures { result ≡ self.now.state.log.accepted }
     {
         self.log.accepted()
+    }
+
+    /// The block under way, with its place in the stream and its epoch.
+    pub(crate) fn under_way(&self) -> Option<UnderWay>
+        ensures { option_map way_of result ≡ way_in self.now.state.end }
+    {
+        self.end?.under_way
     }
 
     /// How many writes are not released.
