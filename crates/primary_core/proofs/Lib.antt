@@ -10,4 +10,5 @@ pub mod Ends
 pub mod Reports
 pub mod Submission
 pub mod Accepted
+pub mod Submitted
 pub mod Unmarked

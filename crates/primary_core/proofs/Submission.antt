@@ -204,8 +204,7 @@ pub is-whole : (settings : Settings) (first n : ℕ) (bytes : List ℕ) (res : R
     → IfOk res (λ r. (r.first.0 ≡ first) × (r.count ≡ n)) → IfOk res (λ r. IsWhole settings r.first.0 r.count bytes × (r.first.0 ≡ first))
 is-whole settings first n bytes (Ok r) whole is accepted range =
     let long = length-whole bytes whole in
-    let count : length (whole_blocks bytes) ≡ n = long ∙ sym is in
-    (
+    let count : length (whole_blocks bytes) ≡ n = long ∙ sym is in (
       record {
         range = rw (range.0, count) (tests-range settings first n (accepted.0 refl));
         counted = count ∙ sym range.1;

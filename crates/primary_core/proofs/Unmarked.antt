@@ -103,18 +103,18 @@ upto-all r latest b = elim (cases_lt b (r.first + r.count)) [
 pub unmark-next : (r : Released) (released : List Released) (latest : List ℕ) (old new : List Bool) → Cleared r latest old new (r.first + r.count) → unmarking released latest new ≡ unmarking (r ∷ released) latest old
 unmark-next r released latest old new so =
     same-marks (unmarking released latest new) (unmarking (r ∷ released) latest old) (length-unmarking released latest new ∙ (so.same ∙ sym (length-unmarking (r ∷ released) latest old))) (λ b less.
-      let inside : b < length new = omega (arith, length-unmarking released latest new) in
-      let there : b < length old = omega (arith, so.same) in
-      marked-map _ (length new) b inside
-      ∙ (ap (λ (v : Bool). v && not (list_any (λ s. clears s b latest) released)) (so.each b ∙ ap (λ (v : Bool). marked old b && not v) (upto-all r latest b))
-      ∙ (and-or (marked old b) (clears r b latest) (list_any (λ s. clears s b latest) released)
-      ∙ sym (marked-map (λ block. marked old block && not (list_any (λ s. clears s block latest) (r ∷ released))) (length old) b there))))
+    let inside : b < length new = omega (arith, length-unmarking released latest new) in
+    let there : b < length old = omega (arith, so.same) in
+    marked-map _ (length new) b inside
+    ∙ (ap (λ (v : Bool). v && not (list_any (λ s. clears s b latest) released)) (so.each b ∙ ap (λ (v : Bool). marked old b && not v) (upto-all r latest b))
+    ∙ (and-or (marked old b) (clears r b latest) (list_any (λ s. clears s b latest) released)
+    ∙ sym (marked-map (λ block. marked old block && not (list_any (λ s. clears s block latest) (r ∷ released))) (length old) b there))))
 
 pub unmark-none : (latest : List ℕ) (marks : List Bool) → unmarking [] latest marks ≡ marks
 unmark-none latest marks =
     same-marks (unmarking [] latest marks) marks (length-unmarking [] latest marks) (λ b less.
-      let inside : b < length marks = omega (arith, length-unmarking [] latest marks) in
-      marked-map (λ block. marked marks block && true) (length marks) b inside ∙ sym (and-true (marked marks b)))
+    let inside : b < length marks = omega (arith, length-unmarking [] latest marks) in
+    marked-map (λ block. marked marks block && true) (length marks) b inside ∙ sym (and-true (marked marks b)))
 
 -- a block that a release clears is in the table of the last writes
 pub clears-inside : (r : Released) (latest : List ℕ) (block : ℕ) → clears r block latest ≡ true → block < length latest

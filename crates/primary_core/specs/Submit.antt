@@ -39,13 +39,15 @@ pub record IsWhole (settings : Settings) (first count : ℕ) (bytes : List ℕ) 
 -- The write is in the log, holds its blocks, and has its extent active.
 abbrev pub taken_in : ℕ → ℕ → List ℕ → PrimaryState → Accepted × PrimaryState
 taken_in first count bytes s =
-    let accepted = log.accepting first count bytes s.log in
-    (accepted.0, record s {
-      log = accepted.1;
-      entries = s.entries ++ record { first = first; count = count; fate = Open; taken = false } ∷ [];
-      held = holding_too (holding accepted.0.number first count) s.held;
-      activity = begun (extent_of first) s.activity;
-    })
+    let accepted = log.accepting first count bytes s.log in (
+      accepted.0,
+      record s {
+        log = accepted.1;
+        entries = s.entries ++ record { first = first; count = count; fate = Open; taken = false } ∷ [];
+        held = holding_too (holding accepted.0.number first count) s.held;
+        activity = begun (extent_of first) s.activity;
+      },
+    )
 
 -- The write's item goes to the stream, or its blocks are marked where there is none; and what follows.
 abbrev pub gone_out : Accepted → ℕ → ℕ → List ℕ → PrimaryState → Done × PrimaryState

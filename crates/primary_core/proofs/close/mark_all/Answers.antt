@@ -42,7 +42,7 @@ loop-index-preserved c =
           let f = found (slice_get ws i) c.unreleased.result r c.unreleased.ensures w.in-Some.is in
           let marks = c.loop-index.marks in
           let new : c.match-unreleased.marks ≡ marking (is_between f.0.first f.0.count) marks =
-              w.marks-is ∙ (w.mark.ensures ∙ (ap (λ (k : ℕ). marking (is_between k r.count) marks) f.2 ∙ ap (λ (k : ℕ). marking (is_between f.0.first k) marks) f.3)) in
+          w.marks-is ∙ (w.mark.ensures ∙ (ap (λ (k : ℕ). marking (is_between k r.count) marks) f.2 ∙ ap (λ (k : ℕ). marking (is_between f.0.first k) marks) f.3)) in
           rw new (record { size = length-marking 0 (is_between f.0.first f.0.count) marks ∙ was.size; rest = mark-step ws i f.0 c.args.marks.now marks f.1 was.rest })
       | in_default w ↦
           absurd (within ws i (omega (arith, c.loop-index-test.true, c.len-index-end.ensures)) (missing (slice_get ws i) c.unreleased.result c.unreleased.ensures w.in_default.is))

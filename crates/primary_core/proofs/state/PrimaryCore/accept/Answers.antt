@@ -50,14 +50,17 @@ returns-clause-accepted c =
     let entry : Entry = record { first = first; count = count; fate = Open; taken = false } in
     let entries = c.push_reserved.ensures.items ∙ ap (λ (es : List Entry). es ++ entry ∷ []) c.in_ok-reserve.ensures.items in
     let held : held_at s.end c.begin.new.held ≡ holding_too (holding (s.log.state.accepted + 1) first count) (held_at s.end s.held) =
-        ap (held_at s.end) (held-is c) ∙ sym (holding-held (holding (s.log.state.accepted + 1) first count) s.end s.held (omega arith)) in
+    ap (held_at s.end) (held-is c) ∙ sym (holding-held (holding (s.log.state.accepted + 1) first count) s.end s.held (omega arith)) in
     seen-as v c.args.self.now (taken_in first count c.args.contents) _ c.self.view_is
-    (rw (entries, held, c.in_ok-begin.ensures.begun, c.in_ok-reserve-2.ensures.items) (ap (λ (p : Accepted × LogState). (p.0, record v.state {
-      log = p.1;
-      entries = v.state.entries ++ entry ∷ [];
-      held = holding_too (holding (s.log.state.accepted + 1) first count) v.state.held;
-      activity = begun (extent_of first) v.state.activity;
-    })) (logs c)))
+    (rw (entries, held, c.in_ok-begin.ensures.begun, c.in_ok-reserve-2.ensures.items) (ap (λ (p : Accepted × LogState). (
+      p.0,
+      record v.state {
+        log = p.1;
+        entries = v.state.entries ++ entry ∷ [];
+        held = holding_too (holding (s.log.state.accepted + 1) first count) v.state.held;
+        activity = begun (extent_of first) v.state.activity;
+      },
+    )) (logs c)))
 
 pub invariant_of-self-2 : goal.invariant_of-self-2
 invariant_of-self-2 c =

@@ -36,11 +36,11 @@ returns c =
     let w = c.in_ok-local_write.field-0.now in
     let ready = unfinished number s w write.0 write.1 in
     let given : t ≡ given_up number w.first w.count s =
-        ap (λ v. v.state) c.self.view_is ∙ (c.give_up.ensures.state ∙ ap (λ (k : ℕ). given_up number k c.range-range.result.count s) c.range-range.ensures.first ∙ ap (λ (k : ℕ). given_up number w.first k s) c.range-range.ensures.count) in
+    ap (λ v. v.state) c.self.view_is ∙ (c.give_up.ensures.state ∙ ap (λ (k : ℕ). given_up number k c.range-range.result.count s) c.range-range.ensures.first ∙ ap (λ (k : ℕ). given_up number w.first k s) c.range-range.ensures.count) in
     let failed : transition.failing number s ≡ given_up number w.first w.count s = rw (write.0, transition.failing) refl in
     let step = log.local_failed number t.log in
     let r : Done × PrimaryState = (c.follow.result, c.follow.new.self.state) in
     let done = follows-logged t what.Nothing step c.local_failed-barrier.result c.local_failed-barrier.new.self.state r c.local_failed-barrier.ensures c.follow.ensures
-        ∙ (ap (λ (x : PrimaryState). logged what.Nothing (log.local_failed number x.log) x) given ∙ ap (logged what.Nothing (log.local_failed number s.log)) (sym failed)) in
+    ∙ (ap (λ (x : PrimaryState). logged what.Nothing (log.local_failed number x.log) x) given ∙ ap (logged what.Nothing (log.local_failed number s.log)) (sym failed)) in
     passes s ((not (is_unfinished number s), UnknownJob) ∷ []) (λ _. let after = logged what.Nothing (log.local_failed number s.log) (transition.failing number s) in (Ok after.0, after.1)) (Ok r.0, r.1)
     (rw ready refl) (ap (λ (p : Done × PrimaryState). (Ok p.0, p.1)) done)
