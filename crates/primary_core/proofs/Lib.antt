@@ -11,4 +11,5 @@ pub mod Reports
 pub mod Submission
 pub mod Accepted
 pub mod Submitted
+pub mod Sending
 pub mod Unmarked

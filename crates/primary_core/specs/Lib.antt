@@ -4,5 +4,7 @@ pub mod Items
 pub mod Kept
 pub mod Local
 pub mod Starved
+pub mod Resyncing
+pub mod Send
 pub mod State
 pub mod Submit

@@ -9,6 +9,8 @@ mod local;
 mod open;
 mod receipts;
 mod report;
+mod resyncing;
+mod send;
 mod state;
 mod submit;
 mod usage;
