@@ -12,4 +12,7 @@ pub mod Submission
 pub mod Accepted
 pub mod Submitted
 pub mod Sending
+pub mod Answered
+pub mod Beginning
+pub mod Taken
 pub mod Unmarked

@@ -1,6 +1,6 @@
 -- The blocks of unreleased writes are marked, write by write.
 use Rattle.std.proofs.Common.{ℕ, zero, suc, ◌≡◌, ◌+◌, ◌<◌, ◌≤◌, Bool, true, false, ◌||◌, List, [], ◌∷◌, length, drop, refl, sym, ◌∙◌, ap, subst, arith, add-one, Option, Some, None}
-use Rattle.std.specs.Prelude.{slice_get}
+use Rattle.std.specs.Prelude.{replicate, slice_get}
 use Rattle.blocks.specs.Ranges.{is_between}
 use Rattle.bitmap.specs.Marks.{marking, marking_from}
 use Rattle.transferlog.specs.Writes.{LogWrite}
@@ -22,7 +22,7 @@ twice from f g (mark ∷ marks) =
     ap (λ (m : Bool). m ∷ marking_from (suc from) g (marking_from (suc from) f marks)) (or-assoc mark (f from) (g from))
     ∙ ap (λ more. (mark || (f from || g from)) ∷ more) (twice (suc from) f g marks)
 
-none-more : (from : ℕ) (marks : List Bool) → marking_from from (λ block. false) marks ≡ marks
+pub none-more : (from : ℕ) (marks : List Bool) → marking_from from (λ block. false) marks ≡ marks
 none-more from [] = refl
 none-more from (mark ∷ marks) = ap (λ (m : Bool). m ∷ marking_from (suc from) (λ block. false) marks) (or-false mark) ∙ ap (λ more. mark ∷ more) (none-more (suc from) marks)
 
@@ -50,3 +50,12 @@ mark-step ws i w first marks is rest =
 -- all writes of a list
 pub mark-all : (ws : List LogWrite) (i : ℕ) (first marks : List Bool) → length ws ≤ i → marking (unreleased_blocks (drop i ws)) marks ≡ marking (unreleased_blocks ws) first → marks ≡ marking (unreleased_blocks ws) first
 mark-all ws i first marks past rest = sym (ap (λ (more : List LogWrite). marking (unreleased_blocks more) marks) (nothing-left ws i past) ∙ none-more 0 marks) ∙ rest
+
+or-true : (a : Bool) → (a || true) ≡ true
+or-true true = refl
+or-true false = refl
+
+-- every block is marked
+pub all-marked : (from : ℕ) (marks : List Bool) → marking_from from (λ block. true) marks ≡ replicate (length marks) true
+all-marked from [] = refl
+all-marked from (mark ∷ marks) = ap (λ (m : Bool). m ∷ marking_from (suc from) (λ block. true) marks) (or-true mark) ∙ ap (λ more. true ∷ more) (all-marked (suc from) marks)

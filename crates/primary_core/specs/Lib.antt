@@ -8,3 +8,4 @@ pub mod Resyncing
 pub mod Send
 pub mod State
 pub mod Submit
+pub mod Take

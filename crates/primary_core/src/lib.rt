@@ -1,9 +1,11 @@
 //! What a primary is without its link and its disk: a state machine that takes and gives packets, numbers and shared bytes.
 #![tactic(auto)]
 
+mod acknowledge;
 mod close;
 mod entry;
 mod follow;
+mod handshake;
 mod item;
 mod local;
 mod open;
