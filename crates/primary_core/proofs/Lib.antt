@@ -15,4 +15,5 @@ pub mod Sending
 pub mod Answered
 pub mod Beginning
 pub mod Taken
+pub mod Copying
 pub mod Unmarked

@@ -49,4 +49,30 @@ impl PrimaryCore {
         }
         Ok(block)
     }
+
+    /// The block that `resync_block` has chosen is under way, with these bytes, which are shared. It takes no
+    /// memory.
+    pub fn resync_read(&mut self, block: Block, contents: Bytes) -> Done
+        requires chosen { resync_choice false self.old.state ≡ Ok block.0 }
+        requires whole { length contents ≡ 4096 }
+        requires room { 3 ≤ self.old.stream_room }
+        requires log_room { 0 < self.old.log_room }
+        ensures { (e : EndState) → self.old.state.end ≡ Some e → (result, self.new.state) ≡ copying block.0 contents e self.old.state }
+    {
+        let epoch = self.log.epoch();
+        let (Some(end), Ok(place)) = (self.end, self.log.place_resync()) else {
+            return Done::about(What::Nothing);
+        };
+        let mut end = end;
+        end.under_way = Some(UnderWay {
+            block,
+            place,
+            epoch,
+        });
+        self.end = Some(end);
+        self.unsent.push_back_reserved(Item {
+            kind: Kind::Resync(block, contents),
+        });
+        self.follow(What::Block(block, place), None)
+    }
 }
