@@ -1,14 +1,14 @@
 -- What is kept where a write is accepted.
-use Rattle.std.proofs.Common.{ℕ, zero, suc, ◌≡◌, ◌+◌, ◌*◌, ◌<◌, ◌≤◌, ◌⊎◌, inl, inr, nat_le, Bool, true, false, ◌&&◌, List, [], ◌∷◌, length, refl, sym, ◌∙◌, ap, arith, Option, Some, None}
+use Rattle.std.proofs.Common.{ℕ, ◌≡◌, ◌+◌, ◌*◌, ◌<◌, ◌≤◌, ◌⊎◌, inl, inr, nat_le, Bool, true, false, ◌&&◌, List, length, refl, ap, arith, Option, Some, None}
 use Rattle.std.specs.Prelude.{is_some, if◌then◌else◌}
 use Rattle.std.proofs.lemmas.Bool.Decides.{nat_tests}
 use Rattle.epochs.specs.Epochs.{EpochsState, placed}
 use Rattle.transferlog.specs.Log.{LogState, accepting, home_in}
 use Rattle.model.specs.Contents.{extent_of}
 use Rattle.primary_steps.specs.Core.{EndState, PrimaryState, stands}
-use Rattle.primary_core.specs.Kept.{IsSound, appended, barriers_due, identifiers_due, owing, places_owing}
+use Rattle.primary_core.specs.Kept.{IsSound, owing, places_owing}
 use Rattle.primary_core.specs.Submit.{taken_in}
-use Rattle.primary_core.proofs.Epochs.{Places, places-item}
+use Rattle.primary_core.proofs.Epochs.{places-item}
 use Rattle.primary_core.proofs.SoundLog.{sound-accepting}
 use Rattle.primary_core.proofs.Submission.{counted-begun}
 

@@ -1,5 +1,5 @@
 -- What the log makes of an acknowledgement.
-use Rattle.std.proofs.Common.{ℕ, ◌≡◌, ◌+◌, ◌≤◌, Bool, true, false, ◌&&◌, ◌||◌, not, List, [], ◌∷◌, drop, refl, sym, ◌∙◌, ap, subst, arith, Option, Some, None}
+use Rattle.std.proofs.Common.{ℕ, ◌≡◌, Bool, true, false, ◌&&◌, ◌||◌, drop, refl, sym, ◌∙◌, ap, subst, arith, Option, None}
 use Rattle.std.specs.Prelude.{Result, Ok, Err, if◌then◌else◌}
 use Rattle.blocks.specs.declared.outcome.Done.{Done}
 use Rattle.blocks.specs.declared.outcome.What.{What}
@@ -10,7 +10,6 @@ use Rattle.blocks.specs.declared.refusal.Refusal.{Refusal}
 use Rattle.blocks.specs.declared.refusal.Refusal.TheVariants.{UnknownAck, BadBarrierAck}
 use Rattle.epochs.specs.Epochs.{EpochsState, is_awaited, acknowledging}
 use Rattle.model.specs.Frames.{Acknowledged}
-use Rattle.transferlog.specs.Log as log
 use Rattle.transferlog.specs.Log.{LogState, acked, awaits_in, barrier_acked, changing, confirming, is_asked, may_confirm}
 use Rattle.transferlog.specs.Ring.{write_at}
 use Rattle.transferlog.specs.Writes.{answering}

@@ -1,8 +1,7 @@
 -- A stream begins.
-use Rattle.std.proofs.Common.{ℕ, ◌≡◌, Bool, true, false, ◌||◌, List, length, refl, sym, ◌∙◌, ap, Option, Some, None}
-use Rattle.std.specs.Prelude.{Result, Ok, Err, replicate}
+use Rattle.std.proofs.Common.{◌≡◌, Bool, true, false, ◌||◌, List, length, refl, sym, ◌∙◌, ap, Option, Some, None}
+use Rattle.std.specs.Prelude.{Ok, replicate}
 use Rattle.blocks.specs.declared.tuple.Tuple.{Tuple}
-use Rattle.blocks.specs.declared.refusal.Refusal.{Refusal}
 use Rattle.blocks.specs.declared.outcome.Done.{Done}
 use Rattle.blocks.specs.declared.outcome.What.TheVariants as what
 use Rattle.blocks.specs.declared.outcome.Decision.{Decision}
@@ -10,7 +9,7 @@ use Rattle.blocks.specs.declared.outcome.Decision.TheVariants.{NoSync, BitmapSyn
 use Rattle.blocks.specs.Identifiers.{stands_in, decision}
 use Rattle.transferlog.specs.Log.{connecting}
 use Rattle.primary_steps.specs.Core.{EndState, PrimaryState, following}
-use Rattle.primary_steps.specs.Taking.{Taken, begun_with, last_connection, meeting}
+use Rattle.primary_steps.specs.Taking.{begun_with, last_connection, meeting}
 use Rattle.primary_core.specs.Take.{resyncing, taken_as}
 use Rattle.primary_core.proofs.Marking.{all-marked, none-more}
 

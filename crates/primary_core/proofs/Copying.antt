@@ -1,6 +1,6 @@
 -- A resync's block comes under way.
-use Rattle.std.proofs.Common.{ℕ, zero, suc, ◌≡◌, ◌+◌, ◌*◌, ◌^◌, ◌<◌, ◌≤◌, nat_lt, nat_le, Bool, true, false, not, ◌&&◌, ◌||◌, List, [], ◌∷◌, ◌++◌, length, refl, sym, ◌∙◌, ap, subst, arith, Option, Some, None}
-use Rattle.std.specs.Prelude.{Result, Ok, Err, is_some, is_none, ok_or, if◌then◌else◌, option_map}
+use Rattle.std.proofs.Common.{ℕ, ◌≡◌, ◌<◌, nat_le, Bool, true, false, not, ◌&&◌, ◌||◌, List, [], ◌∷◌, length, refl, sym, ◌∙◌, ap, Option, Some, None}
+use Rattle.std.specs.Prelude.{Result, Ok, Err, is_some, is_none, ok_or, option_map}
 use Rattle.std.specs.List.{AllByRecursion}
 use Rattle.std.proofs.lemmas.Bool.{lt-ltb}
 use Rattle.blocks.specs.Ranges.{below}
@@ -8,7 +8,7 @@ use Rattle.blocks.specs.declared.refusal.Refusal.{Refusal}
 use Rattle.blocks.specs.declared.refusal.Refusal.TheVariants.{NotConnected, NothingToDo, StreamFull, NoMemory}
 use Rattle.bitmap.specs.Marks.{marked}
 use Rattle.overlap.specs.Holdings.{Holding, holding, holding_too}
-use Rattle.model.specs.Refusals.{Test, first_refusal}
+use Rattle.model.specs.Refusals.{first_refusal}
 use Rattle.resync.specs.Next.{is_free, next_block}
 use Rattle.resync.proofs.Free.{find-filter, found_below}
 use Rattle.primary_steps.specs.Core.{EndState, PrimaryState}

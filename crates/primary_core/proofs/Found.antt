@@ -1,10 +1,8 @@
 -- The write of a number.
-use Rattle.std.proofs.Common.{ℕ, zero, suc, ◌≡◌, ◌+◌, ◌<◌, ◌≤◌, ◌==◌, Bool, true, false, List, [], ◌∷◌, length, refl, sym, ◌∙◌, arith, Option, Some, None}
-use Rattle.std.specs.Prelude.{if◌then◌else◌, slice_get}
-use Rattle.transferlog.specs.Writes.{LogWrite, is_waiting}
+use Rattle.std.proofs.Common.{ℕ, ◌≡◌, Bool, true, false, List, [], ◌∷◌, refl, Some}
+use Rattle.std.specs.Prelude.{if◌then◌else◌}
+use Rattle.transferlog.specs.Writes.{LogWrite}
 use Rattle.transferlog.specs.Ring.{Each, has_number, write_at}
-use Rattle.transferlog.specs.declared.local.Local.{Local}
-use Rattle.transferlog.specs.declared.local.Local.TheVariants.{Waiting, OnDisk, Failed}
 use Rattle.transferlog.proofs.Moves.{number_is}
 
 -- what is found has the number, and is as each is

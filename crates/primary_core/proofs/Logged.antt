@@ -1,13 +1,13 @@
 -- A step of the log, and what is kept about the whole primary.
-use Rattle.std.proofs.Common.{ℕ, ◌≡◌, ◌-◌, ◌≤◌, Bool, true, false, not, refl, sym, ◌∙◌, ap, subst, arith, Option, Some, None, List, [], ◌∷◌}
-use Rattle.std.specs.Prelude.{Result, Ok, Err}
+use Rattle.std.proofs.Common.{ℕ, ◌≡◌, ◌≤◌, true, refl, sym, ◌∙◌, ap, subst, arith, Option, Some, None, List}
+use Rattle.std.specs.Prelude.{Result}
 use Rattle.blocks.specs.declared.settings.Settings.{Settings}
 use Rattle.blocks.specs.declared.refusal.Refusal.{Refusal}
 use Rattle.blocks.specs.declared.outcome.Done.{Done}
 use Rattle.blocks.specs.declared.outcome.What.{What}
 use Rattle.model.specs.Refusals.{Test, first_refusal}
 use Rattle.transferlog.specs.Log.{LogState, LogValue, changing}
-use Rattle.transferlog.specs.Writes.{LogWrite, is_waiting}
+use Rattle.transferlog.specs.Writes.{LogWrite}
 use Rattle.transferlog.specs.Ring.{write_at}
 use Rattle.transferlog.specs.declared.local.Local.TheVariants.{Waiting}
 use Rattle.primary_steps.specs.Core.{PrimaryState, tested, following}

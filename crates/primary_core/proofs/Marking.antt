@@ -1,5 +1,5 @@
 -- The blocks of unreleased writes are marked, write by write.
-use Rattle.std.proofs.Common.{ℕ, zero, suc, ◌≡◌, ◌+◌, ◌<◌, ◌≤◌, Bool, true, false, ◌||◌, List, [], ◌∷◌, length, drop, refl, sym, ◌∙◌, ap, subst, arith, add-one, Option, Some, None}
+use Rattle.std.proofs.Common.{ℕ, zero, suc, ◌≡◌, ◌+◌, ◌≤◌, Bool, true, false, ◌||◌, List, [], ◌∷◌, length, drop, refl, sym, ◌∙◌, ap, subst, add-one, Some}
 use Rattle.std.specs.Prelude.{replicate, slice_get}
 use Rattle.blocks.specs.Ranges.{is_between}
 use Rattle.bitmap.specs.Marks.{marking, marking_from}

@@ -1,9 +1,8 @@
 -- What is due, and what is left where it is sent.
-use Rattle.std.proofs.Common.{ℕ, zero, suc, ◌≡◌, ◌+◌, ◌-◌, ◌<◌, ◌≤◌, ◌⊎◌, inl, inr, nat_lt, Bool, true, false, List, [], ◌∷◌, length, drop, refl, sym, ◌∙◌, ap, subst, arith, get_or, Option, Some, None}
+use Rattle.std.proofs.Common.{ℕ, zero, suc, ◌≡◌, ◌<◌, ◌⊎◌, inr, nat_lt, Bool, true, false, List, [], ◌∷◌, length, drop, refl, sym, ◌∙◌, ap, arith, get_or, Option, Some, None}
 use Rattle.std.specs.Prelude.{Result, Ok, Err, IsOk, IfOk, IfErr, MatchResult, if◌then◌else◌, option_map, slice_get, is_some}
 use Rattle.std.proofs.lemmas.Bool.{lt-ltb}
 use Rattle.blocks.specs.declared.command.Command.{Command}
-use Rattle.blocks.specs.declared.outcome.Done.{Done}
 use Rattle.blocks.specs.declared.outcome.What.TheVariants as what
 use Rattle.blocks.specs.declared.refusal.Refusal.{Refusal}
 use Rattle.blocks.specs.declared.refusal.Refusal.TheVariants.{NoMemory, NothingThere}
@@ -13,9 +12,9 @@ use Rattle.packets.specs.Spelling.{IsSpellable}
 use Rattle.model.specs.Frames as frames
 use Rattle.model.specs.Frames.{command_of, frame_of}
 use Rattle.model.specs.Refusals.{done_with}
-use Rattle.model.specs.Stream.{Item, is_write, number_of}
+use Rattle.model.specs.Stream.{Item}
 use Rattle.transferlog.specs.Log.{LogState}
-use Rattle.primary_steps.specs.Core.{EndState, PrimaryState, stands}
+use Rattle.primary_steps.specs.Core.{EndState, PrimaryState}
 use Rattle.primary_steps.specs.Transitions.{called, due, next_place, owed, pushed_item, sent_from}
 use Rattle.primary_core.specs.Kept.{IsSound, owing, places_owing}
 use Rattle.primary_core.specs.Send.{greeting, sent_at, sent_now, sent_owed}

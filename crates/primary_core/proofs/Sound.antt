@@ -2,7 +2,7 @@
 use Rattle.std.proofs.Common.{ℕ, ◌≡◌, ◌+◌, ◌≤◌, arith, Option, Some, None}
 use Rattle.transferlog.specs.Log.{LogState}
 use Rattle.primary_steps.specs.Core.{EndState, PrimaryState}
-use Rattle.primary_core.specs.Kept.{IsSound, IsSoundLog, owing, places_owing, appended}
+use Rattle.primary_core.specs.Kept.{IsSound, IsSoundLog, owing, places_owing}
 use Rattle.primary_core.proofs.Epochs.{Appends}
 
 -- where the same stream goes on, no more is due than before, with the barrier that was appended

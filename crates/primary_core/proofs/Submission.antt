@@ -1,8 +1,8 @@
 -- What a submission's tests and its effect come to.
-use Rattle.std.proofs.Common.{ℕ, zero, suc, ◌≡◌, ◌+◌, ◌-◌, ◌*◌, ◌/◌, ◌%◌, ◌<◌, ◌≤◌, ◌==◌, nat_lt, nat_le, Bool, true, false, not, ◌&&◌, ◌||◌, List, [], ◌∷◌, ◌++◌, length, refl, sym, ◌∙◌, ap, subst, arith, Option, Some, None}
-use Rattle.std.specs.Prelude.{◌↔◌, Result, Ok, Err, IsOk, IfOk, IfErr, if◌then◌else◌, is_some, unwrap_or, find, option_map, filter}
-use Rattle.std.specs.List.{AllByRecursion, list_any}
-use Rattle.std.proofs.lemmas.Bool.{lt-ltb, le-leb, eq-eqb, ltb-true, leb-true, eqb-true, le-ltb, lt-leb}
+use Rattle.std.proofs.Common.{ℕ, zero, suc, ◌≡◌, ◌+◌, ◌-◌, ◌*◌, ◌/◌, ◌%◌, ◌<◌, ◌≤◌, ◌==◌, nat_lt, nat_le, Bool, true, false, not, ◌&&◌, ◌||◌, List, [], ◌∷◌, length, refl, sym, ◌∙◌, ap, arith, Option, Some, None}
+use Rattle.std.specs.Prelude.{◌↔◌, Result, Ok, Err, IsOk, IfOk, IfErr, if◌then◌else◌, is_some, find, option_map}
+use Rattle.std.specs.List.{AllByRecursion}
+use Rattle.std.proofs.lemmas.Bool.{lt-ltb, le-leb, ltb-true, leb-true, eqb-true}
 use Rattle.blocks.specs.declared.settings.Settings.{Settings}
 use Rattle.blocks.specs.declared.range.Range.{Range}
 use Rattle.blocks.specs.declared.refusal.Refusal.{Refusal}
@@ -13,7 +13,7 @@ use Rattle.model.specs.Contents.{is_range, extent_of}
 use Rattle.model.specs.Refusals.{Test, first_refusal}
 use Rattle.overlap.specs.Holdings.{Holding, holding, holding_too, without, is_held, meets, conflict}
 use Rattle.activitylog.specs.Activity.{Active, ActivityState, writes_of, begun, staying, other_than, without_oldest_idle, is_active, has_idle, can_begin}
-use Rattle.transferlog.proofs.Numbers.{same_number, lower_number, higher_number}
+use Rattle.transferlog.proofs.Numbers.{same_number, lower_number}
 use Rattle.primary_steps.specs.Core.{PrimaryState, EndState, stands}
 use Rattle.primary_steps.specs.Core as core
 use Rattle.primary_steps.specs.Transitions.{whole_blocks}

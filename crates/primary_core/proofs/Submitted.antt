@@ -1,10 +1,9 @@
 -- A submission is refused by the first test that holds, or done.
-use Rattle.std.proofs.Common.{ℕ, ◌≡◌, Bool, true, false, not, List, [], ◌∷◌, ◌++◌, length, refl, sym, ◌∙◌, ap, Option, Some, None}
+use Rattle.std.proofs.Common.{ℕ, ◌≡◌, Bool, true, false, List, [], ◌∷◌, ◌++◌, length, refl, sym, ◌∙◌, ap, Some}
 use Rattle.std.specs.Prelude.{Result, Ok, Err}
 use Rattle.blocks.specs.declared.outcome.Done.{Done}
 use Rattle.blocks.specs.declared.refusal.Refusal.{Refusal}
 use Rattle.blocks.specs.declared.refusal.Refusal.TheVariants.{NoMemory}
-use Rattle.model.specs.Contents.{is_range}
 use Rattle.model.specs.Refusals.{Test, first_refusal}
 use Rattle.transferlog.specs.declared.report.Accepted.{Accepted}
 use Rattle.primary_steps.specs.Core.{PrimaryState, tested}

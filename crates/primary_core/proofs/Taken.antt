@@ -1,5 +1,5 @@
 -- What a taken frame comes to.
-use Rattle.std.proofs.Common.{ℕ, zero, suc, ◌≡◌, ◌+◌, ◌<◌, ◌≤◌, ◌==◌, Bool, true, false, ◌||◌, List, [], ◌∷◌, length, drop, drop-cons, add-one, get_or, refl, sym, ◌∙◌, ap, subst, arith, Option, Some, None}
+use Rattle.std.proofs.Common.{ℕ, suc, ◌≡◌, ◌+◌, ◌<◌, ◌≤◌, ◌==◌, Bool, true, false, ◌||◌, List, [], ◌∷◌, length, drop, drop-cons, add-one, get_or, refl, sym, ◌∙◌, ap, Option, Some, None}
 use Rattle.std.specs.Prelude.{Result, Ok, Err, is_err, option_map}
 use Rattle.blocks.specs.declared.outcome.Done.{Done}
 use Rattle.blocks.specs.declared.refusal.Refusal.{Refusal}
@@ -9,8 +9,8 @@ use Rattle.model.specs.Stream.{Item}
 use Rattle.primary_steps.specs.Core as core
 use Rattle.primary_steps.specs.Core.{EndState, PrimaryState}
 use Rattle.primary_steps.specs.Transitions.{closing}
-use Rattle.primary_steps.specs.Taking.{Taken, is_in_epoch, is_unsent, take_at, taken_by, taking}
-use Rattle.primary_core.specs.State.{way_in, way_of}
+use Rattle.primary_steps.specs.Taking.{is_in_epoch, is_unsent, take_at, taken_by, taking}
+use Rattle.primary_core.specs.State.{way_of}
 use Rattle.primary_core.specs.Take.{taken_as}
 use Rattle.primary_core.specs.declared.state.UnderWay.{UnderWay}
 use Rattle.primary_core.proofs.Unmarked.{nothing-left}

@@ -1,5 +1,5 @@
 -- What is left where the local disk fails a write.
-use Rattle.std.specs.Prelude.{ℕ, List}
+use Rattle.std.specs.Prelude.{ℕ}
 use Rattle.blocks.specs.Ranges.{is_between}
 use Rattle.bitmap.specs.Marks.{marking}
 use Rattle.overlap.specs.Holdings as overlap

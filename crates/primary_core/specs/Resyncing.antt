@@ -1,5 +1,5 @@
 -- Which block a resync copies next, or why none.
-use Rattle.std.specs.Prelude.{ℕ, Bool, Option, Some, None, Result, Ok, Err, ok_or}
+use Rattle.std.specs.Prelude.{ℕ, Bool, Some, None, Result, Err, ok_or}
 use Rattle.blocks.specs.declared.refusal.Refusal.{Refusal}
 use Rattle.blocks.specs.declared.refusal.Refusal.TheVariants.{NotConnected, NothingToDo}
 use Rattle.model.specs.Refusals.{first_refusal}

@@ -1,7 +1,7 @@
 -- A write is accepted: its tests, and what is left before its item goes to the stream.
-use Rattle.std.specs.Prelude.{ℕ, ◌≡◌, ◌*◌, nat_le, ◌==◌, Bool, true, false, ◌&&◌, not, List, [], ◌∷◌, ◌++◌, length, Option, Some, None, is_some, unwrap_or, Result, Ok, Err}
+use Rattle.std.specs.Prelude.{ℕ, ◌≡◌, ◌*◌, nat_le, ◌==◌, true, false, ◌&&◌, not, List, [], ◌∷◌, ◌++◌, length, Some, None, is_some, unwrap_or, Result, Ok, Err}
 use Rattle.blocks.specs.declared.refusal.Refusal.{Refusal}
-use Rattle.blocks.specs.declared.refusal.Refusal.TheVariants.{BadRange, Conflict, LogFull, ActivityFull, JournalFull, StreamFull, NotConnected}
+use Rattle.blocks.specs.declared.refusal.Refusal.TheVariants.{Conflict, LogFull, ActivityFull, JournalFull, StreamFull, NotConnected}
 use Rattle.model.specs.Contents.{is_range, extent_of}
 use Rattle.model.specs.Refusals.{Test, first_refusal}
 use Rattle.transferlog.specs.declared.report.Accepted.{Accepted}

@@ -1,11 +1,10 @@
-use Rattle.std.proofs.Common.{ℕ, zero, suc, ◌≡◌, ◌+◌, ◌<◌, ◌≤◌, List, [], ◌∷◌, length, refl, sym, ◌∙◌, ap, subst, arith, Option, Some, None}
+use Rattle.std.proofs.Common.{ℕ, zero, suc, ◌≡◌, ◌<◌, List, [], ◌∷◌, length, refl, ◌∙◌, ap, subst, arith, Option, Some, None}
 use Rattle.std.specs.Prelude.{MatchOption, IsSomeAnd, slice_get}
 use Rattle.blocks.specs.declared.range.Range.{Range}
 use Rattle.blocks.specs.Ranges.{is_between}
 use Rattle.bitmap.specs.Marks.{marking}
 use Rattle.bitmap.proofs.Lists.{length-marking}
 use Rattle.transferlog.specs.Writes.{LogWrite}
-use Rattle.primary_steps.specs.Transitions.{unreleased_blocks}
 use Rattle.primary_core.proofs.Marking.{mark-step, mark-all}
 use Rattle.primary_core.proofs.close.mark_all.Goals.{in-Some, in_default}
 use Rattle.primary_core.proofs.close.mark_all.Goals as goal

@@ -1,5 +1,5 @@
-use Rattle.std.proofs.Common.{◌≡◌, ◌+◌, ◌<◌, ◌≤◌, false, true, length, sym, ◌∙◌, arith}
-use Rattle.primary_core.proofs.Unmarked.{cleared-none, cleared-next, cleared-not}
+use Rattle.std.proofs.Common.{sym, ◌∙◌, arith}
+use Rattle.primary_core.proofs.Unmarked.{cleared-next, cleared-not}
 use Rattle.primary_core.proofs.report.clear.Goals.{then-clears, else-clears}
 use Rattle.primary_core.proofs.report.clear.Goals as goal
 

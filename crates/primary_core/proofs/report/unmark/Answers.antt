@@ -1,4 +1,4 @@
-use Rattle.std.proofs.Common.{false, length, sym}
+use Rattle.std.proofs.Common.{false}
 use Rattle.transferlog.specs.declared.report.Released.{Released}
 use Rattle.primary_core.proofs.Unmarked.{unmark-step, unmark-all}
 use Rattle.primary_core.proofs.report.unmark.Goals as goal

@@ -1,4 +1,4 @@
-use Rattle.std.proofs.Common.{◌≡◌, ◌∙◌, ap}
+use Rattle.std.proofs.Common.{◌∙◌, ap}
 use Rattle.overlap.specs.Holdings.{without}
 use Rattle.primary_core.proofs.Submission.{without-new}
 use Rattle.primary_core.proofs.submit.begin.Goals as goal

@@ -1,12 +1,11 @@
-use Rattle.std.proofs.Common.{ℕ, ◌≡◌, ◌+◌, ◌∷◌, ◌++◌, [], ◌<◌, ◌≤◌, ◌⊎◌, inl, inr, List, refl, sym, ◌∙◌, ap, subst, arith, false}
-use Rattle.overlap.specs.Holdings.{Holding, is_held, holding, holding_too}
+use Rattle.std.proofs.Common.{ℕ, ◌≡◌, ◌+◌, ◌∷◌, ◌++◌, [], inl, inr, List, refl, sym, ◌∙◌, ap, arith, false}
+use Rattle.overlap.specs.Holdings.{is_held, holding, holding_too}
 use Rattle.activitylog.specs.Activity.{begun}
 use Rattle.model.specs.Refusals.{first_refusal}
 use Rattle.model.specs.Contents.{extent_of}
 use Rattle.transferlog.specs.declared.report.Accepted.{Accepted}
 use Rattle.transferlog.specs.Log.{LogState, accepting}
-use Rattle.primary_steps.specs.Core.{Entry, Open, PrimaryState}
-use Rattle.primary_core.specs.Kept.{IsSound}
+use Rattle.primary_steps.specs.Core.{Entry, Open}
 use Rattle.primary_core.specs.State.{core_of, held_at}
 use Rattle.primary_core.specs.Submit.{range_tests, taken_in}
 use Rattle.primary_core.proofs.Accepted.{few-accepted, owing-left, sound-accepted}

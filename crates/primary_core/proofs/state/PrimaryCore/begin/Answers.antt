@@ -1,4 +1,4 @@
-use Rattle.std.proofs.Common.{◌≡◌, refl, sym, ◌∙◌, ap, List, Bool, true, length}
+use Rattle.std.proofs.Common.{◌∙◌, ap, List, Bool, true, length}
 use Rattle.std.specs.Prelude.{replicate}
 use Rattle.primary_core.specs.State.{core_of}
 use Rattle.primary_core.proofs.Beginning.{begun-bitmap, begun-full}

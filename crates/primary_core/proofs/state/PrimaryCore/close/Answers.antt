@@ -1,8 +1,7 @@
-use Rattle.std.proofs.Common.{ℕ, ◌≡◌, refl, sym, ◌∙◌, ap, Ok}
+use Rattle.std.proofs.Common.{ℕ, refl, sym, ◌∙◌, ap, Ok}
 use Rattle.std.specs.Prelude.{option_map}
 use Rattle.primary_steps.specs.Core.{PrimaryState}
-use Rattle.primary_steps.specs.Transitions.{close_end}
-use Rattle.primary_core.specs.State.{core_of, end_of}
+use Rattle.primary_core.specs.State.{end_of}
 use Rattle.primary_core.proofs.Ends.{closes}
 use Rattle.primary_core.proofs.state.PrimaryCore.close.Goals as goal
 

@@ -1,9 +1,9 @@
-use Rattle.std.proofs.Common.{ℕ, ◌≡◌, refl, sym, ◌∙◌, ap}
+use Rattle.std.proofs.Common.{ℕ, sym, ◌∙◌, ap}
 use Rattle.std.specs.Prelude.{if◌then◌else◌}
 use Rattle.bitmap.specs.Marks.{marking}
 use Rattle.blocks.specs.Identifiers.{lost}
-use Rattle.primary_steps.specs.Core.{EndState, PrimaryState, stands, reporting}
-use Rattle.primary_steps.specs.Transitions.{closing, unreleased_blocks}
+use Rattle.primary_steps.specs.Core.{PrimaryState, stands, reporting}
+use Rattle.primary_steps.specs.Transitions.{unreleased_blocks}
 use Rattle.primary_core.specs.Close.{without_stream}
 use Rattle.primary_core.proofs.state.PrimaryCore.close_open.Goals as goal
 

@@ -1,6 +1,5 @@
-use Rattle.std.proofs.Common.{rules, ◌≡◌, Err, Ok, None, refl, sym, ◌∙◌, ap}
+use Rattle.std.proofs.Common.{rules, ◌≡◌, Err, None, sym, ◌∙◌, ap}
 use Rattle.primary_steps.specs.Taking.{confirmed}
-use Rattle.primary_core.specs.Take.{taken_as}
 use Rattle.primary_core.specs.State.{core_of, state_of}
 use Rattle.primary_core.proofs.Answered.{confirmed-not, confirmed-steps, confirmed-err}
 use Rattle.primary_core.proofs.Logged.{core-logged, room-logged}

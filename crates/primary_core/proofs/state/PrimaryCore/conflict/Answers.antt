@@ -1,4 +1,4 @@
-use Rattle.std.proofs.Common.{◌≡◌, refl, sym, ◌∙◌, ap}
+use Rattle.std.proofs.Common.{sym, ◌∙◌, ap}
 use Rattle.overlap.specs.Holdings.{conflict}
 use Rattle.primary_core.specs.State.{way_in}
 use Rattle.primary_core.proofs.Submission.{held-under, conflict-block}

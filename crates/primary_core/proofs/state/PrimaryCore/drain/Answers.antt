@@ -1,8 +1,7 @@
-use Rattle.std.proofs.Common.{ℕ, ◌≡◌, ◌≤◌, refl, sym, ◌∙◌, ap, arith, None}
+use Rattle.std.proofs.Common.{ℕ, ◌≡◌, sym, ap, arith, None}
 use Rattle.transferlog.specs.Log.{LogState, drained}
 use Rattle.overlap.specs.Holdings.{without}
 use Rattle.primary_core.specs.Close.{without_stream}
-use Rattle.primary_core.specs.Kept.{IsSoundLog}
 use Rattle.primary_core.specs.State.{core_of, held_at}
 use Rattle.primary_core.proofs.Held.{without-block}
 use Rattle.primary_core.proofs.Logged.{seen-as}

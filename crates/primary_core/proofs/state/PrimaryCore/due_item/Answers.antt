@@ -1,4 +1,4 @@
-use Rattle.std.proofs.Common.{ℕ, ◌≡◌, List, length, refl, sym, ◌∙◌, ap, Some, Ok}
+use Rattle.std.proofs.Common.{ℕ, List, length, sym, ◌∙◌, ap, Ok}
 use Rattle.std.specs.Prelude.{slice_get}
 use Rattle.std.proofs.lemmas.Bool.{ltb-true}
 use Rattle.model.specs.Frames.{frame_of}

@@ -1,6 +1,5 @@
-use Rattle.std.proofs.Common.{◌≡◌, ◌||◌, List, refl, sym, ◌∙◌, ap}
-use Rattle.model.specs.Stream.{Item}
-use Rattle.primary_steps.specs.Taking.{is_in_epoch, is_unsent}
+use Rattle.std.proofs.Common.{sym, ◌∙◌, ap}
+use Rattle.primary_steps.specs.Taking.{is_unsent}
 use Rattle.primary_core.specs.State.{way_in}
 use Rattle.primary_core.proofs.Sending.{end-items}
 use Rattle.primary_core.proofs.Taken.{in-epoch, in-no-epoch}

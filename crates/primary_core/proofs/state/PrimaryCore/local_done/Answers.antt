@@ -1,4 +1,4 @@
-use Rattle.std.proofs.Common.{◌≡◌, refl, sym, ◌∙◌, ap, true, not, Ok, ◌∷◌, []}
+use Rattle.std.proofs.Common.{refl, ◌∙◌, ap, not, Ok, ◌∷◌, []}
 use Rattle.blocks.specs.declared.outcome.Done.{Done}
 use Rattle.blocks.specs.declared.outcome.What.TheVariants as what
 use Rattle.blocks.specs.declared.refusal.Refusal.TheVariants.{UnknownJob}

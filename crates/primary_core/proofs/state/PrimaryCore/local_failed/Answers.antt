@@ -1,16 +1,14 @@
-use Rattle.std.proofs.Common.{ℕ, ◌≡◌, ◌<◌, ◌≤◌, refl, sym, ◌∙◌, ap, subst, arith, true, not, Ok, Option, ◌∷◌, []}
+use Rattle.std.proofs.Common.{ℕ, ◌≡◌, refl, sym, ◌∙◌, ap, not, Ok, ◌∷◌, []}
 use Rattle.blocks.specs.declared.outcome.Done.{Done}
 use Rattle.blocks.specs.declared.outcome.What.TheVariants as what
 use Rattle.blocks.specs.declared.refusal.Refusal.TheVariants.{UnknownJob}
 use Rattle.transferlog.specs.Log as log
-use Rattle.transferlog.specs.Ring.{write_at}
 use Rattle.transferlog.specs.Writes.{failing}
 use Rattle.primary_steps.specs.Core.{PrimaryState}
 use Rattle.primary_steps.specs.Transitions as transition
 use Rattle.primary_steps.specs.Transitions.{logged, is_unfinished}
-use Rattle.primary_core.specs.Kept.{IsInside}
 use Rattle.primary_core.specs.Local.{given_up}
-use Rattle.primary_core.specs.State.{core_of, state_of}
+use Rattle.primary_core.specs.State.{state_of}
 use Rattle.primary_core.proofs.SoundLog.{keeps-failing}
 use Rattle.primary_core.proofs.Logged.{steps-changing, core-logged, room-logged, follows-logged, unfinished, passes}
 use Rattle.primary_core.proofs.state.PrimaryCore.local_failed.Goals as goal

@@ -1,4 +1,4 @@
-use Rattle.std.proofs.Common.{arith, ◌<◌, ◌≡◌, refl, sym, ◌∙◌, ap}
+use Rattle.std.proofs.Common.{arith, sym}
 use Rattle.primary_core.specs.Kept.{IsInside}
 use Rattle.primary_core.proofs.Found.{found-is}
 use Rattle.primary_core.proofs.state.PrimaryCore.local_write.Goals as goal

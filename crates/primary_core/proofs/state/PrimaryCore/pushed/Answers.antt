@@ -1,18 +1,17 @@
-use Rattle.std.proofs.Common.{ℕ, ◌≡◌, ◌+◌, ◌-◌, ◌<◌, ◌≤◌, true, List, [], ◌∷◌, ◌++◌, length, refl, sym, ◌∙◌, ap, arith, Option, Some, None}
-use Rattle.std.specs.Prelude.{option_map, if◌then◌else◌}
+use Rattle.std.proofs.Common.{ℕ, ◌≡◌, refl, sym, ◌∙◌, ap, arith, Option, Some}
 use Rattle.blocks.specs.declared.command.Command.{Command}
 use Rattle.blocks.specs.declared.outcome.Done.{Done}
 use Rattle.blocks.specs.declared.outcome.What.{What}
 use Rattle.blocks.specs.declared.outcome.What.TheVariants as what
 use Rattle.model.specs.Frames.{command_of, frame_of}
-use Rattle.model.specs.Stream.{Item, is_write, number_of}
+use Rattle.model.specs.Stream.{is_write, number_of}
 use Rattle.transferlog.specs.Log as log
 use Rattle.transferlog.specs.Log.{answers_sent}
 use Rattle.transferlog.specs.Writes.{sending}
 use Rattle.primary_steps.specs.Core.{EndState, PrimaryState}
 use Rattle.primary_steps.specs.Transitions.{logged, next_place, pushed_item}
 use Rattle.primary_core.specs.Send.{sent_now}
-use Rattle.primary_core.specs.State.{IsCore, core_of, end_of, state_of}
+use Rattle.primary_core.specs.State.{IsCore, core_of, state_of}
 use Rattle.primary_core.proofs.Logged.{steps-changing, core-logged, follows-logged}
 use Rattle.primary_core.proofs.Sending.{end-items, is-write, owing-unsent, sent-item, sound-unsent}
 use Rattle.primary_core.proofs.SoundLog.{keeps-sending}

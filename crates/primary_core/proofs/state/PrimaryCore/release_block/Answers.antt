@@ -1,8 +1,8 @@
-use Rattle.std.proofs.Common.{ℕ, ◌≡◌, List, Some, None, refl, sym, ◌∙◌, ap}
+use Rattle.std.proofs.Common.{◌≡◌, List, Some, None, sym, ◌∙◌, ap}
 use Rattle.std.specs.Prelude.{option_map}
 use Rattle.overlap.specs.Holdings.{Holding, without}
 use Rattle.primary_steps.specs.Core.{EndState, PrimaryState}
-use Rattle.primary_core.specs.State.{core_of, end_of, held_at}
+use Rattle.primary_core.specs.State.{core_of, end_of}
 use Rattle.primary_core.proofs.Held.{without-block}
 use Rattle.primary_core.proofs.state.PrimaryCore.release_block.Goals as goal
 

@@ -1,10 +1,8 @@
-use Rattle.std.proofs.Common.{◌≡◌, ◌++◌, ℕ, List, length, take, drop, sym, ◌∙◌, ap, subst, arith, refl}
+use Rattle.std.proofs.Common.{◌≡◌, ◌++◌, ℕ, List, length, take, drop, sym, ◌∙◌, ap, arith, refl}
 use Rattle.std.proofs.Math.Seq.{take-append_seam}
-use Rattle.overlap.specs.Holdings.{Holding}
 use Rattle.transferlog.specs.declared.report.Completed.{Completed}
 use Rattle.transferlog.specs.declared.report.Released.{Released}
-use Rattle.primary_steps.specs.Core.{Entry, PrimaryState, entering, freeing, leaving, unmarking, reporting}
-use Rattle.primary_core.specs.Kept.{IsSound}
+use Rattle.primary_steps.specs.Core.{Entry, entering, freeing, leaving}
 use Rattle.primary_core.specs.State.{state_of, held_at}
 use Rattle.primary_core.proofs.Held.{freeing-held, writers-freeing}
 use Rattle.primary_core.proofs.Reports.{sound-reporting}

@@ -1,4 +1,4 @@
-use Rattle.std.proofs.Common.{ℕ, suc, ◌≡◌, ◌+◌, ◌*◌, ◌^◌, ◌<◌, ◌≤◌, List, [], ◌∷◌, ◌++◌, length, add-one, Some, None, refl, sym, ◌∙◌, ap, arith, false}
+use Rattle.std.proofs.Common.{ℕ, suc, ◌≡◌, List, [], ◌∷◌, ◌++◌, add-one, Some, None, sym, ◌∙◌, ap, arith, false}
 use Rattle.std.specs.Prelude.{option_map}
 use Rattle.blocks.specs.declared.outcome.What.TheVariants as what
 use Rattle.model.specs.Stream.{Item, ResyncItem}

@@ -1,4 +1,4 @@
-use Rattle.std.proofs.Common.{rules, List, ℕ, ◌≡◌, sym, ◌∙◌, ap, false, Ok, Err}
+use Rattle.std.proofs.Common.{rules, List, ℕ, ◌≡◌, sym, ◌∙◌, ap, false, Err}
 use Rattle.blocks.specs.declared.outcome.Done.{Done}
 use Rattle.primary_steps.specs.Transitions.{submit}
 use Rattle.primary_core.specs.Starved.{is_starved}

@@ -1,4 +1,4 @@
-use Rattle.std.proofs.Common.{◌≡◌, ◌/◌, ◌%◌, length, refl, sym, ◌∙◌, ap, arith}
+use Rattle.std.proofs.Common.{◌≡◌, ◌/◌, ◌%◌, length, ap, arith}
 use Rattle.primary_core.proofs.Submission.{is-whole, is-refused}
 use Rattle.primary_core.proofs.state.PrimaryCore.whole_range.Goals as goal
 
