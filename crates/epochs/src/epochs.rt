@@ -1,6 +1,6 @@
 //! Which place an item of a stream has, and when an epoch ends.
 ghost use Rattle.std.specs.Prelude.{◌≡◌, ◌+◌, ◌<◌, ◌≤◌, IsOk, IfOk, IfErr, OnOk, OnErr};
-ghost use Rattle.epochs.specs.Epochs.{acknowledging, completing, empty, is_awaited, placed, uncounted};
+ghost use Rattle.epochs.specs.Epochs.{acknowledging, completing, empty, is_awaited, placed, unacknowledged, uncounted};
 ghost use Rattle.blocks.specs.declared.refusal.Refusal.TheVariants.{NoMemory};
 
 use blocks::Refusal;
@@ -169,6 +169,13 @@ impl Epochs {
         ensures { result ≡ self.now.state.ended + 1 }
     {
         self.ended + 1
+    }
+
+    /// How many epochs with an item are not acknowledged.
+    pub fn unacknowledged(&self) -> u64
+        ensures { result ≡ unacknowledged self.now.state }
+    {
+        self.sizes.len() as u64 + u64::from(self.size > 0 || self.resync)
     }
 
     /// How many items the stream has.

@@ -1,5 +1,5 @@
 -- What the fields of a primary stand for, and what is kept about them.
-use Rattle.std.specs.Prelude.{ℕ, ◌≡◌, ◌-◌, ◌<◌, ◌≤◌, Bool, List, ◌∷◌, length, Option, Some, None, option_map}
+use Rattle.std.specs.Prelude.{ℕ, ◌≡◌, ◌-◌, ◌<◌, ◌≤◌, Bool, List, ◌∷◌, length, Option, Some, None, option_map, false, []}
 use Rattle.std.specs.List.{AllByRecursion}
 use Rattle.std.specs.VecDeque.{deque_len, deque_capacity}
 use Rattle.blocks.specs.declared.settings.Settings.{Settings}
@@ -36,6 +36,16 @@ end_of unsent e = record {
   resync = e.is_resync;
   under_way = option_map way_of e.under_way;
 }
+
+-- whether a resync goes on at an end, where one is open
+abbrev pub resync_in : Option EndState → Bool
+resync_in None = false
+resync_in (Some e) = e.resync
+
+-- the items of an end that were not sent, where one is open
+abbrev pub items_in : Option EndState → List Item
+items_in None = []
+items_in (Some e) = e.unsent
 
 -- the block under way of an end, where one is open
 abbrev pub way_in : Option EndState → Option core.UnderWay

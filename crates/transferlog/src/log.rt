@@ -1,8 +1,9 @@
 //! The transfer log of a primary.
-ghost use Rattle.std.specs.Prelude.{MatchOption, find, slice_get, ◌≡◌, ◌+◌, ◌<◌, ◌≤◌, length, IfOk, IfErr, IsSomeAnd, None};
+ghost use Rattle.std.specs.Prelude.{MatchOption, filter, find, slice_get, ◌≡◌, ◌+◌, ◌<◌, ◌≤◌, length, IfOk, IfErr, IsSomeAnd, None};
 ghost use Rattle.std.specs.Option.{option_copied, option_map};
 ghost use Rattle.transferlog.specs.Log.{clears, empty_log};
-ghost use Rattle.transferlog.specs.Writes.{is_waiting};
+ghost use Rattle.epochs.specs.Epochs.{unacknowledged};
+ghost use Rattle.transferlog.specs.Writes.{is_open, is_unanswered, is_waiting};
 ghost use Rattle.transferlog.specs.Ring.{write_at};
 ghost use Rattle.blocks.specs.declared.refusal.Refusal.TheVariants.{NoMemory};
 
@@ -100,6 +101,29 @@ impl TransferLog {
         ensures { result ≡ length self.now.state.writes }
     {
         self.ring.len()
+    }
+
+    /// How many writes are neither completed nor failed. It takes time for each number from the first
+    /// unreleased one on.
+    pub fn open(&self) -> u32
+        ensures { result ≡ length (filter is_open self.now.state.writes) }
+    {
+        self.ring.open()
+    }
+
+    /// How many writes were sent on the connection that stands, and are not answered. It takes time for each
+    /// number from the first unreleased one on.
+    pub fn unanswered(&self) -> u32
+        ensures { result ≡ length (filter is_unanswered self.now.state.writes) }
+    {
+        self.ring.unanswered()
+    }
+
+    /// How many epochs with an item are not acknowledged.
+    pub fn open_epochs(&self) -> u64
+        ensures { result ≡ unacknowledged self.now.state.epochs }
+    {
+        self.epochs.unacknowledged()
     }
 
     /// How many writes were accepted, which is the number of the last one.
