@@ -12,8 +12,13 @@ pub enum Fate {
     Open,
     /// The local disk failed it.
     Failed,
-    /// It was completed: whether the peer has answered it, and its connection and place, if it has any.
-    Completed(bool, Option<(u32, u32)>),
+    /// It was completed.
+    Completed {
+        /// Whether the peer has answered it, as the protocol asks; else it was completed without the peer.
+        linked: bool,
+        /// The connection and the place in its stream, if it has one.
+        home: Option<(u32, u32)>,
+    },
 }
 
 /// An accepted write as its caller asks for it.

@@ -45,7 +45,7 @@ fn told(found: Option<&Entry>) -> Result<Entry, Refusal>
     match entry.fate {
         Fate::Open => Err(Refusal::NotCompleted),
         Fate::Failed => Err(Refusal::LocalFault),
-        Fate::Completed(..) => Ok(Entry {
+        Fate::Completed { .. } => Ok(Entry {
             first: entry.first,
             count: entry.count,
             fate: entry.fate,

@@ -44,7 +44,10 @@ fn enter(completed: &[Completed], entries: &mut [Entry])
         set_fate(
             entries,
             write.number,
-            Fate::Completed(write.linked, write.home),
+            Fate::Completed {
+                linked: write.linked,
+                home: write.home,
+            },
         );
     }
 }
