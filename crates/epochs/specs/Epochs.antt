@@ -1,7 +1,7 @@
 -- The epochs of one connection's stream in plain values, and how each call changes them. The rules are this project's, after
 -- DRBD's write epochs: a barrier ends an epoch, and is appended once an item of the last epoch is completed, or once that epoch
 -- has as many writes as it may.
-use Rattle.std.specs.Prelude.{ℕ, ◌+◌, nat_lt, nat_le, ◌==◌, Bool, true, false, ◌&&◌, if◌then◌else◌, List, [], ◌∷◌, ◌++◌, length, drop, Option, Some, None, Result, Ok, Err}
+use Rattle.std.specs.Prelude.{ℕ, ◌+◌, nat_lt, nat_le, ◌==◌, Bool, true, false, ◌&&◌, ◌||◌, if◌then◌else◌, List, [], ◌∷◌, ◌++◌, length, drop, Option, Some, None, Result, Ok, Err}
 use Rattle.blocks.specs.declared.refusal.Refusal.{Refusal}
 use Rattle.blocks.specs.declared.refusal.Refusal.TheVariants.{BadBarrierAck}
 
@@ -17,6 +17,11 @@ pub record EpochsState : Type 0 where
   pub size : ℕ
   pub first : ℕ
   pub resync : Bool
+
+-- a stream's epochs, and for how many more that end there is room
+pub record EpochsValue : Type 0 where
+  pub state : EpochsState
+  pub spare : ℕ
 
 -- a stream with no item
 abbrev pub empty : ℕ → EpochsState
@@ -65,6 +70,10 @@ placed number s = (s.places, if number == 0 then (None, with_resync s) else writ
 -- A write, or for 0 a resync item, is completed: the barrier that is appended, and what is left.
 abbrev pub completing : ℕ → EpochsState → Option ℕ × EpochsState
 completing number s = ended_if (is_in_last number s) s
+
+-- how many epochs with an item are not acknowledged: those that ended, and the last one where it has an item
+abbrev pub unacknowledged : EpochsState → ℕ
+unacknowledged s = length s.sizes + (if nat_lt 0 s.size || s.resync then 1 else 0)
 
 -- whether an epoch of this size is the first of these
 abbrev pub begins_with : ℕ → List ℕ → Bool

@@ -1,7 +1,7 @@
 -- What the fields of a stream's epochs stand for, and what is kept about them.
-use Rattle.std.specs.Prelude.{◌≡◌, ◌<◌, ◌≤◌, true}
+use Rattle.std.specs.Prelude.{◌-◌, ◌≡◌, ◌<◌, ◌≤◌, true}
 use Rattle.std.specs.VecDeque.{deque_len, deque_capacity}
-use Rattle.epochs.specs.Epochs.{EpochsState}
+use Rattle.epochs.specs.Epochs.{EpochsState, EpochsValue}
 use Rattle.epochs.specs.declared.epochs.Epochs.TheInside.{Inside}
 
 -- the fields as plain values
@@ -15,6 +15,10 @@ state_of e = record {
   first = e.first;
   resync = e.resync;
 }
+
+-- the fields, with the room for more
+abbrev pub value_of : Inside → EpochsValue
+value_of e = record { state = state_of e; spare = deque_capacity e.sizes - deque_len e.sizes }
 
 -- Each barrier has a place, and is acknowledged once; the last epoch is not full; where it has an item, there is a place for its
 -- barrier, and room for its size.

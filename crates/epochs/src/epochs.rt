@@ -1,6 +1,6 @@
 //! Which place an item of a stream has, and when an epoch ends.
-ghost use Rattle.std.specs.Prelude.{◌≡◌, ◌+◌, ◌<◌, ◌≤◌, IfOk, IfErr, OnErr};
-ghost use Rattle.epochs.specs.Epochs.{acknowledging, completing, empty, is_awaited, placed, uncounted};
+ghost use Rattle.std.specs.Prelude.{◌≡◌, ◌+◌, ◌<◌, ◌≤◌, IsOk, IfOk, IfErr, OnOk, OnErr};
+ghost use Rattle.epochs.specs.Epochs.{acknowledging, completing, empty, is_awaited, placed, unacknowledged, uncounted};
 ghost use Rattle.blocks.specs.declared.refusal.Refusal.TheVariants.{NoMemory};
 
 use blocks::Refusal;
@@ -23,13 +23,13 @@ pub struct Epochs {
 }
 
 impl Model for Epochs {
-    ghost use Rattle.epochs.specs.Epochs.{EpochsState};
+    ghost use Rattle.epochs.specs.Epochs.{EpochsValue};
 
-    ghost Value = { EpochsState };
+    ghost Value = { EpochsValue };
 
-    ghost use Rattle.epochs.specs.Fields.{state_of, IsKept};
+    ghost use Rattle.epochs.specs.Fields.{value_of, IsKept};
 
-    ghost view = { state_of };
+    ghost view = { value_of };
 
     ghost invariant = { IsKept };
 }
@@ -39,7 +39,7 @@ impl Epochs {
     pub fn new(alloc: Global, max_epoch: u32) -> Epochs
         requires some { 0 < max_epoch }
         requires few { max_epoch ≤ 20000 }
-        ensures { result ≡ empty max_epoch }
+        ensures { result.state ≡ empty max_epoch }
     {
         Epochs {
             max_epoch,
@@ -54,7 +54,7 @@ impl Epochs {
 
     /// The stream is empty again. It takes no memory.
     pub fn restart(&mut self)
-        ensures { self.new ≡ empty self.old.max_epoch }
+        ensures { self.new.state ≡ empty self.old.state.max_epoch }
     {
         self.places = 0;
         self.ended = 0;
@@ -64,20 +64,33 @@ impl Epochs {
         self.resync = false;
     }
 
+    /// Makes room for the size of one more epoch, so that the next item takes no memory. `NoMemory` (7) where
+    /// it cannot be had.
+    pub fn reserve(&mut self) -> Result<(), Refusal>
+        ensures same { self.new.state ≡ self.old.state }
+        ensures room { OnOk result (0 < self.new.spare) }
+        ensures roomy { 0 < self.old.spare → IsOk result }
+        ensures refused { IfErr result (λ e. e ≡ NoMemory) }
+    {
+        self.sizes.reserve(1)?;
+        Ok(())
+    }
+
     /// Puts an item into the stream: the write with this number, or for 0 a resync item. Answers its
     /// place, and the number of the barrier that follows it where the epoch has all its writes now.
     ///
-    /// `NoMemory` (7) where there is no room for the epoch's size; the call makes that room, so no later
-    /// one takes memory.
+    /// `NoMemory` (7) where there is no room for the epoch's size, and none can be had; the call makes that
+    /// room, so no later one takes memory.
     pub fn place(&mut self, number: u64) -> Result<(u32, Option<u32>), Refusal>
-        requires room { self.old.places < 4294967290 }
+        requires room { self.old.state.places < 4294967290 }
         // The numbers of writes rise.
-        requires rising { 0 < number → 0 < self.old.size → self.old.first + self.old.size ≤ number }
-        ensures placed { IfOk result (λ answer. (answer.0, (answer.1, self.new)) ≡ placed number self.old) }
+        requires rising { 0 < number → 0 < self.old.state.size → self.old.state.first + self.old.state.size ≤ number }
+        ensures placed { IfOk result (λ answer. (answer.0, (answer.1, self.new.state)) ≡ placed number self.old.state) }
         ensures refused { IfErr result (λ e. e ≡ NoMemory) }
-        ensures unchanged { OnErr result (self.new ≡ self.old) }
+        ensures unchanged { OnErr result (self.new.state ≡ self.old.state) }
+        ensures roomy { 0 < self.old.spare → IsOk result }
     {
-        self.sizes.reserve(1)?;
+        self.reserve()?;
         let place = self.places;
         self.places += 1;
         if number == 0 {
@@ -102,8 +115,8 @@ impl Epochs {
     /// Puts a SYNC_UUID or UUIDS item into the stream, which no epoch counts. Answers its place. It takes
     /// no memory.
     pub fn uuids(&mut self) -> u32
-        requires { self.old.places < 4294967290 }
-        ensures { (result, self.new) ≡ uncounted self.old }
+        requires { self.old.state.places < 4294967290 }
+        ensures { (result, self.new.state) ≡ uncounted self.old.state }
     {
         self.places += 1;
         self.places - 1
@@ -112,7 +125,7 @@ impl Epochs {
     /// The write with this number, or for 0 a resync item, is completed. Where it is in the last epoch,
     /// that ends: answers its barrier's number. It takes no memory.
     pub fn completed(&mut self, number: u64) -> Option<u32>
-        ensures { (result, self.new) ≡ completing number self.old }
+        ensures { (result, self.new.state) ≡ completing number self.old.state }
     {
         let is_last = if number == 0 {
             self.resync
@@ -133,7 +146,7 @@ impl Epochs {
     /// Whether the number is that of the oldest barrier that is not acknowledged, and the size is its
     /// epoch's.
     pub fn is_awaited(&self, number: u32, size: u32) -> bool
-        ensures { result ≡ is_awaited number size self.now }
+        ensures { result ≡ is_awaited number size self.now.state }
     {
         let oldest = u64::from(number) + self.sizes.len() as u64 == u64::from(self.ended) + 1;
         oldest && self.sizes.front() == Some(&size)
@@ -142,7 +155,7 @@ impl Epochs {
     /// The peer acknowledged a barrier. `BadBarrierAck` (24) unless the number is that of the oldest
     /// barrier that is not acknowledged, and the size is its epoch's. It takes no memory.
     pub fn acknowledge(&mut self, number: u32, size: u32) -> Result<(), Refusal>
-        ensures { (result, self.new) ≡ acknowledging number size self.old }
+        ensures { (result, self.new.state) ≡ acknowledging number size self.old.state }
     {
         if !self.is_awaited(number, size) {
             return Err(Refusal::BadBarrierAck);
@@ -153,14 +166,21 @@ impl Epochs {
 
     /// The number of the last epoch, from 1.
     pub fn last(&self) -> u32
-        ensures { result ≡ self.now.ended + 1 }
+        ensures { result ≡ self.now.state.ended + 1 }
     {
         self.ended + 1
     }
 
+    /// How many epochs with an item are not acknowledged.
+    pub fn unacknowledged(&self) -> u64
+        ensures { result ≡ unacknowledged self.now.state }
+    {
+        self.sizes.len() as u64 + u64::from(self.size > 0 || self.resync)
+    }
+
     /// How many items the stream has.
     pub fn places(&self) -> u32
-        ensures { result ≡ self.now.places }
+        ensures { result ≡ self.now.state.places }
     {
         self.places
     }

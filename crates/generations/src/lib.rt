@@ -9,4 +9,4 @@ mod words;
 pub use blocks::Tuple;
 pub use decision::decide;
 pub use turn::Generations;
-pub use words::fresh;
+pub use words::{fresh, stands_in};

@@ -19,8 +19,8 @@ pub fn fresh(word: u64, known: &[Tuple]) -> Result<(), Refusal>
     Ok(())
 }
 
-/// Whether the word is one of the tuple's four.
-pub(crate) fn stands_in(word: u64, tuple: &Tuple) -> bool
+/// Whether the word is one of the tuple's four. It takes no memory.
+pub fn stands_in(word: u64, tuple: &Tuple) -> bool
     ensures { result ≡ stands_in word tuple.now }
 {
     word == tuple.current

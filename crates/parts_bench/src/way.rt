@@ -62,7 +62,7 @@ fn owed(holds: bool) -> Result<(), Refusal>
 
 /// Whether the write may be sent.
 fn may_be_sent(log: &TransferLog, number: u64) -> bool
-    ensures { result ≡ true → IsSomeAnd (write_at number log.now.writes) (λ w. (w.linked ≡ true) × (w.sent ≡ false)) }
+    ensures { result ≡ true → IsSomeAnd (write_at number log.now.state.writes) (λ w. (w.linked ≡ true) × (w.sent ≡ false)) }
 {
     match log.get(number) {
         Some(write) => write.is_linked() && !write.is_sent(),
@@ -72,7 +72,7 @@ fn may_be_sent(log: &TransferLog, number: u64) -> bool
 
 /// Whether the local disk has the write to do.
 fn is_waiting(log: &TransferLog, number: u64) -> bool
-    ensures { result ≡ true → IsSomeAnd (write_at number log.now.writes) (λ w. w.local ≡ Waiting) }
+    ensures { result ≡ true → IsSomeAnd (write_at number log.now.state.writes) (λ w. w.local ≡ Waiting) }
 {
     match log.get(number) {
         Some(write) => write.local() == Local::Waiting,

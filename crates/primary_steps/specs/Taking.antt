@@ -137,12 +137,16 @@ abbrev pub taken_by : EndState → Taken → Result Done Refusal × PrimaryState
 taken_by e (Ok done) = (Ok done.0, done.1)
 taken_by e (Err error) = (Err error.0, (closing e error.1).1)
 
+-- a frame is taken where an end is open
+abbrev pub take_at : Received → PrimaryState → Result Done Refusal × PrimaryState
+take_at frame s = elim s.end [ None ↦ (Err NotConnected, s) | Some e ↦ taken_by e (taking frame e s) ]
+
 -- the next frame that the link has for this end, or none
 abbrev pub ack_in : Option Received → Bool → PrimaryState → Result Done Refusal × PrimaryState
 ack_in frame starved s = elim s.end [
   | None ↦ (Err NotConnected, s)
   | Some e ↦ tested s ((not (stands s) && starved, NoMemory) ∷ (is_none frame, NothingThere) ∷ []) (λ _. elim frame [
     | None ↦ (Err NothingThere, s)
-    | Some taken ↦ taken_by e (taking taken e s)
+    | Some taken ↦ take_at taken s
   ])
 ]

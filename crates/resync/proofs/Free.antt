@@ -10,7 +10,7 @@ use Rattle.overlap.specs.Holdings.{Holding, conflict, meets}
 use Rattle.resync.specs.Next.{is_free, next_block}
 
 -- a filter before a search
-find-filter : (p q : ℕ → Bool) (xs : List ℕ) → find p (filter q xs) ≡ find (λ x. q x && p x) xs
+pub find-filter : (p q : ℕ → Bool) (xs : List ℕ) → find p (filter q xs) ≡ find (λ x. q x && p x) xs
 find-filter p q [] = refl
 find-filter p q (x ∷ xs) = go (find-filter p q xs) (q x) (p x) refl refl
   where

@@ -46,7 +46,7 @@ alone_changed change.Unlinked w alone = refl
 pub log_changed : (l m : Inside) (number : ℕ) (what : Change) → IsLog l → m.ring.next ≡ l.ring.next → m.accepted ≡ l.accepted → m.connection ≡ l.connection → m.confirmed ≡ l.confirmed → m.backlog ≡ l.backlog
     → m.ring.writes ≡ filter (λ w. not (is_released l.confirmed w)) (with_change number (changed what) l.ring.writes)
     → vec_capacity m.released ≡ vec_capacity l.released → vec_capacity m.completed ≡ vec_capacity l.completed
-    → IsBounded l.confirmed l.accepted m.epochs → IsLog m
+    → IsBounded l.confirmed l.accepted m.epochs.state → IsLog m
 log_changed l m number what log next accepted connection confirmed backlog writes released completed bounded =
     let few : length m.ring.writes ≤ length l.ring.writes = rw writes (few_left (λ w. not (is_released l.confirmed w)) (on number (changed what)) l.ring.writes) in
     record {
@@ -134,7 +134,7 @@ awaited_of number size s may = and_left (is_awaited number size s.epochs) (not (
 pub log_confirmed : (l m : Inside) (confirmed : ℕ) → IsLog l → m.ring.next ≡ l.ring.next → m.accepted ≡ l.accepted → m.connection ≡ l.connection → m.confirmed ≡ confirmed → m.backlog ≡ l.backlog
     → m.ring.writes ≡ filter (λ w. not (is_released confirmed w)) l.ring.writes
     → vec_capacity m.released ≡ vec_capacity l.released → vec_capacity m.completed ≡ vec_capacity l.completed
-    → IsBounded confirmed l.accepted m.epochs → IsLog m
+    → IsBounded confirmed l.accepted m.epochs.state → IsLog m
 log_confirmed l m confirmed log next accepted connection confirmed_is backlog writes released completed bounded =
     let few : length m.ring.writes ≤ length l.ring.writes = rw writes (few_filtered (λ w. not (is_released confirmed w)) l.ring.writes) in
     record {

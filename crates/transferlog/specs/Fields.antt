@@ -1,8 +1,8 @@
 -- What the fields of a transfer log stand for, and what is kept about them.
-use Rattle.std.specs.Prelude.{ℕ, ◌≡◌, ◌+◌, ◌<◌, ◌≤◌, false, length, sum, vec_capacity, None}
+use Rattle.std.specs.Prelude.{ℕ, ◌≡◌, ◌+◌, ◌<◌, ◌≤◌, false, length, min, sum, vec_capacity, None}
 use Rattle.transferlog.specs.Writes.{LogWrite, is_released}
 use Rattle.transferlog.specs.Ring.{Each}
-use Rattle.transferlog.specs.Log.{LogState}
+use Rattle.transferlog.specs.Log.{LogState, LogValue}
 use Rattle.transferlog.specs.declared.log.TransferLog.TheInside.{Inside}
 
 -- the fields as plain values
@@ -15,10 +15,14 @@ log_of l = record {
   confirmed = l.confirmed;
   latest = l.latest.items;
   writes = l.ring.writes;
-  epochs = l.epochs;
+  epochs = l.epochs.state;
   released = l.released.items;
   completed = l.completed.items;
 }
+
+-- the fields, with the room for more
+abbrev pub value_of : Inside → LogValue
+value_of l = record { state = log_of l; spare = min l.ring.spare l.epochs.spare }
 
 -- the write is not released
 abbrev pub IsKept : ℕ → LogWrite → Type 0
@@ -40,5 +44,5 @@ pub record IsLog (l : Inside) : Type 0 where
   pub some : 0 < l.backlog
   pub room_for_released : l.backlog ≤ vec_capacity l.released
   pub room_for_completed : l.backlog ≤ vec_capacity l.completed
-  pub confirmed : l.confirmed + (sum l.epochs.sizes + l.epochs.size) ≤ l.accepted
-  pub begun : 0 < l.epochs.size → l.epochs.first + l.epochs.size ≤ l.accepted + 1
+  pub confirmed : l.confirmed + (sum l.epochs.state.sizes + l.epochs.state.size) ≤ l.accepted
+  pub begun : 0 < l.epochs.state.size → l.epochs.state.first + l.epochs.state.size ≤ l.accepted + 1

@@ -35,6 +35,11 @@ pub record LogState : Type 0 where
   pub released : List Released
   pub completed : List Completed
 
+-- a log, and for how many more items, each with a barrier, there is room
+pub record LogValue : Type 0 where
+  pub state : LogState
+  pub spare : ℕ
+
 -- a log with no write, of a device of so many blocks
 abbrev pub empty_log : Protocol → ℕ → ℕ → ℕ → LogState
 empty_log protocol blocks max_epoch backlog = record {

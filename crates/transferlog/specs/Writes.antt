@@ -98,6 +98,10 @@ is_at place (Some home) = home.1 == place
 abbrev pub awaits : Named → LogWrite → Bool
 awaits of w = (is_at of.place w.home && ((w.first == of.first) && (w.count == of.count))) && (w.linked && (w.sent && not w.answered))
 
+-- it was sent on the connection that stands, and is not answered
+abbrev pub is_unanswered : LogWrite → Bool
+is_unanswered w = w.linked && (w.sent && not w.answered)
+
 -- the local disk has it to do
 abbrev pub is_waiting : LogWrite → Bool
 is_waiting w = not (is_settled w)

@@ -1,8 +1,9 @@
 //! The transfer log of a primary.
-ghost use Rattle.std.specs.Prelude.{MatchOption, find, slice_get, ◌≡◌, ◌<◌, ◌≤◌, length, IfOk, IfErr, IsSomeAnd, None};
+ghost use Rattle.std.specs.Prelude.{MatchOption, filter, find, slice_get, ◌≡◌, ◌+◌, ◌<◌, ◌≤◌, length, IfOk, IfErr, IsSomeAnd, None};
 ghost use Rattle.std.specs.Option.{option_copied, option_map};
 ghost use Rattle.transferlog.specs.Log.{clears, empty_log};
-ghost use Rattle.transferlog.specs.Writes.{is_waiting};
+ghost use Rattle.epochs.specs.Epochs.{unacknowledged};
+ghost use Rattle.transferlog.specs.Writes.{is_open, is_unanswered, is_waiting};
 ghost use Rattle.transferlog.specs.Ring.{write_at};
 ghost use Rattle.blocks.specs.declared.refusal.Refusal.TheVariants.{NoMemory};
 
@@ -40,13 +41,13 @@ pub struct TransferLog {
 }
 
 impl Model for TransferLog {
-    ghost use Rattle.transferlog.specs.Log.{LogState};
+    ghost use Rattle.transferlog.specs.Log.{LogValue};
 
-    ghost Value = { LogState };
+    ghost Value = { LogValue };
 
-    ghost use Rattle.transferlog.specs.Fields.{log_of, IsLog};
+    ghost use Rattle.transferlog.specs.Fields.{value_of, IsLog};
 
-    ghost view = { log_of };
+    ghost view = { value_of };
 
     ghost invariant = { IsLog };
 }
@@ -64,7 +65,7 @@ impl TransferLog {
         requires epoch_some { 0 < max_epoch }
         requires epoch_few { max_epoch ≤ 20000 }
         requires some { 0 < backlog }
-        ensures empty { IfOk result (λ log. log ≡ empty_log protocol blocks max_epoch backlog) }
+        ensures empty { IfOk result (λ log. log.state ≡ empty_log protocol blocks max_epoch backlog) }
         ensures refused { IfErr result (λ e. e ≡ NoMemory) }
     {
         Ok(TransferLog {
@@ -83,49 +84,86 @@ impl TransferLog {
 
     /// What the last call released, by rising number.
     pub fn released(&self) -> &[Released]
-        ensures { result.now ≡ self.now.released }
+        ensures { result.now ≡ self.now.state.released }
     {
         &self.released
     }
 
     /// What the last call completed, by rising number.
     pub fn completed(&self) -> &[Completed]
-        ensures { result.now ≡ self.now.completed }
+        ensures { result.now ≡ self.now.state.completed }
     {
         &self.completed
     }
 
     /// How many writes are unreleased.
     pub fn len(&self) -> u32
-        ensures { result ≡ length self.now.writes }
+        ensures { result ≡ length self.now.state.writes }
     {
         self.ring.len()
     }
 
+    /// How many writes are neither completed nor failed. It takes time for each number from the first
+    /// unreleased one on.
+    pub fn open(&self) -> u32
+        ensures { result ≡ length (filter is_open self.now.state.writes) }
+    {
+        self.ring.open()
+    }
+
+    /// How many writes were sent on the connection that stands, and are not answered. It takes time for each
+    /// number from the first unreleased one on.
+    pub fn unanswered(&self) -> u32
+        ensures { result ≡ length (filter is_unanswered self.now.state.writes) }
+    {
+        self.ring.unanswered()
+    }
+
+    /// How many epochs with an item are not acknowledged.
+    pub fn open_epochs(&self) -> u64
+        ensures { result ≡ unacknowledged self.now.state.epochs }
+    {
+        self.epochs.unacknowledged()
+    }
+
     /// How many writes were accepted, which is the number of the last one.
     pub fn accepted(&self) -> u64
-        ensures { result ≡ self.now.accepted }
+        ensures { result ≡ self.now.state.accepted }
     {
         self.accepted
     }
 
     /// How many items the connection's stream has.
     pub fn places(&self) -> u32
-        ensures { result ≡ self.now.epochs.places }
+        ensures { result ≡ self.now.state.epochs.places }
     {
         self.epochs.places()
     }
 
+    /// The number of the stream's last epoch, from 1.
+    pub fn epoch(&self) -> u32
+        ensures { result ≡ self.now.state.epochs.ended + 1 }
+    {
+        self.epochs.last()
+    }
+
+    /// The connection whose stream stands, if one does.
+    pub fn connection(&self) -> Option<u32>
+        ensures { result ≡ self.now.state.connection }
+    {
+        self.connection
+    }
+
     /// How many blocks the device has.
     pub fn blocks(&self) -> usize
-        ensures { result ≡ length self.now.latest }
+        ensures { result ≡ length self.now.state.latest }
     {
         self.latest.len()
     }
 
     /// The lowest number of a write that the local disk has to do. It takes constant time.
     pub fn next_local(&self) -> Option<u64>
-        ensures { result ≡ option_map (λ w. w.number) (find is_waiting self.now.writes) }
+        ensures { result ≡ option_map (λ w. w.number) (find is_waiting self.now.state.writes) }
     {
         let write = self.ring.first_waiting()?;
         Some(write.number())
@@ -134,7 +172,7 @@ impl TransferLog {
     /// The range of the unreleased write that has `index` unreleased ones below it. It takes time for each
     /// of those.
     pub fn unreleased(&self, index: u32) -> Option<Range>
-        ensures { MatchOption (slice_get self.now.writes index) (result ≡ None)
+        ensures { MatchOption (slice_get self.now.state.writes index) (result ≡ None)
             (λ w. IsSomeAnd result (λ range. (range.first.0 ≡ w.first) × (range.count ≡ w.count))) }
     {
         let write = self.ring.nth(index)?;
@@ -144,14 +182,14 @@ impl TransferLog {
     /// Whether the release of a write, by the last call, clears the mark of this block: the write clears
     /// marks, the block is one of its, and no later write has it. It takes constant time.
     pub fn clears(&self, released: &Released, block: Block) -> bool
-        ensures { result ≡ clears released.now block.0 self.now.latest }
+        ensures { result ≡ clears released.now block.0 self.now.state.latest }
     {
         let inside = released.first <= block.0 && block.0 - released.first < released.count;
         released.clears && inside && self.latest_on(block) == Some(released.number)
     }
 
     fn latest_on(&self, block: Block) -> Option<u64>
-        ensures { result ≡ slice_get self.now.latest block.0 }
+        ensures { result ≡ slice_get self.now.state.latest block.0 }
     {
         let number = self.latest.get(block.0 as usize)?;
         Some(u64::from(*number))
@@ -159,7 +197,7 @@ impl TransferLog {
 
     /// The unreleased write with this number.
     pub fn get(&self, number: u64) -> Option<&Write>
-        ensures { option_copied result ≡ write_at number self.now.writes }
+        ensures { option_copied result ≡ write_at number self.now.state.writes }
     {
         self.ring.get(number)
     }

@@ -1,9 +1,10 @@
 //! The row of the unreleased writes.
-ghost use Rattle.std.specs.Prelude.{find, slice_get, ◌&&◌, ◌≤◌, filter, map, not, vec_len, vec_capacity, ◌≡◌, ◌+◌, ◌^◌, ◌<◌, [], ◌∷◌, ◌++◌, length, OnOk, is_some, if◌then◌else◌};
+ghost use Rattle.std.specs.Prelude.{find, slice_get, ◌&&◌, ◌≤◌, filter, map, not, vec_len, vec_capacity, ◌≡◌, ◌+◌, ◌^◌, ◌<◌, [], ◌∷◌, ◌++◌, length, IsOk, OnOk, is_some, if◌then◌else◌};
 ghost use Rattle.std.specs.List.{list_any};
 ghost use Rattle.blocks.specs.Ranges.{is_between};
 ghost use Rattle.std.specs.Option.{option_copied, option_map, option_and_then};
 ghost use Rattle.transferlog.specs.Writes.{completed_of, is_completed, is_open, is_released, is_waiting, release_of, released_of, turn_of, unlinking};
+ghost use Rattle.transferlog.specs.Writes as writes;
 ghost use Rattle.transferlog.specs.Ring.{Each, ReleasedBelow, ReleasedFrom, Rises, WaitsFrom, changed, is_unanswered, is_waiting_at, with_change, without, write_at};
 
 use crate::report::{Completed, Released, Turn, note};
@@ -62,6 +63,7 @@ impl Ring {
     pub(crate) fn reserve(&mut self) -> Result<(), AllocError>
         ensures same { self.new ≡ record self.old { spare = self.new.spare } }
         ensures room { OnOk result (0 < self.new.spare) }
+        ensures roomy { 0 < self.old.spare → IsOk result }
     {
         self.slots.reserve(1)
     }
@@ -143,6 +145,36 @@ impl Ring {
             }
         }
         None
+    }
+
+    /// How many writes are neither completed nor failed.
+    pub(crate) fn open(&self) -> u32
+        ensures { result ≡ length (filter is_open self.now.writes) }
+    {
+        let mut count = 0;
+        for index in 0..self.slots.len() {
+            if let Some(write) = self.slots[index].as_ref() {
+                if write.is_open() {
+                    count += 1;
+                }
+            }
+        }
+        count
+    }
+
+    /// How many writes were sent on the connection that stands, and are not answered.
+    pub(crate) fn unanswered(&self) -> u32
+        ensures { result ≡ length (filter writes.is_unanswered self.now.writes) }
+    {
+        let mut count = 0;
+        for index in 0..self.slots.len() {
+            if let Some(write) = self.slots[index].as_ref() {
+                if write.is_unanswered() {
+                    count += 1;
+                }
+            }
+        }
+        count
     }
 
     /// The change happens to the write with this number, if there is one. Answers what it did to it.

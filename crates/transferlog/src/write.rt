@@ -12,7 +12,7 @@
 //! | open, on disk, without a connection | at once | completed (alone, where it is not answered) |
 //! | on disk or failed, without a connection | at once | released, clears nothing |
 ghost use Rattle.std.specs.Prelude.{◌≡◌, is_some, false};
-ghost use Rattle.transferlog.specs.Writes.{awaits, completed_of, is_at, is_completed, is_open, is_released, is_settled, release_of, turn_of};
+ghost use Rattle.transferlog.specs.Writes.{awaits, completed_of, is_at, is_completed, is_open, is_released, is_settled, is_unanswered, release_of, turn_of};
 ghost use Rattle.transferlog.specs.Ring.{changed};
 
 use crate::local::Local;
@@ -226,6 +226,13 @@ impl Write {
         ensures { result ≡ self.now.answered }
     {
         self.answered
+    }
+
+    /// Whether it was sent on the connection that stands, and is not answered.
+    pub(crate) fn is_unanswered(&self) -> bool
+        ensures { result ≡ is_unanswered self.now }
+    {
+        self.is_linked() && (self.is_sent() && !self.is_answered())
     }
 
     /// Whether the local disk is done with it.

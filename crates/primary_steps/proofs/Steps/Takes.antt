@@ -161,7 +161,7 @@ takes-agree frame starved s h reached left = by-end s.end refl left.rest.end
     core-rest : PrimaryState → Unit {0} → EndState → Result Done Refusal × PrimaryState
     core-rest s _ e = elim frame [
       | None ↦ (Err NothingThere, s)
-      | Some taken ↦ core.taken_by e (core.taking taken e s)
+      | Some taken ↦ core.take_at taken s
     ]
 
     model-rest : Unit {0} → Reply × PrimaryHistory
@@ -187,6 +187,9 @@ takes-agree frame starved s h reached left = by-end s.end refl left.rest.end
         (tested-agrees reply.Ok s h _ ((not (outward h).begun && starved, NoMemory) ∷ (is_none frame, NothingThere) ∷ []) (λ u. core-rest s u e) model-rest
         (λ i. (not ((stands-same s h left ∙ λ j. not (end.stands j) && (outward h).begun) i) && starved, NoMemory) ∷ (is_none frame, NothingThere) ∷ []) left (λ none. rest frame)))
       where
-        rest : (v : Option Received) → Agrees reply.Ok (elim v as (λ _. Result Done Refusal × PrimaryState) [ None ↦ (Err NothingThere, s) | Some taken ↦ core.taken_by e (core.taking taken e s) ]) (elim v as (λ _. Reply × PrimaryHistory) [ None ↦ (reply.Refused NothingThere, h) | Some taken ↦ model.take_frame taken h ])
+        answer : Received → Option EndState → Result Done Refusal × PrimaryState
+        answer taken v = elim v [ None ↦ (Err NotConnected, s) | Some e ↦ core.taken_by e (core.taking taken e s) ]
+
+        rest : (v : Option Received) → Agrees reply.Ok (elim v as (λ _. Result Done Refusal × PrimaryState) [ None ↦ (Err NothingThere, s) | Some taken ↦ core.take_at taken s ]) (elim v as (λ _. Reply × PrimaryHistory) [ None ↦ (reply.Refused NothingThere, h) | Some taken ↦ model.take_frame taken h ])
         rest None = record { reply = refl; leaves = left }
-        rest (Some taken) = frame-agrees s h e reached left is end taken
+        rest (Some taken) = subst (λ v. Agrees reply.Ok (answer taken v) (model.take_frame taken h)) (sym is) (frame-agrees s h e reached left is end taken)

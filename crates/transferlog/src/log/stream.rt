@@ -1,5 +1,5 @@
 //! The connection's stream in the transfer log: its items, its epochs, and its end.
-ghost use Rattle.std.specs.Prelude.{◌≡◌, ◌<◌, OnErr, IfOk, IfErr, None};
+ghost use Rattle.std.specs.Prelude.{◌≡◌, ◌<◌, OnErr, IsOk, IfOk, IfErr, None};
 ghost use Rattle.transferlog.specs.Log.{barrier_acked, connecting, drained, may_confirm, resync_acked, resync_placed, uuids_placed};
 ghost use Rattle.blocks.specs.declared.refusal.Refusal.TheVariants.{NoMemory};
 
@@ -10,8 +10,8 @@ use blocks::Refusal;
 impl TransferLog {
     /// A stream begins, on the connection with this number. It takes no memory.
     pub fn connect(&mut self, connection: u32)
-        requires { self.old.connection ≡ None }
-        ensures { self.new ≡ connecting connection self.old }
+        requires { self.old.state.connection ≡ None }
+        ensures { self.new.state ≡ connecting connection self.old.state }
     {
         self.released.clear();
         self.completed.clear();
@@ -21,12 +21,13 @@ impl TransferLog {
     }
 
     /// Puts a resync item into the stream. Answers its place. `NoMemory` (7) where there is no room for its
-    /// epoch.
+    /// epoch, and never after `reserve`.
     pub fn place_resync(&mut self) -> Result<u32, Refusal>
-        requires { self.old.epochs.places < 4294967290 }
-        ensures placed { IfOk result (λ place. (place, self.new) ≡ resync_placed self.old) }
+        requires { self.old.state.epochs.places < 4294967290 }
+        ensures placed { IfOk result (λ place. (place, self.new.state) ≡ resync_placed self.old.state) }
         ensures refused { IfErr result (λ e. e ≡ NoMemory) }
-        ensures unchanged { OnErr result (self.new ≡ self.old) }
+        ensures unchanged { OnErr result (self.new.state ≡ self.old.state) }
+        ensures roomy { 0 < self.old.spare → IsOk result }
     {
         let (place, _) = self.epochs.place(0)?;
         self.released.clear();
@@ -37,7 +38,7 @@ impl TransferLog {
     /// The peer has applied the resync item under way. Answers the barrier that is appended, where it is in
     /// the last epoch. It takes no memory.
     pub fn resync_acked(&mut self) -> Option<u32>
-        ensures { (result, self.new) ≡ resync_acked self.old }
+        ensures { (result, self.new.state) ≡ resync_acked self.old.state }
     {
         self.released.clear();
         self.completed.clear();
@@ -46,8 +47,8 @@ impl TransferLog {
 
     /// Puts a SYNC_UUID or UUIDS item into the stream. Answers its place. It takes no memory.
     pub fn uuids(&mut self) -> u32
-        requires { self.old.epochs.places < 4294967290 }
-        ensures { (result, self.new) ≡ uuids_placed self.old }
+        requires { self.old.state.epochs.places < 4294967290 }
+        ensures { (result, self.new.state) ≡ uuids_placed self.old.state }
     {
         self.released.clear();
         self.completed.clear();
@@ -60,7 +61,7 @@ impl TransferLog {
     /// size is its epoch's, and, under protocols B and C, each write of the epoch is answered. It takes no
     /// memory, and time for each write of the epoch.
     pub fn barrier_acked(&mut self, number: u32, size: u32) -> Result<(), Refusal>
-        ensures { (result, self.new) ≡ barrier_acked number size self.old }
+        ensures { (result, self.new.state) ≡ barrier_acked number size self.old.state }
     {
         if !self.may_confirm(number, size) {
             return Err(Refusal::BadBarrierAck);
@@ -80,7 +81,7 @@ impl TransferLog {
     }
 
     fn may_confirm(&self, number: u32, size: u32) -> bool
-        ensures { result ≡ may_confirm number size self.now }
+        ensures { result ≡ may_confirm number size self.now.state }
     {
         let lacks = asks_answers(self.protocol)
             && self.ring.lacks_answer(self.confirmed + 1, u64::from(size));
@@ -91,7 +92,7 @@ impl TransferLog {
     /// local disk and was not completed is completed by that; what is settled is released, and clears
     /// nothing. Answers how many writes it completed. It takes no memory, and time for each unreleased write.
     pub fn drain(&mut self) -> u32
-        ensures { (result, self.new) ≡ drained self.old }
+        ensures { (result, self.new.state) ≡ drained self.old.state }
     {
         self.released.clear();
         self.completed.clear();

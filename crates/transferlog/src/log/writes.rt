@@ -1,5 +1,5 @@
 //! The life of a write in the transfer log, from its acceptance to its completion.
-ghost use Rattle.std.specs.Prelude.{◌≡◌, ◌+◌, ◌<◌, ◌≤◌, ◌++◌, ◌⊎◌, ◌↔◌, length, take, drop, replicate, OnErr, IsErrOf, IfOk, IfErr, IsSomeAnd, true, false};
+ghost use Rattle.std.specs.Prelude.{◌≡◌, ◌+◌, ◌<◌, ◌≤◌, ◌++◌, ◌⊎◌, ◌↔◌, length, take, drop, replicate, OnErr, IsErrOf, IsOk, IfOk, IfErr, OnOk, IsSomeAnd, true, false};
 ghost use Rattle.std.specs.Option.{option_map};
 ghost use Rattle.transferlog.specs.Log.{accepting, acked, changing, home_in, local_done, local_failed, sent};
 ghost use Rattle.transferlog.specs.Ring.{changed, write_at};
@@ -15,18 +15,30 @@ use bytes::Bytes;
 use epochs::Epochs;
 
 impl TransferLog {
+    /// Makes room for one more item, a write or a resync item, and for its barrier. `NoMemory` (7) where it
+    /// cannot be had.
+    pub fn reserve(&mut self) -> Result<(), Refusal>
+        ensures same { self.new.state ≡ self.old.state }
+        ensures room { OnOk result (0 < self.new.spare) }
+        ensures refused { IfErr result (λ e. e ≡ NoMemory) }
+    {
+        self.ring.reserve()?;
+        self.epochs.reserve()
+    }
+
     /// Accepts a write. Where a stream stands, it takes the next place there.
     ///
     /// `LogFull` (3) where `backlog` writes are unreleased; `NoMemory` (7) where there is no room for the
-    /// write or for its epoch.
+    /// write or for its epoch, and never after `reserve`.
     pub fn accept(&mut self, range: Range, contents: Bytes) -> Result<Accepted, Refusal>
-        requires inside { range.first.0 + range.count ≤ length self.old.latest }
-        requires few { self.old.accepted < 1048576 }
-        requires places { self.old.epochs.places < 4294967290 }
-        ensures accepted { IfOk result (λ accepted. (accepted, self.new) ≡ accepting range.first.0 range.count contents self.old) }
-        ensures full { IsErrOf result LogFull ↔ (self.old.backlog ≤ length self.old.writes) }
+        requires inside { range.first.0 + range.count ≤ length self.old.state.latest }
+        requires few { self.old.state.accepted < 1048576 }
+        requires places { self.old.state.epochs.places < 4294967290 }
+        ensures accepted { IfOk result (λ accepted. (accepted, self.new.state) ≡ accepting range.first.0 range.count contents self.old.state) }
+        ensures full { IsErrOf result LogFull ↔ (self.old.state.backlog ≤ length self.old.state.writes) }
         ensures refused { IfErr result (λ e. (e ≡ LogFull) ⊎ (e ≡ NoMemory)) }
-        ensures unchanged { OnErr result (self.new ≡ self.old) }
+        ensures unchanged { OnErr result (self.new.state ≡ self.old.state) }
+        ensures roomy { 0 < self.old.spare → IfErr result (λ e. e ≡ LogFull) }
     {
         if self.ring.len() >= self.backlog {
             return Err(Refusal::LogFull);
@@ -52,11 +64,10 @@ impl TransferLog {
     }
 
     /// The write's frame stands in the link's queue. Under protocol A it is answered by that. Answers the
-    /// barrier that is appended, where that completes the write and it is in the last epoch. It takes no
-    /// memory.
+    /// barrier that is appended, where that completes the write and it is in the last epoch. A number that
+    /// is in the log no more changes no write. It takes no memory.
     pub fn sent(&mut self, number: u64) -> Option<u32>
-        requires { IsSomeAnd (write_at number self.old.writes) (λ w. (w.linked ≡ true) × (w.sent ≡ false)) }
-        ensures { (result, self.new) ≡ sent number self.old }
+        ensures { (result, self.new.state) ≡ sent number self.old.state }
     {
         let answers = answers_sent(self.protocol);
         self.change(number, Change::Sent(answers))
@@ -65,8 +76,8 @@ impl TransferLog {
     /// The local disk has the write. Answers the barrier that is appended, where that completes the write
     /// and it is in the last epoch. It takes no memory.
     pub fn local_done(&mut self, number: u64) -> Option<u32>
-        requires { IsSomeAnd (write_at number self.old.writes) (λ w. w.local ≡ Waiting) }
-        ensures { (result, self.new) ≡ local_done number self.old }
+        requires { IsSomeAnd (write_at number self.old.state.writes) (λ w. w.local ≡ Waiting) }
+        ensures { (result, self.new.state) ≡ local_done number self.old.state }
     {
         self.change(number, Change::OnDisk)
     }
@@ -74,8 +85,8 @@ impl TransferLog {
     /// The local disk failed the write, which is never completed then. Answers the barrier that is
     /// appended, where it is in the last epoch. It takes no memory.
     pub fn local_failed(&mut self, number: u64) -> Option<u32>
-        requires { IsSomeAnd (write_at number self.old.writes) (λ w. w.local ≡ Waiting) }
-        ensures { (result, self.new) ≡ local_failed number self.old }
+        requires { IsSomeAnd (write_at number self.old.state.writes) (λ w. w.local ≡ Waiting) }
+        ensures { (result, self.new.state) ≡ local_failed number self.old.state }
     {
         self.change(number, Change::Failed)
     }
@@ -87,7 +98,7 @@ impl TransferLog {
     /// that stands, is not answered, and has exactly this number, place, first block and count. It takes no
     /// memory.
     pub fn acked(&mut self, kind: Answer, of: Named) -> Result<Option<u32>, Refusal>
-        ensures { (result, self.new) ≡ acked kind of self.old }
+        ensures { (result, self.new.state) ≡ acked kind of self.old.state }
     {
         let Some(write) = self.ring.get(of.number) else {
             return Err(Refusal::UnknownAck);
@@ -99,7 +110,7 @@ impl TransferLog {
     }
 
     fn change(&mut self, number: u64, change: Change) -> Option<u32>
-        ensures { (result, self.new) ≡ changing number (changed change) self.old }
+        ensures { (result, self.new.state) ≡ changing number (changed change) self.old.state }
     {
         self.released.clear();
         self.completed.clear();
@@ -122,11 +133,12 @@ fn home_in(
     number: u64,
     epochs: &mut Epochs,
 ) -> Result<(Option<(u32, u32)>, Option<u32>), Refusal>
-    requires room { epochs.old.places < 4294967290 }
-    requires rising { 0 < epochs.old.size → epochs.old.first + epochs.old.size ≤ number }
-    ensures home { IfOk result (λ home. (home.0, (home.1, epochs.new)) ≡ home_in connection number epochs.old) }
+    requires room { epochs.old.state.places < 4294967290 }
+    requires rising { 0 < epochs.old.state.size → epochs.old.state.first + epochs.old.state.size ≤ number }
+    ensures home { IfOk result (λ home. (home.0, (home.1, epochs.new.state)) ≡ home_in connection number epochs.old.state) }
     ensures refused { IfErr result (λ e. e ≡ NoMemory) }
-    ensures unchanged { OnErr result (epochs.new ≡ epochs.old) }
+    ensures unchanged { OnErr result (epochs.new.state ≡ epochs.old.state) }
+    ensures roomy { 0 < epochs.old.spare → IsOk result }
 {
     let Some(connection) = connection else {
         return Ok((None, None));

@@ -42,11 +42,11 @@ returns-in_err-turn c =
     let keeps = number-changed c.args.change in
     let gone = no_release s n f keeps none in
     let closed = closes_is s n f None c.change.ensures.rises none in
-    rw (← c.self.view_is) (rw c.from_residual.ensures (changed_is s n f _ _ _ (None, l.epochs)
+    rw (← c.self.view_is) (rw c.from_residual.ensures (changed_is s n f _ _ _ (None, l.epochs.state)
     (ap (λ r. r.writes) c.change.ensures.next ∙ writes_are s n f None keeps c.change.ensures.rises inv.kept gone)
     (c.clear.ensures.items ∙ released_is s n f None keeps c.change.ensures.rises inv.kept gone)
     (c.clear-2.ensures.items ∙ completed_is s n f None c.change.ensures.rises none)
-    (ap (λ (b : Bool). ended_by b n l.epochs) closed)))
+    (ap (λ (b : Bool). ended_by b n l.epochs.state) closed)))
 
 pub invariant_of-self-then-not-turn : goal.invariant_of-self-then-not-turn
 invariant_of-self-then-not-turn c =
@@ -72,11 +72,11 @@ returns-then-not-turn c =
     let turned = sym c.in_ok-turn.was ∙ c.change.ensures.turn in
     let closed = closes_is s n f (Some c.in_ok-turn.turn) c.change.ensures.rises turned in
     let open_still : c.in_ok-turn.turn.closes ≡ false = is_not c.in_ok-turn.turn.closes c.if-not-turn.true in
-    rw (← c.self.view_is) (changed_is s n f _ _ _ (None, l.epochs)
+    rw (← c.self.view_is) (changed_is s n f _ _ _ (None, l.epochs.state)
     ring.0
     (onto_empty _ _ _ c.note-2.ensures.items c.clear.ensures.items ∙ ring.1)
     (onto_empty _ _ _ c.note.ensures.items c.clear-2.ensures.items ∙ completed_is s n f (Some c.in_ok-turn.turn) c.change.ensures.rises turned)
-    (ap (λ (b : Bool). ended_by b n l.epochs) (sym open_still ∙ closed)))
+    (ap (λ (b : Bool). ended_by b n l.epochs.state) (sym open_still ∙ closed)))
 
 pub invariant_of-self-2 : goal.invariant_of-self-2
 invariant_of-self-2 c =
@@ -87,7 +87,7 @@ invariant_of-self-2 c =
     let inv = c.self.invariant in
     let ring = after_release s n f c.change.new.self c.release.new.self c.release.result (number-changed c.args.change) c.change.ensures.rises inv.kept
     (ap (λ r. r.writes) c.change.ensures.next) c.release.ensures.release (ap (λ r. r.writes) c.release.ensures.next) in
-    let bounded = bounded_ended true n l.confirmed l.accepted l.epochs (record { confirmed_writes = inv.confirmed; begun = inv.begun }) in
+    let bounded = bounded_ended true n l.confirmed l.accepted l.epochs.state (record { confirmed_writes = inv.confirmed; begun = inv.begun }) in
     log_changed l _ n c.args.change inv (ap (λ r. r.next) c.release.ensures.next ∙ ap (λ r. r.next) c.change.ensures.next) refl refl refl refl ring.0
     (c.note-2.ensures.capacity ∙ c.clear.ensures.capacity) (c.note.ensures.capacity ∙ c.clear-2.ensures.capacity)
     (rw (ap (λ p. p.1) c.completed.ensures) bounded)
@@ -104,8 +104,8 @@ returns c =
     let turned = sym c.in_ok-turn.was ∙ c.change.ensures.turn in
     let closed = closes_is s n f (Some c.in_ok-turn.turn) c.change.ensures.rises turned in
     let closes : c.in_ok-turn.turn.closes ≡ true = is_so c.in_ok-turn.turn.closes c.if-not-turn.false in
-    rw (← c.self.view_is) (changed_is s n f _ _ _ (c.completed.result, c.completed.new.self)
+    rw (← c.self.view_is) (changed_is s n f _ _ _ (c.completed.result, c.completed.new.self.state)
     ring.0
     (onto_empty _ _ _ c.note-2.ensures.items c.clear.ensures.items ∙ ring.1)
     (onto_empty _ _ _ c.note.ensures.items c.clear-2.ensures.items ∙ completed_is s n f (Some c.in_ok-turn.turn) c.change.ensures.rises turned)
-    (c.completed.ensures ∙ ap (λ (b : Bool). ended_by b n l.epochs) (sym closes ∙ closed)))
+    (c.completed.ensures ∙ ap (λ (b : Bool). ended_by b n l.epochs.state) (sym closes ∙ closed)))

@@ -1,0 +1,64 @@
+-- A step of the log, and what is kept about the whole primary.
+use Rattle.std.proofs.Common.{ℕ, ◌≡◌, ◌≤◌, true, refl, sym, ◌∙◌, ap, subst, arith, Option, Some, None, List}
+use Rattle.std.specs.Prelude.{Result}
+use Rattle.blocks.specs.declared.settings.Settings.{Settings}
+use Rattle.blocks.specs.declared.refusal.Refusal.{Refusal}
+use Rattle.blocks.specs.declared.outcome.Done.{Done}
+use Rattle.blocks.specs.declared.outcome.What.{What}
+use Rattle.model.specs.Refusals.{Test, first_refusal}
+use Rattle.transferlog.specs.Log.{LogState, LogValue, changing}
+use Rattle.transferlog.specs.Writes.{LogWrite}
+use Rattle.transferlog.specs.Ring.{write_at}
+use Rattle.transferlog.specs.declared.local.Local.TheVariants.{Waiting}
+use Rattle.primary_steps.specs.Core.{PrimaryState, tested, following}
+use Rattle.primary_steps.specs.Transitions.{logged, is_unfinished}
+use Rattle.primary_core.specs.Kept.{IsSoundLog, owing}
+use Rattle.primary_core.specs.State.{CoreState, IsCore, state_of}
+use Rattle.primary_core.specs.declared.state.PrimaryCore.TheInside.{Inside}
+use Rattle.primary_core.proofs.Epochs.{Appends, appends-changing}
+use Rattle.primary_core.proofs.Sound.{owing-after, owing-less, sound-logged}
+use Rattle.primary_core.proofs.SoundLog.{KeepsRange, sound-changing}
+
+-- a step of the log that accepts nothing, on the same stream
+pub record Steps (s : Settings) (l m : LogState) (barrier : Option ℕ) : Type 0 where
+  pub sound : IsSoundLog s m
+  pub accepted : m.accepted ≡ l.accepted
+  pub connection : m.connection ≡ l.connection
+  pub appends : Appends l.epochs m.epochs barrier
+
+-- something happens to one write
+pub steps-changing : (s : Settings) (number : ℕ) (f : LogWrite → LogWrite) (l m : LogState) (barrier : Option ℕ) → KeepsRange f → (let step : Option ℕ × LogState = (barrier, m) in step ≡ changing number f l) → IsSoundLog s l → Steps s l m barrier
+steps-changing s number f l m barrier keeps is sound =
+    subst (λ (p : Option ℕ × LogState). Steps s l p.1 p.0) (sym is) (record { sound = sound-changing s number f l keeps sound; accepted = refl; connection = refl; appends = appends-changing number f l })
+
+-- what is kept is kept
+pub core-logged : (c : Inside) (m : LogValue) (barrier : Option ℕ) → IsCore c → Steps c.settings c.log.state m.state barrier → IsCore (record c { log = m })
+core-logged c m barrier is steps = record {
+  sound = sound-logged (state_of c) m.state barrier is.sound steps.sound steps.accepted steps.connection steps.appends;
+  writers = rw steps.accepted is.writers;
+  room =
+      let less = owing-less (state_of c).end m.state barrier in
+      let after = owing-after (state_of c).end c.log.state m.state barrier steps.connection steps.appends in
+      omega (arith, is.room);
+}
+
+-- and there is room for the barrier
+pub room-logged : (s : PrimaryState) (m : LogState) (barrier : Option ℕ) (room : ℕ) → owing None s.end s.log ≤ room → Steps s.settings s.log m barrier → owing barrier s.end m ≤ room
+room-logged s m barrier room enough steps = let after = owing-after s.end s.log m barrier steps.connection steps.appends in omega arith
+
+-- What follows the step.
+pub follows-logged : (s : PrimaryState) (name : What) (change : Option ℕ × LogState) (barrier : Option ℕ) (m : LogState) (r : Done × PrimaryState)
+    → (let step : Option ℕ × LogState = (barrier, m) in step ≡ change) → r ≡ following name barrier (record s { log = m }) → r ≡ logged name change s
+follows-logged s name change barrier m r is follows = follows ∙ ap (λ (p : Option ℕ × LogState). following name p.0 (record s { log = p.1 })) is
+
+-- A step whose tests pass is done.
+pub passes : {R : Type 0} (s : PrimaryState) (tests : List Test) (done : Unit {0} → Result R Refusal × PrimaryState) (r : Result R Refusal × PrimaryState) → first_refusal tests ≡ None → r ≡ done tt → r ≡ tested s tests done
+passes s tests done r none is = rw (none, tested) is
+
+-- the local disk has a write to do
+pub unfinished : (number : ℕ) (s : PrimaryState) (w : LogWrite) → write_at number s.log.writes ≡ Some w → w.local ≡ Waiting → is_unfinished number s ≡ true
+unfinished number s w found waits = rw (found, is_unfinished) (rw waits refl)
+
+-- A step of the state that is seen.
+pub seen-as : {R : Type 0} (v w : CoreState) (f : PrimaryState → R × PrimaryState) (r : R × PrimaryState) → v ≡ w → r ≡ f v.state → r ≡ f w.state
+seen-as v w f r same is = is ∙ ap (λ x. f x.state) same

@@ -1,0 +1,148 @@
+-- The marks that released writes clear, block by block.
+use Rattle.std.proofs.Common.{ℕ, zero, suc, ◌≡◌, ◌≢◌, ◌+◌, ◌<◌, ◌≤◌, ◌⊎◌, inl, inr, nat_lt, nat_le, Bool, true, false, ◌&&◌, ◌||◌, not, List, [], ◌∷◌, ◌++◌, length, refl, sym, ◌∙◌, ap, subst, arith, get_or, drop, drop-cons, add-one, length-set}
+use Rattle.std.specs.Prelude.{map, slice_get, slice_set}
+use Rattle.std.specs.List.{AllByRecursion, list_any}
+use Rattle.std.proofs.lemmas.List.{length-map, map-append}
+use Rattle.std.proofs.lemmas.Bool.{lt-ltb, le-ltb, lt-leb, cases_lt}
+use Rattle.std.proofs.lemmas.Option.{slice_get_past}
+use Rattle.blocks.specs.Ranges.{below, is_between}
+use Rattle.bitmap.specs.Marks.{marked}
+use Rattle.bitmap.proofs.Lists.{same-marks, marked-set_same, marked-set_other}
+use Rattle.transferlog.specs.declared.report.Released.{Released}
+use Rattle.transferlog.specs.Log.{clears, is_number}
+use Rattle.primary_steps.specs.Core.{unmarking}
+use Rattle.primary_core.specs.Kept.{Cleared, LiesInside}
+use Rattle.primary_core.proofs.Reports.{length-below, length-unmarking}
+
+-- Marks by their blocks.
+
+marked-left : (xs ys : List Bool) (b : ℕ) → b < length xs → marked (xs ++ ys) b ≡ marked xs b
+marked-left [] ys b less = absurd (omega arith)
+marked-left (x ∷ xs) ys zero less = refl
+marked-left (x ∷ xs) ys (suc b) less = marked-left xs ys b (omega arith)
+
+marked-end : (xs : List Bool) (v : Bool) (b : ℕ) → b ≡ length xs → marked (xs ++ v ∷ []) b ≡ v
+marked-end [] v b is = rw is refl
+marked-end (x ∷ xs) v zero is = absurd (omega arith)
+marked-end (x ∷ xs) v (suc b) is = marked-end xs v b (omega arith)
+
+marked-map : (f : ℕ → Bool) (n b : ℕ) → b < n → marked (map f (below n)) b ≡ f b
+marked-map f zero b less = absurd (omega arith)
+marked-map f (suc n) b less = ap (λ (xs : List Bool). marked xs b) (map-append f (below n) (n ∷ [])) ∙ go (marked-map f n b) (cases_lt b n)
+  where
+    long : length (map f (below n)) ≡ n
+    long = length-map (below n) f ∙ length-below n
+
+    go : (b < n → marked (map f (below n)) b ≡ f b) → (b < n) ⊎ (n ≤ b) → marked (map f (below n) ++ f n ∷ []) b ≡ f b
+    go rest (inl low) = marked-left (map f (below n)) (f n ∷ []) b (omega (arith, long)) ∙ rest low
+    go rest (inr high) = let last : b ≡ n = omega arith in marked-end (map f (below n)) (f n) b (omega (arith, long)) ∙ ap f (sym last)
+
+-- One release clears its blocks one by one.
+
+cases_eq : (a b : ℕ) → (a ≡ b) ⊎ (a ≢ b)
+cases_eq a b = elim (cases_lt a b) [
+  | inl less ↦ inr (omega arith)
+  | inr more ↦ elim (cases_lt b a) [ inl less ↦ inr (omega arith) | inr same ↦ inl (omega arith) ]
+]
+
+and-true : (a : Bool) → a ≡ (a && true)
+and-true true = refl
+and-true false = refl
+
+and-false : (a : Bool) → (a && false) ≡ false
+and-false true = refl
+and-false false = refl
+
+-- a block outside of the range is not cleared
+not-below : (r : Released) (latest : List ℕ) (b : ℕ) → b < r.first → clears r b latest ≡ false
+not-below r latest b less = rw (lt-leb r.first b less) (rw (and-false r.clears) refl)
+
+not-above : (r : Released) (latest : List ℕ) (b : ℕ) → r.first + r.count ≤ b → clears r b latest ≡ false
+not-above r latest b more = rw (le-ltb b (r.first + r.count) more) (rw (and-false (nat_le r.first b)) (rw (and-false r.clears) refl))
+
+pub cleared-none : (r : Released) (latest : List ℕ) (old : List Bool) → Cleared r latest old old r.first
+cleared-none r latest old = record { same = refl; each = λ b. go b (cases_lt b r.first) }
+  where
+    go : (b : ℕ) → (b < r.first) ⊎ (r.first ≤ b) → marked old b ≡ (marked old b && not (nat_lt b r.first && clears r b latest))
+    go b (inl less) = rw (not-below r latest b less) (rw (and-false (nat_lt b r.first)) (and-true (marked old b)))
+    go b (inr more) = rw (le-ltb b r.first more) (and-true (marked old b))
+
+-- the tests of the next block agree with those of this one, but at it
+upto-next : (block b : ℕ) → b ≢ block → nat_lt b (block + 1) ≡ nat_lt b block
+upto-next block b other = elim (cases_lt b block) [
+  | inl less ↦ lt-ltb b (block + 1) (omega arith) ∙ sym (lt-ltb b block less)
+  | inr more ↦ le-ltb b (block + 1) (omega (arith, other)) ∙ sym (le-ltb b block more)
+]
+
+pub cleared-next : (r : Released) (latest : List ℕ) (old new : List Bool) (block : ℕ) → block < length new → clears r block latest ≡ true → Cleared r latest old new block → Cleared r latest old (slice_set new block false) (block + 1)
+cleared-next r latest old new block inside is so = record { same = length-set new block false ∙ so.same; each = λ b. go b (cases_eq b block) }
+  where
+    go : (b : ℕ) → (b ≡ block) ⊎ (b ≢ block) → marked (slice_set new block false) b ≡ (marked old b && not (nat_lt b (block + 1) && clears r b latest))
+    go b (inl here) = rw here (rw (marked-set_same new block false inside) (rw (lt-ltb block (block + 1) (omega arith), is) (sym (and-false (marked old block)))))
+    go b (inr other) = rw (marked-set_other new block false b other) (rw (upto-next block b other) (so.each b))
+
+pub cleared-not : (r : Released) (latest : List ℕ) (old new : List Bool) (block : ℕ) → clears r block latest ≡ false → Cleared r latest old new block → Cleared r latest old new (block + 1)
+cleared-not r latest old new block is so = record { same = so.same; each = λ b. go b (cases_eq b block) }
+  where
+    go : (b : ℕ) → (b ≡ block) ⊎ (b ≢ block) → marked new b ≡ (marked old b && not (nat_lt b (block + 1) && clears r b latest))
+    go b (inl here) = rw here (so.each block ∙ (rw is (rw (and-false (nat_lt block block), and-false (nat_lt block (block + 1))) refl)))
+    go b (inr other) = rw (upto-next block b other) (so.each b)
+
+-- All blocks of one release.
+and-or : (a b c : Bool) → ((a && not b) && not c) ≡ (a && not (b || c))
+and-or true true c = refl
+and-or true false c = refl
+and-or false b c = refl
+
+upto-all : (r : Released) (latest : List ℕ) (b : ℕ) → (nat_lt b (r.first + r.count) && clears r b latest) ≡ clears r b latest
+upto-all r latest b = elim (cases_lt b (r.first + r.count)) [
+  | inl less ↦ rw (lt-ltb b (r.first + r.count) less) refl
+  | inr more ↦ rw (not-above r latest b more) (and-false (nat_lt b (r.first + r.count)))
+]
+
+pub unmark-next : (r : Released) (released : List Released) (latest : List ℕ) (old new : List Bool) → Cleared r latest old new (r.first + r.count) → unmarking released latest new ≡ unmarking (r ∷ released) latest old
+unmark-next r released latest old new so =
+    same-marks (unmarking released latest new) (unmarking (r ∷ released) latest old) (length-unmarking released latest new ∙ (so.same ∙ sym (length-unmarking (r ∷ released) latest old))) (λ b less.
+    let inside : b < length new = omega (arith, length-unmarking released latest new) in
+    let there : b < length old = omega (arith, so.same) in
+    marked-map _ (length new) b inside
+    ∙ (ap (λ (v : Bool). v && not (list_any (λ s. clears s b latest) released)) (so.each b ∙ ap (λ (v : Bool). marked old b && not v) (upto-all r latest b))
+    ∙ (and-or (marked old b) (clears r b latest) (list_any (λ s. clears s b latest) released)
+    ∙ sym (marked-map (λ block. marked old block && not (list_any (λ s. clears s block latest) (r ∷ released))) (length old) b there))))
+
+pub unmark-none : (latest : List ℕ) (marks : List Bool) → unmarking [] latest marks ≡ marks
+unmark-none latest marks =
+    same-marks (unmarking [] latest marks) marks (length-unmarking [] latest marks) (λ b less.
+    let inside : b < length marks = omega (arith, length-unmarking [] latest marks) in
+    marked-map (λ block. marked marks block && true) (length marks) b inside ∙ sym (and-true (marked marks b)))
+
+-- a block that a release clears is in the table of the last writes
+pub clears-inside : (r : Released) (latest : List ℕ) (block : ℕ) → clears r block latest ≡ true → block < length latest
+clears-inside r latest block is = elim (cases_lt block (length latest)) [
+  | inl less ↦ less
+  | inr more ↦
+      let none : is_number r.number (slice_get latest block) ≡ false = rw (slice_get_past latest block more) refl in
+      absurd (let no : clears r block latest ≡ false = rw none (and-false (r.clears && is_between r.first r.count block)) in cc)
+]
+
+-- One release more of a list, as a loop goes over it.
+pub unmark-step : (rs : List Released) (i : ℕ) (d : Released) (latest : List ℕ) (first old new : List Bool) → i < length rs → length old ≡ length first → AllByRecursion (LiesInside (length old)) (drop i rs)
+    → unmarking (drop i rs) latest old ≡ unmarking rs latest first → Cleared (get_or rs i d) latest old new ((get_or rs i d).first + (get_or rs i d).count)
+    → (length new ≡ length first) × (AllByRecursion (LiesInside (length new)) (drop (i + 1) rs) × (unmarking (drop (i + 1) rs) latest new ≡ unmarking rs latest first))
+unmark-step rs i d latest first old new inside size all rest so =
+    let split : drop i rs ≡ get_or rs i d ∷ drop (suc i) rs = drop-cons rs i d inside in
+    let parts : AllByRecursion (LiesInside (length old)) (get_or rs i d ∷ drop (suc i) rs) = subst (AllByRecursion (LiesInside (length old))) split all in
+    rw add-one (
+      so.same ∙ size,
+      (rw so.same parts.1, unmark-next (get_or rs i d) (drop (suc i) rs) latest old new so ∙ (sym (ap (λ (more : List Released). unmarking more latest old) split) ∙ rest)),
+    )
+
+pub nothing-left : {X : Type 0} (rs : List X) (i : ℕ) → length rs ≤ i → drop i rs ≡ []
+nothing-left [] zero past = refl
+nothing-left [] (suc i) past = refl
+nothing-left (r ∷ rs) zero past = absurd (omega arith)
+nothing-left (r ∷ rs) (suc i) past = nothing-left rs i (omega arith)
+
+-- all releases of a list
+pub unmark-all : (rs : List Released) (i : ℕ) (latest : List ℕ) (first marks : List Bool) → length rs ≤ i → unmarking (drop i rs) latest marks ≡ unmarking rs latest first → marks ≡ unmarking rs latest first
+unmark-all rs i latest first marks past rest = sym (unmark-none latest marks) ∙ (sym (ap (λ (more : List Released). unmarking more latest marks) (nothing-left rs i past)) ∙ rest)

@@ -1,0 +1,15 @@
+-- What the fields of an accepted write stand for.
+use Rattle.primary_steps.specs.Core as core
+use Rattle.primary_core.specs.declared.entry.Fate.{Fate}
+use Rattle.primary_core.specs.declared.entry.Fate.TheVariants as fate
+use Rattle.primary_core.specs.declared.entry.Entry.TheInside.{Inside}
+
+-- what became of a write
+abbrev pub fate_as : Fate → core.Fate
+fate_as fate.Open = core.Open
+fate_as fate.Failed = core.Failed
+fate_as (fate.Completed linked home) = core.Completed linked home
+
+-- the fields as a plain value
+abbrev pub entry_of : Inside → core.Entry
+entry_of e = record { first = e.first; count = e.count; fate = fate_as e.fate; taken = e.is_taken }

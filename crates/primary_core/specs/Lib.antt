@@ -1,0 +1,11 @@
+pub mod Close
+pub mod Entries
+pub mod Items
+pub mod Kept
+pub mod Local
+pub mod Starved
+pub mod Resyncing
+pub mod Send
+pub mod State
+pub mod Submit
+pub mod Take

@@ -1,0 +1,15 @@
+-- Which block a resync copies next, or why none.
+use Rattle.std.specs.Prelude.{ℕ, Bool, Some, None, Result, Err, ok_or}
+use Rattle.blocks.specs.declared.refusal.Refusal.{Refusal}
+use Rattle.blocks.specs.declared.refusal.Refusal.TheVariants.{NotConnected, NothingToDo}
+use Rattle.model.specs.Refusals.{first_refusal}
+use Rattle.resync.specs.Next.{next_block}
+use Rattle.primary_steps.specs.Core.{PrimaryState}
+use Rattle.primary_steps.specs.Transitions.{resync_tests}
+
+-- the lowest free marked block, where no test refuses it
+abbrev pub resync_choice : Bool → PrimaryState → Result ℕ Refusal
+resync_choice starved s = elim s.end [
+  | None ↦ Err NotConnected
+  | Some e ↦ elim (first_refusal (resync_tests starved e s)) [ Some refusal ↦ Err refusal | None ↦ ok_or (next_block s.marks s.held) NothingToDo ]
+]

@@ -1,0 +1,30 @@
+-- What is left where the packet that was due is sent.
+use Rattle.std.specs.Prelude.{ℕ, zero, suc, Option, None, Some}
+use Rattle.blocks.specs.declared.command.Command.{Command}
+use Rattle.blocks.specs.declared.command.Command.TheVariants as command
+use Rattle.blocks.specs.declared.outcome.Done.{Done}
+use Rattle.blocks.specs.declared.outcome.What.TheVariants as what
+use Rattle.model.specs.Frames.{Packet}
+use Rattle.model.specs.Refusals.{done_with}
+use Rattle.primary_steps.specs.Core.{EndState, PrimaryState}
+use Rattle.primary_steps.specs.Transitions.{called, owed, sent_from}
+
+-- the name of the hello's frame that comes after so many
+abbrev pub greeting : ℕ → Command
+greeting zero = command.Protocol
+greeting (suc zero) = command.Sizes
+greeting (suc (suc n)) = command.Uuids
+
+-- the packet that an end owes is sent; nothing is where there is none
+abbrev pub sent_owed : EndState → PrimaryState → Option Packet → Done × PrimaryState
+sent_owed e s None = (done_with what.Nothing, s)
+sent_owed e s (Some packet) = sent_from e (called e s packet) s
+
+-- what this end owes is sent, where one is open
+abbrev pub sent_at : PrimaryState → Option EndState → Done × PrimaryState
+sent_at s None = (done_with what.Nothing, s)
+sent_at s (Some e) = sent_owed e s (owed e s)
+
+-- the packet that an open end owes is sent
+abbrev pub sent_now : PrimaryState → Done × PrimaryState
+sent_now s = sent_at s s.end

@@ -1,0 +1,96 @@
+-- What the fields of a primary stand for, and what is kept about them.
+use Rattle.std.specs.Prelude.{ℕ, ◌≡◌, ◌-◌, ◌<◌, ◌≤◌, Bool, List, ◌∷◌, length, Option, Some, None, option_map, false, []}
+use Rattle.std.specs.List.{AllByRecursion}
+use Rattle.std.specs.VecDeque.{deque_len, deque_capacity}
+use Rattle.blocks.specs.declared.settings.Settings.{Settings}
+use Rattle.blocks.specs.declared.tuple.Tuple.{Tuple}
+use Rattle.blocks.specs.SettingsRange.{IsInRange}
+use Rattle.model.specs.Stream.{Item}
+use Rattle.overlap.specs.Holdings.{Holding, holding}
+use Rattle.primary_steps.specs.Core as core
+use Rattle.primary_steps.specs.Core.{EndState, PrimaryState}
+use Rattle.primary_core.specs.Kept.{IsSound, IsWriter, owing}
+use Rattle.primary_core.specs.declared.state.End.{End}
+use Rattle.primary_core.specs.declared.state.UnderWay.{UnderWay}
+use Rattle.primary_core.specs.declared.state.PrimaryCore.TheInside.{Inside}
+
+-- A primary; how many more items may come to its stream without memory, and how many to the log.
+pub record CoreState : Type 0 where
+  pub state : PrimaryState
+  pub stream_room : ℕ
+  pub log_room : ℕ
+
+-- the block under way
+abbrev pub way_of : UnderWay → core.UnderWay
+way_of w = record { block = w.block.0; place = w.place; epoch = w.epoch }
+
+-- an open end, with the items that were not sent
+abbrev pub end_of : List Item → End → EndState
+end_of unsent e = record {
+  sync = e.sync;
+  loss = e.loss;
+  hello = e.hello;
+  heard = e.heard;
+  said = e.said;
+  unsent = unsent;
+  resync = e.is_resync;
+  under_way = option_map way_of e.under_way;
+}
+
+-- whether a resync goes on at an end, where one is open
+abbrev pub resync_in : Option EndState → Bool
+resync_in None = false
+resync_in (Some e) = e.resync
+
+-- the items of an end that were not sent, where one is open
+abbrev pub items_in : Option EndState → List Item
+items_in None = []
+items_in (Some e) = e.unsent
+
+-- the block under way of an end, where one is open
+abbrev pub way_in : Option EndState → Option core.UnderWay
+way_in None = None
+way_in (Some e) = e.under_way
+
+-- what the block under way holds, with what the writes hold
+abbrev pub held_with : Option UnderWay → List Holding → List Holding
+held_with None held = held
+held_with (Some w) held = holding 0 w.block.0 1 ∷ held
+
+-- what is held at an end, or where none is open
+abbrev pub held_at : Option End → List Holding → List Holding
+held_at None held = held
+held_at (Some e) held = held_with e.under_way held
+
+-- the fields as plain values
+abbrev pub state_of : Inside → PrimaryState
+state_of c = record {
+  settings = c.settings;
+  tuple = c.generations.tuple;
+  peer = c.peer;
+  connections = c.connections;
+  log = c.log.state;
+  entries = c.entries.items;
+  marks = c.marks;
+  held = held_at c.end c.held;
+  activity = c.activity;
+  end = option_map (end_of c.unsent.items) c.end;
+}
+
+-- the fields, with the room for more
+abbrev pub core_of : Inside → CoreState
+core_of c = record { state = state_of c; stream_room = deque_capacity c.unsent - deque_len c.unsent; log_room = c.log.spare }
+
+-- The state is sound, only accepted writes hold something beside the block under way, and there is room for what may come to the
+-- stream without memory.
+pub record IsCore (c : Inside) : Type 0 where
+  pub sound : IsSound (state_of c)
+  pub writers : AllByRecursion (IsWriter c.log.state.accepted) c.held
+  pub room : owing None (state_of c).end c.log.state ≤ deque_capacity c.unsent - deque_len c.unsent
+
+-- a primary may begin with these: the settings are in their ranges, each block has its mark or none, and the data have a
+-- generation
+pub record CanBegin (settings : Settings) (tuple : Tuple) (marks : List Bool) : Type 0 where
+  pub in_range : IsInRange settings
+  pub size : length marks ≡ settings.blocks
+  pub generation : 0 < tuple.current

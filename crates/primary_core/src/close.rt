@@ -1,0 +1,78 @@
+//! The end closes.
+ghost use Rattle.std.specs.Prelude.{◌≡◌, length, if◌then◌else◌};
+ghost use Rattle.bitmap.specs.Marks.{marking};
+ghost use Rattle.transferlog.specs.Ring.{Each};
+ghost use Rattle.primary_core.specs.Kept.{IsInside};
+ghost use Rattle.blocks.specs.Identifiers.{lost};
+ghost use Rattle.primary_core.specs.Close.{without_stream};
+ghost use Rattle.primary_steps.specs.Core.{EndState, stands};
+ghost use Rattle.primary_steps.specs.Transitions.{close_end, closing, unreleased_blocks};
+
+use crate::state::PrimaryCore;
+use bitmap::Bitmap;
+use blocks::Refusal;
+use transferlog::TransferLog;
+
+impl PrimaryCore {
+    /// Closes the end: what is unreleased is marked, and no write has a connection any more. Answers how
+    /// many writes were completed by that.
+    ///
+    /// `NotConnected` (12) comes where it is closed. It takes no memory.
+    pub fn close(&mut self) -> Result<u32, Refusal>
+        ensures { (result, self.new.state) ≡ close_end self.old.state }
+    {
+        let Some(end) = self.end else {
+            return Err(Refusal::NotConnected);
+        };
+        Ok(self.close_open(end.loss))
+    }
+
+    /// Closes an end with this word for its loss, if one is open.
+    pub(crate) fn close_open(&mut self, loss: u64) -> u32
+        ensures { (e : EndState) → e.loss ≡ loss → (result, self.new.state) ≡ closing e self.old.state }
+    {
+        self.mark_unreleased();
+        self.lose(loss);
+        let completed = self.drain();
+        self.report();
+        completed
+    }
+
+    // Every unreleased write is marked.
+    fn mark_unreleased(&mut self)
+        ensures { self.new.state ≡ record self.old.state { marks = marking (unreleased_blocks self.old.state.log.writes) self.old.state.marks } }
+    {
+        mark_all(&self.log, &mut self.marks);
+    }
+
+    // The peer is lost: the data go on under this word, where the stream had begun.
+    fn lose(&mut self, loss: u64)
+        ensures { self.new.state ≡ record self.old.state { tuple = if stands self.old.state then lost loss self.old.state.tuple else self.old.state.tuple } }
+    {
+        if self.log.connection().is_some() {
+            self.generations.lost(loss);
+        }
+    }
+
+    // No stream stands any more. Answers how many writes were completed by that.
+    fn drain(&mut self) -> u32
+        ensures { (result, self.new.state) ≡ without_stream self.old.state }
+    {
+        let completed = self.log.drain();
+        self.end = None;
+        self.unsent.clear();
+        completed
+    }
+}
+
+// Every unreleased write is marked.
+fn mark_all(log: &TransferLog, marks: &mut Bitmap)
+    requires { Each (IsInside (length marks.old)) log.now.state.writes }
+    ensures { marks.new ≡ marking (unreleased_blocks log.now.state.writes) marks.old }
+{
+    for index in 0..log.len() {
+        if let Some(range) = log.unreleased(index) {
+            marks.mark(range);
+        }
+    }
+}

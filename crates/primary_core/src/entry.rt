@@ -1,0 +1,92 @@
+//! What is kept of a write for its caller.
+ghost use Rattle.std.specs.Prelude.{◌≡◌, true};
+ghost use Rattle.primary_core.specs.Entries.{fate_as};
+ghost use Rattle.primary_steps.specs.Core.{with_entry};
+
+use std::marker::Model;
+
+/// What became of an accepted write.
+#[derive(Clone, Copy, Debug, PartialEq, Eq)]
+pub enum Fate {
+    /// Nothing yet: it is open.
+    Open,
+    /// The local disk failed it.
+    Failed,
+    /// It was completed.
+    Completed {
+        /// Whether the peer has answered it, as the protocol asks; else it was completed without the peer.
+        linked: bool,
+        /// The connection and the place in its stream, if it has one.
+        home: Option<(u32, u32)>,
+    },
+}
+
+/// An accepted write as its caller asks for it.
+#[derive(Drop)]
+pub struct Entry {
+    pub(crate) first: u64,
+    pub(crate) count: u64,
+    pub(crate) fate: Fate,
+    pub(crate) is_taken: bool,
+}
+
+impl Model for Entry {
+    ghost use Rattle.primary_steps.specs.Core.{Entry as Denoted};
+
+    ghost Value = { Denoted };
+
+    ghost use Rattle.primary_core.specs.Entries.{entry_of};
+
+    ghost view = { entry_of };
+}
+
+impl Entry {
+    /// Its first block.
+    pub fn first(&self) -> u64
+        ensures { result ≡ self.now.first }
+    {
+        self.first
+    }
+
+    /// How many blocks it has.
+    pub fn count(&self) -> u64
+        ensures { result ≡ self.now.count }
+    {
+        self.count
+    }
+
+    /// What became of it.
+    pub fn fate(&self) -> Fate
+        ensures { fate_as result ≡ self.now.fate }
+    {
+        self.fate
+    }
+}
+
+/// The receipt of a number was taken. A number that was never accepted changes nothing.
+pub(crate) fn set_taken(entries: &mut [Entry], number: u64)
+    ensures { entries.new ≡ with_entry number (λ entry. record entry { taken = true }) entries.old }
+{
+    if number == 0 {
+        return;
+    }
+    let index = (number - 1) as usize;
+    if index < entries.len() {
+        let entry = &mut entries[index];
+        entry.is_taken = true;
+    }
+}
+
+/// The write of a number has this fate from now on. A number that was never accepted changes nothing.
+pub(crate) fn set_fate(entries: &mut [Entry], number: u64, fate: Fate)
+    ensures { entries.new ≡ with_entry number (λ entry. record entry { fate = fate_as fate }) entries.old }
+{
+    if number == 0 {
+        return;
+    }
+    let index = (number - 1) as usize;
+    if index < entries.len() {
+        let entry = &mut entries[index];
+        entry.fate = fate;
+    }
+}

@@ -1,0 +1,104 @@
+//! What waits to be sent.
+ghost use Rattle.std.specs.Prelude.{ℕ, ◌≡◌, ◌∷◌, [], Some, None, if◌then◌else◌, IfOk, IfErr};
+ghost use Rattle.blocks.specs.declared.refusal.Refusal.TheVariants.{NoMemory};
+ghost use Rattle.endpoint.specs.Meaning.{meaning};
+ghost use Rattle.model.specs.Frames.{command_of, frame_of};
+ghost use Rattle.model.specs.Stream.{is_write, number_of};
+ghost use Rattle.packets.specs.Spelling.{IsSpellable};
+ghost use Rattle.primary_steps.specs.Taking.{is_unsent};
+
+use blocks::{Block, Command, Refusal, Tuple};
+use bytes::Bytes;
+use packets::Packet;
+use std::marker::Model;
+
+/// What an item of the stream says.
+#[derive(Drop)]
+pub(crate) enum Kind {
+    /// A write: its number, its first block and its bytes.
+    Write(u64, Block, Bytes),
+    /// A block of a resync, with its bytes.
+    Resync(Block, Bytes),
+    /// The end of an epoch, with its number.
+    Barrier(u32),
+    /// A resync begins, under this word.
+    SyncUuid(u64),
+    /// A resync is over, and its source has these identifiers.
+    Uuids(Tuple),
+}
+
+/// An item of the stream that was not sent. Its bytes are shared with whoever else has them, and it has a spelling.
+#[derive(Drop)]
+pub(crate) struct Item {
+    pub(crate) kind: Kind,
+}
+
+impl Model for Item {
+    ghost use Rattle.model.specs.Stream.{Item as Denoted};
+
+    ghost Value = { Denoted };
+
+    ghost use Rattle.primary_core.specs.Items.{item_of, IsItem};
+
+    ghost view = { item_of };
+
+    ghost invariant = { IsItem };
+}
+
+impl Item {
+    /// Its packet, at this place of the stream. `NoMemory` (7) comes where its bytes cannot be shared.
+    pub(crate) fn packet(&self, place: u32) -> Result<Packet, Refusal>
+        ensures packet { IfOk result (λ p. (meaning p ≡ frame_of place self.now) × IsSpellable p) }
+        ensures refused { IfErr result (λ e. e ≡ NoMemory) }
+    {
+        Ok(match &self.kind {
+            Kind::Write(number, first, contents) => Packet::Data {
+                first: *first,
+                number: *number,
+                place,
+                contents: contents.clone()?,
+            },
+            Kind::Resync(block, contents) => Packet::RsDataReply {
+                first: *block,
+                place,
+                contents: contents.clone()?,
+            },
+            Kind::Barrier(number) => Packet::Barrier { number: *number },
+            Kind::SyncUuid(word) => Packet::SyncUuid { word: *word },
+            Kind::Uuids(tuple) => Packet::Uuids(*tuple),
+        })
+    }
+
+    /// The name of its frame.
+    pub(crate) fn command(&self) -> Command
+        ensures { (place : ℕ) → result ≡ command_of (frame_of place self.now) }
+    {
+        match &self.kind {
+            Kind::Write(..) => Command::Data,
+            Kind::Resync(..) => Command::RsDataReply,
+            Kind::Barrier(_) => Command::Barrier,
+            Kind::SyncUuid(_) => Command::SyncUuid,
+            Kind::Uuids(_) => Command::Uuids,
+        }
+    }
+
+    /// The number of the write, where it is one.
+    pub(crate) fn write(&self) -> Option<u64>
+        ensures { result ≡ (if is_write self.now then Some (number_of self.now) else None) }
+    {
+        match &self.kind {
+            Kind::Write(number, ..) => Some(*number),
+            _ => None,
+        }
+    }
+
+    /// Whether it is the barrier of this epoch.
+    pub(crate) fn ends(&self, epoch: u32) -> bool
+        ensures { result ≡ is_unsent epoch (self.now ∷ []) }
+    {
+        match &self.kind {
+            Kind::Barrier(number) => *number == epoch,
+            _ => false,
+        }
+    }
+}

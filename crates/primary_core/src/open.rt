@@ -1,0 +1,59 @@
+//! A connection begins.
+ghost use Rattle.std.specs.Prelude.{◌≡◌};
+ghost use Rattle.blocks.specs.Identifiers.{are_fresh, is_fresh};
+ghost use Rattle.primary_core.specs.Starved.{is_starved};
+ghost use Rattle.primary_steps.specs.Transitions.{known_tuples, open_end};
+
+use crate::state::{End, PrimaryCore};
+use blocks::Refusal;
+use generations::fresh;
+
+impl PrimaryCore {
+    /// Opens the end, with a word for a resync and one for the case that the connection is lost.
+    ///
+    /// `NotDrained` (36) comes where it is open; `UsedIdentifier` (33) where a word is zero, or stands in a
+    /// tuple that is known, or both are one; `StreamFull` (6) where 4,294,967,295 connections were opened;
+    /// else `NoMemory` (7), where there is no room for the SYNC_UUID and the UUIDS of a resync.
+    pub fn open(&mut self, sync: u64, loss: u64) -> Result<(), Refusal>
+        ensures { (result, self.new.state) ≡ open_end sync loss (is_starved result) self.old.state }
+    {
+        if self.end.is_some() {
+            return Err(Refusal::NotDrained);
+        }
+        if !self.are_fresh(sync, loss) {
+            return Err(Refusal::UsedIdentifier);
+        }
+        if self.connections == u32::MAX {
+            return Err(Refusal::StreamFull);
+        }
+        self.unsent.clear();
+        self.unsent.reserve(3)?;
+        self.connections += 1;
+        self.end = Some(End {
+            sync,
+            loss,
+            hello: self.generations.tuple,
+            heard: 0,
+            said: 0,
+            is_resync: false,
+            under_way: None,
+        });
+        Ok(())
+    }
+
+    fn are_fresh(&self, sync: u64, loss: u64) -> bool
+        ensures { result ≡ are_fresh sync loss (known_tuples self.now.state) }
+    {
+        self.is_fresh(sync) && self.is_fresh(loss) && sync != loss
+    }
+
+    fn is_fresh(&self, word: u64) -> bool
+        ensures { result ≡ is_fresh word (known_tuples self.now.state) }
+    {
+        let own = self.generations.tuple;
+        match self.peer {
+            Some(peer) => fresh(word, &[own, peer]).is_ok(),
+            None => fresh(word, &[own]).is_ok(),
+        }
+    }
+}

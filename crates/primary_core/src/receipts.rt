@@ -1,0 +1,65 @@
+//! A caller takes the receipt of a write.
+ghost use Rattle.std.specs.Prelude.{◌≡◌};
+ghost use Rattle.std.specs.Option.{option_copied};
+ghost use Rattle.primary_steps.specs.Transitions.{entry_at, is_given, take_completed, told};
+
+use crate::entry::{Entry, Fate, set_taken};
+use crate::state::PrimaryCore;
+use blocks::Refusal;
+
+impl PrimaryCore {
+    /// The entry of a write, once.
+    ///
+    /// `UnknownJob` (16) comes for a number that was never accepted, or whose receipt was taken;
+    /// `NotCompleted` (9) where the write is open; `LocalFault` (8), once, where the local disk failed it. It
+    /// takes no memory, and constant time.
+    pub fn take_completed(&mut self, number: u64) -> Result<Entry, Refusal>
+        ensures { (result, self.new.state) ≡ take_completed number self.old.state }
+    {
+        let told = told(self.entry(number));
+        if is_given(&told) {
+            set_taken(&mut self.entries, number);
+        }
+        told
+    }
+
+    // The entry of a number, the first being 1.
+    fn entry(&self, number: u64) -> Option<&Entry>
+        ensures { option_copied result ≡ entry_at number self.now.state }
+    {
+        let index = number.checked_sub(1)?;
+        self.entries.get(index as usize)
+    }
+}
+
+// What a caller gets for an entry.
+fn told(found: Option<&Entry>) -> Result<Entry, Refusal>
+    ensures { result ≡ told (option_copied found.entry) }
+{
+    let Some(entry) = found else {
+        return Err(Refusal::UnknownJob);
+    };
+    if entry.is_taken {
+        return Err(Refusal::UnknownJob);
+    }
+    match entry.fate {
+        Fate::Open => Err(Refusal::NotCompleted),
+        Fate::Failed => Err(Refusal::LocalFault),
+        Fate::Completed { .. } => Ok(Entry {
+            first: entry.first,
+            count: entry.count,
+            fate: entry.fate,
+            is_taken: entry.is_taken,
+        }),
+    }
+}
+
+// Whether the receipt counts as taken by this answer.
+fn is_given(told: &Result<Entry, Refusal>) -> bool
+    ensures { result ≡ is_given told.now }
+{
+    match told {
+        Ok(_) | Err(Refusal::LocalFault) => true,
+        Err(_) => false,
+    }
+}

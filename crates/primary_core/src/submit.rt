@@ -1,0 +1,187 @@
+//! A write is accepted.
+ghost use Rattle.std.specs.Prelude.{◌≡◌, ◌+◌, ◌*◌, ◌^◌, ◌<◌, ◌≤◌, ◌∷◌, [], None, true, false, length, IfOk, IfErr, OnOk, OnErr};
+ghost use Rattle.activitylog.specs.Activity.{begun, can_begin, writes_of};
+ghost use Rattle.blocks.specs.declared.refusal.Refusal.TheVariants.{BadRange, NoMemory};
+ghost use Rattle.model.specs.Contents.{extent_of, is_range};
+ghost use Rattle.model.specs.Refusals.{first_refusal};
+ghost use Rattle.model.specs.Stream.{Item as Denoted};
+ghost use Rattle.overlap.specs.Holdings.{conflict, holding, holding_too, is_held};
+ghost use Rattle.primary_core.specs.Kept.{owing};
+ghost use Rattle.primary_core.specs.Starved.{is_starved};
+ghost use Rattle.primary_core.specs.Submit.{IsWhole, gone_out, range_tests, taken_in, told_by};
+ghost use Rattle.primary_steps.specs.Core.{appending, stands};
+ghost use Rattle.primary_steps.specs.Transitions.{submit, whole_blocks};
+
+use crate::entry::{Entry, Fate};
+use crate::item::{Item, Kind};
+use crate::state::PrimaryCore;
+use activitylog::ActivityLog;
+use blocks::{BLOCK_BYTES, Done, Range, Refusal, What};
+use bytes::Bytes;
+use overlap::Held;
+use transferlog::Accepted;
+
+/// The most writes that are accepted (this project's limit).
+const MOST_WRITES: u64 = 1_048_576;
+
+/// A stream of so many items takes no more but those that come unasked (this project's limit).
+pub(crate) const MOST_ITEMS: u32 = 4_294_967_288;
+
+impl PrimaryCore {
+    /// Accepts a write of whole blocks from the first one on; the bytes are shared. With a stream it goes
+    /// there, and without one its blocks are marked.
+    ///
+    /// `BadRange` (1) where it is not 1 to 32 whole blocks inside the device and inside one extent;
+    /// `NotConnected` (12) without a stream, where the bitmap records no generation; `JournalFull` (5) where
+    /// 1,048,576 writes were accepted; `LogFull` (3) where `backlog` writes are unreleased; `Conflict` (2)
+    /// where an open write, or for 0 the block under way, has a block of it; `ActivityFull` (4) where its
+    /// extent is not active and cannot become so; `StreamFull` (6) where the stream has 4,294,967,288 items;
+    /// else `NoMemory` (7), where there is no room for it, its barrier, its entry and its item.
+    pub fn submit(&mut self, first: u64, bytes: &Bytes) -> Result<Done, Refusal>
+        ensures { (result, self.new.state) ≡ submit first bytes.now (is_starved result) self.old.state }
+    {
+        let range = self.whole_range(first, bytes)?;
+        self.may_submit(range)?;
+        let shared = bytes.clone()?;
+        let accepted = self.accept(range, bytes.clone()?)?;
+        Ok(self.send_or_mark(accepted, range, shared))
+    }
+
+    // The range that these bytes fill from a block on.
+    fn whole_range(&self, first: u64, bytes: &Bytes) -> Result<Range, Refusal>
+        ensures whole { IfOk result (λ r. IsWhole self.now.state.settings r.first.0 r.count bytes.now × (r.first.0 ≡ first)) }
+        ensures refused { IfErr result (λ e. (e ≡ BadRange) × (is_range self.now.state.settings first (length (whole_blocks bytes.now)) ≡ false)) }
+    {
+        if bytes.len() % BLOCK_BYTES != 0 {
+            return Err(Refusal::BadRange);
+        }
+        Range::new(
+            first,
+            (bytes.len() / BLOCK_BYTES) as u64,
+            self.settings.blocks,
+        )
+    }
+
+    // Whether a write of this range is accepted, but for want of memory.
+    fn may_submit(&self, range: Range) -> Result<(), Refusal>
+        ensures { result ≡ told_by (range_tests range.first.0 range.count self.now.state) }
+    {
+        let stands = self.log.connection().is_some();
+        if !stands && self.generations.tuple.bitmap == 0 {
+            return Err(Refusal::NotConnected);
+        }
+        if self.log.accepted() >= MOST_WRITES {
+            return Err(Refusal::JournalFull);
+        }
+        if self.log.len() >= self.settings.backlog {
+            return Err(Refusal::LogFull);
+        }
+        if let Some(number) = self.conflict(range) {
+            return Err(Refusal::Conflict(number));
+        }
+        if !self.activity.can_begin(range.first.extent()) {
+            return Err(Refusal::ActivityFull);
+        }
+        if stands && self.log.places() >= MOST_ITEMS {
+            return Err(Refusal::StreamFull);
+        }
+        Ok(())
+    }
+
+    // The lowest number that has a block of the range: 0 for the block under way.
+    fn conflict(&self, range: Range) -> Option<u64>
+        ensures { result ≡ conflict range.first.0 range.count self.now.state.held }
+    {
+        let writes = &self.held;
+        if let Some(way) = self.under_way() {
+            let copied = Range {
+                first: way.block,
+                count: 1,
+            };
+            if copied.meets(&range) {
+                return Some(0);
+            }
+        }
+        writes.conflict(range)
+    }
+
+    // The write is in the log, holds its blocks, and has its extent active.
+    fn accept(&mut self, range: Range, contents: Bytes) -> Result<Accepted, Refusal>
+        requires inside { range.first.0 + range.count ≤ self.old.state.settings.blocks }
+        requires whole { length contents ≡ 4096 * range.count }
+        requires tests { first_refusal (range_tests range.first.0 range.count self.old.state) ≡ None }
+        ensures accepted { IfOk result (λ a. (a, self.new.state) ≡ taken_in range.first.0 range.count contents self.old.state) }
+        ensures room { IfOk result (λ a. stands self.new.state ≡ true → 1 + owing a.barrier self.new.state.end self.new.state.log ≤ self.new.stream_room) }
+        ensures refused { IfErr result (λ e. e ≡ NoMemory) }
+        ensures unchanged { OnErr result (self.new.state ≡ self.old.state) }
+    {
+        self.entries.reserve(1)?;
+        self.unsent.reserve(3)?;
+        self.log.reserve()?;
+        let number = self.log.accepted() + 1;
+        begin(&mut self.held, &mut self.activity, number, range)?;
+        let accepted = self.log.accept(range, contents)?;
+        self.entries.push_reserved(Entry {
+            first: range.first.0,
+            count: range.count,
+            fate: Fate::Open,
+            is_taken: false,
+        });
+        Ok(accepted)
+    }
+
+    // The write's item goes to the stream, or its blocks are marked where there is none.
+    fn send_or_mark(&mut self, accepted: Accepted, range: Range, contents: Bytes) -> Done
+        requires inside { range.first.0 + range.count ≤ self.old.state.settings.blocks }
+        requires whole { length contents ≡ 4096 * range.count }
+        requires numbered { 0 < accepted.number }
+        requires room { stands self.old.state ≡ true → 1 + owing accepted.barrier self.old.state.end self.old.state.log ≤ self.old.stream_room }
+        ensures { (result, self.new.state) ≡ gone_out accepted range.first.0 range.count contents self.old.state }
+    {
+        let what = What::Write(accepted.number);
+        if self.log.connection().is_none() {
+            self.marks.mark(range);
+            return self.follow(what, None);
+        }
+        self.append(Item {
+            kind: Kind::Write(accepted.number, range.first, contents),
+        });
+        self.follow(what, accepted.barrier)
+    }
+
+    /// An item goes to the end of the stream, where an end is open.
+    pub(crate) fn append(&mut self, item: Item)
+        requires room { 1 + owing None self.old.state.end self.old.state.log ≤ self.old.stream_room }
+        ensures state { self.new.state ≡ appending (item ∷ []) self.old.state }
+        ensures room { self.old.stream_room ≤ 1 + self.new.stream_room }
+    {
+        if self.end.is_some() {
+            self.unsent.push_back_reserved(item);
+        }
+    }
+}
+
+// A write holds its blocks, and has its extent active.
+fn begin(
+    held: &mut Held,
+    activity: &mut ActivityLog,
+    number: u64,
+    range: Range,
+) -> Result<(), Refusal>
+    requires new { is_held number held.old ≡ false }
+    requires apart { conflict range.first.0 range.count held.old ≡ None }
+    requires active { can_begin (extent_of range.first.0) activity.old ≡ true }
+    requires few { writes_of (extent_of range.first.0) activity.old.active + 1 < 2 ^ 32 }
+    ensures held { OnOk result (held.new ≡ holding_too (holding number range.first.0 range.count) held.old) }
+    ensures begun { OnOk result (activity.new ≡ begun (extent_of range.first.0) activity.old) }
+    ensures refused { IfErr result (λ e. e ≡ NoMemory) }
+    ensures unheld { OnErr result (held.new ≡ held.old) }
+    ensures unbegun { OnErr result (activity.new ≡ activity.old) }
+{
+    held.hold(number, range)?;
+    if let Err(refusal) = activity.begin(range.first.extent()) {
+        held.release(number);
+        return Err(refusal);
+    }
+    Ok(())
+}
