@@ -4,13 +4,18 @@ use Rattle.std.specs.Prelude.{find, is_some}
 use Rattle.std.specs.List.{list_any}
 use Rattle.std.proofs.lemmas.Bool.{both_ways, eqb-true, false_from_ne_true}
 use Rattle.std.proofs.lemmas.List.{map-append}
+use Rattle.std.proofs.lemmas.Option.{slice_get_within}
 use Rattle.blocks.specs.declared.settings.Settings.{Settings}
-use Rattle.model.specs.Primary.{Waiting, Accepted, Completion, PrimaryHistory, is_failed, is_completed, completes}
+use Rattle.model.specs.Contents.{Write}
+use Rattle.model.specs.Stream.{WriteItem}
+use Rattle.model.specs.Primary.{Waiting, Accepted, Completion, Outward, PrimaryHistory, is_failed, is_completed, is_open, open_writes, completes}
 use Rattle.model.specs.PrimarySteps.{submission}
 use Rattle.laws.proofs.Lists.Elements.{get-more}
-use Rattle.laws.proofs.Lists.Picks.{pick-any}
+use Rattle.laws.proofs.Lists.Picks.{pick-any, pick-filtered, pick-image}
+use Rattle.laws.proofs.Primary.Homes.{HasHomes}
+use Rattle.overlap.specs.Holdings.{Holding}
 use Rattle.primary_steps.specs.Core.{Fate, Failed, Open, Entry, PrimaryState}
-use Rattle.primary_steps.specs.Leaves.{fate_in, entry_of, IsQuiet, Leaves}
+use Rattle.primary_steps.specs.Leaves.{fate_in, entry_of, holding_write, IsQuiet, Leaves}
 use Rattle.primary_steps.proofs.Numbers.{any-some}
 
 -- What a submission's tests say of its range.
@@ -64,3 +69,22 @@ done-more h h1 first contents home quiet fresh writes journal same i a at = elim
   | inr new ↦
       ap (λ (x : Accepted). is_completed h1 x.write.number) new.1 ∙ (ap (list_any (λ (entry : Completion). entry.write.number == suc (length h.writes))) journal ∙ (fresh ∙ sym (ap (completes h1) new.1)))
 ]
+
+-- what an open write holds has the number of an accepted one
+pub open-lower : (h : PrimaryHistory) → HasHomes h → (i : ℕ) (x : Holding) → slice_get (map holding_write (open_writes h)) i ≡ Some x → x.number ≤ length h.writes
+open-lower h homes i x at =
+    let of = pick-image holding_write (open_writes h) i x at in
+    let stood = pick-filtered (is_open h) h.writes i of.0 of.1 in
+    let number : of.0.write.number ≡ x.number = ap (λ (y : Holding). y.number) of.2 in
+    let index = homes.numbered stood.0 of.0 stood.1 in
+    let within = slice_get_within h.writes stood.0 of.0 stood.1 in
+    omega arith
+
+-- a write in a stream has the number of an accepted one
+pub numbers-early : (h : PrimaryHistory) → HasHomes h → (k : ℕ) (c : Outward) → slice_get h.connections k ≡ Some c → (place : ℕ) (w : Write) → slice_get c.stream place ≡ Some (WriteItem w) → w.number ≤ length h.writes
+numbers-early h homes k c there place w at =
+    let found = homes.homed k place c w there at in
+    let number = homes.numbered found.0 found.1 found.2 in
+    let equal : found.1.write.number ≡ w.number = ap (λ (x : Write). x.number) found.3 in
+    let within = slice_get_within h.writes found.0 found.1 found.2 in
+    omega arith

@@ -1,5 +1,6 @@
 -- The peer answers a write: what that leaves, before what follows.
 use Rattle.std.proofs.Common.{ℕ, ◌≡◌, inl, inr, Bool, true, false, not, ◌&&◌, ◌||◌, List, [], ◌∷◌, ◌++◌, length, map, filter, Option, Some, None, slice_get, refl, sym, ◌∙◌, ap, subst, nat_lt, ◌==◌}
+use Rattle.std.proofs.Math.Bool.{or-false}
 use Rattle.std.specs.Prelude.{if◌then◌else◌}
 use Rattle.std.specs.List.{list_any}
 use Rattle.std.proofs.lemmas.Bool.{both_ways, and_parts, eqb-true}
@@ -39,10 +40,6 @@ frames-more c frame plain = ap (λ b. counting b (c.taken ++ frame ∷ [])) plai
 
 pub any-frame : (p : Received → Bool) (c : Outward) (frame : Received) → c.refused ≡ false → list_any p (accepted_frames (with_frame frame c)) ≡ (list_any p (accepted_frames c) || p frame)
 any-frame p c frame plain = ap (list_any p) (frames-more c frame plain) ∙ (list_any-append p (accepted_frames c) (frame ∷ []) ∙ ap (λ b. list_any p (accepted_frames c) || b) (or-false (p frame)))
-  where
-    or-false : (b : Bool) → (b || false) ≡ b
-    or-false true = refl
-    or-false false = refl
 
 -- what a write sees of its connection, which is the same but for the last one
 pub looked : {X : Type 0} (see : Option Outward → X) (f : Outward → Outward) (h : PrimaryHistory) (k : ℕ) (c : Outward) → slice_get h.connections k ≡ Some c → (c ≡ outward h → see (Some (f (outward h))) ≡ see (Some (outward h)))
@@ -113,10 +110,6 @@ module _ (settings : Settings) (s : PrimaryState) (h : PrimaryHistory) (e : EndS
           go2 : (b : Bool) → ((b && false) && ((length a.write.contents == ack.count) && (place == ack.place))) ≡ false
           go2 true = refl
           go2 false = refl
-
-      or-false : (b : Bool) → (b || false) ≡ b
-      or-false true = refl
-      or-false false = refl
 
       go : (v : Option (ℕ × ℕ)) → a.home ≡ v → elim v as (λ _. Bool) [ None ↦ false | Some home ↦ see home.1 (slice_get (change_last (with_frame frame) h.connections) home.0) ] ≡ elim v as (λ _. Bool) [ None ↦ false | Some home ↦ see home.1 (slice_get h.connections home.0) ]
       go None so = refl

@@ -1,5 +1,6 @@
 -- Something happens to one write: what the log makes of it, and what the history does.
 use Rattle.std.proofs.Common.{ℕ, ◌≡◌, ◌-◌, Bool, true, false, not, ◌&&◌, ◌||◌, List, length, map, filter, Some, None, slice_get, refl, sym, ◌∙◌, ap, nat_le}
+use Rattle.std.proofs.Math.Bool.{or-false}
 use Rattle.std.specs.Prelude.{if◌then◌else◌}
 use Rattle.std.proofs.lemmas.Bool.{and_parts, not-true}
 use Rattle.blocks.specs.declared.settings.Protocol.{Protocol}
@@ -76,10 +77,6 @@ module _ (s : PrimaryState) (h h1 : PrimaryHistory) (n : ℕ) (f : LogWrite → 
       go false is =
           (λ j. not (is_waiting (g a).outcome) && (not (not (is j)) || nat_le a.write.number s.log.confirmed))
           ∙ (ap (λ b. not (is_waiting (g a).outcome) && b) (sym (confirmed-number h s.log homes last left.rest.log.protocol left.stream.on i a at is) ∙ sym (or-false (is_confirmed h a))) ∙ λ j. not (is_waiting (g a).outcome) && (is_confirmed h a || sym is j))
-        where
-          or-false : (b : Bool) → (b || false) ≡ b
-          or-false true = refl
-          or-false false = refl
 
   -- what was released stays so
   released-stays : (i : ℕ) (a : Accepted) → slice_get h.writes i ≡ Some a → is_released h a ≡ true → is_released h1 (g a) ≡ true

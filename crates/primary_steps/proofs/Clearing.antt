@@ -1,5 +1,6 @@
 -- The peer has the block under way: what that leaves, before what follows.
 use Rattle.std.proofs.Common.{ℕ, zero, suc, ◌≡◌, ◌+◌, ◌-◌, ◌<◌, ◌≤◌, Bool, true, false, not, ◌&&◌, ◌||◌, List, [], ◌∷◌, ◌++◌, length, map, filter, Option, Some, None, slice_get, Ok, refl, sym, ◌∙◌, ap, subst, arith, nat_lt, nat_le, ◌==◌}
+use Rattle.std.proofs.Math.Bool.{or-false}
 use Rattle.std.specs.Prelude.{set, if◌then◌else◌}
 use Rattle.std.specs.List.{list_any}
 use Rattle.std.proofs.lemmas.Bool.{both_ways, and_parts, or_parts, not-true, eqb-true, eq-eqb, lt-leb, false_from_ne_true}
@@ -41,10 +42,6 @@ use Rattle.primary_steps.proofs.Marks.{get-below, length-below, unmarking-none}
 use Rattle.primary_steps.proofs.Naming.{NamesBlock, block-waits, block-sent, block-fresh, only-one}
 use Rattle.primary_steps.proofs.Resting.{quiet-none}
 use Rattle.primary_steps.proofs.Unseen.{IsUnseen, turned, journal-stays, writes-same, quiet-same, connections-same, activity-same}
-
-or-false : (b : Bool) → (b || false) ≡ b
-or-false true = refl
-or-false false = refl
 
 or-true : (b : Bool) → (b || true) ≡ true
 or-true true = refl

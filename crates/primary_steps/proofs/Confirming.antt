@@ -1,5 +1,7 @@
 -- The peer acknowledges an epoch: what that leaves, before what follows.
 use Rattle.std.proofs.Common.{ℕ, zero, suc, ◌≡◌, ◌+◌, ◌-◌, ◌<◌, ◌≤◌, ◌⊎◌, inl, inr, Bool, true, false, not, ◌&&◌, ◌||◌, List, [], ◌∷◌, ◌++◌, length, map, filter, take, drop, Option, Some, None, slice_get, Result, Ok, Err, refl, sym, ◌∙◌, ap, subst, arith, nat_lt, nat_le, ◌==◌}
+use Rattle.std.proofs.Math.Bool.{or-false}
+use Rattle.std.proofs.lemmas.List.{append-nil}
 use Rattle.std.specs.Prelude.{if◌then◌else◌}
 use Rattle.std.specs.List.{list_any}
 use Rattle.std.proofs.lemmas.Bool.{cases_lt, both_ways, and_parts, or_cases, eqb-true, eq-eqb, lt-ltb, le-leb, lt-leb, leb-true, false_from_ne_true}
@@ -83,10 +85,6 @@ module _ (settings : Settings) (bound : 0 < settings.max_epoch) (s : PrimaryStat
 
   first : (0 < length s.log.epochs.sizes) × (total (take 1 s.log.epochs.sizes) ≡ epoch_size (outward h).stream (suc e0.acked))
   first = first-total s.log (outward h) e0 ended
-
-  or-false : (b : Bool) → (b || false) ≡ b
-  or-false true = refl
-  or-false false = refl
 
   -- What is acknowledged then.
 
@@ -314,11 +312,7 @@ module _ (settings : Settings) (bound : 0 < settings.max_epoch) (s : PrimaryStat
   }
 
   journal-same : (with_completions later).journal ≡ h.journal
-  journal-same = ap (λ (l : List Accepted). h.journal ++ map (completion_of later) l) none-new ∙ append-none h.journal
-    where
-      append-none : {X : Type 0} (xs : List X) → xs ++ [] ≡ xs
-      append-none [] = refl
-      append-none (x ∷ xs) = ap (λ (l : List _). x ∷ l) (append-none xs)
+  journal-same = ap (λ (l : List Accepted). h.journal ++ map (completion_of later) l) none-new ∙ append-nil h.journal
 
   on-still : epoch_is_over (with_completions later) ≡ false
   on-still =

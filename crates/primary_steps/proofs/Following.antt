@@ -1,5 +1,7 @@
 -- What follows a step's effect: the journal, then the barrier, then the end of a resync.
 use Rattle.std.proofs.Common.{ℕ, ◌≡◌, ◌-◌, ◌≤◌, Bool, true, false, not, ◌&&◌, ◌||◌, List, [], ◌∷◌, ◌++◌, length, map, filter, Option, Some, None, slice_get, refl, sym, ◌∙◌, ap, subst, arith, ◌==◌}
+use Rattle.std.proofs.Math.Bool.{or-false}
+use Rattle.std.proofs.lemmas.List.{append-nil}
 use Rattle.std.specs.Prelude.{option_map, is_none, if◌then◌else◌}
 use Rattle.std.specs.List.{list_any}
 use Rattle.std.proofs.lemmas.Bool.{both_ways, and_parts}
@@ -65,14 +67,6 @@ pub record Follows (got : Done × PrimaryState) (step : Reply × PrimaryHistory)
 
 -- Lists and truth values.
 
-append-none : {X : Type 0} (xs : List X) → xs ++ [] ≡ xs
-append-none [] = refl
-append-none (x ∷ xs) = ap (λ (l : List _). x ∷ l) (append-none xs)
-
-or-false : (b : Bool) → (b || false) ≡ b
-or-false true = refl
-or-false false = refl
-
 or-true : (b : Bool) → (b || true) ≡ true
 or-true true = refl
 or-true false = refl
@@ -89,7 +83,7 @@ none-or-some {X} p (x ∷ xs) = elim (p x) as (λ b. (length {A = X} (if b then 
 -- an end that queues nothing
 queued-none : (v : Option EndState) → option_map (λ (e : EndState). record e { unsent = e.unsent ++ [] }) v ≡ v
 queued-none None = refl
-queued-none (Some e) = λ i. Some (record e { unsent = append-none e.unsent i })
+queued-none (Some e) = λ i. Some (record e { unsent = append-nil e.unsent i })
 
 -- Streams.
 

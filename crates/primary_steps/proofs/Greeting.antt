@@ -1,5 +1,6 @@
 -- An end whose stream has not begun takes a frame that is no acknowledgement.
 use Rattle.std.proofs.Common.{ℕ, suc, ◌≡◌, inl, inr, Bool, true, false, not, ◌&&◌, ◌||◌, List, [], ◌∷◌, ◌++◌, length, map, filter, Option, Some, None, slice_get, Ok, refl, sym, ◌∙◌, ap, subst, arith, nat_lt}
+use Rattle.std.proofs.Math.Bool.{or-false}
 use Rattle.std.specs.Prelude.{min, if◌then◌else◌}
 use Rattle.std.specs.List.{list_any}
 use Rattle.std.proofs.lemmas.Bool.{cases_lt, both_ways, lt-ltb, le-ltb}
@@ -33,10 +34,6 @@ pub record IsNoAnswer (frame : Received) : Type 0 where
   pub written : (of : Acknowledged) → is_write_ack of frame ≡ false
   pub resynced : (of : Acknowledged) → is_rs_write_ack of frame ≡ false
   pub applied : (epoch : ℕ) → is_barrier_ack epoch frame ≡ false
-
-or-false : (b : Bool) → (b || false) ≡ b
-or-false true = refl
-or-false false = refl
 
 -- a test that the frame does not pass says the same once it is taken
 any-framed : (p : Received → Bool) (c : Outward) (frame : Received) → c.refused ≡ false → p frame ≡ false → list_any p (accepted_frames (with_frame frame c)) ≡ list_any p (accepted_frames c)

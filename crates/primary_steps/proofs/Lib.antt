@@ -29,6 +29,7 @@ pub mod Numbers
 pub mod Owing
 pub mod Parting
 pub mod Refusing
+pub mod Pushing
 pub mod Releasing
 pub mod Reporting
 pub mod Resting

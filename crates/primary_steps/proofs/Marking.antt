@@ -3,7 +3,6 @@ use Rattle.std.proofs.Common.{ℕ, suc, ◌≡◌, ◌+◌, ◌<◌, true, false
 use Rattle.std.specs.Prelude.{option_map, if◌then◌else◌}
 use Rattle.std.proofs.lemmas.Bool.{both_ways}
 use Rattle.std.proofs.lemmas.List.{length-append, map-append}
-use Rattle.std.proofs.lemmas.Option.{slice_get_within}
 use Rattle.blocks.specs.declared.settings.Settings.{Settings}
 use Rattle.blocks.specs.Ranges.{is_between}
 use Rattle.model.specs.Contents.{Write, extent_of}
@@ -18,7 +17,6 @@ use Rattle.transferlog.specs.declared.local.Local.TheVariants as local
 use Rattle.overlap.specs.Holdings.{Holding, holding, holding_too}
 use Rattle.activitylog.specs.Activity.{can_begin, begun}
 use Rattle.bitmap.specs.Marks as bits
-use Rattle.laws.proofs.Lists.Picks.{pick-filtered, pick-image}
 use Rattle.laws.proofs.Primary.Homes.{HasHomes}
 use Rattle.laws.proofs.Primary.InOrderMoves.{Ordered, OrderedAfter, in-order-kept}
 use Rattle.laws.proofs.Primary.Moves.{MaySubmit}
@@ -26,7 +24,7 @@ use Rattle.laws.proofs.Tracked.Kept.{fresh-number}
 use Rattle.primary_steps.specs.Core.{Open, PrimaryState, unmarking}
 use Rattle.primary_steps.specs.Transitions.{whole_blocks}
 use Rattle.primary_steps.specs.Leaves.{logged_of, holding_item, holding_write, held_of, LeavesLog, LeavesStream, LeavesActivity, IsQuiet, Leaves}
-use Rattle.primary_steps.proofs.Accepting.{HasRange, accepted_at, entries-more, done-more}
+use Rattle.primary_steps.proofs.Accepting.{open-lower, HasRange, accepted_at, entries-more, done-more}
 use Rattle.primary_steps.proofs.Adding.{concat-whole, latest-more, holding-end, filter-one}
 use Rattle.primary_steps.proofs.Beginning.{begins-activity}
 use Rattle.primary_steps.proofs.Following.{IsDue, parted}
@@ -115,14 +113,7 @@ module _ (settings : Settings) (bound : 0 < settings.max_epoch) (s : PrimaryStat
       all = left.rest.log.accepted
 
       lower : (i : ℕ) (x : Holding) → slice_get (map holding_write (open_writes h)) i ≡ Some x → x.number < s.log.accepted + 1
-      lower i x at =
-          let of = pick-image holding_write (open_writes h) i x at in
-          let stood = pick-filtered (is_open h) h.writes i of.0 of.1 in
-          let number : of.0.write.number ≡ x.number = ap (λ (y : Holding). y.number) of.2 in
-          let index = homes.numbered stood.0 of.0 stood.1 in
-          let within = slice_get_within h.writes stood.0 of.0 stood.1 in
-          let size = all in
-          omega arith
+      lower i x at = let low = open-lower h homes i x at in let size = all in omega arith
 
       opens : map holding_write (open_writes h) ++ holding (s.log.accepted + 1) first (length (whole_blocks bytes)) ∷ [] ≡ map holding_write (open_writes later)
       opens =

@@ -1,5 +1,6 @@
 -- A stream begins.
 use Rattle.std.proofs.Common.{ℕ, ◌≡◌, ◌+◌, ◌-◌, ◌<◌, ◌≤◌, Bool, true, false, not, ◌&&◌, ◌||◌, List, [], ◌∷◌, ◌++◌, length, map, drop, Some, None, slice_get, refl, sym, ◌∙◌, ap, subst, arith, nat_le}
+use Rattle.std.proofs.Math.Bool.{or-false}
 use Rattle.std.specs.Prelude.{if◌then◌else◌}
 use Rattle.std.specs.List.{list_any}
 use Rattle.std.proofs.lemmas.Bool.{both_ways, and_right, or_from, lt-ltb, lt-leb}
@@ -136,10 +137,6 @@ all-marked blocks marks = marking-in blocks (λ block. true) marks ∙ marks-sam
 -- no more than before
 pub none-marked : (blocks : ℕ) (marks : ℕ → Bool) → marking (λ block. false) (marks_in blocks marks) ≡ marks_in blocks marks
 none-marked blocks marks = marking-in blocks (λ block. false) marks ∙ marks-same blocks (λ block. marks block || false) marks (λ block inside. or-false (marks block))
-  where
-    or-false : (b : Bool) → (b || false) ≡ b
-    or-false true = refl
-    or-false false = refl
 
 -- The stream begins, before what follows.
 module _ (s : PrimaryState) (h : PrimaryHistory) (left : Leaves s h) (homes : HasHomes h) (bound : 0 < h.settings.max_epoch) (e : EndState) (end : LeavesEnd e (outward h)) (none : (outward h).stream ≡ []) (fresh : (outward h).begun ≡ false)

@@ -1,5 +1,6 @@
 -- Where something happens to one write, the log ends the last epoch where the history does.
 use Rattle.std.proofs.Common.{ℕ, zero, suc, ◌≡◌, ◌+◌, ◌-◌, ◌<◌, ◌≤◌, ◌⊎◌, inl, inr, Bool, true, false, not, ◌&&◌, ◌||◌, List, [], ◌∷◌, ◌++◌, length, map, filter, take, Some, None, slice_get, refl, sym, ◌∙◌, ap, subst, arith, nat_lt, nat_le, ◌==◌}
+use Rattle.std.proofs.Math.Bool.{or-false}
 use Rattle.std.specs.Prelude.{if◌then◌else◌, option_map}
 use Rattle.std.specs.List.{list_any}
 use Rattle.std.proofs.lemmas.Bool.{cases_lt, both_ways, and_parts, and_from, or_left, or_right, or_cases, not-true, false_from_ne_true, eqb-true, eq-eqb, le-leb, lt-ltb, ltb-true, leb-false, lt-leb, le-ltb}
@@ -223,10 +224,6 @@ module _ (s : PrimaryState) (h h1 : PrimaryHistory) (n : ℕ) (f : LogWrite → 
       where
         any-now : list_any (is_settled (with_completions h1) (outward h1)) (items_of_epoch (outward h1).stream (last_epoch (outward h1).stream)) ≡ list_any (is_settled (with_completions h1) (outward h1)) (items_of_epoch (outward h).stream (last_epoch (outward h).stream))
         any-now = ap (λ (x : List Item). list_any (is_settled (with_completions h1) (outward h1)) (items_of_epoch x (last_epoch x))) stream-is
-
-        or-false : (b : Bool) → (b || false) ≡ b
-        or-false true = refl
-        or-false false = refl
 
         none : (closes_any (on n f) s.log && is_in_last n s.log.epochs) ≡ false
             → list_any (is_settled (with_completions h1) (outward h1)) (items_of_epoch (outward h).stream (last_epoch (outward h).stream)) ≡ (closes_any (on n f) s.log && is_in_last n s.log.epochs)

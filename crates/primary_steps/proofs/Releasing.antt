@@ -1,5 +1,6 @@
 -- When the log releases a write, and what a released write is.
 use Rattle.std.proofs.Common.{ℕ, ◌≡◌, ◌+◌, inl, inr, Bool, true, false, not, ◌&&◌, ◌||◌, List, Option, Some, None, slice_get, refl, sym, ◌∙◌, ap, subst, arith, nat_le}
+use Rattle.std.proofs.Math.Bool.{or-false}
 use Rattle.std.proofs.lemmas.Bool.{cases_Bool, both_ways, and_parts, or_cases, leb-true}
 use Rattle.blocks.specs.declared.settings.Protocol.{Protocol}
 use Rattle.model.specs.Stream.{Item, WriteItem, epoch_of}
@@ -71,10 +72,6 @@ module _ (h : PrimaryHistory) (l : LogState) (homes : HasHomes h) (last : IsLast
       go false is =
           ap (λ b. not (is_waiting a.outcome) && (b || nat_le a.write.number l.confirmed)) is
           ∙ (ap (λ b. not (is_waiting a.outcome) && b) (sym (confirmed-number i a at is) ∙ sym (or-false (is_confirmed h a))) ∙ ap (λ b. not (is_waiting a.outcome) && (is_confirmed h a || b)) (sym is))
-        where
-          or-false : (b : Bool) → (b || false) ≡ b
-          or-false true = refl
-          or-false false = refl
 
   -- a write that is confirmed is answered
   pub confirmed-answered : (i : ℕ) (a : Accepted) → slice_get h.writes i ≡ Some a → is_alone h a ≡ false → is_confirmed h a ≡ true → is_answered h a ≡ true

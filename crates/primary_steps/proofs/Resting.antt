@@ -1,5 +1,6 @@
 -- Between steps no resync is over, and a step that completes nothing is followed by nothing.
 use Rattle.std.proofs.Common.{ℕ, ◌≡◌, Bool, true, false, not, ◌&&◌, List, [], ◌∷◌, ◌++◌, length, map, Some, None, slice_get, refl, ◌∙◌, ap, subst, ◌==◌, ◌||◌, nat_le}
+use Rattle.std.proofs.lemmas.List.{append-nil}
 use Rattle.std.specs.Prelude.{if◌then◌else◌}
 use Rattle.std.specs.List.{list_any}
 use Rattle.blocks.specs.declared.outcome.What.{What}
@@ -90,10 +91,6 @@ quiet-none h quiet = filter-none (λ a. is_open h a && completes h a) h.writes (
     go false true = refl
     go false false = refl
 
-append-none : {X : Type 0} (xs : List X) → xs ++ [] ≡ xs
-append-none [] = refl
-append-none (x ∷ xs) = ap (λ (l : List _). x ∷ l) (append-none xs)
-
 -- A step that completes nothing, ends no epoch and no resync is followed by nothing.
 pub still : (h : PrimaryHistory) → IsQuiet h → epoch_is_over h ≡ false → resync_is_over h ≡ false → (name : What) → succeeding name h ≡ (reply.Ok (done_with name), h)
 still h quiet on rests name = ap answer (same-follow ∙ by-resync)
@@ -111,7 +108,7 @@ still h quiet on rests name = ap answer (same-follow ∙ by-resync)
     none = quiet-none h quiet
 
     journal : with_completions h ≡ h
-    journal = λ i. record h { journal = (ap (λ (l : List Accepted). h.journal ++ map (completion_of h) l) none ∙ append-none h.journal) i }
+    journal = λ i. record h { journal = (ap (λ (l : List Accepted). h.journal ++ map (completion_of h) l) none ∙ append-nil h.journal) i }
 
     same-follow : follows h ≡ followed h []
     same-follow = λ i. followed (journal i) (map (λ accepted. accepted.write.number) (none i))

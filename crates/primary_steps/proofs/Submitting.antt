@@ -2,9 +2,10 @@
 use Rattle.std.proofs.Common.{ℕ, suc, ◌≡◌, ◌+◌, ◌-◌, ◌<◌, ◌≤◌, inl, inr, Bool, true, false, not, ◌&&◌, ◌||◌, List, [], ◌∷◌, ◌++◌, length, map, Option, Some, None, slice_get, refl, sym, ◌∙◌, ap, subst, arith, nat_lt, nat_le, ◌==◌}
 use Rattle.std.specs.Prelude.{option_map, if◌then◌else◌}
 use Rattle.std.specs.List.{list_any}
+use Rattle.std.proofs.Math.Bool.{and-false, or-false}
 use Rattle.std.proofs.lemmas.Bool.{both_ways, and_parts, eqb-true, eq-eqb, le-ltb, false_from_ne_true}
 use Rattle.std.proofs.lemmas.Bool.Decides.{nat_tests}
-use Rattle.std.proofs.lemmas.List.{length-append, map-append}
+use Rattle.std.proofs.lemmas.List.{length-append, map-append, append-nil, append_assoc}
 use Rattle.std.proofs.lemmas.List.Folds.{list_any-append}
 use Rattle.std.proofs.lemmas.Option.{slice_get_within}
 use Rattle.blocks.specs.declared.settings.Settings.{Settings}
@@ -24,7 +25,7 @@ use Rattle.model.specs.Marks.{marking}
 use Rattle.transferlog.specs.declared.local.Local.TheVariants as local
 use Rattle.laws.proofs.Lists.Elements.{get-more, get-split}
 use Rattle.laws.proofs.Lists.Last.{length-change, get-last-changed}
-use Rattle.laws.proofs.Lists.Picks.{pick-any, pick-filtered, pick-image}
+use Rattle.laws.proofs.Lists.Picks.{pick-any, pick-image}
 use Rattle.laws.proofs.Primary.Ends.{stands-parts}
 use Rattle.laws.proofs.Primary.Homes.{HasHomes, open-at, alone-at}
 use Rattle.laws.proofs.Primary.InOrderMoves.{Ordered, OrderedAfter, in-order-kept}
@@ -46,7 +47,7 @@ use Rattle.primary_steps.proofs.Filters.{filter-at, map-at, any-at}
 use Rattle.primary_steps.proofs.Following.{IsDue, parted, barrier_of, runs-more}
 use Rattle.primary_steps.proofs.Marks.{unmarking-none}
 use Rattle.primary_steps.proofs.Resting.{quiet-none}
-use Rattle.primary_steps.proofs.Accepting.{HasRange, accepted_at, entries-more, done-more}
+use Rattle.primary_steps.proofs.Accepting.{open-lower, numbers-early, HasRange, accepted_at, entries-more, done-more}
 
 -- Over a stream that stands.
 module _ (settings : Settings) (bound : 0 < settings.max_epoch) (s : PrimaryState) (h : PrimaryHistory) (first : ℕ) (bytes : List ℕ) (left : Leaves s h) (ordered : Ordered settings h)
@@ -196,26 +197,18 @@ module _ (settings : Settings) (bound : 0 < settings.max_epoch) (s : PrimaryStat
   none-new = quiet-none later quiet
 
   journal-same : (with_completions later).journal ≡ h.journal
-  journal-same = ap (λ (l : List Accepted). h.journal ++ map (completion_of later) l) none-new ∙ append-none h.journal
-    where
-      append-none : {X : Type 0} (xs : List X) → xs ++ [] ≡ xs
-      append-none [] = refl
-      append-none (x ∷ xs) = ap (λ (l : List _). x ∷ l) (append-none xs)
+  journal-same = ap (λ (l : List Accepted). h.journal ++ map (completion_of later) l) none-new ∙ append-nil h.journal
 
   -- what is held
   held-left : holding_too (holding (s.log.accepted + 1) first (length (whole_blocks bytes))) s.held ≡ held_of later
   held-left =
       ap (holding_too (holding (s.log.accepted + 1) first (length (whole_blocks bytes)))) left.rest.held
       ∙ (holding-end (holding (s.log.accepted + 1) first (length (whole_blocks bytes))) (held_of h) lower
-      ∙ (assoc zeros (map holding_write (open_writes h)) (holding (s.log.accepted + 1) first (length (whole_blocks bytes)) ∷ [])
+      ∙ (append_assoc zeros (map holding_write (open_writes h)) (holding (s.log.accepted + 1) first (length (whole_blocks bytes)) ∷ [])
       ∙ λ i. zeros-same i ++ opens i))
     where
       zeros : List Holding
       zeros = map holding_item (if stands (outward h) then under_way (outward h) else [])
-
-      assoc : (xs ys zs : List Holding) → (xs ++ ys) ++ zs ≡ xs ++ (ys ++ zs)
-      assoc [] ys zs = refl
-      assoc (x ∷ xs) ys zs = ap (λ (l : List Holding). x ∷ l) (assoc xs ys zs)
 
       all : s.log.accepted ≡ length h.writes
       all = left.rest.log.accepted
@@ -223,14 +216,7 @@ module _ (settings : Settings) (bound : 0 < settings.max_epoch) (s : PrimaryStat
       lower : (i : ℕ) (x : Holding) → slice_get (held_of h) i ≡ Some x → x.number < s.log.accepted + 1
       lower i x at = elim (get-split (map holding_item (if stands (outward h) then under_way (outward h) else [])) (map holding_write (open_writes h)) i x at) [
         | inl way ↦ let of = pick-image holding_item (if stands (outward h) then under_way (outward h) else []) i x way in let none : x.number ≡ 0 = ap (λ (y : Holding). y.number) (sym of.2) in omega arith
-        | inr opened ↦
-            let of = pick-image holding_write (open_writes h) opened.0 x opened.2 in
-            let stood = pick-filtered (is_open h) h.writes opened.0 of.0 of.1 in
-            let number : of.0.write.number ≡ x.number = ap (λ (y : Holding). y.number) of.2 in
-            let index = homes.numbered stood.0 of.0 stood.1 in
-            let within = slice_get_within h.writes stood.0 of.0 stood.1 in
-            let size = all in
-            omega arith
+        | inr opened ↦ let low = open-lower h homes opened.0 x opened.2 in let size = all in omega arith
       ]
 
       zeros-same : map holding_item (if stands (outward h) then under_way (outward h) else []) ≡ map holding_item (if stands (outward later) then under_way (outward later) else [])
@@ -298,15 +284,7 @@ module _ (settings : Settings) (bound : 0 < settings.max_epoch) (s : PrimaryStat
           ∙ ap (λ b. list_any (λ accepted. (is_write entry.1 && (accepted.write.number == number_of entry.1)) && not (is_open h accepted)) h.writes || b) (none (is_write entry.1 && (suc (length h.writes) == number_of entry.1)))))
         where
           none : (b : Bool) → ((b && not (is_open h new)) || false) ≡ false
-          none b = (λ i. (b && not ((ap (λ c. not c && true) fresh) i)) || false) ∙ by b
-            where
-              by : (b : Bool) → ((b && false) || false) ≡ false
-              by true = refl
-              by false = refl
-
-      or-false : (b : Bool) → (b || false) ≡ b
-      or-false true = refl
-      or-false false = refl
+          none b = (λ i. (b && not ((ap (λ c. not c && true) fresh) i)) || false) ∙ (or-false (b && false) ∙ and-false b)
 
       olds : list_any (is_settled (with_completions later) (f (outward h))) (items_of_epoch (outward h).stream (last_epoch (outward h).stream)) ≡ false
       olds =
@@ -380,17 +358,8 @@ module _ (settings : Settings) (bound : 0 < settings.max_epoch) (s : PrimaryStat
 
           few : (place : ℕ) (w : Write) → slice_get (outward later).stream place ≡ Some (WriteItem w) → w.number ≤ s.log.accepted + 1
           few place w at = elim (get-more (outward h).stream item place (WriteItem w) (subst (λ (c : Outward). slice_get c.stream place ≡ Some (WriteItem w)) out at)) [
-            | inl old ↦
-                let found = homes.homed (last_index h.connections) place (outward h) w there old in
-                let number = homes.numbered found.0 found.1 found.2 in
-                let equal : found.1.write.number ≡ w.number = ap (λ (x : Write). x.number) found.3 in
-                let within = slice_get_within h.writes found.0 found.1 found.2 in
-                let all = left.rest.log.accepted in
-                omega arith
-            | inr added ↦
-                let is : w.number ≡ suc (length h.writes) = ap number_of added.1 in
-                let all = left.rest.log.accepted in
-                omega arith
+            | inl old ↦ let early = numbers-early h homes (last_index h.connections) (outward h) there place w old in let all = left.rest.log.accepted in omega arith
+            | inr added ↦ let is : w.number ≡ suc (length h.writes) = ap number_of added.1 in let all = left.rest.log.accepted in omega arith
           ]
 
   -- All is there for what follows.

@@ -1,5 +1,6 @@
 -- The peer answers a write.
 use Rattle.std.proofs.Common.{ℕ, ◌≡◌, ◌<◌, ◌≤◌, Bool, true, false, not, ◌&&◌, ◌||◌, length, Option, Some, None, Result, Ok, Err, refl, sym, ◌∙◌, ap, subst, arith, ◌==◌}
+use Rattle.std.proofs.Math.Bool.{or-false}
 use Rattle.std.specs.Prelude.{if◌then◌else◌}
 use Rattle.std.proofs.lemmas.Bool.{eqb-true, false_from_ne_true}
 use Rattle.std.proofs.lemmas.Option.{slice_get_within}
@@ -37,10 +38,6 @@ use Rattle.primary_steps.proofs.Taken.{TakenAlike}
 -- what nobody changed
 pub peer-same : (frame : Received) (s : PrimaryState) (h : PrimaryHistory) (refusal : Refusal) → Leaves s h → TakenAlike frame s h (Err (refusal, s)) (Err (refusal, with_outward (with_frame frame) h))
 peer-same frame s h refusal left = (refl, (s.peer, refl, λ i. record (with_outward (with_frame frame) h) { peer = sym left.rest.peer i }))
-
-or-false : (b : Bool) → (b || false) ≡ b
-or-false true = refl
-or-false false = refl
 
 -- what was answered stays so
 mono : (c : Outward) (frame : Received) → c.refused ≡ false → (asked : Protocol) (place : ℕ) (item : Item) → is_answered_by asked c place item ≡ true → is_answered_by asked (with_frame frame c) place item ≡ true
