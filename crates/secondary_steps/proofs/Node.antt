@@ -1,0 +1,4 @@
+-- A node's calls are steps of its histories, by the rooms of a secondary.
+pub mod Calls
+pub mod Grows
+pub mod Runs
