@@ -1,6 +1,6 @@
 -- A node's calls that leave the disk are steps: opening, closing, taking a frame, and pushing one.
 use Rattle.std.proofs.Common.{ℕ, zero, suc, ◌≡◌, ◌-◌, ◌≤◌, inl, inr, Bool, true, false, List, [], ◌∷◌, ◌++◌, length, take, Option, Some, None, Result, Ok, Err, slice_get, refl, sym, ◌∙◌, ap, subst, arith, nat_le, not}
-use Rattle.std.specs.Prelude.{is_none}
+use Rattle.std.specs.Prelude.{is_none, is_some, ok_or}
 use Rattle.std.proofs.lemmas.Bool.{both_ways}
 use Rattle.blocks.specs.SettingsRange.{IsInRange}
 use Rattle.blocks.specs.declared.tuple.Tuple.{Tuple}
@@ -20,10 +20,11 @@ use Rattle.model.specs.LocalRuns.{OpensToo, Receives, Acknowledges, ClosesToo}
 use Rattle.laws.proofs.Lists.Elements.{append-one}
 use Rattle.laws.proofs.Lists.Last.{last-more}
 use Rattle.laws.proofs.Secondary.Moves.{pushed_one, closed_end}
-use Rattle.secondary_steps.specs.Core.{EndState, SecondaryState, fresh, open_end, opened, open_tests, close_end, receive, take_at, take_tests, may_take, ack_out, due, sent, tested}
+use Rattle.secondary_steps.specs.Core.{EndState, SecondaryState, fresh, open_end, opened, open_tests, close_end, receive, take_at, take_tests, may_take, ack_out, due, sent, tested, owed}
 use Rattle.secondary_steps.specs.Leaves.{Leaves, LeavesEnd, EndLeft, pending_in}
 use Rattle.secondary_steps.specs.Steps.{Agrees, replied, plainly}
-use Rattle.secondary_steps.specs.Node.{NodeState, NodeLeaves, NodeHas, NodeSteps, IsReached, is_starved, has_room}
+use Rattle.secondary_steps.specs.Node.{NodeState, NodeLeaves, NodeHas, NodeIsHad, NodeSteps, IsReached, is_starved, has_room}
+use Rattle.secondary_steps.proofs.Node.Due.{still-due}
 use Rattle.secondary_steps.proofs.Node.Grows.{Grows, Took, takes, pushed-stays, map-answering}
 use Rattle.secondary_steps.proofs.Node.Runs.{node-steps, node-refused, opens-to, pushes-to, closes-to}
 use Rattle.secondary_steps.proofs.Steps.Opens.{fresh-is, opens-agree, closes-agree}
@@ -230,3 +231,31 @@ pub node-no-memory : (n : NodeState) (packet : Packet) → due n.core ≡ Ok pac
 node-no-memory n packet is = node-refused (Acknowledges true true) tt n NoMemory (λ h left.
     let here : ack_out true true n.core ≡ (Err NoMemory, n.core) = rw (is, ack_out) refl in
     sym (ap (λ (p : Result Done Refusal × SecondaryState). replied (λ done. done) p.0) here) ∙ (pushes-agree true true n.core h left).reply)
+
+-- what was due is due after a frame was taken
+pub takes-due : (n : NodeState) (frame : Received) (result : Result Done Refusal) (core : SecondaryState) (packet : Packet) → NodeIsHad n → may_take n.core ≡ Ok tt → (result, core) ≡ take_at frame n.core.end n.core
+    → due n.core ≡ Ok packet → is_some core.end ≡ true → due core ≡ Ok packet
+takes-due n frame result core packet is_had may is =
+    let h = is_had.history in
+    let leaves = is_had.has.leaves in
+    let both = takes-as frame n.core h may leaves.core in
+    let agrees = subst (λ (p : Result Done Refusal × SecondaryState). Agrees (λ done. done) p (step.receive (Some frame) false h)) (sym is) both.0 in
+    let end = open-end n.core h may leaves.core in
+    let took : Took h frame (step.receive (Some frame) false h).1 = subst (λ (p : Reply × SecondaryHistory). Took h frame p.1) (sym both.1) (takes h frame end.1.stands end.1.plain leaves.core.last.named) in
+    still-due n.core core h (step.receive (Some frame) false h).1 packet leaves.core agrees.leaves took.settings took.grows
+
+-- an end that may take a frame is open
+pub may-open : (s : SecondaryState) → may_take s ≡ Ok tt → is_some s.end ≡ true
+may-open s may = go s.end (both s may).0
+  where
+    go : (v : Option EndState) → is_none v ≡ false → is_some v ≡ true
+    go None is = absurd (cc)
+    go (Some e) is = refl
+
+-- a frame is due only at an open end
+pub due-open : (s : SecondaryState) (packet : Packet) → due s ≡ Ok packet → is_some s.end ≡ true
+due-open s packet is = go s.end is
+  where
+    go : (v : Option EndState) → elim v as (λ _. Result Packet Refusal) [ None ↦ Err NotConnected | Some e ↦ ok_or (owed s.settings e) NothingThere ] ≡ Ok packet → is_some v ≡ true
+    go None is = absurd (cc)
+    go (Some e) is = refl
