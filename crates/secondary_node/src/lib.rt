@@ -4,6 +4,7 @@
 mod acknowledge;
 mod close;
 mod open;
+mod read;
 mod receive;
 mod state;
 mod usage;
