@@ -1,7 +1,6 @@
 -- A node's calls that leave the disk are steps: opening, closing, taking a frame, and pushing one.
-use Rattle.std.proofs.Common.{ℕ, zero, suc, ◌≡◌, ◌-◌, ◌≤◌, inl, inr, Bool, true, false, List, [], ◌∷◌, ◌++◌, length, take, Option, Some, None, Result, Ok, Err, slice_get, refl, sym, ◌∙◌, ap, subst, arith, nat_le, not}
+use Rattle.std.proofs.Common.{ℕ, zero, suc, ◌≡◌, Bool, true, false, List, [], ◌∷◌, ◌++◌, length, take, Option, Some, None, Result, Ok, Err, slice_get, refl, sym, ◌∙◌, ap, subst, arith, nat_le}
 use Rattle.std.specs.Prelude.{is_none, is_some, ok_or}
-use Rattle.std.proofs.lemmas.Bool.{both_ways}
 use Rattle.blocks.specs.SettingsRange.{IsInRange}
 use Rattle.blocks.specs.declared.tuple.Tuple.{Tuple}
 use Rattle.blocks.specs.declared.settings.Settings.{Settings}
@@ -11,21 +10,21 @@ use Rattle.blocks.specs.declared.outcome.Done.{Done}
 use Rattle.blocks.specs.declared.outcome.What.TheVariants as what
 use Rattle.blocks.specs.declared.outcome.Reply.{Reply}
 use Rattle.blocks.specs.declared.outcome.Reply.TheVariants as reply
-use Rattle.model.specs.Contents.{BlockMap, IsDisk}
+use Rattle.model.specs.Contents.{IsDisk}
 use Rattle.model.specs.Frames.{Packet, Received, command_of}
-use Rattle.model.specs.Refusals.{Test, first_refusal, done_with}
+use Rattle.model.specs.Refusals.{first_refusal, done_with}
 use Rattle.model.specs.Secondary.{Inward, SecondaryHistory, inward, no_inward, with_inward, items_taken, pending, answers_due, map_of, secondary_map, secondary_opening}
 use Rattle.model.specs.SecondarySteps as step
 use Rattle.model.specs.LocalRuns.{OpensToo, Receives, Acknowledges, ClosesToo}
 use Rattle.laws.proofs.Lists.Elements.{append-one}
 use Rattle.laws.proofs.Lists.Last.{last-more}
 use Rattle.laws.proofs.Secondary.Moves.{pushed_one, closed_end}
-use Rattle.secondary_steps.specs.Core.{EndState, SecondaryState, fresh, open_end, opened, open_tests, close_end, receive, take_at, take_tests, may_take, ack_out, due, sent, tested, owed}
+use Rattle.secondary_steps.specs.Core.{EndState, SecondaryState, fresh, open_end, close_end, receive, take_at, take_tests, may_take, ack_out, due, sent, tested, owed}
 use Rattle.secondary_steps.specs.Leaves.{Leaves, LeavesEnd, EndLeft, pending_in}
 use Rattle.secondary_steps.specs.Steps.{Agrees, replied, plainly}
-use Rattle.secondary_steps.specs.Node.{NodeState, NodeLeaves, NodeHas, NodeIsHad, NodeSteps, IsReached, is_starved, has_room}
+use Rattle.secondary_steps.specs.Node.{NodeState, NodeHas, NodeIsHad, NodeSteps}
 use Rattle.secondary_steps.proofs.Node.Due.{still-due}
-use Rattle.secondary_steps.proofs.Node.Grows.{Grows, Took, takes, pushed-stays, map-answering}
+use Rattle.secondary_steps.proofs.Node.Grows.{Took, takes, pushed-stays}
 use Rattle.secondary_steps.proofs.Node.Runs.{node-steps, node-refused, opens-to, pushes-to, closes-to}
 use Rattle.secondary_steps.proofs.Steps.Opens.{fresh-is, opens-agree, closes-agree}
 use Rattle.secondary_steps.proofs.Steps.Pushes.{pushes-agree, due-same}

@@ -1,16 +1,15 @@
 -- The packet that is due stays so while frames are taken and items applied.
-use Rattle.std.proofs.Common.{ℕ, zero, suc, ◌≡◌, Bool, true, false, List, [], ◌∷◌, ◌++◌, Option, Some, None, Result, Ok, Err, slice_get, refl, sym, ◌∙◌, ap, subst}
+use Rattle.std.proofs.Common.{ℕ, zero, suc, ◌≡◌, true, false, List, [], ◌∷◌, ◌++◌, Option, Some, None, Result, Ok, Err, slice_get, refl, sym, ◌∙◌, ap}
 use Rattle.std.specs.Prelude.{is_some, is_none, ok_or}
 use Rattle.std.proofs.lemmas.List.{append_assoc}
 use Rattle.blocks.specs.declared.settings.Settings.{Settings}
 use Rattle.blocks.specs.declared.tuple.Tuple.{Tuple}
-use Rattle.blocks.specs.declared.outcome.Done.{Done}
 use Rattle.blocks.specs.declared.refusal.Refusal.{Refusal}
 use Rattle.blocks.specs.declared.refusal.Refusal.TheVariants.{NotConnected, NothingThere}
-use Rattle.model.specs.Frames.{Packet, Received, hello_of}
-use Rattle.model.specs.Secondary.{Inward, SecondaryHistory, inward, answers_due}
+use Rattle.model.specs.Frames.{Packet, hello_of}
+use Rattle.model.specs.Secondary.{SecondaryHistory, inward, answers_due}
 use Rattle.secondary_steps.specs.Core.{EndState, SecondaryState, owed, due, tested, close_end}
-use Rattle.secondary_steps.specs.Leaves.{Leaves, LeavesEnd, EndLeft}
+use Rattle.secondary_steps.specs.Leaves.{Leaves, EndLeft}
 use Rattle.secondary_steps.proofs.Node.Grows.{Grows}
 use Rattle.secondary_steps.proofs.Steps.Pushes.{due-same, owed-same}
 

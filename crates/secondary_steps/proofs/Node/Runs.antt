@@ -13,7 +13,7 @@ use Rattle.model.specs.SecondarySteps as step
 use Rattle.model.specs.LocalRuns.{SecondaryEvent, OpensToo, Receives, Applies, FailsToApply, Acknowledges, ClosesToo, secondary_after, secondary_run}
 use Rattle.laws.proofs.Secondary.Moves.{pushed_one, closed_end}
 use Rattle.secondary_steps.specs.Leaves.{Leaves}
-use Rattle.secondary_steps.specs.Node.{NodeState, NodeLeaves, NodeHas, NodeIsHad, NodeSteps, IsReached, secondary_step}
+use Rattle.secondary_steps.specs.Node.{NodeState, NodeLeaves, NodeIsHad, NodeSteps, IsReached, secondary_step}
 
 -- the history after an event is that of its step
 after-step : (event : SecondaryEvent) (h : SecondaryHistory) → secondary_after event h ≡ (secondary_step event h).1
