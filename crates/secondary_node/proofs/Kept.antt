@@ -1,6 +1,6 @@
 -- What each call keeps of a node, and that it is its step.
-use Rattle.std.proofs.Common.{ℕ, zero, suc, ◌≡◌, ◌+◌, ◌<◌, ◌⊎◌, inl, inr, Bool, true, false, List, [], ◌∷◌, ◌++◌, length, Option, Some, None, Result, Ok, Err, slice_get, refl, sym, ◌∙◌, ap, subst, arith, nat_lt}
-use Rattle.std.specs.Prelude.{is_some, is_none, ok_or, option_map}
+use Rattle.std.proofs.Common.{ℕ, zero, suc, ◌≡◌, ◌⊎◌, inl, inr, Bool, true, false, List, [], ◌∷◌, ◌++◌, length, Option, Some, None, Result, Ok, Err, slice_get, refl, sym, ◌∙◌, ap, subst, arith, nat_lt}
+use Rattle.std.specs.Prelude.{is_some, ok_or}
 use Rattle.std.proofs.lemmas.Bool.{both_ways}
 use Rattle.std.proofs.lemmas.Bool.Decides.{nat_tests}
 use Rattle.blocks.specs.SettingsRange.{IsInRange}
@@ -16,15 +16,14 @@ use Rattle.packets.specs.declared.packet.Packet as packets
 use Rattle.packets.specs.declared.packet.Packet.TheVariants as packet
 use Rattle.packets.specs.Table as table
 use Rattle.endpoint.specs.Meaning.{meaning}
-use Rattle.model.specs.Contents.{IsDisk}
 use Rattle.model.specs.Frames.{Packet, Received, command_of}
 use Rattle.model.specs.Refusals.{Test, first_refusal, done_with}
 use Rattle.model.specs.Secondary.{SecondaryHistory, secondary_opening, inward, items_taken, pending}
 use Rattle.model.specs.LocalRuns.{OpensToo, Receives, Acknowledges, ClosesToo}
 use Rattle.endpoint.specs.Outgoing.{OutgoingState}
 use Rattle.endpoint.specs.Incoming.{IncomingState}
-use Rattle.secondary_steps.specs.Core.{EndState, SecondaryState, owed, fresh, open_end, opened, open_tests, close_end, take_at, may_take, due, sent, pushing, tested, whole}
-use Rattle.secondary_steps.specs.Node.{NodeState, NodeHas, NodeIsHad, NodeSteps, has_room, is_starved}
+use Rattle.secondary_steps.specs.Core.{EndState, SecondaryState, owed, fresh, open_end, opened, open_tests, close_end, take_at, may_take, due, sent, tested, whole}
+use Rattle.secondary_steps.specs.Node.{NodeState, NodeHas, NodeSteps, has_room, is_starved}
 use Rattle.secondary_steps.specs.Steps.{Says, plainly, replied}
 use Rattle.secondary_steps.proofs.Node.Calls.{opening-has, node-opened, node-not-opened, node-closes, node-takes, takes-due, may-open, due-open, node-pushes, node-full, node-no-memory, node-not-due}
 use Rattle.secondary_steps.proofs.Node.Due.{closes-end}

@@ -6,6 +6,7 @@ use Rattle.model.specs.Contents.{BlockMap, Layer, block_under, overlay}
 use Rattle.model.specs.Stream.{Item, Part, is_in, first_of, contents_of, layers_from}
 use Rattle.laws.specs.Reflections.{touches}
 use Rattle.laws.proofs.Blocks.Overlays.{overlay-same, under-outside, under-alike}
+use Rattle.secondary_steps.proofs.Node.Grows.{layers-none}
 
 -- What a block holds after blocks were written from a place on: one of them, or what it held.
 pub written-inside : (device written : List (List ℕ)) (first block : ℕ) → first ≤ length device → first ≤ block → block < first + length written
@@ -65,3 +66,25 @@ layers-alike base start (x ∷ items) part other block same =
   where
     layer : ℕ → Part → Item → Layer
     layer place laid item = record { first = first_of item; contents = contents_of item; laid = λ offset. is_in laid place offset }
+
+-- What an item lays over a block that it touches stays, where no later one that touches it has a part there.
+pub layers-laid : (base : BlockMap) (start : ℕ) (items : List Item) (part : Part) (block place : ℕ) (item : Item) → slice_get items place ≡ Some item → touches item block ≡ true → is_in part (start + place) (block - first_of item) ≡ true
+    → ((n : ℕ) (later : Item) → place < n → slice_get items n ≡ Some later → touches later block ≡ true → is_in part (start + n) (block - first_of later) ≡ false)
+    → overlay base (layers_from start items part) block ≡ slice_get (contents_of item) (block - first_of item)
+layers-laid base start [] part block place item at touched laid later = absurd (cc)
+layers-laid base start (x ∷ items) part block zero item at touched laid later =
+    let same : x ≡ item = cc in
+    let here : start + 0 ≡ start = omega arith in
+    layers-alike (λ b. block_under (layer x) b (base b)) (suc start) items part [] block (λ n one there hit. let on : suc start + n ≡ start + suc n = omega arith in rw on (later (suc n) one (omega arith) there hit))
+    ∙ (layers-none (λ b. block_under (layer x) b (base b)) (suc start) items [] block (λ other offset inside. absurd (cc))
+    ∙ (under-inside (layer x) block (base block) (subst (λ (i : Item). touches i block ≡ true) (sym same) touched)
+    (subst (λ (i : Item). is_in part start (block - first_of i) ≡ true) (sym same) (subst (λ (k : ℕ). is_in part k (block - first_of item) ≡ true) here laid))
+    ∙ ap (λ (i : Item). slice_get (contents_of i) (block - first_of i)) same))
+  where
+    layer : Item → Layer
+    layer one = record { first = first_of one; contents = contents_of one; laid = λ offset. is_in part start offset }
+layers-laid base start (x ∷ items) part block (suc place) item at touched laid later =
+    let on : start + suc place ≡ suc start + place = omega arith in
+    layers-laid (λ b. block_under (record { first = first_of x; contents = contents_of x; laid = λ offset. is_in part start offset }) b (base b)) (suc start) items part block place item at touched
+    (subst (λ (k : ℕ). is_in part k (block - first_of item) ≡ true) on laid)
+    (λ n one less there hit. let next : suc start + n ≡ start + suc n = omega arith in rw next (later (suc n) one (omega arith) there hit))

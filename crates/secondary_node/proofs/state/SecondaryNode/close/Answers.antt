@@ -1,4 +1,3 @@
-use Rattle.std.proofs.Common.{rules}
 use Rattle.secondary_steps.proofs.Node.Calls.{node-closes}
 use Rattle.secondary_node.proofs.Kept.{closes-is}
 use Rattle.secondary_node.proofs.state.SecondaryNode.close.Goals as goal
