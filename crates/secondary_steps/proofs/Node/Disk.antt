@@ -1,11 +1,11 @@
 -- A disk after blocks were written to it, and a connection's disk after an item was laid over it.
-use Rattle.std.proofs.Common.{ℕ, zero, suc, ◌≡◌, ◌+◌, ◌-◌, ◌<◌, ◌≤◌, inl, inr, true, List, [], ◌∷◌, ◌++◌, length, drop, Some, slice_get, refl, sym, ◌∙◌, ap, subst, arith}
+use Rattle.std.proofs.Common.{ℕ, zero, suc, ◌≡◌, ◌+◌, ◌-◌, ◌<◌, ◌≤◌, inl, inr, true, false, List, [], ◌∷◌, ◌++◌, length, drop, Some, slice_get, refl, sym, ◌∙◌, ap, subst, arith}
 use Rattle.std.proofs.lemmas.Bool.{cases_Bool}
 use Rattle.blocks.specs.Contents.{overwritten}
 use Rattle.model.specs.Contents.{BlockMap, Layer, block_under, overlay}
 use Rattle.model.specs.Stream.{Item, Part, is_in, first_of, contents_of, layers_from}
 use Rattle.laws.specs.Reflections.{touches}
-use Rattle.laws.proofs.Blocks.Overlays.{overlay-same, under-outside, under-alike}
+use Rattle.laws.proofs.Blocks.Overlays.{overlay-same, under-outside, under-inside, under-alike}
 use Rattle.secondary_steps.proofs.Node.Grows.{layers-none}
 
 -- What a block holds after blocks were written from a place on: one of them, or what it held.
