@@ -5,6 +5,7 @@ pub mod Failing
 pub mod Intakes
 pub mod Items
 pub mod Judged
+pub mod Node
 pub mod Says
 pub mod Starting
 pub mod Steps

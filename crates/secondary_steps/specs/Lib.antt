@@ -1,3 +1,4 @@
 pub mod Core
 pub mod Leaves
+pub mod Node
 pub mod Steps

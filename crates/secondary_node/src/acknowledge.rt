@@ -1,0 +1,31 @@
+//! What is owed is sent.
+ghost use Rattle.std.specs.Prelude.{◌≡◌};
+ghost use Rattle.model.specs.LocalRuns.{Acknowledges};
+ghost use Rattle.secondary_steps.specs.Node.{NodeSteps, has_room, is_starved};
+ghost use Rattle.secondary_steps.specs.Steps.{replied};
+
+use crate::SecondaryNode;
+use blocks::{Done, Refusal, Store, What};
+use link::connected::{FrameIn, FrameOut};
+use std::alloc::Global;
+
+impl<O: FrameOut + Drop, I: FrameIn + Drop, S: Store + Drop> SecondaryNode<O, I, S> {
+    /// Sends the next frame that the end owes: of its hello, and then of the acknowledgements that are due.
+    ///
+    /// `NotConnected` (12) comes where the end is closed, else `NothingThere` (13) where nothing is due, else
+    /// `LinkFull` (11) where the link is full. An acknowledgement has no blocks, so it wants no memory. The
+    /// link's answer is read off the reply.
+    pub fn ack_out(&mut self, alloc: Global) -> Result<Done, Refusal>
+        ensures step { NodeSteps (Acknowledges (has_room result) (is_starved result)) self.old.node (replied (λ done. done) result) self.new.node }
+        ensures faults { self.new.faults ≡ self.old.faults }
+    {
+        let packet = self.core.due()?;
+        let command = packet.command();
+        let Some(outgoing) = &mut self.outgoing else {
+            return Err(Refusal::NotConnected);
+        };
+        outgoing.push(alloc, packet)?;
+        self.core.sent();
+        Ok(Done::about(What::Frame(command, None)))
+    }
+}

@@ -1,0 +1,12 @@
+//! The secondary as a node: its core, its disk and both ends of its link. Every call is the step of its history.
+#![tactic(auto)]
+
+mod acknowledge;
+mod close;
+mod open;
+mod read;
+mod receive;
+mod state;
+mod usage;
+
+pub use state::SecondaryNode;

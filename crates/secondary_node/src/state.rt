@@ -1,0 +1,63 @@
+//! The secondary with its disk and its link.
+ghost use Rattle.std.specs.Prelude.{◌≡◌, ◌⊎◌, [], length, slice_get, IfOk, IfErr};
+ghost use Rattle.blocks.specs.SettingsRange.{IsInRange};
+ghost use Rattle.blocks.specs.declared.refusal.Refusal.TheVariants.{BadSetting, NoMemory};
+ghost use Rattle.model.specs.Secondary.{secondary_opening};
+ghost use Rattle.secondary_steps.specs.Node.{NodeHas};
+
+use blocks::{Refusal, Settings, Store, Tuple};
+use endpoint::{Incoming, Outgoing};
+use link::connected::{FrameIn, FrameOut};
+use secondary_core::SecondaryCore;
+use std::alloc::Global;
+use std::marker::Model;
+
+/// The secondary node, which owns its disk. It takes the primary's frames in order, has its disk do what
+/// they carry epoch by epoch, and acknowledges it; what it may do its core decides. Some history is had, and
+/// a packet that went in part is the one that is due.
+#[derive(Drop)]
+pub struct SecondaryNode<O: FrameOut + Drop, I: FrameIn + Drop, S: Store + Drop> {
+    pub(crate) core: SecondaryCore,
+    pub(crate) store: S,
+    pub(crate) outgoing: Option<Outgoing<O>>,
+    pub(crate) incoming: Option<Incoming<I>>,
+}
+
+impl<O: FrameOut + Drop, I: FrameIn + Drop, S: Store + Drop> Model for SecondaryNode<O, I, S> {
+    ghost use Rattle.secondary_node.specs.State.{SecondaryView, node_of, IsNode};
+
+    ghost Value = { SecondaryView };
+
+    ghost view = { λ n. record { node = node_of n.core.state (S.contents n.store) n.outgoing n.incoming; faults = S.faults n.store } };
+
+    ghost invariant = { λ n. IsNode n.core.state (S.contents n.store) n.outgoing n.incoming };
+}
+
+impl<O: FrameOut + Drop, I: FrameIn + Drop, S: Store + Drop> SecondaryNode<O, I, S> {
+    /// A closed secondary that was never opened, with its disk and that disk's generation identifiers. It is
+    /// consistent unless its current identifier is zero.
+    ///
+    /// `BadSetting` (15) comes where a setting is out of its range, and where the disk has another size than
+    /// the settings say; else `NoMemory` (7), where there is no memory. A refused disk is dropped.
+    pub fn new(
+        alloc: Global,
+        settings: Settings,
+        store: S,
+        tuple: Tuple,
+    ) -> Result<SecondaryNode<O, I, S>, Refusal>
+        ensures history { IfOk result (λ n. NodeHas n.node (secondary_opening settings (slice_get (S.contents store)) tuple)) }
+        ensures faults { IfOk result (λ n. n.faults ≡ S.faults store) }
+        ensures refused { IfErr result (λ e. ((e ≡ BadSetting) × (IsInRange settings → length (S.contents store) ≡ settings.blocks → ⊥))
+            ⊎ ((e ≡ NoMemory) × IsInRange settings × (length (S.contents store) ≡ settings.blocks))) }
+    {
+        if store.blocks() != settings.blocks {
+            return Err(Refusal::BadSetting);
+        }
+        Ok(SecondaryNode {
+            core: SecondaryCore::new(alloc, settings, tuple)?,
+            store,
+            outgoing: None,
+            incoming: None,
+        })
+    }
+}

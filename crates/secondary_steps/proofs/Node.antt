@@ -1,0 +1,6 @@
+-- A node's calls are steps of its histories, by the rooms of a secondary.
+pub mod Calls
+pub mod Disk
+pub mod Due
+pub mod Grows
+pub mod Runs

@@ -1,0 +1,90 @@
+-- A disk after blocks were written to it, and a connection's disk after an item was laid over it.
+use Rattle.std.proofs.Common.{ℕ, zero, suc, ◌≡◌, ◌+◌, ◌-◌, ◌<◌, ◌≤◌, inl, inr, true, false, List, [], ◌∷◌, ◌++◌, length, drop, Some, slice_get, refl, sym, ◌∙◌, ap, subst, arith}
+use Rattle.std.proofs.lemmas.Bool.{cases_Bool}
+use Rattle.blocks.specs.Contents.{overwritten}
+use Rattle.model.specs.Contents.{BlockMap, Layer, block_under, overlay}
+use Rattle.model.specs.Stream.{Item, Part, is_in, first_of, contents_of, layers_from}
+use Rattle.laws.specs.Reflections.{touches}
+use Rattle.laws.proofs.Blocks.Overlays.{overlay-same, under-outside, under-inside, under-alike}
+use Rattle.secondary_steps.proofs.Node.Grows.{layers-none}
+
+-- What a block holds after blocks were written from a place on: one of them, or what it held.
+pub written-inside : (device written : List (List ℕ)) (first block : ℕ) → first ≤ length device → first ≤ block → block < first + length written
+    → slice_get (overwritten device first written) block ≡ slice_get written (block - first)
+written-inside device written zero block fits from less = let same : block - 0 ≡ block = omega arith in front written (drop (0 + length written) device) block (omega arith) ∙ ap (slice_get written) (sym same)
+  where
+    front : (xs ys : List (List ℕ)) (n : ℕ) → n < length xs → slice_get (xs ++ ys) n ≡ slice_get xs n
+    front [] ys n less = absurd (omega arith)
+    front (x ∷ xs) ys zero less = refl
+    front (x ∷ xs) ys (suc n) less = front xs ys n (omega arith)
+written-inside [] written (suc first) block fits from less = absurd (omega arith)
+written-inside (d ∷ device) written (suc first) zero fits from less = absurd (omega arith)
+written-inside (d ∷ device) written (suc first) (suc block) fits from less =
+    let next : suc first + length written ≡ suc (first + length written) = omega arith in
+    let same : suc block - suc first ≡ block - first = omega arith in
+    rw (next, same) (written-inside device written first block (omega arith) (omega arith) (omega arith))
+
+pub written-before : (device written : List (List ℕ)) (first block : ℕ) → first ≤ length device → block < first → slice_get (overwritten device first written) block ≡ slice_get device block
+written-before device written zero block fits less = absurd (omega arith)
+written-before [] written (suc first) block fits less = absurd (omega arith)
+written-before (d ∷ device) written (suc first) zero fits less = refl
+written-before (d ∷ device) written (suc first) (suc block) fits less =
+    let next : suc first + length written ≡ suc (first + length written) = omega arith in
+    rw next (written-before device written first block (omega arith) (omega arith))
+
+pub written-after : (device written : List (List ℕ)) (first block : ℕ) → first ≤ length device → first + length written ≤ block → slice_get (overwritten device first written) block ≡ slice_get device block
+written-after device written zero block fits past = let none : 0 + length written ≡ length written = omega arith in rw none (behind written device block (omega arith))
+  where
+    nothing : (n : ℕ) → drop {A = List ℕ} n [] ≡ []
+    nothing zero = refl
+    nothing (suc n) = refl
+
+    behind : (xs ys : List (List ℕ)) (n : ℕ) → length xs ≤ n → slice_get (xs ++ drop (length xs) ys) n ≡ slice_get ys n
+    behind [] ys n past = refl
+    behind (x ∷ xs) ys zero past = absurd (omega arith)
+    behind (x ∷ xs) [] (suc n) past = ap (λ (l : List (List ℕ)). slice_get (xs ++ l) n) (sym (nothing (length xs))) ∙ behind xs [] n (omega arith)
+    behind (x ∷ xs) (y ∷ ys) (suc n) past = behind xs ys n (omega arith)
+written-after [] written (suc first) block fits past = absurd (omega arith)
+written-after (d ∷ device) written (suc first) zero fits past = absurd (omega arith)
+written-after (d ∷ device) written (suc first) (suc block) fits past =
+    let next : suc first + length written ≡ suc (first + length written) = omega arith in
+    rw next (written-after device written first block (omega arith) (omega arith))
+
+-- Two parts lay the same over a block, where they agree on each item that touches it.
+pub layers-alike : (base : BlockMap) (start : ℕ) (items : List Item) (part other : Part) (block : ℕ)
+    → ((n : ℕ) (item : Item) → slice_get items n ≡ Some item → touches item block ≡ true → is_in part (start + n) (block - first_of item) ≡ is_in other (start + n) (block - first_of item))
+    → overlay base (layers_from start items part) block ≡ overlay base (layers_from start items other) block
+layers-alike base start [] part other block same = refl
+layers-alike base start (x ∷ items) part other block same =
+    let here : start + 0 ≡ start = omega arith in
+    layers-alike (λ b. block_under (layer start part x) b (base b)) (suc start) items part other block (λ n item at touched. let on : suc start + n ≡ start + suc n = omega arith in rw on (same (suc n) item at touched))
+    ∙ overlay-same (λ b. block_under (layer start part x) b (base b)) (λ b. block_under (layer start other x) b (base b)) (layers_from (suc start) items other) block (elim (cases_Bool (touches x block)) [
+      | inr outside ↦ under-outside (layer start part x) block (base block) outside ∙ sym (under-outside (layer start other x) block (base block) outside)
+      | inl inside ↦ under-alike (first_of x) (contents_of x) (λ offset. is_in part start offset) (λ offset. is_in other start offset) block (base block)
+          (subst (λ (k : ℕ). is_in part k (block - first_of x) ≡ is_in other k (block - first_of x)) here (same 0 x refl inside))
+    ])
+  where
+    layer : ℕ → Part → Item → Layer
+    layer place laid item = record { first = first_of item; contents = contents_of item; laid = λ offset. is_in laid place offset }
+
+-- What an item lays over a block that it touches stays, where no later one that touches it has a part there.
+pub layers-laid : (base : BlockMap) (start : ℕ) (items : List Item) (part : Part) (block place : ℕ) (item : Item) → slice_get items place ≡ Some item → touches item block ≡ true → is_in part (start + place) (block - first_of item) ≡ true
+    → ((n : ℕ) (later : Item) → place < n → slice_get items n ≡ Some later → touches later block ≡ true → is_in part (start + n) (block - first_of later) ≡ false)
+    → overlay base (layers_from start items part) block ≡ slice_get (contents_of item) (block - first_of item)
+layers-laid base start [] part block place item at touched laid later = absurd (cc)
+layers-laid base start (x ∷ items) part block zero item at touched laid later =
+    let same : x ≡ item = cc in
+    let here : start + 0 ≡ start = omega arith in
+    layers-alike (λ b. block_under (layer x) b (base b)) (suc start) items part [] block (λ n one there hit. let on : suc start + n ≡ start + suc n = omega arith in rw on (later (suc n) one (omega arith) there hit))
+    ∙ (layers-none (λ b. block_under (layer x) b (base b)) (suc start) items [] block (λ other offset inside. absurd (cc))
+    ∙ (under-inside (layer x) block (base block) (subst (λ (i : Item). touches i block ≡ true) (sym same) touched)
+    (subst (λ (i : Item). is_in part start (block - first_of i) ≡ true) (sym same) (subst (λ (k : ℕ). is_in part k (block - first_of item) ≡ true) here laid))
+    ∙ ap (λ (i : Item). slice_get (contents_of i) (block - first_of i)) same))
+  where
+    layer : Item → Layer
+    layer one = record { first = first_of one; contents = contents_of one; laid = λ offset. is_in part start offset }
+layers-laid base start (x ∷ items) part block (suc place) item at touched laid later =
+    let on : start + suc place ≡ suc start + place = omega arith in
+    layers-laid (λ b. block_under (record { first = first_of x; contents = contents_of x; laid = λ offset. is_in part start offset }) b (base b)) (suc start) items part block place item at touched
+    (subst (λ (k : ℕ). is_in part k (block - first_of item) ≡ true) on laid)
+    (λ n one less there hit. let next : suc start + n ≡ start + suc n = omega arith in rw next (later (suc n) one (omega arith) there hit))

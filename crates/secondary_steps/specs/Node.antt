@@ -1,0 +1,72 @@
+-- A secondary with its disk and both ends of its link, and which histories it has.
+use Rattle.std.specs.Prelude.{ℕ, ◌≡◌, Bool, true, false, List, take, slice_get, Result, Err}
+use Rattle.blocks.specs.SettingsRange.{IsInRange}
+use Rattle.blocks.specs.declared.tuple.Tuple.{Tuple}
+use Rattle.blocks.specs.declared.settings.Settings.{Settings}
+use Rattle.blocks.specs.declared.refusal.Refusal.{Refusal}
+use Rattle.blocks.specs.declared.refusal.Refusal.TheVariants.{NoMemory, LinkFull}
+use Rattle.blocks.specs.declared.outcome.Reply.{Reply}
+use Rattle.model.specs.Contents.{BlockMap, IsDisk}
+use Rattle.model.specs.Frames.{Packet, Received}
+use Rattle.model.specs.Secondary.{SecondaryHistory, secondary_opening, secondary_map, inward, answers_due}
+use Rattle.model.specs.SecondarySteps as step
+use Rattle.model.specs.LocalRuns.{SecondaryEvent, OpensToo, Receives, Applies, FailsToApply, Acknowledges, ClosesToo, secondary_run}
+use Rattle.secondary_steps.specs.Core.{SecondaryState}
+use Rattle.secondary_steps.specs.Leaves.{Leaves}
+
+-- The secondary, the blocks of its disk, and what was pushed and taken on the present or last connection.
+pub record NodeState : Type 0 where
+  pub core : SecondaryState
+  pub disk : List (List ℕ)
+  pub pushed : List Packet
+  pub taken : List Received
+
+-- the step of an event
+abbrev pub secondary_step : SecondaryEvent → SecondaryHistory → Reply × SecondaryHistory
+secondary_step (OpensToo unseen) h = step.open_secondary unseen h
+secondary_step (Receives frame starved) h = step.receive frame starved h
+secondary_step (Applies place) h = step.peer place h
+secondary_step (FailsToApply place offsets) h = step.peer_fault place offsets h
+secondary_step (Acknowledges room starved) h = step.ack_out room starved h
+secondary_step ClosesToo h = step.close_secondary h
+
+-- the node is what the history leaves
+pub record NodeLeaves (n : NodeState) (h : SecondaryHistory) : Type 0 where
+  pub core : Leaves n.core h
+  pub disk : (block : ℕ) → slice_get n.disk block ≡ secondary_map h block
+  pub pushed : n.pushed ≡ take (inward h).pushed (answers_due h.settings (inward h))
+  pub taken : n.taken ≡ (inward h).taken
+
+-- Events led to the history from an opening, whose settings are in their ranges and whose disk has their size.
+pub record IsReached (h : SecondaryHistory) : Type 0 where
+  pub settings : Settings
+  pub in_range : IsInRange settings
+  pub disk : BlockMap
+  pub sized : IsDisk settings.blocks disk
+  pub tuple : Tuple
+  pub events : List SecondaryEvent
+  pub reached : h ≡ secondary_run events (secondary_opening settings disk tuple)
+
+-- the node has this history
+pub record NodeHas (n : NodeState) (h : SecondaryHistory) : Type 0 where
+  pub leaves : NodeLeaves n h
+  pub reached : IsReached h
+
+-- some history is had
+pub record NodeIsHad (n : NodeState) : Type 0 where
+  pub history : SecondaryHistory
+  pub has : NodeHas n history
+
+-- The call was the event's step, on whichever history the node had.
+pub record NodeSteps (event : SecondaryEvent) (n : NodeState) (reply : Reply) (next : NodeState) : Type 0 where
+  pub said : (h : SecondaryHistory) → NodeHas n h → reply ≡ (secondary_step event h).0
+  pub after : (h : SecondaryHistory) → NodeHas n h → NodeHas next (secondary_step event h).1
+
+-- what is taken to have been refused for want of memory, or of room in the link
+abbrev pub is_starved : {R : Type 0} → Result R Refusal → Bool
+is_starved (Err NoMemory) = true
+is_starved _ = false
+
+abbrev pub has_room : {R : Type 0} → Result R Refusal → Bool
+has_room (Err LinkFull) = false
+has_room _ = true
