@@ -2,6 +2,18 @@
 #![tactic(auto)]
 
 #[cfg(test)]
+mod primary;
+#[cfg(test)]
+mod primary_decisions;
+#[cfg(test)]
+mod primary_frames;
+#[cfg(test)]
+mod primary_refusals;
+#[cfg(test)]
+mod primary_resync;
+#[cfg(test)]
+mod primary_rows;
+#[cfg(test)]
 mod secondary;
 #[cfg(test)]
 mod secondary_frames;

@@ -1,0 +1,239 @@
+//! What a primary refuses, and in which state: writes, connections and receipts.
+use crate::primary::{
+    DONE, Frame, OWN, PARTED, Row, SETTINGS, Said, Step, connected, greet, has_marks, run, unopened,
+};
+use blocks::{Block, Command, Decision, Refusal, Settings, Tuple, What};
+use bytes::Bytes;
+use primary_core::PrimaryCore;
+use std::test::Fail;
+
+/// Where the bitmap records no generation a write needs a stream.
+const UNOPENED: [Row; 6] = [
+    (Step::Submit(0, 1, 0xAA), Err(Refusal::NotConnected)),
+    (Step::Open(0, 7), Err(Refusal::UsedIdentifier)),
+    (Step::Open(5, 1), Err(Refusal::UsedIdentifier)),
+    (Step::Open(5, 5), Err(Refusal::UsedIdentifier)),
+    (Step::Close, Err(Refusal::NotConnected)),
+    (Step::Resync(0xAA), Err(Refusal::NotConnected)),
+];
+
+const OPENED: [Row; 3] = [
+    (Step::Open(9, 11), Err(Refusal::NotDrained)),
+    (Step::Local(1), Err(Refusal::UnknownJob)),
+    (Step::Resync(0xAA), Err(Refusal::NothingToDo)),
+];
+
+#[test]
+fn a_connection_begins_once(rt: HostRuntime) -> Result<(), Fail> {
+    let alloc = rt.alloc();
+    let mut core = unopened(alloc, SETTINGS, OWN)?;
+    run(&rt, &mut core, alloc, &UNOPENED);
+    assert_eq!(rt; core.connections(), 0);
+    greet(&rt, &mut core, alloc, (5, 7), (OWN, OWN), Decision::NoSync);
+    run(&rt, &mut core, alloc, &OPENED);
+    assert_eq!(rt; core.connections(), 1);
+    assert!(rt; core.stands());
+    assert_eq!(rt; core.accepted(), 0);
+    Ok(())
+}
+
+#[test]
+fn a_primary_has_a_mark_for_each_block(rt: HostRuntime) -> Result<(), Fail> {
+    let alloc = rt.alloc();
+    let core = PrimaryCore::new(
+        alloc,
+        SETTINGS,
+        OWN,
+        &[false, true, false, false, false, false, false, true],
+    )?;
+    has_marks(&rt, &core, &[1, 7]);
+    assert!(rt; !core.is_open());
+    let few = PrimaryCore::new(alloc, SETTINGS, OWN, &[false; 7]);
+    assert_eq!(rt; few.err(), Some(Refusal::BadSetting));
+    Ok(())
+}
+
+/// Over 2048 blocks, whose extents have 1024 each.
+const RANGES: [Row; 6] = [
+    (Step::Submit(2016, 32, 0xAA), Ok(Said::Accepted(1))),
+    (Step::Submit(0, 33, 0xAA), Err(Refusal::BadRange)),
+    (Step::Submit(0, 0, 0xAA), Err(Refusal::BadRange)),
+    (Step::Submit(2048, 1, 0xAA), Err(Refusal::BadRange)),
+    (Step::Submit(2047, 2, 0xAA), Err(Refusal::BadRange)),
+    (Step::Submit(1023, 2, 0xAA), Err(Refusal::BadRange)),
+];
+
+#[test]
+fn ranges_of_writes(rt: HostRuntime) -> Result<(), Fail> {
+    let alloc = rt.alloc();
+    let settings = Settings {
+        blocks: 2048,
+        ..SETTINGS
+    };
+    let mut core = connected(&rt, alloc, settings)?;
+    run(&rt, &mut core, alloc, &RANGES);
+    let part = Bytes::copy_from_slice(alloc, &[0xAA; 100])?;
+    assert_eq!(rt; core.submit(0, &part), Err(Refusal::BadRange));
+    assert_eq!(rt; core.accepted(), 1);
+    Ok(())
+}
+
+/// One extent may be active, and stays so until its writes are released.
+const ONE_SLOT: [Row; 9] = [
+    (Step::Submit(0, 1, 0xAA), Ok(Said::Accepted(1))),
+    (Step::Submit(1024, 1, 0xBB), Err(Refusal::ActivityFull)),
+    (Step::Local(1), DONE),
+    (
+        Step::Send(Frame::Data(0, 1, 0, 0xAA)),
+        Ok(Said::Went(Command::Data, Some(0))),
+    ),
+    (
+        Step::Take(Frame::WriteAck(0, 1, 0)),
+        Ok(Said::More(
+            What::Frame(Command::WriteAck, None),
+            Some(1),
+            Some(1),
+            false,
+        )),
+    ),
+    (Step::Submit(1024, 1, 0xBB), Err(Refusal::ActivityFull)),
+    (
+        Step::Send(Frame::Barrier(1)),
+        Ok(Said::Went(Command::Barrier, Some(1))),
+    ),
+    (
+        Step::Take(Frame::BarrierAck(1, 1)),
+        Ok(Said::Went(Command::BarrierAck, None)),
+    ),
+    (Step::Submit(1024, 1, 0xBB), Ok(Said::Accepted(2))),
+];
+
+#[test]
+fn an_extent_is_active_until_its_writes_are_released(rt: HostRuntime) -> Result<(), Fail> {
+    let alloc = rt.alloc();
+    let settings = Settings {
+        blocks: 2048,
+        slots: 1,
+        ..SETTINGS
+    };
+    let mut core = connected(&rt, alloc, settings)?;
+    run(&rt, &mut core, alloc, &ONE_SLOT);
+    Ok(())
+}
+
+/// The log is full before a conflict is told.
+const ONE_WRITE: [Row; 3] = [
+    (Step::Submit(0, 1, 0xAA), Ok(Said::Accepted(1))),
+    (Step::Submit(1, 1, 0xBB), Err(Refusal::LogFull)),
+    (Step::Submit(0, 1, 0xBB), Err(Refusal::LogFull)),
+];
+
+#[test]
+fn the_log_is_full_of_unreleased_writes(rt: HostRuntime) -> Result<(), Fail> {
+    let alloc = rt.alloc();
+    let settings = Settings {
+        backlog: 1,
+        ..SETTINGS
+    };
+    let mut core = connected(&rt, alloc, settings)?;
+    run(&rt, &mut core, alloc, &ONE_WRITE);
+    assert_eq!(rt; core.unreleased(), 1);
+    Ok(())
+}
+
+/// A write that the local disk failed holds nothing more, and is marked.
+const FAILED: [Row; 6] = [
+    (Step::Submit(2, 2, 0xAA), Ok(Said::Accepted(1))),
+    (
+        Step::LocalFail(1),
+        Ok(Said::More(What::Nothing, None, Some(1), false)),
+    ),
+    (Step::Submit(3, 1, 0xBB), Ok(Said::Accepted(2))),
+    (Step::Local(1), Err(Refusal::UnknownJob)),
+    (Step::Receipt(1), Err(Refusal::LocalFault)),
+    (Step::Receipt(1), Err(Refusal::UnknownJob)),
+];
+
+#[test]
+fn a_failed_write_is_never_completed(rt: HostRuntime) -> Result<(), Fail> {
+    let alloc = rt.alloc();
+    let mut core = connected(&rt, alloc, SETTINGS)?;
+    run(&rt, &mut core, alloc, &FAILED);
+    has_marks(&rt, &core, &[2, 3]);
+    assert_eq!(rt; core.open_writes(), 1);
+    assert_eq!(rt; core.next_local(), Some(2));
+    Ok(())
+}
+
+#[test]
+fn the_local_disk_is_given_the_bytes_of_a_write(rt: HostRuntime) -> Result<(), Fail> {
+    let alloc = rt.alloc();
+    let mut core = connected(&rt, alloc, SETTINGS)?;
+    let bytes = Bytes::copy_from_slice(alloc, &[0x5A; 8192])?;
+    core.submit(6, &bytes)?;
+    let write = core.local_write(1)?;
+    assert_eq!(rt; write.number(), 1);
+    assert_eq!(rt; write.range().first.0, 6);
+    assert_eq!(rt; write.range().count, 2);
+    assert!(rt; *write.contents() == bytes);
+    assert_eq!(rt; core.local_write(2).err(), Some(Refusal::UnknownJob));
+    Ok(())
+}
+
+/// A closed end sends nothing, and every unreleased write is marked, sent or not.
+const CUT: [Row; 8] = [
+    (Step::Submit(0, 2, 0x11), Ok(Said::Accepted(1))),
+    (Step::Submit(2, 2, 0x22), Ok(Said::Accepted(2))),
+    (Step::Submit(5, 1, 0x33), Ok(Said::Accepted(3))),
+    (
+        Step::Send(Frame::TwoBlocks(0, 1, 0, 0x11)),
+        Ok(Said::Went(Command::Data, Some(0))),
+    ),
+    (
+        Step::Send(Frame::TwoBlocks(2, 2, 1, 0x22)),
+        Ok(Said::Went(Command::Data, Some(1))),
+    ),
+    (Step::Close, Ok(Said::Closed(0))),
+    (
+        Step::Send(Frame::Data(5, 3, 2, 0x33)),
+        Err(Refusal::NotConnected),
+    ),
+    (Step::Close, Err(Refusal::NotConnected)),
+];
+
+/// What the disk has while that resync goes on.
+const RESYNCING: Tuple = Tuple {
+    current: 7,
+    bitmap: 9,
+    first_historical: 1,
+    second_historical: 0,
+};
+
+/// The resync waits for the writes that are open, and takes the blocks of those that are done.
+const RESUMED: [Row; 4] = [
+    (Step::Resync(0x11), Err(Refusal::NothingToDo)),
+    (
+        Step::Local(1),
+        Ok(Said::More(What::Nothing, Some(1), None, false)),
+    ),
+    (Step::Resync(0x11), Ok(Said::Did(What::Block(Block(0), 1)))),
+    (Step::Resync(0x11), Err(Refusal::NothingToDo)),
+];
+
+#[test]
+fn a_lost_link_marks_what_is_unreleased(rt: HostRuntime) -> Result<(), Fail> {
+    let alloc = rt.alloc();
+    let mut core = connected(&rt, alloc, SETTINGS)?;
+    run(&rt, &mut core, alloc, &CUT);
+    has_marks(&rt, &core, &[0, 1, 2, 3, 5]);
+    assert_eq!(rt; core.open_writes(), 3);
+    assert_eq!(rt; core.unanswered_writes(), 0);
+    assert_eq!(rt; core.open_epochs(), 0);
+    assert_eq!(rt; core.unsent(), 0);
+    assert_eq!(rt; core.tuple(), PARTED);
+    let tuples = (PARTED, OWN);
+    greet(&rt, &mut core, alloc, (9, 11), tuples, Decision::BitmapSync);
+    assert_eq!(rt; core.tuple(), RESYNCING);
+    run(&rt, &mut core, alloc, &RESUMED);
+    Ok(())
+}

@@ -1,0 +1,367 @@
+//! The primary's half of a resync: marked blocks are read and sent, and what the peer has is not marked.
+use crate::primary::{
+    DONE, Frame, OWN, PARTED, Row, SETTINGS, Said, Step, connected, greet, has_marks, run,
+};
+use blocks::{Block, Command, Decision, Refusal, Settings, Tuple, What};
+use primary_core::{Fate, PrimaryCore};
+use std::alloc::Global;
+use std::process::Abort;
+use std::test::Fail;
+
+/// What the disk has while the resync goes on.
+const RESYNCING: Tuple = Tuple {
+    current: 7,
+    bitmap: 9,
+    first_historical: 1,
+    second_historical: 0,
+};
+
+/// What it has after the resync.
+const SYNCED: Tuple = Tuple {
+    current: 7,
+    bitmap: 0,
+    first_historical: 9,
+    second_historical: 1,
+};
+
+/// What the peer has in the resync.
+const TARGET: Tuple = Tuple {
+    current: 9,
+    bitmap: 0,
+    first_historical: 0,
+    second_historical: 0,
+};
+
+/// The link is lost, and writes without it are completed by the local disk and marked.
+const ALONE: [Row; 8] = [
+    (Step::Close, Ok(Said::Closed(0))),
+    (Step::Submit(3, 1, 0xAA), Ok(Said::Accepted(1))),
+    (Step::Submit(6, 1, 0xBB), Ok(Said::Accepted(2))),
+    (
+        Step::Send(Frame::Data(3, 1, 0, 0xAA)),
+        Err(Refusal::NotConnected),
+    ),
+    (
+        Step::Local(1),
+        Ok(Said::More(What::Nothing, Some(1), None, false)),
+    ),
+    (
+        Step::Local(2),
+        Ok(Said::More(What::Nothing, Some(2), None, false)),
+    ),
+    (
+        Step::Receipt(1),
+        Ok(Said::Receipt(
+            3,
+            1,
+            Fate::Completed {
+                linked: false,
+                home: None,
+            },
+        )),
+    ),
+    (Step::Receipt(1), Err(Refusal::UnknownJob)),
+];
+
+// Blocks 3 and 6 are marked, and a resync has begun.
+fn resyncing(rt: &impl Abort, alloc: Global, settings: Settings) -> Result<PrimaryCore, Refusal> {
+    let mut core = connected(rt, alloc, settings)?;
+    run(rt, &mut core, alloc, &ALONE);
+    has_marks(rt, &core, &[3, 6]);
+    let tuples = (PARTED, OWN);
+    greet(rt, &mut core, alloc, (9, 11), tuples, Decision::BitmapSync);
+    assert!(rt; core.is_resync());
+    assert_eq!(rt; core.tuple(), RESYNCING);
+    assert_eq!(rt; core.unreleased(), 0);
+    Ok(core)
+}
+
+const SYNC_UUID: Row = (
+    Step::Send(Frame::SyncUuid(9)),
+    Ok(Said::Went(Command::SyncUuid, Some(0))),
+);
+
+const FIRST_BLOCK: Row = (Step::Resync(0xAA), Ok(Said::Did(What::Block(Block(3), 1))));
+
+const FIRST_SENT: Row = (
+    Step::Send(Frame::RsDataReply(3, 1, 0xAA)),
+    Ok(Said::Went(Command::RsDataReply, Some(1))),
+);
+
+/// The acknowledgement of a block ends the epoch.
+const FIRST_DONE: Row = (
+    Step::Take(Frame::RsWriteAck(3, 1)),
+    Ok(Said::More(What::Frame(Command::RsWriteAck, None), None, Some(1), false)),
+);
+
+const COPIED: [Row; 9] = [
+    SYNC_UUID,
+    FIRST_BLOCK,
+    FIRST_SENT,
+    FIRST_DONE,
+    (Step::Resync(0xBB), Ok(Said::Did(What::Block(Block(6), 3)))),
+    (
+        Step::Send(Frame::Barrier(1)),
+        Ok(Said::Went(Command::Barrier, Some(2))),
+    ),
+    (
+        Step::Send(Frame::RsDataReply(6, 3, 0xBB)),
+        Ok(Said::Went(Command::RsDataReply, Some(3))),
+    ),
+    (
+        Step::Take(Frame::BarrierAck(1, 0)),
+        Ok(Said::Went(Command::BarrierAck, None)),
+    ),
+    (
+        Step::Take(Frame::RsWriteAck(6, 3)),
+        Ok(Said::More(What::Frame(Command::RsWriteAck, None), None, Some(2), true)),
+    ),
+];
+
+const CLOSING: [Row; 3] = [
+    (
+        Step::Send(Frame::Barrier(2)),
+        Ok(Said::Went(Command::Barrier, Some(4))),
+    ),
+    (
+        Step::Send(Frame::Uuids(SYNCED)),
+        Ok(Said::Went(Command::Uuids, Some(5))),
+    ),
+    (Step::Resync(0xAA), Err(Refusal::NothingToDo)),
+];
+
+#[test]
+fn a_resync_copies_the_marked_blocks(rt: HostRuntime) -> Result<(), Fail> {
+    let alloc = rt.alloc();
+    let mut core = resyncing(&rt, alloc, SETTINGS)?;
+    run(&rt, &mut core, alloc, &COPIED[..3]);
+    has_marks(&rt, &core, &[3, 6]);
+    run(&rt, &mut core, alloc, &COPIED[3..4]);
+    has_marks(&rt, &core, &[6]);
+    run(&rt, &mut core, alloc, &COPIED[4..]);
+    assert!(rt; !core.is_resync());
+    assert_eq!(rt; core.tuple(), SYNCED);
+    run(&rt, &mut core, alloc, &CLOSING);
+    has_marks(&rt, &core, &[]);
+    assert_eq!(rt; core.places(), 6);
+    Ok(())
+}
+
+/// What the disk has where the peer is lost before it was told of the resync's end.
+const LOST: Tuple = Tuple {
+    current: 11,
+    bitmap: 7,
+    first_historical: 9,
+    second_historical: 1,
+};
+
+const FULL: Tuple = Tuple {
+    current: 11,
+    bitmap: 13,
+    first_historical: 7,
+    second_historical: 9,
+};
+
+#[test]
+fn a_target_that_was_not_told_is_copied_whole(rt: HostRuntime) -> Result<(), Fail> {
+    let alloc = rt.alloc();
+    let mut core = resyncing(&rt, alloc, SETTINGS)?;
+    run(&rt, &mut core, alloc, &COPIED);
+    run(&rt, &mut core, alloc, &[(Step::Close, Ok(Said::Closed(0)))]);
+    assert_eq!(rt; core.tuple(), LOST);
+    let tuples = (LOST, TARGET);
+    greet(&rt, &mut core, alloc, (13, 15), tuples, Decision::FullSync);
+    has_marks(&rt, &core, &[0, 1, 2, 3, 4, 5, 6, 7]);
+    assert_eq!(rt; core.tuple(), FULL);
+    assert_eq!(rt; core.connections(), 3);
+    Ok(())
+}
+
+/// The block under way is held, and an open write holds the other.
+const SHARED: [Row; 8] = [
+    FIRST_BLOCK,
+    (Step::Submit(2, 2, 0xCC), Err(Refusal::Conflict(0))),
+    (Step::Submit(6, 1, 0xDD), Ok(Said::Accepted(3))),
+    SYNC_UUID,
+    FIRST_SENT,
+    (
+        Step::Send(Frame::Data(6, 3, 2, 0xDD)),
+        Ok(Said::Went(Command::Data, Some(2))),
+    ),
+    FIRST_DONE,
+    (Step::Resync(0xDD), Err(Refusal::NothingToDo)),
+];
+
+/// A block that an open write holds is passed over.
+const PASSED: [Row; 2] = [
+    (Step::Submit(3, 1, 0xCC), Ok(Said::Accepted(3))),
+    (Step::Resync(0xBB), Ok(Said::Did(What::Block(Block(6), 2)))),
+];
+
+#[test]
+fn a_resync_and_a_write_hold_no_block_both(rt: HostRuntime) -> Result<(), Fail> {
+    let alloc = rt.alloc();
+    let mut core = resyncing(&rt, alloc, SETTINGS)?;
+    run(&rt, &mut core, alloc, &SHARED);
+    has_marks(&rt, &core, &[6]);
+    let mut core = resyncing(&rt, alloc, SETTINGS)?;
+    run(&rt, &mut core, alloc, &PASSED);
+    has_marks(&rt, &core, &[3, 6]);
+    Ok(())
+}
+
+/// A connected write of a marked block goes through.
+const WRITTEN: [Row; 7] = [
+    (Step::Submit(3, 1, 0xCC), Ok(Said::Accepted(3))),
+    (Step::Local(3), DONE),
+    SYNC_UUID,
+    (
+        Step::Send(Frame::Data(3, 3, 1, 0xCC)),
+        Ok(Said::Went(Command::Data, Some(1))),
+    ),
+    (
+        Step::Take(Frame::WriteAck(3, 3, 1)),
+        Ok(Said::More(
+            What::Frame(Command::WriteAck, None),
+            Some(3),
+            Some(1),
+            false,
+        )),
+    ),
+    (
+        Step::Send(Frame::Barrier(1)),
+        Ok(Said::Went(Command::Barrier, Some(2))),
+    ),
+    (
+        Step::Receipt(3),
+        Ok(Said::Receipt(
+            3,
+            1,
+            Fate::Completed {
+                linked: true,
+                home: Some((1, 1)),
+            },
+        )),
+    ),
+];
+
+const RELEASED: [Row; 2] = [
+    (
+        Step::Take(Frame::BarrierAck(1, 1)),
+        Ok(Said::Went(Command::BarrierAck, None)),
+    ),
+    (Step::Resync(0xBB), Ok(Said::Did(What::Block(Block(6), 3)))),
+];
+
+#[test]
+fn a_released_write_clears_its_mark(rt: HostRuntime) -> Result<(), Fail> {
+    let alloc = rt.alloc();
+    let mut core = resyncing(&rt, alloc, SETTINGS)?;
+    run(&rt, &mut core, alloc, &WRITTEN);
+    has_marks(&rt, &core, &[3, 6]);
+    run(&rt, &mut core, alloc, &RELEASED[..1]);
+    has_marks(&rt, &core, &[6]);
+    run(&rt, &mut core, alloc, &RELEASED[1..]);
+    Ok(())
+}
+
+/// Writes of both marked blocks, sent and answered.
+const BOTH: [Row; 10] = [
+    (Step::Submit(3, 1, 0xCC), Ok(Said::Accepted(3))),
+    (Step::Submit(6, 1, 0xDD), Ok(Said::Accepted(4))),
+    (Step::Local(3), DONE),
+    (Step::Local(4), DONE),
+    SYNC_UUID,
+    (
+        Step::Send(Frame::Data(3, 3, 1, 0xCC)),
+        Ok(Said::Went(Command::Data, Some(1))),
+    ),
+    (
+        Step::Send(Frame::Data(6, 4, 2, 0xDD)),
+        Ok(Said::Went(Command::Data, Some(2))),
+    ),
+    (
+        Step::Take(Frame::WriteAck(3, 3, 1)),
+        Ok(Said::More(
+            What::Frame(Command::WriteAck, None),
+            Some(3),
+            Some(1),
+            false,
+        )),
+    ),
+    (
+        Step::Take(Frame::WriteAck(6, 4, 2)),
+        Ok(Said::More(What::Frame(Command::WriteAck, None), Some(4), None, false)),
+    ),
+    (
+        Step::Send(Frame::Barrier(1)),
+        Ok(Said::Went(Command::Barrier, Some(3))),
+    ),
+];
+
+const SYNCED_BY_WRITES: [Row; 2] = [
+    (
+        Step::Take(Frame::BarrierAck(1, 2)),
+        Ok(Said::More(What::Frame(Command::BarrierAck, None), None, None, true)),
+    ),
+    (
+        Step::Send(Frame::Uuids(SYNCED)),
+        Ok(Said::Went(Command::Uuids, Some(4))),
+    ),
+];
+
+#[test]
+fn writes_alone_may_end_a_resync(rt: HostRuntime) -> Result<(), Fail> {
+    let alloc = rt.alloc();
+    let mut core = resyncing(&rt, alloc, SETTINGS)?;
+    run(&rt, &mut core, alloc, &BOTH);
+    has_marks(&rt, &core, &[3, 6]);
+    run(&rt, &mut core, alloc, &SYNCED_BY_WRITES);
+    has_marks(&rt, &core, &[]);
+    assert_eq!(rt; core.tuple(), SYNCED);
+    Ok(())
+}
+
+/// An epoch of one write is acknowledged before the local disk has the write.
+const ACKNOWLEDGED: [Row; 6] = [
+    (
+        Step::Submit(3, 1, 0xCC),
+        Ok(Said::More(What::Write(3), None, Some(1), false)),
+    ),
+    SYNC_UUID,
+    (
+        Step::Send(Frame::Data(3, 3, 1, 0xCC)),
+        Ok(Said::Went(Command::Data, Some(1))),
+    ),
+    (
+        Step::Send(Frame::Barrier(1)),
+        Ok(Said::Went(Command::Barrier, Some(2))),
+    ),
+    (
+        Step::Take(Frame::WriteAck(3, 3, 1)),
+        Ok(Said::Went(Command::WriteAck, None)),
+    ),
+    (
+        Step::Take(Frame::BarrierAck(1, 1)),
+        Ok(Said::Went(Command::BarrierAck, None)),
+    ),
+];
+
+#[test]
+fn a_mark_waits_for_the_local_disk(rt: HostRuntime) -> Result<(), Fail> {
+    let alloc = rt.alloc();
+    let settings = Settings {
+        max_epoch: 1,
+        ..SETTINGS
+    };
+    let mut core = resyncing(&rt, alloc, settings)?;
+    run(&rt, &mut core, alloc, &ACKNOWLEDGED);
+    has_marks(&rt, &core, &[3, 6]);
+    let local = [(
+        Step::Local(3),
+        Ok(Said::More(What::Nothing, Some(3), None, false)),
+    )];
+    run(&rt, &mut core, alloc, &local);
+    has_marks(&rt, &core, &[6]);
+    Ok(())
+}
