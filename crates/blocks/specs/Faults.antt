@@ -1,5 +1,5 @@
 -- A disk that fails where it is armed.
-use Rattle.std.specs.Prelude.{ℕ, ◌+◌, ◌-◌, ◌==◌, Bool, false, List, take, if◌then◌else◌, Option, Some, None}
+use Rattle.std.specs.Prelude.{ℕ, ◌+◌, ◌-◌, ◌==◌, Bool, false, ◌&&◌, List, take, if◌then◌else◌, Option, Some, None, is_none}
 use Rattle.blocks.specs.Contents.{overwritten}
 
 -- so many writes pass, and the next one puts only its first `kept` blocks and fails
@@ -14,6 +14,10 @@ pub record FaultState : Type 0 where
   pub faults : ℕ
   pub write_arming : Option WriteArming
   pub read_arming : Option ℕ
+
+-- nothing is armed
+abbrev pub is_steady : FaultState → Bool
+is_steady s = is_none s.write_arming && is_none s.read_arming
 
 -- whether the next write fails
 abbrev pub write_fails : Option WriteArming → Bool

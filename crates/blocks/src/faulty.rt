@@ -1,7 +1,7 @@
 //! A disk that fails where a test wants it to.
 ghost use Rattle.std.specs.Prelude.{◌≡◌, ◌+◌, ◌*◌, ◌<◌, ◌≤◌, length, slice_get, Option, None, Some, OnOk, OnErr, is_err};
 ghost use Rattle.blocks.specs.Contents.{blocks_of, IsTorn};
-ghost use Rattle.blocks.specs.Faults.{written, write_fails, after_read, read_fails};
+ghost use Rattle.blocks.specs.Faults.{written, write_fails, after_read, read_fails, is_steady};
 ghost use Rattle.blocks.specs.declared.block.TheConstants.{BLOCK_BYTES};
 
 use crate::tally::Tally;
@@ -87,6 +87,8 @@ impl Store for FaultStore {
     ghost contents = { λ s. s.disk };
 
     ghost faults = { λ s. s.faults };
+
+    ghost steady = { is_steady };
 
     fn blocks(&self) -> u32 {
         self.disk.blocks()

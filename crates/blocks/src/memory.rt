@@ -1,5 +1,5 @@
 //! A disk in memory.
-ghost use Rattle.std.specs.Prelude.{◌≡◌, ℕ, ◌+◌, ◌*◌, ◌/◌, ◌<◌, ◌≤◌, ◌↔◌, ◌++◌, length, take, drop, replicate, vec_len, slice_get, IsOk, IfOk, IfErr};
+ghost use Rattle.std.specs.Prelude.{◌≡◌, ℕ, true, ◌+◌, ◌*◌, ◌/◌, ◌<◌, ◌≤◌, ◌↔◌, ◌++◌, length, take, drop, replicate, vec_len, slice_get, IsOk, IfOk, IfErr};
 ghost use Rattle.blocks.specs.Contents.{blocks_of, overwritten};
 ghost use Rattle.blocks.specs.Images.{IsImage};
 ghost use Rattle.blocks.specs.declared.block.TheConstants.{BLOCK_BYTES};
@@ -70,6 +70,8 @@ impl Store for MemStore {
     ghost contents = { λ s. s };
 
     ghost faults = { λ _. 0 };
+
+    ghost steady = { λ _. true };
 
     fn blocks(&self) -> u32 {
         (self.bytes.as_slice().len() / BLOCK_BYTES) as u32

@@ -1,5 +1,5 @@
 //! What a node asks of its disk.
-ghost use Rattle.std.specs.Prelude.{◌≡◌, ℕ, ◌+◌, ◌*◌, ◌<◌, ◌≤◌, List, length, slice_get, OnOk, OnErr};
+ghost use Rattle.std.specs.Prelude.{◌≡◌, ℕ, ◌+◌, ◌*◌, ◌<◌, ◌≤◌, Bool, true, false, List, length, slice_get, IsOk, OnOk, OnErr};
 ghost use Rattle.blocks.specs.Contents.{blocks_of, overwritten, IsTorn};
 ghost use Rattle.blocks.specs.declared.block.TheConstants.{BLOCK_BYTES};
 
@@ -25,6 +25,9 @@ pub trait Store {
     /// How many of its calls have failed.
     ghost faults: { Self → ℕ };
 
+    /// Whether it is known that its calls do not fail.
+    ghost steady: { Self → Bool } = { λ _. false };
+
     /// How many blocks it has.
     fn blocks(&self) -> u32
         ensures { result ≡ length (contents self.now) };
@@ -41,6 +44,10 @@ pub trait Store {
             (blocks_of BLOCK_BYTES bytes.now) (contents self.new)) }
         ensures size { length (contents self.new) ≡ length (contents self.old) }
 
+        // A steady disk does not fail, and stays steady.
+        ensures works { steady self.old ≡ true → IsOk result }
+        ensures still_steady { steady self.old ≡ true → steady self.new ≡ true }
+
         // Only a call that fails is counted.
         ensures uncounted { OnOk result (faults self.new ≡ faults self.old) }
         ensures counted { OnErr result (faults self.old < faults self.new) };
@@ -53,6 +60,9 @@ pub trait Store {
 
         ensures read { OnOk result (slice_get (contents self.old) block.0 ≡ Some buffer.new) }
         ensures same { contents self.new ≡ contents self.old }
+
+        ensures works { steady self.old ≡ true → IsOk result }
+        ensures still_steady { steady self.old ≡ true → steady self.new ≡ true }
 
         ensures uncounted { OnOk result (faults self.new ≡ faults self.old) }
         ensures counted { OnErr result (faults self.old < faults self.new) };
