@@ -1,6 +1,7 @@
 //! The taking side.
-ghost use Rattle.std.specs.Prelude.{◌≡◌, ◌<◌, ◌≤◌, ◌↔◌, [], true, IsErr, OnOk, OnErr, IfOk, IfErr, IfSome};
+ghost use Rattle.std.specs.Prelude.{◌≡◌, ◌<◌, ◌≤◌, ◌↔◌, [], true, false, IsErr, OnOk, OnErr, IfOk, IfErr, IfSome};
 ghost use Rattle.packets.specs.Spelling.{IsSpellable};
+ghost use Rattle.packets.specs.Table.{has_blocks};
 ghost use Rattle.endpoint.specs.Meaning.{received};
 ghost use Rattle.endpoint.specs.Incoming.{incoming, hello_after, with_received, taking_anew, SameRow};
 ghost use Rattle.blocks.specs.declared.refusal.Refusal.TheVariants.{NoMemory, NothingThere};
@@ -59,6 +60,8 @@ impl<I: FrameIn> Incoming<I> {
         ensures taken { IfOk result (λ read.
             self.new ≡ with_received (received read) self.new.frames self.new.is_ready self.old) }
         ensures spellable { IfOk result (λ read. IfOk read IsSpellable) }
+        // A packet without blocks leaves the room for a longer one.
+        ensures still_ready { IfOk result (λ read. IfOk read (λ p. has_blocks p ≡ false → self.new.is_ready ≡ true)) }
         // Where the link knows its queue, there is nothing only where it is empty.
         ensures exact { IfSome self.old.queued (λ frames. IsErr result ↔ (frames ≡ [])) }
         ensures row { SameRow self.old self.new }

@@ -1,6 +1,7 @@
 -- Blocks, writes and the contents of a disk.
-use Rattle.std.specs.Prelude.{ℕ, ◌+◌, ◌-◌, ◌/◌, ◌≡◌, nat_lt, nat_le, ◌==◌, Bool, ◌&&◌, if◌then◌else◌, List, [], ◌∷◌, length, slice_get, Option, Some, None, is_some}
+use Rattle.std.specs.Prelude.{ℕ, ◌+◌, ◌-◌, ◌*◌, ◌/◌, ◌≡◌, ◌<◌, nat_lt, nat_le, ◌==◌, Bool, ◌&&◌, if◌then◌else◌, List, [], ◌∷◌, length, slice_get, Option, Some, None, is_some}
 use Rattle.blocks.specs.declared.settings.Settings.{Settings}
+use Rattle.blocks.specs.Contents.{blocks_of}
 pub use Rattle.blocks.specs.Ranges.{is_between, ranges_meet}
 
 -- What a disk holds: for each block its bytes, and nothing past the end. A block may have any length here.
@@ -54,3 +55,8 @@ block_under layer block below =
 abbrev pub overlay : BlockMap → List Layer → BlockMap
 overlay base [] block = base block
 overlay base (layer ∷ layers) block = overlay (λ b. block_under layer b (base b)) layers block
+
+-- These are the bytes of so many blocks of a disk, from the first one on.
+pub record IsRead (map : BlockMap) (first count : ℕ) (bytes : List ℕ) : Type 0 where
+  pub size : length bytes ≡ 4096 * count
+  pub each : (offset : ℕ) → offset < count → slice_get (blocks_of 4096 bytes) offset ≡ map (first + offset)

@@ -1,8 +1,10 @@
 //! What is owed is sent.
 ghost use Rattle.std.specs.Prelude.{◌≡◌};
 ghost use Rattle.model.specs.LocalRuns.{Acknowledges};
-ghost use Rattle.secondary_steps.specs.Node.{NodeSteps, has_room, is_starved};
+ghost use Rattle.secondary_steps.specs.Node.{NodeSteps};
 ghost use Rattle.secondary_steps.specs.Steps.{replied};
+ghost use Rattle.secondary_node.specs.State.{node};
+ghost use Rattle.endpoint.specs.Calls.{Sends, has_room, is_starved};
 
 use crate::SecondaryNode;
 use blocks::{Done, Refusal, Store, What};
@@ -16,8 +18,9 @@ impl<O: FrameOut + Drop, I: FrameIn + Drop, S: Store + Drop> SecondaryNode<O, I,
     /// `LinkFull` (11) where the link is full. An acknowledgement has no blocks, so it wants no memory. The
     /// link's answer is read off the reply.
     pub fn ack_out(&mut self, alloc: Global) -> Result<Done, Refusal>
-        ensures step { NodeSteps (Acknowledges (has_room result) (is_starved result)) self.old.node (replied (λ done. done) result) self.new.node }
-        ensures faults { self.new.faults ≡ self.old.faults }
+        ensures step { NodeSteps (Acknowledges (has_room result) (is_starved result)) (node self.old) (replied (λ done. done) result) (node self.new) }
+        ensures link { Sends result self.old.outgoing self.new.outgoing }
+        ensures rest { self.new ≡ record self.old { core = self.new.core; outgoing = self.new.outgoing } }
     {
         let packet = self.core.due()?;
         let command = packet.command();

@@ -3,6 +3,7 @@ ghost use Rattle.std.specs.Prelude.{◌≡◌};
 ghost use Rattle.model.specs.LocalRuns.{ClosesToo};
 ghost use Rattle.secondary_steps.specs.Node.{NodeSteps};
 ghost use Rattle.secondary_steps.specs.Steps.{plainly, replied};
+ghost use Rattle.secondary_node.specs.State.{node};
 
 use crate::SecondaryNode;
 use blocks::{Refusal, Store};
@@ -12,8 +13,8 @@ impl<O: FrameOut + Drop, I: FrameIn + Drop, S: Store + Drop> SecondaryNode<O, I,
     /// Closes the end: no frame is taken or sent from then on, and its items stay. `NotConnected` (12) comes
     /// where it is closed. It takes no memory.
     pub fn close(&mut self) -> Result<(), Refusal>
-        ensures step { NodeSteps ClosesToo self.old.node (replied plainly result) self.new.node }
-        ensures faults { self.new.faults ≡ self.old.faults }
+        ensures step { NodeSteps ClosesToo (node self.old) (replied plainly result) (node self.new) }
+        ensures rest { self.new ≡ record self.old { core = self.new.core } }
     {
         self.core.close()
     }

@@ -4,6 +4,8 @@
 mod acknowledge;
 mod close;
 mod open;
+mod peer;
+mod queue;
 mod read;
 mod receive;
 mod state;

@@ -1,9 +1,6 @@
 //! A frame is taken.
-ghost use Rattle.std.specs.Prelude.{◌≡◌, Bool, Option};
-ghost use Rattle.model.specs.Frames.{Received};
-ghost use Rattle.model.specs.LocalRuns.{Receives};
-ghost use Rattle.secondary_steps.specs.Node.{NodeSteps};
-ghost use Rattle.secondary_steps.specs.Steps.{replied};
+ghost use Rattle.std.specs.Prelude.{◌≡◌};
+ghost use Rattle.secondary_node.specs.Calls.{ReceivesOne};
 
 use crate::SecondaryNode;
 use blocks::{Done, Refusal, Store};
@@ -17,8 +14,8 @@ impl<O: FrameOut + Drop, I: FrameIn + Drop, S: Store + Drop> SecondaryNode<O, I,
     /// `NothingThere` (13) where there is none; these change nothing. Every other refusal is a protocol error
     /// (20 to 23, 34, 35): the frame counts as taken, and the end closes; its items stay.
     pub fn receive(&mut self) -> Result<Done, Refusal>
-        ensures step { (frame : Option Received) × (starved : Bool) × NodeSteps (Receives frame starved) self.old.node (replied (λ done. done) result) self.new.node }
-        ensures faults { self.new.faults ≡ self.old.faults }
+        ensures step { ReceivesOne result self.old self.new }
+        ensures rest { self.new ≡ record self.old { core = self.new.core; incoming = self.new.incoming } }
     {
         self.core.may_take()?;
         let Some(incoming) = &mut self.incoming else {

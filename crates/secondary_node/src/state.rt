@@ -1,9 +1,10 @@
 //! The secondary with its disk and its link.
-ghost use Rattle.std.specs.Prelude.{◌≡◌, ◌⊎◌, [], length, slice_get, IfOk, IfErr};
+ghost use Rattle.std.specs.Prelude.{◌≡◌, ◌⊎◌, None, length, slice_get, IfOk, IfErr};
 ghost use Rattle.blocks.specs.SettingsRange.{IsInRange};
 ghost use Rattle.blocks.specs.declared.refusal.Refusal.TheVariants.{BadSetting, NoMemory};
 ghost use Rattle.model.specs.Secondary.{secondary_opening};
 ghost use Rattle.secondary_steps.specs.Node.{NodeHas};
+ghost use Rattle.secondary_node.specs.State.{node};
 
 use blocks::{Refusal, Settings, Store, Tuple};
 use endpoint::{Incoming, Outgoing};
@@ -24,13 +25,27 @@ pub struct SecondaryNode<O: FrameOut + Drop, I: FrameIn + Drop, S: Store + Drop>
 }
 
 impl<O: FrameOut + Drop, I: FrameIn + Drop, S: Store + Drop> Model for SecondaryNode<O, I, S> {
-    ghost use Rattle.secondary_node.specs.State.{SecondaryView, node_of, IsNode};
+    ghost use Rattle.secondary_node.specs.State.{SecondaryView, IsNode};
 
     ghost Value = { SecondaryView };
 
-    ghost view = { λ n. record { node = node_of n.core.state (S.contents n.store) n.outgoing n.incoming; faults = S.faults n.store } };
+    ghost view = { λ n. record {
+      core = n.core.state;
+      disk = S.contents n.store;
+      outgoing = n.outgoing;
+      incoming = n.incoming;
+      faults = S.faults n.store;
+      steady = S.steady n.store;
+    } };
 
-    ghost invariant = { λ n. IsNode n.core.state (S.contents n.store) n.outgoing n.incoming };
+    ghost invariant = { λ n. IsNode (record {
+      core = n.core.state;
+      disk = S.contents n.store;
+      outgoing = n.outgoing;
+      incoming = n.incoming;
+      faults = S.faults n.store;
+      steady = S.steady n.store;
+    }) };
 }
 
 impl<O: FrameOut + Drop, I: FrameIn + Drop, S: Store + Drop> SecondaryNode<O, I, S> {
@@ -45,8 +60,9 @@ impl<O: FrameOut + Drop, I: FrameIn + Drop, S: Store + Drop> SecondaryNode<O, I,
         store: S,
         tuple: Tuple,
     ) -> Result<SecondaryNode<O, I, S>, Refusal>
-        ensures history { IfOk result (λ n. NodeHas n.node (secondary_opening settings (slice_get (S.contents store)) tuple)) }
-        ensures faults { IfOk result (λ n. n.faults ≡ S.faults store) }
+        ensures history { IfOk result (λ n. NodeHas (node n) (secondary_opening settings (slice_get (S.contents store)) tuple)) }
+        ensures disk { IfOk result (λ n. (n.faults ≡ S.faults store) × (n.steady ≡ S.steady store)) }
+        ensures link { IfOk result (λ n. (n.outgoing ≡ None) × (n.incoming ≡ None)) }
         ensures refused { IfErr result (λ e. ((e ≡ BadSetting) × (IsInRange settings → length (S.contents store) ≡ settings.blocks → ⊥))
             ⊎ ((e ≡ NoMemory) × IsInRange settings × (length (S.contents store) ≡ settings.blocks))) }
     {

@@ -1,10 +1,8 @@
 -- A secondary with its disk and both ends of its link, and which histories it has.
-use Rattle.std.specs.Prelude.{ℕ, ◌≡◌, Bool, true, false, List, take, slice_get, Result, Err}
+use Rattle.std.specs.Prelude.{ℕ, ◌≡◌, List, take, slice_get}
 use Rattle.blocks.specs.SettingsRange.{IsInRange}
 use Rattle.blocks.specs.declared.tuple.Tuple.{Tuple}
 use Rattle.blocks.specs.declared.settings.Settings.{Settings}
-use Rattle.blocks.specs.declared.refusal.Refusal.{Refusal}
-use Rattle.blocks.specs.declared.refusal.Refusal.TheVariants.{NoMemory, LinkFull}
 use Rattle.blocks.specs.declared.outcome.Reply.{Reply}
 use Rattle.model.specs.Contents.{BlockMap, IsDisk}
 use Rattle.model.specs.Frames.{Packet, Received}
@@ -57,16 +55,11 @@ pub record NodeIsHad (n : NodeState) : Type 0 where
   pub history : SecondaryHistory
   pub has : NodeHas n history
 
--- The call was the event's step, on whichever history the node had.
-pub record NodeSteps (event : SecondaryEvent) (n : NodeState) (reply : Reply) (next : NodeState) : Type 0 where
-  pub said : (h : SecondaryHistory) → NodeHas n h → reply ≡ (secondary_step event h).0
-  pub after : (h : SecondaryHistory) → NodeHas n h → NodeHas next (secondary_step event h).1
+-- The call was this step, on whichever history the node had.
+pub record IsStep (step : SecondaryHistory → Reply × SecondaryHistory) (n : NodeState) (reply : Reply) (next : NodeState) : Type 0 where
+  pub said : (h : SecondaryHistory) → NodeHas n h → reply ≡ (step h).0
+  pub after : (h : SecondaryHistory) → NodeHas n h → NodeHas next (step h).1
 
--- what is taken to have been refused for want of memory, or of room in the link
-abbrev pub is_starved : {R : Type 0} → Result R Refusal → Bool
-is_starved (Err NoMemory) = true
-is_starved _ = false
-
-abbrev pub has_room : {R : Type 0} → Result R Refusal → Bool
-has_room (Err LinkFull) = false
-has_room _ = true
+-- the call was the event's step
+abbrev pub NodeSteps : SecondaryEvent → NodeState → Reply → NodeState → Type 0
+NodeSteps event = IsStep (secondary_step event)

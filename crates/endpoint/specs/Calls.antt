@@ -1,0 +1,64 @@
+-- What a node's call did to its sides of a link.
+use Rattle.std.specs.Prelude.{ℕ, ◌≡◌, Bool, true, false, List, [], Option, Some, None, IfSome, Result, Err, OnOk, OnErr}
+use Rattle.std.specs.Option.{option_map}
+use Rattle.blocks.specs.declared.refusal.Refusal.{Refusal}
+use Rattle.blocks.specs.declared.refusal.Refusal.TheVariants.{LinkFull, NoMemory, NothingThere}
+use Rattle.link.specs.Ends.{OutEnd, InEnd}
+use Rattle.model.specs.Frames.{Packet, Received}
+use Rattle.endpoint.specs.Outgoing.{OutgoingState, with_pushed}
+use Rattle.endpoint.specs.Incoming.{IncomingState, with_received, SameRow}
+
+-- what is taken to have been refused for want of memory, or of room in the link
+abbrev pub is_starved : {R : Type 0} → Result R Refusal → Bool
+is_starved (Err NoMemory) = true
+is_starved _ = false
+
+abbrev pub has_room : {R : Type 0} → Result R Refusal → Bool
+has_room (Err LinkFull) = false
+has_room _ = true
+
+-- One packet was pushed, for which the link had room, where it knows its room.
+pub record PushedOne (old new : Option OutgoingState) : Type 0 where
+  pub before : OutgoingState
+  pub packet : Packet
+  pub frame : List ℕ
+  pub there : old ≡ Some before
+  pub after : new ≡ Some (with_pushed packet frame before)
+  pub room : IfSome before.room (λ n. n ≡ 0 → ⊥)
+
+-- What a call that sends did: it pushed a packet where it succeeded, and else none, though one may have gone in part. The link
+-- is full (11) only where it had no room, where it knows its room.
+pub record Sends {R : Type 0} (result : Result R Refusal) (old new : Option OutgoingState) : Type 0 where
+  pub pushed : OnOk result (PushedOne old new)
+  pub kept : OnErr result ((partly : Option (List Packet)) × (new ≡ option_map (λ o. record o { partly = partly }) old))
+  pub full : result ≡ Err LinkFull → (before : OutgoingState) × (old ≡ Some before) × IfSome before.room (λ n. n ≡ 0)
+
+-- One frame was taken, the next of the link, where it knows its queue.
+pub record TookOne (one : Received) (old new : Option IncomingState) : Type 0 where
+  pub before : IncomingState
+  pub frames : List (List ℕ)
+  pub ready : Bool
+  pub there : old ≡ Some before
+  pub after : new ≡ Some (with_received one frames ready before)
+  pub row : SameRow before (with_received one frames ready before)
+  pub queued : IfSome before.queued (λ frames. frames ≡ [] → ⊥)
+
+-- What a call that takes did: it took this frame, or none, though room may have been made for the longest. There is nothing
+-- (13) only where the queue was empty, where the link knows it.
+pub record Takes {R : Type 0} (one : Option Received) (result : Result R Refusal) (old new : Option IncomingState) : Type 0 where
+  pub took : (frame : Received) → one ≡ Some frame → TookOne frame old new
+  pub kept : one ≡ None → (ready : Bool) × (new ≡ option_map (λ i. record i { is_ready = ready }) old)
+  pub empty : result ≡ Err NothingThere → (before : IncomingState) × (old ≡ Some before) × IfSome before.queued (λ frames. frames ≡ [])
+
+-- an end of a link through which nothing has gone yet
+pub record IsNewOut (s : OutEnd) : Type 0 where
+  pub number : s.number ≡ 1
+  pub sent : s.sent ≡ []
+  pub past : s.past ≡ []
+  pub whole : s.partly ≡ None
+
+-- the same of a taking end
+pub record IsNewIn (s : InEnd) : Type 0 where
+  pub number : s.number ≡ 1
+  pub taken : s.taken ≡ []
+  pub past : s.past ≡ []

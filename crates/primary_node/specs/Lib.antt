@@ -1,0 +1,3 @@
+pub mod Calls
+pub mod Receipts
+pub mod State

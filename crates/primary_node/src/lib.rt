@@ -1,0 +1,18 @@
+//! The primary as a node: its core, its disk and both ends of its link. Every call is the step of its history.
+#![tactic(auto)]
+
+mod acknowledge;
+mod close;
+mod local;
+mod open;
+mod queue;
+mod read;
+mod receipts;
+mod resync;
+mod send;
+mod state;
+mod submit;
+mod usage;
+
+pub use receipts::{Completed, Receipt};
+pub use state::PrimaryNode;

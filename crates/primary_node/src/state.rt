@@ -1,0 +1,83 @@
+//! The primary with its disk and its link.
+ghost use Rattle.std.specs.Prelude.{◌≡◌, ◌⊎◌, false, None, length, slice_get, unwrap_or, IfOk, IfErr};
+ghost use Rattle.blocks.specs.declared.refusal.Refusal.TheVariants.{BadSetting, NoMemory};
+ghost use Rattle.model.specs.Primary.{primary_opening};
+ghost use Rattle.primary_core.specs.State.{CanBegin};
+ghost use Rattle.primary_steps.specs.Node.{NodeHas};
+ghost use Rattle.primary_node.specs.State.{node};
+
+use blocks::{Refusal, Settings, Store, Tuple};
+use endpoint::{Incoming, Outgoing};
+use link::connected::{FrameIn, FrameOut};
+use primary_core::PrimaryCore;
+use std::alloc::Global;
+use std::marker::Model;
+
+/// The primary node, which owns its disk. It accepts writes, has its disk do them, sends them to its peer in
+/// order, and takes what the peer acknowledges; what it may do its core decides. Some history is had, and a
+/// packet that went in part is the one that is due.
+#[derive(Drop)]
+pub struct PrimaryNode<O: FrameOut + Drop, I: FrameIn + Drop, S: Store + Drop> {
+    pub(crate) alloc: Global,
+    pub(crate) core: PrimaryCore,
+    pub(crate) store: S,
+    pub(crate) outgoing: Option<Outgoing<O>>,
+    pub(crate) incoming: Option<Incoming<I>>,
+}
+
+impl<O: FrameOut + Drop, I: FrameIn + Drop, S: Store + Drop> Model for PrimaryNode<O, I, S> {
+    ghost use Rattle.primary_node.specs.State.{PrimaryView, IsNode};
+
+    ghost Value = { PrimaryView };
+
+    ghost view = { λ n. record {
+      core = n.core.state;
+      disk = S.contents n.store;
+      outgoing = n.outgoing;
+      incoming = n.incoming;
+      faults = S.faults n.store;
+      steady = S.steady n.store;
+    } };
+
+    ghost invariant = { λ n. IsNode (record {
+      core = n.core.state;
+      disk = S.contents n.store;
+      outgoing = n.outgoing;
+      incoming = n.incoming;
+      faults = S.faults n.store;
+      steady = S.steady n.store;
+    }) };
+}
+
+impl<O: FrameOut + Drop, I: FrameIn + Drop, S: Store + Drop> PrimaryNode<O, I, S> {
+    /// A closed primary that was never opened, with its disk, that disk's generation identifiers, and for
+    /// each block whether it is marked.
+    ///
+    /// `BadSetting` (15) comes where a setting is out of its range, where the disk or the list of marks has
+    /// another size than the settings say, and where the current identifier is zero; else `NoMemory` (7),
+    /// where there is no memory. A refused disk is dropped.
+    pub fn new(
+        alloc: Global,
+        settings: Settings,
+        store: S,
+        tuple: Tuple,
+        marks: Vec<bool>,
+    ) -> Result<PrimaryNode<O, I, S>, Refusal>
+        ensures history { IfOk result (λ n. NodeHas (node n) (primary_opening settings (slice_get (S.contents store)) tuple (λ block. unwrap_or (slice_get marks.items block) false))) }
+        ensures disk { IfOk result (λ n. (n.faults ≡ S.faults store) × (n.steady ≡ S.steady store)) }
+        ensures link { IfOk result (λ n. (n.outgoing ≡ None) × (n.incoming ≡ None)) }
+        ensures refused { IfErr result (λ e. ((e ≡ BadSetting) × (CanBegin settings tuple marks.items → length (S.contents store) ≡ settings.blocks → ⊥))
+            ⊎ ((e ≡ NoMemory) × CanBegin settings tuple marks.items × (length (S.contents store) ≡ settings.blocks))) }
+    {
+        if store.blocks() != settings.blocks {
+            return Err(Refusal::BadSetting);
+        }
+        Ok(PrimaryNode {
+            alloc,
+            core: PrimaryCore::new(alloc, settings, tuple, &marks)?,
+            store,
+            outgoing: None,
+            incoming: None,
+        })
+    }
+}
