@@ -30,7 +30,7 @@ pub record PushedOne (old new : Option OutgoingState) : Type 0 where
 -- is full (11) only where it had no room, where it knows its room.
 pub record Sends {R : Type 0} (result : Result R Refusal) (old new : Option OutgoingState) : Type 0 where
   pub pushed : OnOk result (PushedOne old new)
-  pub kept : OnErr result ((partly : Option (List Packet)) × (new ≡ option_map (λ o. record o { partly = partly }) old))
+  pub kept : OnErr result ((partly : Option (List Packet)) × (new ≡ option_map (λ (o : OutgoingState). record o { partly = partly }) old))
   pub full : result ≡ Err LinkFull → (before : OutgoingState) × (old ≡ Some before) × IfSome before.room (λ n. n ≡ 0)
 
 -- One frame was taken, the next of the link, where it knows its queue.
@@ -47,7 +47,7 @@ pub record TookOne (one : Received) (old new : Option IncomingState) : Type 0 wh
 -- (13) only where the queue was empty, where the link knows it.
 pub record Takes {R : Type 0} (one : Option Received) (result : Result R Refusal) (old new : Option IncomingState) : Type 0 where
   pub took : (frame : Received) → one ≡ Some frame → TookOne frame old new
-  pub kept : one ≡ None → (ready : Bool) × (new ≡ option_map (λ i. record i { is_ready = ready }) old)
+  pub kept : one ≡ None → (ready : Bool) × (new ≡ option_map (λ (i : IncomingState). record i { is_ready = ready }) old)
   pub empty : result ≡ Err NothingThere → (before : IncomingState) × (old ≡ Some before) × IfSome before.queued (λ frames. frames ≡ [])
 
 -- an end of a link through which nothing has gone yet

@@ -7,6 +7,7 @@ pub mod Lengths
 pub mod Payloads
 pub mod Readings
 pub mod Rows
+pub mod Shorts
 pub mod Steps
 pub mod Widths
 pub mod Written

@@ -1,5 +1,8 @@
 -- A frame is read as the hello expects it after so many.
-use Rattle.std.proofs.Common.{◌≡◌, ℕ, List, ap, sym, ◌∙◌, length}
+use Rattle.std.proofs.Common.{◌≡◌, ◌≤◌, true, false, ℕ, List, Result, Ok, Err, IfOk, ap, sym, ◌∙◌, length}
+use Rattle.blocks.specs.declared.refusal.Refusal.{Refusal}
+use Rattle.packets.specs.declared.packet.Packet.{Packet}
+use Rattle.packets.specs.Table.{has_blocks}
 use Rattle.packets.specs.Frames.{frame_read, in_hello}
 use Rattle.link.specs.Ends.{InEnd, with_taken}
 use Rattle.model.specs.Frames.{Received}
@@ -26,3 +29,10 @@ returns-clause-row g c =
     let old : InEnd = g.I.FrameIn.state c.self.inside.end in
     let new : InEnd = g.I.FrameIn.state c.take.new.self in
     rw (← c.self.view_is) (same_row old.taken new.taken c.in_ok-frame.frame old.queued new.queued (ap (λ (s : InEnd). s.taken) c.in_ok-frame.ensures.next) c.in_ok-frame.ensures.exact)
+
+pub returns-clause-still_ready : goal.returns-clause-still_ready
+returns-clause-still_ready g c = go c.read.result c.read.ensures.short
+  where
+    go : (v : Result Packet Refusal) → IfOk v (λ p. has_blocks p ≡ false → length c.in_ok-frame.frame ≤ 40) → IfOk v (λ p. has_blocks p ≡ false → (g.I.FrameIn.state c.take.new.self).is_ready ≡ true)
+    go (Ok p) short = λ none. c.in_ok-frame.ensures.still_ready (short none)
+    go (Err e) short = tt
