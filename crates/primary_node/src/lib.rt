@@ -8,11 +8,11 @@ mod open;
 mod queue;
 mod read;
 mod receipts;
-mod resync;
+mod resyncing;
 mod send;
 mod state;
 mod submit;
 mod usage;
 
-pub use receipts::{Completed, Receipt};
+pub use receipts::{Kind, Receipt};
 pub use state::PrimaryNode;

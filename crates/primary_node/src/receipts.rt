@@ -1,17 +1,18 @@
 //! A caller takes the receipt of a completed write.
 ghost use Rattle.std.specs.Prelude.{◌≡◌};
 ghost use Rattle.primary_steps.specs.Node.{IsStep, take_receipt};
-ghost use Rattle.primary_node.specs.Receipts.{completed_as};
+ghost use Rattle.primary_node.specs.Receipts.{kind_as, receipt_in};
 ghost use Rattle.primary_node.specs.State.{node};
 
 use crate::PrimaryNode;
 use blocks::{Block, Refusal, Store};
 use link::connected::{FrameIn, FrameOut};
+use primary_core::{Entry, Fate};
 use std::marker::Model;
 
 /// How a write was completed.
 #[derive(Clone, Copy, Debug, PartialEq, Eq)]
-pub enum Completed {
+pub enum Kind {
     /// The peer answered it, as the protocol asks.
     Linked,
     /// Without the peer.
@@ -19,12 +20,12 @@ pub enum Completed {
 }
 
 /// That a write was completed, and how. Only `take_completed` makes one, once for each write.
-#[derive(Debug, PartialEq, Eq, Drop)]
+#[derive(Drop)]
 pub struct Receipt {
     number: u64,
     first: u64,
     count: u64,
-    completed: Completed,
+    kind: Kind,
     // The connection, counted from 1, and the place in its stream.
     home: Option<(u32, u32)>,
 }
@@ -40,6 +41,22 @@ impl Model for Receipt {
 }
 
 impl Receipt {
+    // The receipt of a completed write; none of one that is not.
+    fn of(number: u64, entry: &Entry) -> Option<Receipt>
+        ensures { result ≡ receipt_in number entry.now }
+    {
+        let Fate::Completed { linked, home } = entry.fate() else {
+            return None;
+        };
+        Some(Receipt {
+            number,
+            first: entry.first(),
+            count: entry.count(),
+            kind: if linked { Kind::Linked } else { Kind::Alone },
+            home: home.map(|(connection, place)| (connection + 1, place)),
+        })
+    }
+
     /// The number of the write.
     pub fn number(&self) -> u64
         ensures { result ≡ self.now.number }
@@ -62,10 +79,10 @@ impl Receipt {
     }
 
     /// How it was completed.
-    pub fn completed(&self) -> Completed
-        ensures { completed_as result ≡ self.now.kind }
+    pub fn kind(&self) -> Kind
+        ensures { kind_as result ≡ self.now.kind }
     {
-        self.completed
+        self.kind
     }
 
     /// Its connection, counted from 1, and its place in the stream, if it has one.
@@ -87,6 +104,9 @@ impl<O: FrameOut + Drop, I: FrameIn + Drop, S: Store + Drop> PrimaryNode<O, I, S
         ensures rest { self.new ≡ record self.old { core = self.new.core } }
     {
         let entry = self.core.take_completed(number)?;
-        Ok(Receipt::of(number, &entry))
+        match Receipt::of(number, &entry) {
+            Some(receipt) => Ok(receipt),
+            None => Err(Refusal::NotCompleted),
+        }
     }
 }

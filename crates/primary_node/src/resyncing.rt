@@ -34,7 +34,8 @@ impl<O: FrameOut + Drop, I: FrameIn + Drop, S: Store + Drop> PrimaryNode<O, I, S
         if self.store.read(block, &mut bytes).is_err() {
             return Err(Refusal::ReadFault);
         }
-        Ok(self.core.resync_read(block, Bytes::from(bytes)))
+        let contents = Bytes::from_vec(bytes)?;
+        Ok(self.core.resync_read(block, contents))
     }
 }
 
