@@ -8,6 +8,15 @@ use Rattle.model.specs.Frames.{Packet, Received}
 use Rattle.endpoint.specs.Outgoing.{OutgoingState, with_pushed}
 use Rattle.endpoint.specs.Incoming.{IncomingState, with_received, SameRow}
 
+-- what was pushed, and what was taken: nothing where the node was never opened
+abbrev pub pushed_of : Option OutgoingState → List Packet
+pushed_of None = []
+pushed_of (Some o) = o.pushed
+
+abbrev pub taken_of : Option IncomingState → List Received
+taken_of None = []
+taken_of (Some i) = i.taken
+
 -- what is taken to have been refused for want of memory, or of room in the link
 abbrev pub is_starved : {R : Type 0} → Result R Refusal → Bool
 is_starved (Err NoMemory) = true
