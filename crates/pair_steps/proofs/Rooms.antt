@@ -1,14 +1,15 @@
 -- Whether the link has room, and what it gives next, as the history counts them.
-use Rattle.std.proofs.Common.{ℕ, suc, ◌≡◌, ◌≤◌, ◌<◌, ◌-◌, ◌+◌, nat_lt, Bool, true, false, List, [], ◌∷◌, ◌++◌, length, take, map, Option, Some, None, Ok, slice_get, refl, sym, ◌∙◌, ap, subst, arith}
+use Rattle.std.proofs.Common.{ℕ, suc, ◌≡◌, ◌≤◌, ◌<◌, ◌-◌, ◌+◌, ◌⊎◌, inl, inr, nat_lt, Bool, true, false, List, [], ◌∷◌, ◌++◌, length, take, map, Option, Some, None, Ok, slice_get, refl, sym, ◌∙◌, ap, subst, arith}
 use Rattle.std.specs.Prelude.{option_map}
 use Rattle.std.proofs.lemmas.List.{length-append, length-take-le}
+use Rattle.std.proofs.lemmas.Option.{slice_get_within}
 use Rattle.model.specs.Frames.{Packet, Received}
 use Rattle.model.specs.Primary.{PrimaryHistory, Outward, outward, no_outward, frames_due}
 use Rattle.model.specs.Secondary.{SecondaryHistory, Inward, inward, no_inward, answers_due}
 use Rattle.model.specs.Pair.{PairHistory, has_room, answers_have_room, next_frame, next_answer, pushed_frames, pushed_answers, run}
 use Rattle.model.specs.Theorems.{pair_at}
 use Rattle.laws.proofs.Lists.Last.{last-at}
-use Rattle.laws.proofs.Lists.Pairs.{Pairs, pairs-here}
+use Rattle.laws.proofs.Lists.Pairs.{Pairs, pairs-length}
 use Rattle.laws.proofs.Pair.Links.{AreLinked}
 use Rattle.laws.proofs.Pair.Runs.{IsLinkedPair, leads-run}
 use Rattle.laws.proofs.Primary.HomesMoves.{homes-opening}
@@ -93,3 +94,17 @@ room-back-is p h capacity out inn has ends size there here =
     let came = ap length (taken-back-is p h inn has here) in
     let waits = waiting-is capacity (inward h.secondary).pushed (length (outward h.primary).taken) out inn ends sent came in
     ap (λ n. nat_lt n h.secondary.settings.link) waits ∙ ap (nat_lt (length ends.waiting)) size
+
+-- The secondary's connections are counted as the primary's are.
+pub number-is : (p : PairState) (h : PairHistory) → PairHas p h → p.secondary.number ≡ p.primary.connections
+number-is p h has =
+    let links = linked h has.run in
+    let same = pairs-length (AreLinked h.primary.settings h.secondary.settings) h.primary.connections h.secondary.connections links.pairs in
+    has.secondary.leaves.core.last.number ∙ last-number (last-at (no_inward h.secondary) h.secondary.connections) ∙ sym same ∙ sym has.primary.leaves.core.rest.connections
+  where
+    last-number : (h.secondary.connections ≡ []) ⊎ (slice_get h.secondary.connections (length h.secondary.connections - 1) ≡ Some (inward h.secondary)) → (inward h.secondary).number ≡ length h.secondary.connections
+    last-number (inl none) = ap (λ (l : List Inward). (last_of (no_inward h.secondary) l).number) none ∙ sym (ap length none)
+    last-number (inr at) =
+        let within = slice_get_within h.secondary.connections (length h.secondary.connections - 1) (inward h.secondary) at in
+        let n = (linked h has.run).counted (length h.secondary.connections - 1) (inward h.secondary) at in
+        omega arith

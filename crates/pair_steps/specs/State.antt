@@ -96,6 +96,12 @@ answered [] replies = []
 answered (event ∷ events) [] = []
 answered (event ∷ events) (one ∷ replies) = (event, is_starved one) ∷ answered events replies
 
+-- The replies are those of the run over the events, on whichever history the pair had, and it has the history then that this
+-- leads to.
+pub record Ran (events : List Event) (replies : List Reply) (p q : PairState) : Type 0 where
+  pub said : (h : PairHistory) → PairHas p h → replies ≡ (run (answered events replies) h).0
+  pub after : (h : PairHistory) → PairHas p h → PairHas q (run (answered events replies) h).1
+
 -- The opening's identifiers were honest: where they say that the disks agree, or agree but for the marks, they do.
 abbrev pub WasHonest : PairHistory → Type 0
 WasHonest h = IsHonest h.primary.opening_tuple h.secondary.opening_tuple (opening_marked h.primary) h.primary.opening_map h.secondary.opening_map
