@@ -3,4 +3,5 @@ pub mod Calls
 pub mod Disk
 pub mod Due
 pub mod Grows
+pub mod Numbers
 pub mod Runs
