@@ -1,1 +1,4 @@
 pub mod Kept
+pub mod Opens
+pub mod Sends
+pub mod Takes

@@ -28,7 +28,7 @@ impl<O: FrameOut + Drop, I: FrameIn + Drop, S: Store + Drop> SecondaryNode<O, I,
         } }
     {
         let item = self.core.start(place)?;
-        match self.store.write(item.range(), item.bytes()) {
+        match self.store.write(item.range(), item.contents().as_slice()) {
             Ok(()) => self.core.done(place),
             Err(_) => self.core.failed(place),
         }

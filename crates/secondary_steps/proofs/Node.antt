@@ -1,6 +1,8 @@
 -- A node's calls are steps of its histories, by the rooms of a secondary.
+pub mod Apart
 pub mod Calls
 pub mod Disk
 pub mod Due
 pub mod Grows
+pub mod Numbers
 pub mod Runs
