@@ -1,0 +1,2 @@
+-- A primary's node: what is read off it, its disk, and its calls as steps of its histories.
+pub mod Says
