@@ -1,2 +1,3 @@
 -- A primary's node: what is read off it, its disk, and its calls as steps of its histories.
+pub mod Disk
 pub mod Says

@@ -1,14 +1,13 @@
 -- What is read off a primary's state is what its history says.
-use Rattle.std.proofs.Common.{ℕ, zero, suc, ◌≡◌, ◌+◌, ◌<◌, ◌≤◌, inl, inr, Bool, true, false, cond, not, ◌&&◌, ◌||◌, List, [], ◌∷◌, length, map, filter, Option, Some, None, slice_get, refl, sym, ◌∙◌, ap, subst, arith, nat_lt}
+use Rattle.std.proofs.Common.{ℕ, ◌≡◌, ◌+◌, inl, inr, Bool, true, false, cond, not, ◌&&◌, List, [], ◌∷◌, length, map, filter, Option, Some, None, slice_get, refl, sym, ◌∙◌, ap, arith}
 use Rattle.std.specs.Prelude.{find, option_map, unwrap_or, if◌then◌else◌}
 use Rattle.std.proofs.lemmas.Bool.{both_ways, cases_lt, lt-ltb, le-ltb}
-use Rattle.std.proofs.lemmas.Bool.Decides.{nat_tests}
 use Rattle.std.proofs.lemmas.List.{length-map}
 use Rattle.std.proofs.lemmas.Option.{slice_get_past}
 use Rattle.blocks.specs.Ranges.{below}
 use Rattle.bitmap.specs.Marks as bits
 use Rattle.model.specs.Headline.{is_marked}
-use Rattle.model.specs.Primary.{Accepted, PrimaryHistory, is_waiting, is_failed, is_completed, is_open, is_released, completes, unreleased, open_writes, next_local, marked_blocks}
+use Rattle.model.specs.Primary.{Accepted, PrimaryHistory, is_waiting, is_failed, is_open, is_released, unreleased, next_local, marked_blocks}
 use Rattle.model.specs.Status.{incomplete}
 use Rattle.transferlog.specs.Writes as log
 use Rattle.transferlog.specs.Writes.{LogWrite}
