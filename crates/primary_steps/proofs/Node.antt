@@ -1,0 +1,4 @@
+-- A node's calls are steps of its histories, by the rooms of a primary.
+pub mod Due
+pub mod Keeps
+pub mod Runs
