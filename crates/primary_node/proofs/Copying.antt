@@ -1,9 +1,10 @@
 -- What a call that copies a block for a resync comes to.
-use Rattle.std.proofs.Common.{ℕ, ◌≡◌, ◌<◌, ◌≤◌, ◌||◌, inl, inr, Bool, true, false, not, List, [], ◌∷◌, ◌++◌, length, take, drop, Option, Some, None, Result, Ok, Err, slice_get, refl, sym, ◌∙◌, ap, subst, arith, nat_le}
+use Rattle.std.proofs.Common.{ℕ, ◌≡◌, ◌<◌, ◌≤◌, ◌||◌, ◌&&◌, ◌+◌, inl, inr, Bool, true, false, not, List, [], ◌∷◌, ◌++◌, length, take, drop, Option, Some, None, Result, Ok, Err, slice_get, refl, sym, ◌∙◌, ap, subst, arith, nat_le}
 use Rattle.std.specs.Prelude.{filter, is_none, is_some, ok_or, unwrap_or, OnErr, OnOk}
 use Rattle.std.specs.Result.{is_err}
 use Rattle.std.proofs.Math.Seq.{take-append_seam}
-use Rattle.std.proofs.lemmas.Bool.{both_ways, or_parts}
+use Rattle.std.proofs.lemmas.Bool.{and_parts, both_ways, or_parts}
+use Rattle.blocks.specs.Faults.{FaultState, after_read, is_steady}
 use Rattle.blocks.specs.Ranges.{below}
 use Rattle.blocks.specs.declared.block.Block.{Block}
 use Rattle.blocks.specs.declared.refusal.Refusal.{Refusal}
@@ -156,15 +157,17 @@ copy-starved v s disk faults steady block result same chosen held counted is =
       (subst (λ (l : List (List ℕ)). NodeSteps (Resyncs true) (node v) (reply.Refused NoMemory) (record (node v) { disk = l })) (sym held)
       (node-copies true (node v) (Err NoMemory) v.core (sym (chosen-starved (held_in v.disk) v.core block (is-chosen v.core block chosen)))))))
 
+-- the disk fails the read
+pub fault-fails : (v : PrimaryView) (s : PrimaryState) (disk : List (List ℕ)) (block : ℕ) → s ≡ v.core → resync_choice false v.core ≡ Ok block → disk ≡ v.disk
+    → NodeSteps (FailsResync false) (node v) (reply.Refused ReadFault) (record (node v) { core = s; disk = disk })
+fault-fails v s disk block same chosen held =
+    subst (λ (t : PrimaryState). NodeSteps (FailsResync false) (node v) (reply.Refused ReadFault) (record (node v) { core = t; disk = disk })) (sym same)
+    (subst (λ (l : List (List ℕ)). NodeSteps (FailsResync false) (node v) (reply.Refused ReadFault) (record (node v) { disk = l })) (sym held)
+    (node-copy-fails false (node v) ReadFault (sym (chosen-fails v.core block (is-chosen v.core block chosen)))))
+
 pub copy-failed : (v : PrimaryView) (s : PrimaryState) (disk : List (List ℕ)) (faults : ℕ) (steady : Bool) (block : ℕ) → s ≡ v.core → resync_choice false v.core ≡ Ok block → disk ≡ v.disk → v.faults < faults
     → CopiesOne (Err ReadFault) v (record v { core = s; disk = disk; faults = faults; steady = steady })
-copy-failed v s disk faults steady block same chosen held counted = inr (counted, failing v s disk block same chosen held)
-  where
-    failing : (v : PrimaryView) (s : PrimaryState) (disk : List (List ℕ)) (block : ℕ) → s ≡ v.core → resync_choice false v.core ≡ Ok block → disk ≡ v.disk → NodeSteps (FailsResync false) (node v) (reply.Refused ReadFault) (record (node v) { core = s; disk = disk })
-    failing v s disk block same chosen held =
-        subst (λ (t : PrimaryState). NodeSteps (FailsResync false) (node v) (reply.Refused ReadFault) (record (node v) { core = t; disk = disk })) (sym same)
-        (subst (λ (l : List (List ℕ)). NodeSteps (FailsResync false) (node v) (reply.Refused ReadFault) (record (node v) { disk = l })) (sym held)
-        (node-copy-fails false (node v) ReadFault (sym (chosen-fails v.core block (is-chosen v.core block chosen)))))
+copy-failed v s disk faults steady block same chosen held counted = inr (counted, fault-fails v s disk block same chosen held)
 
 -- the block that was read, copied
 read-copies : (v : PrimaryView) (s t : PrimaryState) (block : ℕ) (contents : List ℕ) (done : Done) → s ≡ v.core → resync_choice false v.core ≡ Ok block → slice_get v.disk block ≡ Some contents
@@ -212,3 +215,30 @@ still-steady v w faults steady is counted stays known = (counted ∙ ap (λ (x :
 pub read-held : (disk : List (List ℕ)) (block n : ℕ) (contents buffer items : List ℕ) → slice_get disk block ≡ Some buffer → contents ≡ take n (buffer ++ drop (length buffer) items) → length buffer ≡ n → slice_get disk block ≡ Some contents
 read-held disk block n contents buffer items read held size =
     read ∙ ap (λ (l : List ℕ). Some l) (sym (held ∙ (ap (λ m. take m (buffer ++ drop (length buffer) items)) (sym size) ∙ take-append_seam buffer (drop (length buffer) items))))
+
+-- The call whose read fails.
+
+pub fault-refused : (v : PrimaryView) (s : PrimaryState) (result : Result Done Refusal) (e : Refusal) → s ≡ v.core → result ≡ Err e → resync_choice (core.is_starved {R = Block} (Err e)) v.core ≡ Err e
+    → NodeSteps (FailsResync (is_starved result)) (node v) (replied reply.Ok result) (record (node v) { core = s })
+fault-refused v s result e same is refused =
+    subst (λ (t : PrimaryState). NodeSteps (FailsResync (is_starved result)) (node v) (replied reply.Ok result) (record (node v) { core = t })) (sym same)
+    (subst (λ (r : Result Done Refusal). NodeSteps (FailsResync (is_starved r)) (node v) (replied reply.Ok r) (node v)) (sym is)
+    (node-copy-fails (is_starved {R = Done} (Err e)) (node v) e (sym (none-chosen (held_in v.disk) (is_starved {R = Done} (Err e)) v.core e
+    (subst (λ (b : Bool). resync_choice b v.core ≡ Err e) (starved-same Block Done e) refused)).1)))
+
+pub fault-starved : (v : PrimaryView) (s : PrimaryState) (block : ℕ) (result : Result Done Refusal) → s ≡ v.core → resync_choice false v.core ≡ Ok block → result ≡ Err NoMemory
+    → NodeSteps (FailsResync (is_starved result)) (node v) (replied reply.Ok result) (record (node v) { core = s })
+fault-starved v s block result same chosen is =
+    subst (λ (t : PrimaryState). NodeSteps (FailsResync (is_starved result)) (node v) (replied reply.Ok result) (record (node v) { core = t })) (sym same)
+    (subst (λ (r : Result Done Refusal). NodeSteps (FailsResync (is_starved r)) (node v) (replied reply.Ok r) (node v)) (sym is)
+    (node-copy-fails true (node v) NoMemory (sym (chosen-fails-starved v.core block (is-chosen v.core block chosen)))))
+
+-- the disk after an armed read
+pub armed-read : (s t u : FaultState) → t ≡ record s { read_arming = Some 0 } → u ≡ after_read t → u ≡ record s { faults = s.faults + 1; read_arming = None }
+armed-read s t u armed after = after ∙ ap after_read armed
+
+-- a disk on which nothing was armed is so again
+pub steady-again : (v w : PrimaryView) (s u : FaultState) → v ≡ w → v.steady ≡ is_steady s → u ≡ record s { faults = s.faults + 1; read_arming = None } → w.steady ≡ true → is_steady u ≡ true
+steady-again v w s u is was after known =
+    let parts = and_parts (is_none s.write_arming) (is_none s.read_arming) (sym was ∙ (ap (λ (x : PrimaryView). x.steady) is ∙ known)) in
+    ap is_steady after ∙ ap (λ b. b && true) parts.0
