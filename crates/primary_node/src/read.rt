@@ -53,7 +53,11 @@ impl<O: FrameOut + Drop, I: FrameIn + Drop, S: Store + Drop> PrimaryNode<O, I, S
         for offset in 0..range.count {
             let at = offset as usize * BLOCK_BYTES;
             let block = Block(range.first.0 + offset);
-            if self.store.read(block, &mut bytes[at..at + BLOCK_BYTES]).is_err() {
+            if self
+                .store
+                .read(block, &mut bytes[at..at + BLOCK_BYTES])
+                .is_err()
+            {
                 return Err(Refusal::ReadFault);
             }
         }

@@ -25,6 +25,7 @@ pub mod Marks
 pub mod Meeting
 pub mod Moving
 pub mod Naming
+pub mod Node
 pub mod Numbers
 pub mod Owing
 pub mod Parting

@@ -55,7 +55,7 @@ frame-at start n [] = refl
 frame-at start zero (x ∷ items) = ap (λ m. Some (frame_of m x)) (omega arith)
 frame-at start (suc n) (x ∷ items) = frame-at (start + 1) n items ∙ ap (λ m. option_map (frame_of m) (slice_get items n)) (omega arith)
 
-length-frames : (start : ℕ) (items : List Item) → length (frames_from start items) ≡ length items
+pub length-frames : (start : ℕ) (items : List Item) → length (frames_from start items) ≡ length items
 length-frames start [] = refl
 length-frames start (x ∷ items) = let rest = length-frames (start + 1) items in omega arith
 

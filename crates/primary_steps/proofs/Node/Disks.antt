@@ -1,0 +1,101 @@
+-- A node's calls that write the disk or read it are steps.
+use Rattle.std.proofs.Common.{ℕ, ◌≡◌, ◌+◌, ◌<◌, ◌≤◌, Bool, true, false, not, List, [], ◌∷◌, length, Option, Some, None, Result, Ok, Err, slice_get, refl, sym, ◌∙◌, ap, subst, arith}
+use Rattle.std.specs.Prelude.{unwrap_or, is_some}
+use Rattle.blocks.specs.declared.refusal.Refusal.{Refusal}
+use Rattle.blocks.specs.declared.refusal.Refusal.TheVariants.{UnknownJob}
+use Rattle.blocks.specs.declared.outcome.Done.{Done}
+use Rattle.blocks.specs.declared.outcome.Reply.{Reply}
+use Rattle.blocks.specs.declared.outcome.Reply.TheVariants as reply
+use Rattle.model.specs.Primary.{PrimaryHistory, outward, local_map}
+use Rattle.model.specs.PrimarySteps as step
+use Rattle.model.specs.LocalRuns.{PrimaryEvent, WritesLocally, FailsLocally, Resyncs, FailsResync}
+use Rattle.primary_steps.specs.Core.{PrimaryState, stands}
+use Rattle.primary_steps.specs.Transitions.{resync_next, resync_fault}
+use Rattle.primary_steps.specs.Leaves.{Leaves}
+use Rattle.primary_steps.specs.Node.{NodeState, NodeHas, NodeIsHad, NodeSteps, primary_step}
+use Rattle.primary_steps.specs.Steps.{Agrees, replied}
+use Rattle.primary_steps.proofs.Steps.Resync.{resyncs-agree, resync-faults-agree}
+use Rattle.primary_steps.proofs.Node.Due.{IsStill, is-still, kept-leaves, stood}
+use Rattle.primary_steps.proofs.Node.Keeps.{Change, Keeps, keeps-self, unchanged, resyncs-keeps}
+use Rattle.primary_steps.proofs.Node.Runs.{NodeAgrees, node-had, node-refused, node-steps, reached-step}
+
+-- What a call that neither pushes nor takes comes to, on a history that the node has: the step's answer, and what it keeps.
+pub record Comes (event : PrimaryEvent) (n : NodeState) (said : Reply) (core : PrimaryState) (disk : List (List ℕ)) (h : PrimaryHistory) : Type 0 where
+  pub change : Change
+  pub reply : said ≡ (primary_step event h).0
+  pub leaves : Leaves core (primary_step event h).1
+  pub keeps : Keeps h change (primary_step event h).1
+  pub taken : change.taken ≡ (outward h).taken
+  pub begun : change.begun ≡ (outward h).begun
+  pub holds : (block : ℕ) → slice_get disk block ≡ change.disk block
+
+-- What such a call keeps of a node.
+pub record KeepsNode (n next : NodeState) : Type 0 where
+  pub had : NodeIsHad next
+  pub still : IsStill n.core next.core
+  pub stood : stands next.core ≡ true → stands n.core ≡ true
+
+module _ (event : PrimaryEvent) (n : NodeState) (said : Reply) (core : PrimaryState) (disk : List (List ℕ)) (comes : (h : PrimaryHistory) → NodeHas n h → Comes event n said core disk h) where
+  -- it is the step
+  pub comes-steps : NodeSteps event n said (record n { core = core; disk = disk })
+  comes-steps = node-steps event n said (record n { core = core; disk = disk }) (λ h has. let to = comes h has in record {
+    reply = to.reply;
+    leaves = kept-leaves n core disk n.taken h (primary_step event h).1 to.change has.leaves to.leaves to.keeps to.holds (has.leaves.taken ∙ sym to.taken);
+  })
+
+  -- and keeps the node
+  pub comes-kept : NodeIsHad n → KeepsNode n (record n { core = core; disk = disk })
+  comes-kept had =
+      let h = had.history in
+      let has = had.has in
+      let to = comes h has in record {
+        had = node-had event n said (record n { core = core; disk = disk }) had comes-steps;
+        still = is-still n.core core h (primary_step event h).1 to.change has.leaves.core has.reached to.leaves (reached-step event h has.reached) to.keeps;
+        stood = stood n.core core h (primary_step event h).1 to.change has.leaves.core to.leaves to.keeps to.begun;
+      }
+
+-- A node that stays as it is.
+pub stays-kept : (n : NodeState) → NodeIsHad n → KeepsNode n n
+stays-kept n had =
+    let h = had.history in
+    let has = had.has in record {
+      had = had;
+      still = is-still n.core n.core h h (unchanged h) has.leaves.core has.reached has.leaves.core has.reached (keeps-self h);
+      stood = λ standing. standing;
+    }
+
+-- Resync.
+
+-- what a disk has in a block
+abbrev pub held_in : List (List ℕ) → ℕ → List ℕ
+held_in disk block = unwrap_or (slice_get disk block) []
+
+copies-come : (starved : Bool) (n : NodeState) (result : Result Done Refusal) (core : PrimaryState) → (result, core) ≡ resync_next (held_in n.disk) starved n.core
+    → (h : PrimaryHistory) → NodeHas n h → Comes (Resyncs starved) n (replied reply.Ok result) core n.disk h
+copies-come starved n result core is h has =
+    let agrees = subst (λ (p : Result Done Refusal × PrimaryState). Agrees reply.Ok p (step.resync_next starved h)) (sym is)
+        (resyncs-agree (held_in n.disk) starved n.core h has.reached has.leaves.core (λ block. ap (λ (v : Option (List ℕ)). unwrap_or v []) (has.leaves.disk block))) in record {
+      change = unchanged h;
+      reply = agrees.reply;
+      leaves = agrees.leaves;
+      keeps = resyncs-keeps starved h;
+      taken = refl;
+      begun = refl;
+      holds = has.leaves.disk;
+    }
+
+-- a block is copied as the disk has it
+pub node-copies : (starved : Bool) (n : NodeState) (result : Result Done Refusal) (core : PrimaryState) → (result, core) ≡ resync_next (held_in n.disk) starved n.core → NodeSteps (Resyncs starved) n (replied reply.Ok result) (record n { core = core })
+node-copies starved n result core is = comes-steps (Resyncs starved) n (replied reply.Ok result) core n.disk (copies-come starved n result core is)
+
+pub copies-kept : (starved : Bool) (n : NodeState) (result : Result Done Refusal) (core : PrimaryState) → NodeIsHad n → (result, core) ≡ resync_next (held_in n.disk) starved n.core → KeepsNode n (record n { core = core })
+copies-kept starved n result core had is = comes-kept (Resyncs starved) n (replied reply.Ok result) core n.disk (copies-come starved n result core is) had
+
+-- a block that is not copied
+pub node-not-copied : (starved : Bool) (n : NodeState) (e : Refusal) → (Err e, n.core) ≡ resync_next (held_in n.disk) starved n.core → NodeSteps (Resyncs starved) n (reply.Refused e) n
+node-not-copied starved n e is = node-copies starved n (Err e) n.core is
+
+-- the disk fails the read
+pub node-copy-fails : (starved : Bool) (n : NodeState) (e : Refusal) → (Err e, n.core) ≡ resync_fault starved n.core → NodeSteps (FailsResync starved) n (reply.Refused e) n
+node-copy-fails starved n e is = node-refused (FailsResync starved) tt n e (λ h has.
+    (subst (λ (p : Result Done Refusal × PrimaryState). Agrees reply.Ok p (step.resync_fault starved h)) (sym is) (resync-faults-agree starved n.core h has.reached has.leaves.core)).reply)
