@@ -1,4 +1,6 @@
-use Rattle.std.proofs.Common.{◌≡◌, ◌∙◌, Err, rules, sym, ap, subst}
+use Rattle.std.proofs.Common.{◌≡◌, ◌∙◌, Err, rules, sym, ap, subst, true}
+use Rattle.std.specs.Prelude.{is_some}
+use Rattle.secondary_steps.proofs.Node.Calls.{due-open}
 use Rattle.secondary_node.proofs.Sends.{nothing-due-steps, not-sent-steps, part-is, sends-none, sends-part, sent-is, sent-steps}
 use Rattle.secondary_node.proofs.state.SecondaryNode.ack_out.Goals as goal
 
@@ -30,3 +32,10 @@ invariant_of-self-2 g c =
 pub returns-clause-step : goal.returns-clause-step
 returns-clause-step g c =
     rw (← c.self.view_is) (sent-steps _ c.sent.new.self.state c.in-Some.outgoing c.push.new.self _ _ _ c.self.invariant c.in-Some.is c.in_ok-packet.ensures.due c.sent.ensures (ap (λ o. o.pushed) c.in_ok-push.ensures.pushed) c.command-command.ensures c.about.ensures)
+
+-- an open end has its side of the link
+pub returns-in_default-clause-step : goal.returns-in_default-clause-step
+returns-in_default-clause-step g c =
+    let stands : is_some c.self.inside.core.state.end ≡ true = due-open c.self.inside.core.state _ c.in_ok-packet.ensures.due in
+    let there = c.self.invariant.out_there stands in
+    absurd (search rules)
