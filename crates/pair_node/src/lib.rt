@@ -7,10 +7,10 @@ mod event;
 mod open;
 mod pair;
 mod queries;
-mod run;
+mod runs;
 mod steps;
 
 pub use blocks::{Decision, Done, Reply, What};
 pub use event::{Event, Side};
 pub use pair::{LocalNode, Pair, PeerNode};
-pub use run::run;
+pub use runs::run;
