@@ -4,5 +4,6 @@ pub mod Calls
 pub mod Disk
 pub mod Due
 pub mod Grows
+pub mod Laid
 pub mod Numbers
 pub mod Runs
