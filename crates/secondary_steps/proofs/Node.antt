@@ -1,5 +1,6 @@
 -- A node's calls are steps of its histories, by the rooms of a secondary.
 pub mod Apart
+pub mod Applies
 pub mod Calls
 pub mod Disk
 pub mod Due
