@@ -8,3 +8,4 @@ pub mod Grows
 pub mod Laid
 pub mod Numbers
 pub mod Runs
+pub mod Sized
