@@ -28,11 +28,13 @@ impl<O: FrameOut + Drop, I: FrameIn + Drop, S: Store + Drop> SecondaryNode<O, I,
         } }
     {
         let item = self.core.start(place)?;
-        let Ok(()) = self.store.write(item.range(), item.contents().as_slice()) else {
-            self.core.failed(place);
-            return Ok(Done::about(What::Nothing));
-        };
-        self.core.done(place);
+        match self.store.write(item.range(), item.contents().as_slice()) {
+            Ok(()) => self.core.done(place),
+            Err(_) => {
+                self.core.failed(place);
+                return Ok(Done::about(What::Nothing));
+            }
+        }
         Ok(Done::about(What::Nothing))
     }
 }
