@@ -60,6 +60,10 @@ impl<O: FrameOut + Drop, I: FrameIn + Drop> SecondaryNode<O, I, FaultStore> {
             return Err(Refusal::BadRange);
         }
         self.store.arm(kept);
-        self.peer(place)
+        let _ = self
+            .store
+            .write(item.range(), item.contents().as_slice());
+        self.core.failed(place);
+        Ok(Done::about(What::Nothing))
     }
 }

@@ -4,6 +4,7 @@ pub mod Applies
 pub mod Calls
 pub mod Disk
 pub mod Due
+pub mod Faults
 pub mod Grows
 pub mod Laid
 pub mod Numbers
