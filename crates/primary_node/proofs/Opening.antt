@@ -10,8 +10,8 @@ use Rattle.blocks.specs.declared.outcome.Reply.TheVariants as reply
 use Rattle.model.specs.LocalRuns.{Opens, Submits}
 use Rattle.model.specs.Frames.{Packet, Received}
 use Rattle.endpoint.specs.Calls.{is_starved}
-use Rattle.endpoint.specs.Outgoing.{OutgoingState}
-use Rattle.endpoint.specs.Incoming.{IncomingState}
+use Rattle.endpoint.specs.Outgoing.{OutgoingState, pushing_anew}
+use Rattle.endpoint.specs.Incoming.{IncomingState, taking_anew}
 use Rattle.primary_core.specs.Starved as inner
 use Rattle.primary_steps.specs.Core.{PrimaryState, stands}
 use Rattle.primary_steps.specs.Transitions.{open_end, submit, whole_blocks}
@@ -19,7 +19,7 @@ use Rattle.primary_steps.specs.Node.{NodeState, NodeSteps}
 use Rattle.primary_steps.specs.Steps.{replied, plainly}
 use Rattle.primary_steps.proofs.Node.Calls.{node-opened, node-not-opened, opened-core, not-opened-core, shut-stands, node-submits, submit-number}
 use Rattle.primary_steps.proofs.Node.Runs.{node-had}
-use Rattle.primary_node.specs.State.{PrimaryView, IsNode, IsDue, node}
+use Rattle.primary_node.specs.State.{PrimaryView, IsNode, IsDue, IsRestarted, node}
 use Rattle.primary_steps.proofs.Node.Keeps.{submits-keeps}
 use Rattle.primary_node.proofs.Kept.{plain-is}
 use Rattle.primary_node.proofs.Refused.{same-starved}
@@ -104,3 +104,20 @@ module _ (v : PrimaryView) (before : IsNode v) (core : PrimaryState) (sync loss 
     numbered = (fresh.out_number, fresh.in_number);
     ready = λ standing. absurd (both_ways (stands core) (ap stands (opened-core sync loss v.core core here).1 ∙ shut-stands (node v) before.had (opened-core sync loss v.core core here).0) standing);
   }
+
+  -- The end opens anew, over both sides that it has.
+  fresh-there : (number : ℕ) (x : PrimaryView) → number ≡ core.connections → (r : IsRestarted number v x) → IsFresh core (record (pushing_anew number r.before) { room = r.room; waiting = r.waiting }) (record (taking_anew number r.had) { queued = r.queued; capacity = r.capacity })
+  fresh-there number x numbered r = record { pushed = refl; whole = refl; taken = refl; out_number = omega arith; in_number = omega arith }
+
+  there : (number : ℕ) (x : PrimaryView) → x.core ≡ core → (r : IsRestarted number v x)
+      → x ≡ record v { core = core; outgoing = Some (record (pushing_anew number r.before) { room = r.room; waiting = r.waiting }); incoming = Some (record (taking_anew number r.had) { queued = r.queued; capacity = r.capacity }) }
+  there number x same r = r.rest ∙ λ i. record v { core = same i; outgoing = r.out i; incoming = r.inn i }
+
+  pub reopen-steps : (now : PrimaryView) (number : ℕ) (x : PrimaryView) → v ≡ now → IsNode x → number ≡ core.connections → x.core ≡ core → IsRestarted number now x → NodeSteps (Opens sync loss false) (node now) (plainly tt) (node x)
+  reopen-steps now number x is after numbered same restarted =
+      let r : IsRestarted number v x = subst (λ (w : PrimaryView). IsRestarted number w x) (sym is) restarted in
+      subst (λ (w : PrimaryView). NodeSteps (Opens sync loss false) (node w) (plainly tt) (node x)) is
+      (subst (λ (y : PrimaryView). NodeSteps (Opens sync loss false) (node v) (plainly tt) (node y)) (sym (there number x same r)) (open-steps _ _ (fresh-there number x numbered r)))
+
+  pub reopen-is : (number : ℕ) (x : PrimaryView) → number ≡ core.connections → x.core ≡ core → IsRestarted number v x → IsNode x
+  reopen-is number x numbered same r = subst IsNode (sym (there number x same r)) (open-is _ _ (fresh-there number x numbered r))
