@@ -3,3 +3,4 @@ pub mod Calls
 pub mod Due
 pub mod Keeps
 pub mod Runs
+pub mod Sends
