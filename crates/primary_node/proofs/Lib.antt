@@ -1,2 +1,5 @@
 pub mod Copying
 pub mod Kept
+pub mod Opening
+pub mod Refused
+pub mod Sending

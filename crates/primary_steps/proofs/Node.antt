@@ -1,7 +1,8 @@
--- A primary's node: what is read off it, its disk, and its calls as steps of its histories.
+pub mod Calls
 pub mod Disk
 pub mod Disks
 pub mod Due
 pub mod Keeps
 pub mod Runs
 pub mod Says
+pub mod Sends
