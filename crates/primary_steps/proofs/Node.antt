@@ -5,3 +5,4 @@ pub mod Due
 pub mod Keeps
 pub mod Runs
 pub mod Says
+pub mod Writing
