@@ -1,5 +1,6 @@
 pub mod Copying
 pub mod Kept
 pub mod Opening
+pub mod Reading
 pub mod Refused
 pub mod Sending

@@ -1,3 +1,4 @@
+-- A primary's node: its calls as steps of its histories, its disk, and what is read off it.
 pub mod Calls
 pub mod Disk
 pub mod Disks
@@ -6,3 +7,4 @@ pub mod Keeps
 pub mod Runs
 pub mod Says
 pub mod Sends
+pub mod Writing

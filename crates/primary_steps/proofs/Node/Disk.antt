@@ -127,6 +127,10 @@ among-back count offsets offset reached =
     let there = pick-filtered (λ (k : ℕ). nat_lt k count) offsets found.0 found.1 found.2 in
     (there.0, subst (λ (k : ℕ). slice_get offsets there.0 ≡ Some k) (eqb-true found.1 offset found.3) there.1)
 
+-- the offsets of which a torn disk holds what was to be written
+abbrev pub new_offsets : ℕ → List (List ℕ) → List (List ℕ) → List ℕ
+new_offsets first contents torn = filter (λ (k : ℕ). same_block (slice_get torn (first + k)) (slice_get contents k)) (below (length contents))
+
 -- The node's disk after the local disk did its part.
 module _ (h : PrimaryHistory) (homes : HasHomes h) (order : IsInOrder h) (number : ℕ) (i : ℕ) (a : Accepted) (at : slice_get h.writes i ≡ Some a) (is : a.write.number ≡ number) (waits : is_waiting a.outcome ≡ true)
     (disk : List (List ℕ)) (holds : (block : ℕ) → slice_get disk block ≡ local_map h block) (inside : a.write.first + length a.write.contents ≤ length disk) where
@@ -208,14 +212,14 @@ module _ (h : PrimaryHistory) (homes : HasHomes h) (order : IsInOrder h) (number
           ]
 
   -- any of its blocks were written
-  pub disk-torn : (torn : List (List ℕ)) → IsTorn disk first contents torn → (offsets : List ℕ) × ((block : ℕ) → slice_get torn block ≡ local_map (with_outcome number (Failed (within (length contents) offsets)) h) block)
-  disk-torn torn is_torn = (news, disk-after (Failed (within (length contents) news)) torn new old)
+  pub disk-torn : (torn : List (List ℕ)) → IsTorn disk first contents torn → (block : ℕ) → slice_get torn block ≡ local_map (with_outcome number (Failed (within (length contents) (new_offsets first contents torn))) h) block
+  disk-torn torn is_torn = disk-after (Failed (within (length contents) news)) torn new old
     where
       is_new : ℕ → Bool
       is_new k = same_block (slice_get torn (first + k)) (slice_get contents k)
 
       news : List ℕ
-      news = filter (λ (k : ℕ). same_block (slice_get torn (first + k)) (slice_get contents k)) (below (length contents))
+      news = new_offsets first contents torn
 
       new : (block : ℕ) → covers a.write block ≡ true → offset_reached (Failed (within (length contents) news)) (block - first) ≡ true → slice_get torn block ≡ slice_get contents (block - first)
       new block covered reached =
