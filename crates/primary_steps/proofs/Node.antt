@@ -1,4 +1,5 @@
 -- A primary's node: its calls as steps of its histories, its disk, and what is read off it.
+pub mod Asked
 pub mod Calls
 pub mod Disk
 pub mod Disks
