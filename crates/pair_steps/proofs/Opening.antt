@@ -8,11 +8,15 @@ use Rattle.blocks.specs.declared.refusal.Refusal.TheVariants.{NotDrained}
 use Rattle.blocks.specs.declared.outcome.Reply.{Reply}
 use Rattle.blocks.specs.declared.outcome.Reply.TheVariants as reply
 use Rattle.model.specs.LocalRuns.{Opens, OpensToo}
-use Rattle.model.specs.Pair.{OpenEvent, PairHistory, open_pair, open_pair_tests, step}
-use Rattle.model.specs.Primary.{PrimaryHistory}
+use Rattle.blocks.specs.SettingsRange.{IsInRange}
+use Rattle.blocks.specs.declared.settings.Settings.{Settings}
+use Rattle.blocks.specs.declared.tuple.Tuple.{Tuple}
+use Rattle.model.specs.Contents.{BlockMap, IsDisk}
+use Rattle.model.specs.Pair.{OpenEvent, PairHistory, open_pair, open_pair_tests, pair_opening, step}
+use Rattle.model.specs.Primary.{PrimaryHistory, primary_opening}
 use Rattle.model.specs.PrimarySteps.{open_primary, open_tests}
 use Rattle.model.specs.Refusals.{first_refusal}
-use Rattle.model.specs.Secondary.{SecondaryHistory, inward, is_drained}
+use Rattle.model.specs.Secondary.{SecondaryHistory, secondary_opening}
 use Rattle.model.specs.SecondarySteps.{open_secondary}
 use Rattle.primary_steps.specs.Node as primary
 use Rattle.secondary_steps.specs.Node as secondary
@@ -52,3 +56,20 @@ opened sync loss starved p q said other passes here there = record {
       | Some refusal ↦ (reply.Refused refusal, h)
       | None ↦ let primary = open_primary sync loss starved h.primary in (primary.0, record { primary = primary.1; secondary = (open_secondary 0 h.secondary).1 })
     ]) (passes h has)
+
+-- Two nodes at an opening are a pair, with no link yet.
+pub pair-opening-has : (p : PairState) (settings : Settings) (local peer : BlockMap) (own peer_tuple : Tuple) (marks : ℕ → Bool) → IsInRange settings → IsDisk settings.blocks local → IsDisk settings.blocks peer
+    → primary.NodeHas (primary_of p) (primary_opening settings local own marks) → secondary.NodeHas (secondary_of p) (secondary_opening settings peer peer_tuple) → PairHas p (pair_opening settings local peer own peer_tuple marks)
+pair-opening-has p settings local peer own peer_tuple marks ranges here there first second = record {
+  primary = first;
+  secondary = second;
+  run = record {
+    opening = record { settings = settings; peer_settings = settings; local = local; peer = peer; own = own; peer_tuple = peer_tuple; marks = marks };
+    events = [];
+    shares = refl;
+    ranges = record { here = ranges; there = ranges };
+    local = here;
+    peer = there;
+    is = refl;
+  };
+}

@@ -6,6 +6,7 @@ pub mod Disk
 pub mod Due
 pub mod Faults
 pub mod Grows
+pub mod Hello
 pub mod Laid
 pub mod Numbers
 pub mod Runs
