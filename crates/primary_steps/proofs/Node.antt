@@ -6,4 +6,5 @@ pub mod Due
 pub mod Keeps
 pub mod Runs
 pub mod Says
+pub mod Unanswered
 pub mod Writing

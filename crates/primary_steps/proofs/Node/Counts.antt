@@ -1,16 +1,15 @@
 -- How many epochs of a stream are open, and how many of its writes are not answered, as a primary's state tells it.
-use Rattle.std.proofs.Common.{ℕ, zero, suc, ◌≡◌, ◌+◌, ◌-◌, ◌<◌, ◌≤◌, inl, inr, Bool, true, false, cond, not, ◌&&◌, ◌||◌, List, [], ◌∷◌, ◌++◌, length, map, filter, Option, Some, None, slice_get, refl, sym, ◌∙◌, ap, subst, arith, nat_lt, nat_le, ◌==◌, length-append}
+use Rattle.std.proofs.Common.{ℕ, zero, suc, ◌≡◌, ◌+◌, ◌-◌, ◌<◌, inl, inr, Bool, true, false, cond, not, ◌&&◌, ◌||◌, List, [], ◌∷◌, length, map, filter, Some, slice_get, refl, sym, ◌∙◌, ap, subst, arith, nat_lt, nat_le, ◌==◌, length-append}
 use Rattle.std.specs.Prelude.{if◌then◌else◌}
 use Rattle.std.specs.List.{list_any}
-use Rattle.std.proofs.lemmas.Bool.{cases_Bool, cases_lt, both_ways, and_parts, and_from, lt-ltb, le-ltb, le-leb, lt-leb, leb-true}
-use Rattle.std.proofs.lemmas.List.{length-map, map-append}
+use Rattle.std.proofs.lemmas.Bool.{cases_lt, and_parts, lt-ltb, le-ltb, le-leb, lt-leb}
+use Rattle.std.proofs.lemmas.List.{map-append}
 use Rattle.std.proofs.lemmas.List.Elements.{filter-append}
 use Rattle.blocks.specs.Ranges.{below}
 use Rattle.blocks.specs.declared.settings.Settings.{Settings}
-use Rattle.epochs.specs.Epochs.{EpochsState, empty, unacknowledged}
-use Rattle.model.specs.Contents.{Write, is_range}
+use Rattle.epochs.specs.Epochs.{unacknowledged}
 use Rattle.model.specs.Stream.{Item, WriteItem, ResyncItem, BarrierItem, SyncUuidItem, UuidsItem, barriers_in, has_blocks, is_write, last_epoch, items_of_epoch, placed, epoch_of}
-use Rattle.model.specs.Primary.{Outward, PrimaryHistory, barrier_acknowledged, is_resync, outward, stands}
+use Rattle.model.specs.Primary.{PrimaryHistory, barrier_acknowledged, is_resync, outward, stands}
 use Rattle.model.specs.Status.{open_epochs}
 use Rattle.laws.proofs.Lists.Each.{each-get}
 use Rattle.laws.proofs.Lists.Picks.{pick-filtered}
