@@ -1,6 +1,7 @@
 -- A primary's node: its calls as steps of its histories, its disk, and what is read off it.
 pub mod Asked
 pub mod Calls
+pub mod Counts
 pub mod Disk
 pub mod Disks
 pub mod Due
@@ -8,4 +9,5 @@ pub mod Keeps
 pub mod Runs
 pub mod Says
 pub mod Sends
+pub mod Unanswered
 pub mod Writing
