@@ -2,3 +2,4 @@ pub mod Kept
 pub mod Opening
 pub mod Refused
 pub mod Sending
+pub mod Taking

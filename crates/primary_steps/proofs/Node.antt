@@ -1,6 +1,8 @@
 -- A node's calls are steps of its histories, by the rooms of a primary.
 pub mod Calls
 pub mod Due
+pub mod Faults
 pub mod Keeps
 pub mod Runs
 pub mod Sends
+pub mod Takes
