@@ -25,7 +25,7 @@ due-kept : (v : Option (List Packet)) (s t : PrimaryState) → IsStill s t → I
 due-kept None s t still was = tt
 due-kept (Some begun) s t still was = λ stands. let old = was (still.opened stands) in (old.0, still.due old.0 old.1 stands, old.2)
 
-begun-kept : (v : Option OutgoingState) (s t : PrimaryState) → IsStill s t → IsBegun v s → IsBegun v t
+pub begun-kept : (v : Option OutgoingState) (s t : PrimaryState) → IsStill s t → IsBegun v s → IsBegun v t
 begun-kept None s t still was = tt
 begun-kept (Some o) s t still was = due-kept o.partly s t still was
 

@@ -5,3 +5,4 @@ pub mod Opening
 pub mod Reading
 pub mod Refused
 pub mod Sending
+pub mod Taking

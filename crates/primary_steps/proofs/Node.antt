@@ -5,9 +5,11 @@ pub mod Counts
 pub mod Disk
 pub mod Disks
 pub mod Due
+pub mod Faults
 pub mod Keeps
 pub mod Runs
 pub mod Says
 pub mod Sends
+pub mod Takes
 pub mod Unanswered
 pub mod Writing
