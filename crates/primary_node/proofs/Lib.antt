@@ -3,3 +3,4 @@ pub mod Opening
 pub mod Refused
 pub mod Sending
 pub mod Taking
+pub mod Telling

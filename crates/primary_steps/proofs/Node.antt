@@ -2,7 +2,9 @@
 pub mod Calls
 pub mod Due
 pub mod Faults
+pub mod Housed
 pub mod Keeps
+pub mod Receipts
 pub mod Runs
 pub mod Sends
 pub mod Takes
