@@ -6,3 +6,4 @@ pub mod Reading
 pub mod Refused
 pub mod Sending
 pub mod Taking
+pub mod Telling

@@ -6,7 +6,9 @@ pub mod Disk
 pub mod Disks
 pub mod Due
 pub mod Faults
+pub mod Housed
 pub mod Keeps
+pub mod Receipts
 pub mod Runs
 pub mod Says
 pub mod Sends

@@ -1,5 +1,5 @@
 -- What is refused of a frame is its own fault, or a rule of the protocol: never that there is none.
-use Rattle.std.proofs.Common.{ℕ, zero, suc, ◌≡◌, Bool, true, false, cond, ◌&&◌, ◌||◌, List, ◌∷◌, [], length, Option, Some, None, Result, Ok, Err, refl, sym, ◌∙◌, ap, ◌==◌, nat_lt}
+use Rattle.std.proofs.Common.{ℕ, zero, suc, ◌≡◌, Bool, true, false, cond, ◌&&◌, ◌||◌, length, Some, Result, Ok, Err, refl, sym, ◌∙◌, ap, ◌==◌, nat_lt}
 use Rattle.std.specs.Prelude.{is_some, if◌then◌else◌}
 use Rattle.blocks.specs.declared.tuple.Tuple.{Tuple}
 use Rattle.blocks.specs.declared.refusal.Refusal.{Refusal}

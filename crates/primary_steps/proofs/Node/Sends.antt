@@ -1,23 +1,20 @@
 -- A node pushes what is due.
-use Rattle.std.proofs.Common.{ℕ, zero, suc, ◌≡◌, ◌⊎◌, inl, inr, ◌<◌, ◌≤◌, Bool, true, false, not, ◌&&◌, List, [], ◌∷◌, ◌++◌, length, take, Option, Some, None, Result, Ok, Err, slice_get, refl, sym, ◌∙◌, ap, subst, arith}
+use Rattle.std.proofs.Common.{ℕ, zero, suc, ◌≡◌, ◌⊎◌, inl, inr, ◌≤◌, Bool, true, false, not, ◌&&◌, List, [], ◌∷◌, ◌++◌, length, take, Option, Some, None, Result, Ok, Err, slice_get, refl, sym, ◌∙◌, ap, subst, arith}
 use Rattle.std.specs.Prelude.{is_some, ok_or}
-use Rattle.std.proofs.lemmas.Bool.{and_parts, both_ways, not-true}
+use Rattle.std.proofs.lemmas.Bool.{and_parts, not-true}
 use Rattle.std.proofs.lemmas.Option.{slice_get_within}
-use Rattle.blocks.specs.declared.settings.Settings.{Settings}
 use Rattle.blocks.specs.declared.refusal.Refusal.{Refusal}
 use Rattle.blocks.specs.declared.refusal.Refusal.TheVariants.{LinkFull, NoMemory, NotConnected, NothingThere}
 use Rattle.blocks.specs.declared.outcome.Done.{Done}
 use Rattle.blocks.specs.declared.outcome.Reply.TheVariants as reply
-use Rattle.model.specs.Frames.{Packet, frames_of, hello_of}
-use Rattle.model.specs.Primary.{Outward, PrimaryHistory, outward, with_outward, frames_due, local_map}
-use Rattle.model.specs.Primary as model
+use Rattle.model.specs.Frames.{Packet}
+use Rattle.model.specs.Primary.{Outward, PrimaryHistory, outward, with_outward, frames_due}
 use Rattle.model.specs.PrimarySteps as step
 use Rattle.model.specs.LocalRuns.{Sends}
 use Rattle.laws.proofs.Lists.Last.{length-change}
 use Rattle.laws.proofs.Primary.Moves.{pushing}
 use Rattle.primary_steps.specs.Core.{EndState, PrimaryState, stands, tested}
 use Rattle.primary_steps.specs.Transitions.{owed, due, called, sent_from, send}
-use Rattle.primary_steps.specs.Leaves.{Leaves}
 use Rattle.primary_steps.specs.Node.{NodeState, NodeHas, NodeIsHad, NodeSteps}
 use Rattle.primary_steps.specs.Steps.{Agrees, replied}
 use Rattle.primary_steps.proofs.Known.{end-open, outward-of, stands-same}

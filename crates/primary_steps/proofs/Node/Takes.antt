@@ -1,12 +1,11 @@
 -- A node takes a frame.
-use Rattle.std.proofs.Common.{ℕ, zero, suc, ◌≡◌, ◌-◌, Bool, true, false, cond, not, ◌&&◌, ◌||◌, List, [], ◌∷◌, ◌++◌, length, Option, Some, None, Result, Ok, Err, refl, sym, ◌∙◌, ap, subst, ◌==◌}
+use Rattle.std.proofs.Common.{ℕ, zero, suc, ◌≡◌, ◌-◌, Bool, true, false, cond, not, ◌&&◌, ◌||◌, List, [], ◌∷◌, ◌++◌, length, Option, Some, None, Result, Ok, Err, refl, sym, ◌∙◌, ap, subst}
 use Rattle.std.specs.Prelude.{is_some, if◌then◌else◌}
-use Rattle.std.proofs.lemmas.Bool.{and_parts, both_ways, not-true}
+use Rattle.std.proofs.lemmas.Bool.{and_parts, not-true}
 use Rattle.std.proofs.lemmas.List.{append-nil}
 use Rattle.blocks.specs.declared.tuple.Tuple.{Tuple}
 use Rattle.blocks.specs.declared.refusal.Refusal.{Refusal}
-use Rattle.blocks.specs.declared.refusal.Refusal.TheVariants.{BadBarrierAck, BadCommand, NoMemory, NotConnected, NothingThere, OtherProtocol, OtherSize, UnknownAck, UsedIdentifier}
-use Rattle.blocks.specs.declared.command.Command.TheVariants as command
+use Rattle.blocks.specs.declared.refusal.Refusal.TheVariants.{NoMemory, NotConnected, NothingThere, UsedIdentifier}
 use Rattle.blocks.specs.declared.outcome.Decision.{Decision}
 use Rattle.blocks.specs.declared.outcome.Decision.TheVariants.{NoSync, BitmapSync, FullSync}
 use Rattle.blocks.specs.declared.outcome.Done.{Done}
@@ -25,10 +24,9 @@ use Rattle.model.specs.LocalRuns.{Takes}
 use Rattle.laws.proofs.Primary.Homes.{HasHomes, open-at}
 use Rattle.laws.proofs.Primary.Moves.{with_frame, refusing}
 use Rattle.primary_steps.specs.Core.{EndState, PrimaryState, stands, tested}
-use Rattle.primary_steps.specs.Transitions.{closing}
 use Rattle.primary_steps.specs.Taking.{Taken, hearing, taking, taking_hello, taking_ack, taken_by, take_at, ack_in}
 use Rattle.primary_steps.specs.Node.{NodeState, NodeHas, NodeIsHad, NodeSteps}
-use Rattle.primary_steps.specs.Steps.{IsReached, Agrees, replied}
+use Rattle.primary_steps.specs.Steps.{Agrees, replied}
 use Rattle.primary_steps.proofs.Known.{end-open, outward-of, reached-ordered, stands-same}
 use Rattle.primary_steps.proofs.Node.Due.{IsStill, is-still, kept-leaves}
 use Rattle.primary_steps.proofs.Node.Keeps.{Change, Keeps, unchanged, keeps-self, keeps-change, keeps-rest, keeps-following, closing-keeps}
