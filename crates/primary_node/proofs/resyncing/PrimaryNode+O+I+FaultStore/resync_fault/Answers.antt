@@ -35,8 +35,8 @@ pub read-requires-clause-inside : goal.read-requires-clause-inside
 read-requires-clause-inside g c =
     subst (λ (s : FaultState). c.in_ok-block.block.0 < length s.disk) (sym c.arm_read.ensures) (chosen-inside _ _ c.self.invariant.had (is-chosen _ _ c.in_ok-block.ensures.block))
 
-pub invariant_of-self-then-is_err : goal.invariant_of-self-then-is_err
-invariant_of-self-then-is_err g c =
+pub invariant_of-self-2 : goal.invariant_of-self-2
+invariant_of-self-2 g c =
     let v : PrimaryView = record {
       core = c.self.inside.core.state;
       disk = c.self.inside.store.disk;
@@ -47,8 +47,8 @@ invariant_of-self-then-is_err g c =
     } in
     same-is v c.resync_block.new.self.state c.read.new.self.disk c.read.new.self.faults (is_steady c.read.new.self) c.self.invariant c.resync_block.ensures.same (ap (λ (s : FaultState). s.disk) (armed-read c.self.inside.store c.arm_read.new.self c.read.new.self c.arm_read.ensures c.read.ensures.after))
 
-pub returns-then-is_err-clause-step : goal.returns-then-is_err-clause-step
-returns-then-is_err-clause-step g c =
+pub returns-clause-step : goal.returns-clause-step
+returns-clause-step g c =
     let v : PrimaryView = record {
       core = c.self.inside.core.state;
       disk = c.self.inside.store.disk;
@@ -59,8 +59,8 @@ returns-then-is_err-clause-step g c =
     } in
     rw (← c.self.view_is) (fault-fails v c.resync_block.new.self.state c.read.new.self.disk _ c.resync_block.ensures.same c.in_ok-block.ensures.block (ap (λ (s : FaultState). s.disk) (armed-read c.self.inside.store c.arm_read.new.self c.read.new.self c.arm_read.ensures c.read.ensures.after)))
 
-pub returns-then-is_err-clause-works : goal.returns-then-is_err-clause-works
-returns-then-is_err-clause-works g c =
+pub returns-clause-works : goal.returns-clause-works
+returns-clause-works g c =
     let v : PrimaryView = record {
       core = c.self.inside.core.state;
       disk = c.self.inside.store.disk;
