@@ -42,12 +42,18 @@ abbrev pub words_text : Words → List ℕ
 words_text w =
     codes "cs:" ++ link_text w.link ++ codes " ro:" ++ role_text w.own_role ++ codes "/" ++ role_text w.other_role ++ codes " ds:" ++ disk_text w.own_disk ++ codes "/" ++ disk_text w.other_disk
 
+-- the primary's numbers
+abbrev pub counts_text : PrimaryLine → List ℕ
+counts_text line = codes " pe:" ++ decimal line.pe ++ codes " ap:" ++ decimal line.ap ++ codes " ep:" ++ decimal line.ep ++ codes " oos:" ++ decimal line.oos
+
 -- the primary's line
 abbrev pub primary_text : PrimaryLine → List ℕ
-primary_text line =
-    words_text line.words ++ codes " pr:" ++ protocol_text line.protocol ++ codes " pe:" ++ decimal line.pe ++ codes " ap:" ++ decimal line.ap ++ codes " ep:" ++ decimal line.ep ++ codes " oos:" ++ decimal line.oos
+primary_text line = words_text line.words ++ codes " pr:" ++ protocol_text line.protocol ++ counts_text line
+
+-- the secondary's numbers, and whether its data may be used
+abbrev pub usage_text : SecondaryLine → List ℕ
+usage_text line = codes " pending:" ++ decimal line.pending ++ codes " use:" ++ usable_text line.usable ++ codes " whole:" ++ decimal line.whole
 
 -- the secondary's line
 abbrev pub secondary_text : SecondaryLine → List ℕ
-secondary_text line =
-    words_text line.words ++ codes " pr:" ++ protocol_text line.protocol ++ codes " pending:" ++ decimal line.pending ++ codes " use:" ++ usable_text line.usable ++ codes " whole:" ++ decimal line.whole
+secondary_text line = words_text line.words ++ codes " pr:" ++ protocol_text line.protocol ++ usage_text line

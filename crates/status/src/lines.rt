@@ -1,6 +1,6 @@
 //! A node's line: its words and numbers, and how they are printed.
 ghost use Rattle.std.specs.Prelude.{◌≡◌, Some};
-ghost use Rattle.status.specs.Text.{primary_text, secondary_text, protocol_text, usable_text};
+ghost use Rattle.status.specs.Text.{counts_text, primary_text, protocol_text, secondary_text, usable_text, usage_text};
 ghost use Rattle.status.specs.Lines.{primary_line_of, secondary_line_of};
 
 use crate::Words;
@@ -34,19 +34,10 @@ impl fmt::Display for PrimaryLine {
     ghost output = { λ line. Some (primary_text (primary_line_of line)) };
 
     fn fmt<W: fmt::Write>(&self, f: &mut fmt::Formatter<W>) -> fmt::Result {
-        let PrimaryLine {
-            words,
-            protocol,
-            pe,
-            ap,
-            ep,
-            oos,
-        } = *self;
-        let protocol = protocol_word(protocol);
-        write!(
-            f,
-            "{words} pr:{protocol} pe:{pe} ap:{ap} ep:{ep} oos:{oos}"
-        )
+        let words = self.words;
+        let protocol = protocol_word(self.protocol);
+        let counts = Counts(*self);
+        write!(f, "{words} pr:{protocol}{counts}")
     }
 }
 
@@ -54,19 +45,44 @@ impl fmt::Display for SecondaryLine {
     ghost output = { λ line. Some (secondary_text (secondary_line_of line)) };
 
     fn fmt<W: fmt::Write>(&self, f: &mut fmt::Formatter<W>) -> fmt::Result {
+        let words = self.words;
+        let protocol = protocol_word(self.protocol);
+        let usage = Usage(*self);
+        write!(f, "{words} pr:{protocol}{usage}")
+    }
+}
+
+/// The numbers of the primary's line.
+#[derive(Clone, Copy)]
+struct Counts(PrimaryLine);
+
+impl fmt::Display for Counts {
+    ghost output = { λ counts. Some (counts_text (primary_line_of counts.0)) };
+
+    fn fmt<W: fmt::Write>(&self, f: &mut fmt::Formatter<W>) -> fmt::Result {
+        let PrimaryLine {
+            pe, ap, ep, oos, ..
+        } = self.0;
+        write!(f, " pe:{pe} ap:{ap} ep:{ep} oos:{oos}")
+    }
+}
+
+/// The numbers of the secondary's line, and whether its data may be used.
+#[derive(Clone, Copy)]
+struct Usage(SecondaryLine);
+
+impl fmt::Display for Usage {
+    ghost output = { λ usage. Some (usage_text (secondary_line_of usage.0)) };
+
+    fn fmt<W: fmt::Write>(&self, f: &mut fmt::Formatter<W>) -> fmt::Result {
         let SecondaryLine {
-            words,
-            protocol,
             pending,
             usable,
             whole,
-        } = *self;
-        let protocol = protocol_word(protocol);
+            ..
+        } = self.0;
         let usable = usable_word(usable);
-        write!(
-            f,
-            "{words} pr:{protocol} pending:{pending} use:{usable} whole:{whole}"
-        )
+        write!(f, " pending:{pending} use:{usable} whole:{whole}")
     }
 }
 
