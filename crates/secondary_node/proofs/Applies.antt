@@ -1,5 +1,5 @@
 -- A node whose disk does an item, or fails it.
-use Rattle.std.proofs.Common.{ℕ, ◌≡◌, ◌+◌, ◌<◌, ◌≤◌, ◌⊎◌, inl, inr, Bool, true, false, List, ◌∷◌, length, Option, Some, None, Result, Ok, Err, slice_get, refl, sym, ◌∙◌, ap, subst, arith}
+use Rattle.std.proofs.Common.{ℕ, ◌≡◌, ◌+◌, ◌<◌, ◌≤◌, inl, inr, Bool, true, false, List, length, Option, Some, None, Result, Ok, Err, refl, sym, ◌∙◌, ap, subst, arith}
 use Rattle.std.specs.Prelude.{is_some}
 use Rattle.blocks.specs.Contents.{overwritten, IsTorn}
 use Rattle.blocks.specs.declared.refusal.Refusal.{Refusal}
@@ -7,12 +7,12 @@ use Rattle.blocks.specs.declared.outcome.Done.{Done}
 use Rattle.blocks.specs.declared.outcome.Reply.TheVariants as reply
 use Rattle.blocks.specs.declared.outcome.What.TheVariants as what
 use Rattle.model.specs.Frames.{Packet}
-use Rattle.model.specs.Stream.{Item, contents_of, first_of, below, within}
+use Rattle.model.specs.Stream.{Item, contents_of, first_of, below}
 use Rattle.model.specs.Refusals.{done_with}
 use Rattle.model.specs.LocalRuns.{Applies, FailsToApply}
 use Rattle.endpoint.specs.Outgoing.{OutgoingState}
 use Rattle.secondary_steps.specs.Core.{EndState, SecondaryState, applied, due, failing, start}
-use Rattle.secondary_steps.specs.Node.{NodeState, NodeSteps}
+use Rattle.secondary_steps.specs.Node.{NodeSteps}
 use Rattle.secondary_steps.specs.Steps.{replied}
 use Rattle.secondary_steps.proofs.Node.Applies.{applies-due, node-applies, node-fails, node-not-started}
 use Rattle.secondary_steps.proofs.Node.Laid.{LaidAt, torn-laid, torn_offsets, whole-laid}
@@ -36,7 +36,7 @@ written-item device new item first blocks at is new_is = new_is ∙ (λ i. overw
 
 -- The disk did it.
 module _ (v : SecondaryView) (place : ℕ) (item : Item) (first : ℕ) (blocks : List (List ℕ)) (is : IsNode v) (starts : start place v.core ≡ Ok item) (inside : first_of item + length (contents_of item) ≤ v.core.settings.blocks)
-  (at : first ≡ first_of item) (blocks_is : blocks ≡ contents_of item) where
+    (at : first ≡ first_of item) (blocks_is : blocks ≡ contents_of item) where
   done-steps : (core : SecondaryState) (disk : List (List ℕ)) → core ≡ applied place v.core → disk ≡ overwritten v.disk first blocks
       → NodeSteps (Applies place) (node v) (reply.Ok (done_with what.Nothing)) (record (node v) { core = core; disk = disk })
   done-steps core disk does disk_is =

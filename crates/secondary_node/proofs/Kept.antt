@@ -1,5 +1,5 @@
 -- What each call keeps of a node: a new one, one that closes, and what is read off.
-use Rattle.std.proofs.Common.{ℕ, zero, suc, ◌≡◌, ◌≤◌, Bool, true, false, List, [], ◌∷◌, length, Option, Some, None, Result, Ok, Err, slice_get, refl, sym, ◌∙◌, ap, subst, arith, nat_lt}
+use Rattle.std.proofs.Common.{ℕ, zero, suc, ◌≡◌, Bool, true, false, List, [], ◌∷◌, length, Option, Some, None, Result, slice_get, sym, ◌∙◌, ap, subst, arith, nat_lt}
 use Rattle.std.specs.Prelude.{is_some}
 use Rattle.std.proofs.lemmas.Bool.{both_ways}
 use Rattle.std.proofs.lemmas.Bool.Decides.{nat_tests}
@@ -7,7 +7,7 @@ use Rattle.blocks.specs.SettingsRange.{IsInRange}
 use Rattle.blocks.specs.declared.tuple.Tuple.{Tuple}
 use Rattle.blocks.specs.declared.settings.Settings.{Settings}
 use Rattle.blocks.specs.declared.refusal.Refusal.{Refusal}
-use Rattle.model.specs.Frames.{Packet, Received}
+use Rattle.model.specs.Frames.{Packet}
 use Rattle.model.specs.Secondary.{SecondaryHistory, secondary_opening, inward, items_taken, pending}
 use Rattle.model.specs.LocalRuns.{ClosesToo}
 use Rattle.endpoint.specs.Outgoing.{OutgoingState}

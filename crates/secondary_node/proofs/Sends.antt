@@ -1,5 +1,5 @@
 -- A node that sends what it owes.
-use Rattle.std.proofs.Common.{ℕ, ◌≡◌, ◌⊎◌, inl, inr, Bool, true, false, List, [], ◌∷◌, ◌++◌, Option, Some, None, Result, Ok, Err, refl, sym, ◌∙◌, ap, subst, arith}
+use Rattle.std.proofs.Common.{◌≡◌, ◌⊎◌, inl, inr, Bool, true, false, List, [], ◌∷◌, ◌++◌, Option, Some, None, Result, Ok, Err, refl, sym, ◌∙◌, ap, subst, arith}
 use Rattle.std.specs.Prelude.{ok_or, IfSome}
 use Rattle.blocks.specs.declared.refusal.Refusal.{Refusal}
 use Rattle.blocks.specs.declared.refusal.Refusal.TheVariants.{LinkFull, NoMemory, NotConnected, NothingThere}
@@ -13,7 +13,7 @@ use Rattle.packets.specs.Table as table
 use Rattle.std.specs.Option.{option_map}
 use Rattle.endpoint.specs.Calls.{Sends, has_room, is_starved}
 use Rattle.endpoint.specs.Meaning.{meaning}
-use Rattle.endpoint.specs.Outgoing.{OutgoingState, with_pushed}
+use Rattle.endpoint.specs.Outgoing.{OutgoingState}
 use Rattle.endpoint.specs.Incoming.{IncomingState}
 use Rattle.model.specs.Frames.{Packet, command_of}
 use Rattle.model.specs.Refusals.{done_with}

@@ -1,5 +1,5 @@
-use Rattle.std.proofs.Common.{◌≡◌, ◌∙◌, Err, rules, sym, ap, subst}
-use Rattle.secondary_node.proofs.Sends.{nothing-due-steps, not-sent-steps, part-is, sends-none, sends-part, sent-is, sent-steps}
+use Rattle.std.proofs.Common.{◌≡◌, Err, rules, ap}
+use Rattle.secondary_node.proofs.Sends.{nothing-due-steps, not-sent-steps, sends-none, sends-part, sent-is, sent-steps}
 use Rattle.secondary_node.proofs.state.SecondaryNode.ack_out.Goals as goal
 
 pub returns-in_err-packet-clause-step : goal.returns-in_err-packet-clause-step

@@ -1,7 +1,7 @@
 use Rattle.std.proofs.Common.{◌≡◌, ◌∙◌, ◌++◌, ◌∷◌, [], Err, Ok, ap, sym, rules}
 use Rattle.endpoint.specs.Meaning.{received}
 use Rattle.secondary_steps.specs.Core.{may_take}
-use Rattle.secondary_node.proofs.Takes.{may-not-one, starved-one, takes-is, takes-one}
+use Rattle.secondary_node.proofs.Takes.{may-not-one, not-none, starved-one, takes-is, takes-one}
 use Rattle.secondary_node.proofs.state.SecondaryNode.receive.Goals as goal
 
 pub returns-in_err-may_take-clause-step : goal.returns-in_err-may_take-clause-step
@@ -30,4 +30,4 @@ pub returns-clause-step : goal.returns-clause-step
 returns-clause-step g c =
     let may : may_take c.self.inside.core.state ≡ Ok tt = sym c.may_take.ensures ∙ c.in_ok-may_take.was in
     rw (← c.self.view_is) (takes-one _ c.ready.new.self.state _ c.in-Some.incoming c.ready-2.new.self c.take.new.self (received c.in_ok-frame.frame) _ c.self.invariant c.in-Some.is may (ap (λ x. x.state) c.in_ok-ready.ensures.ready) c.take-2.ensures
-    c.in_ok-ready-2.ensures.ready c.in_ok-frame.ensures.taken c.in_ok-frame.ensures.row c.in_ok-frame.ensures.exact ?)
+    c.in_ok-ready-2.ensures.ready c.in_ok-frame.ensures.taken c.in_ok-frame.ensures.row c.in_ok-frame.ensures.exact (not-none c.in_ok-frame.frame ?))
