@@ -44,6 +44,7 @@ module _ (v : SecondaryView) (place : ℕ) (item : Item) (first : ℕ) (blocks :
       (node-applies (node v) place item starts disk (λ block. subst (λ (d : List (List ℕ)). LaidAt item (below (length (contents_of item))) v.disk d block) (sym (written-item v.disk disk item first blocks at blocks_is disk_is))
       (whole-laid item v.disk (on-disk v item is inside) block)))
 
+  -- it is a node still
   pub done-is : (core : SecondaryState) (disk : List (List ℕ)) (faults : ℕ) (steady : Bool) → core ≡ applied place v.core → disk ≡ overwritten v.disk first blocks → IsNode (record v { core = core; disk = disk; faults = faults; steady = steady })
   done-is core disk faults steady does disk_is = record {
     had = node-had (Applies place) (node v) (reply.Ok (done_with what.Nothing)) (node (record v { core = core; disk = disk })) is.had (done-steps core disk does disk_is);
@@ -70,6 +71,7 @@ module _ (v : SecondaryView) (place : ℕ) (item : Item) (first : ℕ) (blocks :
       go None was = tt
       go (Some x) was = part x.partly was
 
+  -- and the call is as it says
   pub done-one : (core : SecondaryState) (disk : List (List ℕ)) (faults : ℕ) (steady : Bool) (result : Done) → core ≡ applied place v.core → disk ≡ overwritten v.disk first blocks → faults ≡ v.faults → result ≡ done_with what.Nothing
       → AppliesOne place (Ok result) v (record v { core = core; disk = disk; faults = faults; steady = steady })
   done-one core disk faults steady result does disk_is same said =
@@ -85,6 +87,7 @@ module _ (v : SecondaryView) (place : ℕ) (item : Item) (first : ℕ) (blocks :
             (node-fails (node v) place item starts (torn_offsets item v.disk (on-disk v item is inside) disk is_torn) disk (torn-laid item v.disk (on-disk v item is inside) disk is_torn)),
       )
 
+  -- it is a node still
   pub failed-is : (core : SecondaryState) (disk : List (List ℕ)) (faults : ℕ) (steady : Bool) → core ≡ failing place v.core → IsTorn v.disk first blocks disk → IsNode (record v { core = core; disk = disk; faults = faults; steady = steady })
   failed-is core disk faults steady does torn =
       let steps = failed-steps core disk does torn in
@@ -96,6 +99,7 @@ module _ (v : SecondaryView) (place : ℕ) (item : Item) (first : ℕ) (blocks :
         numbered = numbered-same v.outgoing v.incoming v.core core (ap (λ (s : SecondaryState). s.number) does) is.numbered;
       }
 
+  -- and the call is as it says
   pub failed-one : (core : SecondaryState) (disk : List (List ℕ)) (faults : ℕ) (steady : Bool) (result : Done) → core ≡ failing place v.core → IsTorn v.disk first blocks disk → v.faults < faults → result ≡ done_with what.Nothing
       → AppliesOne place (Ok result) v (record v { core = core; disk = disk; faults = faults; steady = steady })
   failed-one core disk faults steady result does torn more said =

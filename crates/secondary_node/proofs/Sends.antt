@@ -53,6 +53,7 @@ sent-steps v t o p packet name done node_is there is same pushed called said =
     (subst (λ (l : List Packet). NodeSteps (Acknowledges true false) (node v) (reply.Ok (done_with (what.Frame (command_of (meaning packet)) None))) (record (node v) { core = sent v.core; pushed = l })) (sym all)
     (node-pushes (node v) (meaning packet) is)))
 
+-- It is a node still.
 pub sent-is : (v : SecondaryView) (t : SecondaryState) (o p : OutgoingState) (packet : packets.Packet) → IsNode v → v.outgoing ≡ Some o → due v.core ≡ Ok (meaning packet) → t ≡ sent v.core
     → p.pushed ≡ o.pushed ++ meaning packet ∷ [] → p.partly ≡ None → p.number ≡ o.number → IsNode (record v { core = t; outgoing = Some p })
 sent-is v t o p packet is there owes same pushed whole number = record {

@@ -36,6 +36,7 @@ takes-steps v r t i j frame result node_is there may same is taken =
     subst (λ (l : List Received). NodeSteps (Receives (Some frame) false) (node v) (replied (λ done. done) result) (record (node v) { core = t; taken = l })) (sym all)
     (node-takes (node v) frame result t may here)
 
+-- It is a node still.
 pub takes-is : (v : SecondaryView) (r t : SecondaryState) (i j : IncomingState) (frame : Received) (result : Result Done Refusal) → IsNode v → v.incoming ≡ Some i → may_take v.core ≡ Ok tt → r ≡ v.core
     → (result, t) ≡ take_at frame r.end r → j.taken ≡ i.taken ++ frame ∷ [] → j.number ≡ i.number → IsNode (record v { core = t; incoming = Some j })
 takes-is v r t i j frame result is there may same takes taken number = record {

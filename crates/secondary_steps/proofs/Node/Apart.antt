@@ -180,5 +180,6 @@ run-settled : (events : List SecondaryEvent) (h : SecondaryHistory) → IsSettle
 run-settled [] h is = is
 run-settled (event ∷ events) h is = run-settled events (secondary_after event h) (record { kept = kept-after event h is.kept; apart = apart-after event h is.kept is.apart })
 
+-- Each reached history is.
 pub reached-settled : (h : SecondaryHistory) → IsReached h → IsSettled h
 reached-settled h is = subst IsSettled (sym is.reached) (run-settled is.events (secondary_opening is.settings is.disk is.tuple) (record { kept = kept-opening is.settings is.disk is.tuple; apart = none-apart }))

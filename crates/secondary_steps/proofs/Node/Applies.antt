@@ -113,6 +113,7 @@ module _ (n : NodeState) (place : ℕ) (item : Item) (starts : start place n.cor
   done-grows : (h : SecondaryHistory) → NodeHas n h → Grows (inward h) (inward (step.peer place h).1)
   done-grows h has = subst (Grows (inward h)) (sym (done-last h has)) (grows-answering (inward h) (applying h.settings.protocol place (inward h)) (grows-applying h.settings.protocol place (inward h)))
 
+  -- that is the step
   pub node-applies : (disk : List (List ℕ)) → ((block : ℕ) → LaidAt item (below (length (contents_of item))) n.disk disk block)
       → NodeSteps (Applies place) n (reply.Ok (done_with what.Nothing)) (record n { core = applied place n.core; disk = disk })
   node-applies disk laid = record {
@@ -147,6 +148,7 @@ module _ (n : NodeState) (place : ℕ) (item : Item) (starts : start place n.cor
   failed-agrees offsets h left = subst (λ (r : Result Item Refusal). Agrees plainly (elim r as (λ _. Result (Unit {0}) Refusal × SecondaryState) [ Err refusal ↦ (Err refusal, n.core) | Ok item ↦ (Ok tt, core.failing place n.core) ]) (step.peer_fault place offsets h)) starts
       (faults-agree place offsets n.core h left)
 
+  -- that is the step
   pub node-fails : (offsets : List ℕ) (disk : List (List ℕ)) → ((block : ℕ) → LaidAt item (within (length (contents_of item)) offsets) n.disk disk block)
       → NodeSteps (FailsToApply place offsets) n (reply.Ok (done_with what.Nothing)) (record n { core = core.failing place n.core; disk = disk })
   node-fails offsets disk laid = record {

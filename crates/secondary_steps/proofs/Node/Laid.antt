@@ -206,6 +206,7 @@ module _ (item : Item) (device : List (List ℕ)) (inside : first_of item + leng
         let passed = pick-filtered (λ (x : ℕ). is_new (is.each (first + x))) (below size) among.0 found.1 among.1 in
         both_ways (is_new (is.each (first + o))) old (subst (λ (k : ℕ). is_new (is.each (first + k)) ≡ true) (eqb-true found.1 o found.3) passed.2))
 
+    -- what each block holds then
     pub torn-laid : (block : ℕ) → LaidAt item (within size torn_offsets) device torn block
     torn-laid block = elim (cases_Bool (touches item block)) [
       | inl touched ↦
