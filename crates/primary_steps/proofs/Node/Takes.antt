@@ -144,10 +144,11 @@ module _ (h : PrimaryHistory) (frame : Received) (unshut : (outward h).closed �
           let shut : (outward (with_outward refusing g)).closed ≡ false = ap (λ (c : Outward). c.closed) (outward-of refusing g (with_outward refusing g) refl open-taken) ∙ open-taken in
           let seen : Keeps h (took h frame (outward h).begun) g = keeps-marked g refl refl refl (λ block. refl) in
           let refused : Keeps h (took h frame (outward h).begun) (with_outward refusing g) =
-                keeps-change h g (with_outward refusing g) (took h frame (outward h).begun) (took h frame (outward h).begun) refusing [] seen open-taken refl refl refl refl (sym (append-nil (outward g).stream)) seen.taken seen.begun (λ block. refl) in
-          ((outward h).begun,
+          keeps-change h g (with_outward refusing g) (took h frame (outward h).begun) (took h frame (outward h).begun) refusing [] seen open-taken refl refl refl refl (sym (append-nil (outward g).stream)) seen.taken seen.begun (λ block. refl) in (
+            (outward h).begun,
             subst (λ (x : PrimaryHistory). Keeps h (took h frame (outward h).begun) (step.follows (step.closing (with_outward refusing x))).history) (sym so.1)
-            (keeps-following h (step.closing (with_outward refusing g)) (took h frame (outward h).begun) (closing-keeps h (with_outward refusing g) (took h frame (outward h).begun) shut refused)))
+                (keeps-following h (step.closing (with_outward refusing g)) (took h frame (outward h).begun) (closing-keeps h (with_outward refusing g) (took h frame (outward h).begun) shut refused)),
+          )
 
 -- The step, where an end is open.
 
