@@ -5,3 +5,4 @@ pub mod LatestPlaces
 pub mod Overlays
 pub mod Ranges
 pub mod SameBlocks
+pub mod Written

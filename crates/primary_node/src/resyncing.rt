@@ -50,9 +50,8 @@ impl<O: FrameOut + Drop, I: FrameIn + Drop> PrimaryNode<O, I, FaultStore> {
         let block = self.core.resync_block()?;
         let mut bytes = Vec::from_elem(self.alloc, 0u8, BLOCK_BYTES)?;
         self.store.arm_read();
-        if self.store.read(block, &mut bytes).is_err() {
-            return Err(Refusal::ReadFault);
-        }
-        Err(Refusal::NothingToDo)
+        // It is armed, so it fails.
+        let _ = self.store.read(block, &mut bytes);
+        Err(Refusal::ReadFault)
     }
 }

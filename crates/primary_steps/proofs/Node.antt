@@ -1,10 +1,17 @@
--- A node's calls are steps of its histories, by the rooms of a primary.
+-- A primary's node: its calls as steps of its histories, its disk, and what is read off it.
+pub mod Asked
 pub mod Calls
+pub mod Counts
+pub mod Disk
+pub mod Disks
 pub mod Due
 pub mod Faults
 pub mod Housed
 pub mod Keeps
 pub mod Receipts
 pub mod Runs
+pub mod Says
 pub mod Sends
 pub mod Takes
+pub mod Unanswered
+pub mod Writing

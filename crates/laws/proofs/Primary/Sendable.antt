@@ -100,7 +100,7 @@ module _ (settings : Settings) (bound : 0 < settings.max_epoch) where
         | false ↦ record h { writes = h.writes ++ record { write = submission h first contents; journal_length = length h.journal; home = None; outcome = Waiting } ∷ []; marks = marking (submission h first contents) h.marks }
       ])
       go true is = fit-appending (WriteItem (submission h first contents)) h _ refl refl (λ s. sendable-work settings (outward h).stream (WriteItem (submission h first contents)) s
-          (subst (λ (x : Settings). is_range x first (length contents) ≡ true) a.setting range) (few is)) a
+          (subst (λ (x : Settings). is_range x first (length contents) ≡ true) a.setting range) refl (few is)) a
       go false is = fit-same h _ refl refl a
 
   fit-submit : (first : ℕ) (contents : List (List ℕ)) (starved : Bool) (h : PrimaryHistory) → HasFitEnds settings h → HasFitEnds settings (submit first contents starved h).1
@@ -185,7 +185,7 @@ module _ (settings : Settings) (bound : 0 < settings.max_epoch) where
       go None is runs few = a
       go (Some block) is runs few = fit-following (appending (ResyncItem block (unwrap_or (local_map h block) [])) h) (fit-appending _ h _ refl refl (λ s.
           sendable-work settings (outward h).stream (ResyncItem block (unwrap_or (local_map h block) [])) s
-          (one-block h.settings.blocks block settings (ap (λ (x : Settings). x.blocks) (sym a.setting)) (free-below h block is), (and_parts (stands (outward h)) (in_resync (outward h).stream) runs).1) few) a)
+          (one-block h.settings.blocks block settings (ap (λ (x : Settings). x.blocks) (sym a.setting)) (free-below h block is), (and_parts (stands (outward h)) (in_resync (outward h).stream) runs).1) refl few) a)
 
   fit-resync-fault : (starved : Bool) (h : PrimaryHistory) → HasFitEnds settings h → HasFitEnds settings (resync_fault starved h).1
   fit-resync-fault starved h a = tested-keeps (HasFitEnds settings) h (resync_tests h starved) (λ _. (reply.Refused ReadFault, h)) a (λ none. a)

@@ -2,7 +2,7 @@
 -- each has a place.
 use Rattle.std.proofs.Common.{ℕ, ◌≡◌, ◌+◌, ◌≤◌, ◌<◌, inl, inr, Bool, true, false, cond, not, ◌&&◌, ◌||◌, List, [], ◌∷◌, ◌++◌, length, take, filter, Some, slice_get, refl, sym, ◌∙◌, ap, subst, arith, ◌==◌, length-append, nat_le}
 use Rattle.std.specs.List.{list_any}
-use Rattle.std.proofs.lemmas.Bool.{and_parts, or_cases, or_left, or_from, both_ways, leb-true}
+use Rattle.std.proofs.lemmas.Bool.{and_parts, cases_lt, or_cases, or_left, or_from, both_ways, leb-true}
 use Rattle.std.proofs.lemmas.List.Folds.{list_any-append}
 use Rattle.std.proofs.lemmas.List.{take-append-le}
 use Rattle.std.proofs.Math.Seq.{take-append_seam}
@@ -10,7 +10,7 @@ use Rattle.std.proofs.lemmas.Option.{slice_get_within}
 use Rattle.blocks.specs.declared.settings.Settings.{Settings}
 use Rattle.blocks.specs.declared.tuple.Tuple.{Tuple}
 use Rattle.model.specs.Contents.{is_range}
-use Rattle.model.specs.Stream.{Item, WriteItem, ResyncItem, BarrierItem, SyncUuidItem, UuidsItem, is_write, last_epoch, items_of_epoch, epoch_size}
+use Rattle.model.specs.Stream.{Item, WriteItem, ResyncItem, BarrierItem, SyncUuidItem, UuidsItem, is_barrier, is_write, barriers_in, last_epoch, items_of_epoch, epoch_size}
 use Rattle.model.specs.Primary.{is_resync, is_sync_start, is_sync_end, in_resync, Outward, PrimaryHistory, outward, stands}
 use Rattle.model.specs.PrimarySteps.{is_settled, epoch_is_over}
 use Rattle.laws.proofs.Lists.Elements.{get-more, get-there}
@@ -41,15 +41,24 @@ abbrev pub one_if : Bool → ℕ
 one_if true = 1
 one_if false = 0
 
--- A stream in which each item may stand, and where a barrier and the end of a resync still have places.
+-- A stream in which each item may stand, where a barrier and the end of a resync still have places, and each epoch that ended
+-- has a write or a block of a resync.
 pub record IsSendable (settings : Settings) (items : List Item) : Type 0 where
   pub stands : (place : ℕ) (item : Item) → slice_get items place ≡ Some item → MayStand settings (take place items) item
   pub short : length items + one_if (is_busy items) + one_if (in_resync items) ≤ 4294967290
+  pub filled : (epoch : ℕ) → 0 < epoch → epoch ≤ barriers_in items → list_any is_work (items_of_epoch items epoch) ≡ true
+
+-- what an epoch has, it has as the stream grows
+work-grows : (items : List Item) (item : Item) (epoch : ℕ) → list_any is_work (items_of_epoch items epoch) ≡ true → list_any is_work (items_of_epoch (items ++ item ∷ []) epoch) ≡ true
+work-grows items item epoch some =
+    ap (list_any is_work) (epoch-items-grow items item epoch)
+    ∙ (list_any-append is_work (items_of_epoch items epoch) (cond (last_epoch items == epoch) ((length items, item) ∷ []) [])
+    ∙ or_left (list_any is_work (items_of_epoch items epoch)) (list_any is_work (cond (last_epoch items == epoch) ((length items, item) ∷ []) [])) some)
 
 -- an item goes to its end that may stand there, and there is room
-sendable-append : (settings : Settings) (items : List Item) (item : Item) → IsSendable settings items → MayStand settings items item
+sendable-append : (settings : Settings) (items : List Item) (item : Item) → IsSendable settings items → MayStand settings items item → (is_barrier item ≡ true → is_busy items ≡ true)
     → length items + 1 + one_if (is_busy (items ++ item ∷ [])) + one_if (in_resync (items ++ item ∷ [])) ≤ 4294967290 → IsSendable settings (items ++ item ∷ [])
-sendable-append settings items item s may room = record {
+sendable-append settings items item s may ends room = record {
   stands = λ place x at. elim (get-more items item place x at) [
     | inl old ↦ subst (λ (l : List Item). MayStand settings l x) (sym (take-append-le place items (item ∷ []) (let n = slice_get_within items place x old in omega arith))) (s.stands place x old)
     | inr new ↦
@@ -57,18 +66,35 @@ sendable-append settings items item s may room = record {
         subst (λ (l : List Item). MayStand settings l x) (sym front) (subst (MayStand settings items) (sym new.1) may)
   ];
   short = let long : length (items ++ item ∷ []) ≡ length items + 1 = length-append items (item ∷ []) in omega arith;
+  filled = λ epoch low within. work-grows items item epoch (elim (cases_lt (barriers_in items) epoch) [
+    | inr old ↦ s.filled epoch low old
+    | inl new ↦
+        let parts = barriers-append items (item ∷ []) in
+        last epoch (is_barrier item) refl (omega arith) new
+  ]);
 }
+  where
+    one : (b : Bool) → is_barrier item ≡ b → barriers_in (item ∷ []) ≡ one_if b
+    one true is = ap (λ b. length (cond b (item ∷ []) [])) is
+    one false is = ap (λ b. length (cond b (item ∷ []) [])) is
+
+    last : (epoch : ℕ) (b : Bool) → is_barrier item ≡ b → epoch ≤ barriers_in items + barriers_in (item ∷ []) → barriers_in items < epoch → list_any is_work (items_of_epoch items epoch) ≡ true
+    last epoch false is within new = absurd (let none = one false is in omega arith)
+    last epoch true is within new =
+        let single = one true is in
+        let same : epoch ≡ last_epoch items = omega arith in
+        ap (λ n. list_any is_work (items_of_epoch items n)) same ∙ ends is
 
 at-most-one : (b : Bool) → one_if b ≤ 1
 at-most-one true = omega arith
 at-most-one false = omega arith
 
 -- a write or a resync block, where there are so few items
-pub sendable-work : (settings : Settings) (items : List Item) (item : Item) → IsSendable settings items → MayStand settings items item → length items < 4294967288 → IsSendable settings (items ++ item ∷ [])
-sendable-work settings items item s may few =
+pub sendable-work : (settings : Settings) (items : List Item) (item : Item) → IsSendable settings items → MayStand settings items item → is_barrier item ≡ false → length items < 4294967288 → IsSendable settings (items ++ item ∷ [])
+sendable-work settings items item s may plain few =
     let a = at-most-one (is_busy (items ++ item ∷ [])) in
     let b = at-most-one (in_resync (items ++ item ∷ [])) in
-    sendable-append settings items item s may (omega arith)
+    sendable-append settings items item s may (λ ends. absurd (both_ways (is_barrier item) plain ends)) (omega arith)
 
 -- an item that neither begins nor ends a resync leaves it
 resync-stays : (items : List Item) (item : Item) → is_sync_start item ≡ false → is_sync_end item ≡ false → in_resync (items ++ item ∷ []) ≡ in_resync items
@@ -90,7 +116,7 @@ sendable-barrier settings items s busy =
     let one : one_if (is_busy items) ≡ 1 = ap one_if busy in
     let two : one_if (is_busy (items ++ item ∷ [])) ≡ 0 = ap one_if idle in
     let three : one_if (in_resync (items ++ item ∷ [])) ≡ one_if (in_resync items) = ap one_if same in
-    sendable-append settings items item s tt (omega arith)
+    sendable-append settings items item s tt (λ _. busy) (omega arith)
 
 -- the end of a resync leaves the last epoch as busy as it was
 busy-stays : (items : List Item) (tuple : Tuple) → is_busy (items ++ UuidsItem tuple ∷ []) ≡ is_busy items
@@ -117,7 +143,7 @@ sendable-end settings items tuple s running =
     let one : one_if (in_resync items) ≡ 1 = ap one_if running in
     let two : one_if (in_resync (items ++ item ∷ [])) ≡ 0 = ap one_if over in
     let three : one_if (is_busy (items ++ item ∷ [])) ≡ one_if (is_busy items) = ap one_if (busy-stays items tuple) in
-    sendable-append settings items item s running (omega arith)
+    sendable-append settings items item s running (λ ends. absurd (cc)) (omega arith)
   where
     ended : (a b : Bool) → list_any is_sync_end (items ++ UuidsItem tuple ∷ []) ≡ (b || (true || false)) → (a && not (list_any is_sync_end (items ++ UuidsItem tuple ∷ []))) ≡ false
     ended true true is = ap not is
@@ -126,11 +152,11 @@ sendable-end settings items tuple s running =
 
 -- nothing
 pub sendable-empty : (settings : Settings) → IsSendable settings []
-sendable-empty settings = record { stands = λ place item at. absurd (cc); short = omega arith }
+sendable-empty settings = record { stands = λ place item at. absurd (cc); short = omega arith; filled = λ epoch low within. absurd (omega arith) }
 
 -- the start of a resync
 pub sendable-start : (settings : Settings) (word : ℕ) → 0 < word → IsSendable settings (SyncUuidItem word ∷ [])
-sendable-start settings word fresh = sendable-work settings [] (SyncUuidItem word) (sendable-empty settings) (refl, fresh) (omega arith)
+sendable-start settings word fresh = sendable-work settings [] (SyncUuidItem word) (sendable-empty settings) (refl, fresh) refl (omega arith)
 
 -- An epoch that is over had a write or a block.
 pub over-busy : (settings : Settings) → 0 < settings.max_epoch → (h : PrimaryHistory) → h.settings ≡ settings → epoch_is_over h ≡ true → is_busy (outward h).stream ≡ true
