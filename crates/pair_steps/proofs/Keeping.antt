@@ -40,3 +40,10 @@ pair-kept event starved p q said was steps there back = record {
 
     over : p.secondary.settings ≡ q.secondary.settings
     over = was.has.secondary.leaves.core.settings ∙ there-kept h was.has.run ∙ sym (ap (λ (o : Opening). o.peer_settings) (same-opening event starved h was.has.run)) ∙ sym (there-kept (step event starved h).1 (is-run-more event starved h was.has.run)) ∙ sym after.secondary.leaves.core.settings
+
+-- both nodes have the same settings
+pub same-settings : (p : PairState) (h : PairHistory) → PairHas p h → p.secondary.settings ≡ h.primary.settings
+same-settings p h has = has.secondary.leaves.core.settings ∙ there-kept h has.run ∙ has.run.shares ∙ sym (here-kept h has.run)
+
+pub own-settings : (p : PairState) (h : PairHistory) → PairHas p h → p.primary.settings ≡ h.primary.settings
+own-settings p h has = has.primary.leaves.core.rest.settings
