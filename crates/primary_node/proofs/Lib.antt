@@ -1,3 +1,4 @@
 pub mod Copying
 pub mod Kept
 pub mod Reading
+pub mod Writing

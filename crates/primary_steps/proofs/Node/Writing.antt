@@ -175,3 +175,9 @@ module _ (number : ℕ) (n : NodeState) (w : LogWrite) (found : write_at number 
     node-failed-after kept result core is =
         comes-steps (FailsLocally number (below kept)) n (replied reply.Ok result) core (overwritten n.disk w.first (take kept (blocks_of 4096 w.contents)))
         (failed-come (below kept) (overwritten n.disk w.first (take kept (blocks_of 4096 w.contents))) result core is (kept-holds kept))
+
+    pub failed-after-kept : (kept : ℕ) (result : Result Done Refusal) (core : PrimaryState) → NodeIsHad n → (result, core) ≡ transition.local_fault number n.core
+        → KeepsNode n (record n { core = core; disk = overwritten n.disk w.first (take kept (blocks_of 4096 w.contents)) })
+    failed-after-kept kept result core had is =
+        comes-kept (FailsLocally number (below kept)) n (replied reply.Ok result) core (overwritten n.disk w.first (take kept (blocks_of 4096 w.contents)))
+        (failed-come (below kept) (overwritten n.disk w.first (take kept (blocks_of 4096 w.contents))) result core is (kept-holds kept)) had
