@@ -1,4 +1,9 @@
 pub mod Copying
 pub mod Kept
+pub mod Opening
 pub mod Reading
+pub mod Refused
+pub mod Sending
+pub mod Taking
+pub mod Telling
 pub mod Writing

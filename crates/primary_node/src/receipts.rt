@@ -1,5 +1,6 @@
 //! A caller takes the receipt of a completed write.
-ghost use Rattle.std.specs.Prelude.{◌≡◌};
+ghost use Rattle.std.specs.Prelude.{ℕ, ◌≡◌, ◌<◌, Bool, Some};
+ghost use Rattle.primary_steps.specs.Core.{Completed};
 ghost use Rattle.primary_steps.specs.Node.{IsStep, take_receipt};
 ghost use Rattle.primary_node.specs.Receipts.{kind_as, receipt_in};
 ghost use Rattle.primary_node.specs.State.{node};
@@ -41,8 +42,9 @@ impl Model for Receipt {
 }
 
 impl Receipt {
-    // The receipt of a completed write; none of one that is not.
+    // The receipt of a completed write; none of one that is not. The connection of its home was opened.
     fn of(number: u64, entry: &Entry) -> Option<Receipt>
+        requires { (linked : Bool) (home : ℕ × ℕ) → entry.now.fate ≡ Completed linked (Some home) → home.0 < 4294967295 }
         ensures { result ≡ receipt_in number entry.now }
     {
         let Fate::Completed { linked, home } = entry.fate() else {
@@ -103,6 +105,8 @@ impl<O: FrameOut + Drop, I: FrameIn + Drop, S: Store + Drop> PrimaryNode<O, I, S
         ensures step { IsStep (take_receipt number) (node self.old) result (node self.new) }
         ensures rest { self.new ≡ record self.old { core = self.new.core } }
     {
+        // Of so many connections the receipt's one is counted.
+        let _connections = self.core.connections();
         let entry = self.core.take_completed(number)?;
         match Receipt::of(number, &entry) {
             Some(receipt) => Ok(receipt),

@@ -209,7 +209,7 @@ resyncs-keeps starved h = tested-keeps (Keeps h (unchanged h)) h (step.resync_te
     go (Some block) unshut = keeps-following h (appending (ResyncItem block (unwrap_or (local_map h block) [])) h) (unchanged h) (keeps-appending h h (unchanged h) (ResyncItem block (unwrap_or (local_map h block) [])) unshut (keeps-self h))
 
 -- the end closes
-closing-keeps : (h g : PrimaryHistory) (change : Change) → (outward g).closed ≡ false → Keeps h change g → Keeps h change (step.closing g)
+pub closing-keeps : (h g : PrimaryHistory) (change : Change) → (outward g).closed ≡ false → Keeps h change g → Keeps h change (step.closing g)
 closing-keeps h g change unshut k = record {
   settings = k.settings;
   hello = ap (λ (c : Outward). c.hello) out ∙ k.hello;

@@ -131,3 +131,7 @@ fails-to number offsets h d is = ap (λ (p : Reply × PrimaryHistory). p.1) (did
 
 pub pushes-to : (room starved : Bool) (h : PrimaryHistory) (d : Done) → reply.Ok d ≡ (step.send room starved h).0 → (step.send room starved h).1 ≡ (follows (with_outward pushing h)).history
 pushes-to room starved h d is = ap (λ (p : Reply × PrimaryHistory). p.1) (did h (step.send_tests h room starved) (λ _. succeeding (step.sending h) (with_outward pushing h)) d is)
+
+pub submits-to : (first : ℕ) (contents : List (List ℕ)) (starved : Bool) (h : PrimaryHistory) (d : Done) → reply.Ok d ≡ (step.submit first contents starved h).0
+    → step.submit first contents starved h ≡ succeeding (what.Write (suc (length h.writes))) (step.submitted h first contents)
+submits-to first contents starved h d is = did h (step.submit_tests h first contents starved) (λ _. succeeding (what.Write (suc (length h.writes))) (step.submitted h first contents)) d is
