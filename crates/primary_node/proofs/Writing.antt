@@ -56,9 +56,11 @@ AreCut v = (h : PrimaryHistory) → NodeHas (node v) h → (i : ℕ) (a : Accept
 module _ (v : PrimaryView) (number : ℕ) (w : LogWrite) (job : (write_at number v.core.log.writes ≡ Some w) × (w.local ≡ Waiting)) (cut : AreCut v) (result : Result Done Refusal) (core : PrimaryState) (disk : List (List ℕ)) (faults : ℕ) (steady : Bool) where
   pub wrote-steps : (result, core) ≡ local_done number v.core → disk ≡ overwritten v.disk w.first (blocks_of 4096 w.contents) → faults ≡ v.faults
       → WritesOne number result v (record v { core = core; disk = disk; faults = faults; steady = steady })
-  wrote-steps is held counted = inl (counted,
-      subst (λ (l : List (List ℕ)). NodeSteps (WritesLocally number) (node v) (replied reply.Ok result) (record (node v) { core = core; disk = l })) (sym held)
-      (node-wrote number (node v) w job.0 (waiting w job.1) cut result core is))
+  wrote-steps is held counted = inl (
+    counted,
+    subst (λ (l : List (List ℕ)). NodeSteps (WritesLocally number) (node v) (replied reply.Ok result) (record (node v) { core = core; disk = l })) (sym held)
+        (node-wrote number (node v) w job.0 (waiting w job.1) cut result core is),
+  )
 
   pub wrote-is : IsNode v → (result, core) ≡ local_done number v.core → disk ≡ overwritten v.disk w.first (blocks_of 4096 w.contents) → IsNode (record v { core = core; disk = disk; faults = faults; steady = steady })
   wrote-is was is held = subst (λ (l : List (List ℕ)). IsNode (record v { core = core; disk = l; faults = faults; steady = steady })) (sym held)
