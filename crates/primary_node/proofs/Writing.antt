@@ -22,14 +22,14 @@ use Rattle.primary_steps.specs.Transitions.{is_unfinished, local_done, local_fau
 use Rattle.primary_steps.specs.Node.{IsStep, NodeHas, NodeSteps}
 use Rattle.primary_steps.specs.Steps.{replied}
 use Rattle.primary_steps.proofs.Node.Disk.{new_offsets}
-use Rattle.primary_steps.proofs.Node.Disks.{IsCut, KeepsNode}
+use Rattle.primary_steps.proofs.Node.Disks.{IsCut, the}
 use Rattle.primary_steps.proofs.Node.Writing.{fault-kept, fault-too-many, fault-unknown, failed-kept, node-failed, node-failed-after, node-unknown, node-wrote, failed-after-kept, write-inside, wrote-kept}
 use Rattle.primary_node.specs.Calls.{WritesOne}
 use Rattle.primary_node.specs.State.{PrimaryView, IsNode, node}
 use Rattle.primary_node.proofs.Kept.{kept-is}
 
 -- a write that the disk has to do waits
-waiting : (w : LogWrite) → w.local ≡ Waiting → log.is_waiting w ≡ true
+pub waiting : (w : LogWrite) → w.local ≡ Waiting → log.is_waiting w ≡ true
 waiting w is = ap (λ (l : Local). not (log.is_on_disk l || log.has_failed l)) is
 
 -- The disk has not that write to do.
@@ -49,11 +49,11 @@ inside-disk v number first count w was job from many = let fits = write-inside n
 pub too-many : (v : PrimaryView) (number kept : ℕ) (w : LogWrite) → (write_at number v.core.log.writes ≡ Some w) × (w.local ≡ Waiting) → w.count < kept → IsStep (local_fault_kept number kept) (node v) (reply.Refused BadRange) (node v)
 too-many v number kept w job more = fault-too-many number (node v) w job.0 (waiting w job.1) kept more
 
--- Where the bytes of each write, cut into blocks, are its blocks.
-abbrev pub AreCut : PrimaryView → Type 0
-AreCut v = (h : PrimaryHistory) → NodeHas (node v) h → (i : ℕ) (a : Accepted) → slice_get h.writes i ≡ Some a → IsCut a
+-- Where the bytes of the write that waits, cut into blocks, are its blocks.
+abbrev pub IsWhole : (v : PrimaryView) (number : ℕ) (w : LogWrite) → (write_at number v.core.log.writes ≡ Some w) × (w.local ≡ Waiting) → Type 0
+IsWhole v number w job = (h : PrimaryHistory) (has : NodeHas (node v) h) → IsCut (the number (node v) w job.0 (waiting w job.1) h has).accepted
 
-module _ (v : PrimaryView) (number : ℕ) (w : LogWrite) (job : (write_at number v.core.log.writes ≡ Some w) × (w.local ≡ Waiting)) (cut : AreCut v) (result : Result Done Refusal) (core : PrimaryState) (disk : List (List ℕ)) (faults : ℕ) (steady : Bool) where
+module _ (v : PrimaryView) (number : ℕ) (w : LogWrite) (job : (write_at number v.core.log.writes ≡ Some w) × (w.local ≡ Waiting)) (cut : IsWhole v number w job) (result : Result Done Refusal) (core : PrimaryState) (disk : List (List ℕ)) (faults : ℕ) (steady : Bool) where
   pub wrote-steps : (result, core) ≡ local_done number v.core → disk ≡ overwritten v.disk w.first (blocks_of 4096 w.contents) → faults ≡ v.faults
       → WritesOne number result v (record v { core = core; disk = disk; faults = faults; steady = steady })
   wrote-steps is held counted = inl (
