@@ -1,5 +1,5 @@
 -- Frames that begin the frames sent are received as packets that begin the packets pushed.
-use Rattle.std.proofs.Common.{◌≡◌, ℕ, zero, suc, List, [], ◌∷◌, ◌++◌, map, Some, Ok, refl, sym, ap, ◌∙◌, subst}
+use Rattle.std.proofs.Common.{◌≡◌, ℕ, zero, suc, List, [], ◌∷◌, ◌++◌, length, map, Some, Ok, refl, sym, ap, ◌∙◌, subst}
 use Rattle.std.specs.Prelude.{slice_get}
 use Rattle.std.specs.List.{AllByRecursion}
 use Rattle.std.proofs.lemmas.Grind.{flat_map-append}
@@ -12,9 +12,10 @@ use Rattle.model.specs.Frames.{Received}
 use Rattle.model.specs.Frames as frames
 use Rattle.model.specs.Stream.{IsBeginning}
 use Rattle.endpoint.specs.Meaning.{meaning, received, meant, meant_in, IsSpelled}
-use Rattle.endpoint.specs.Incoming.{TakenBefore, hello_after, received_after, received_from, taken_before}
-use Rattle.endpoint.specs.Outgoing.{PushedBefore, pushed_before}
-use Rattle.endpoint.specs.Joined.{BeginsPushed}
+use Rattle.link.specs.Ends.{InEnd, OutEnd}
+use Rattle.endpoint.specs.Incoming.{TakenBefore, incoming, hello_after, received_after, received_from, taken_before}
+use Rattle.endpoint.specs.Outgoing.{PushedBefore, outgoing, pushed_before}
+use Rattle.endpoint.specs.Joined.{AreTold, BeginsPushed}
 use Rattle.endpoint.proofs.Meanings.{meant_spelled}
 
 all_front : {X : Type 0} (P : X → Type 0) (xs ys : List X) → AllByRecursion P (xs ++ ys) → AllByRecursion P xs
@@ -35,12 +36,27 @@ received_spelled n (frame ∷ taken) ((p, rules, spells), rest) =
     ∙ ap (λ (rest : List Received). ok (meaning p) ∷ rest) (received_spelled (suc n) taken rest)
     ∙ sym (ap (map ok) meant_is)
 
-pub begins : (taken sent : List (List ℕ)) → AllByRecursion IsSpelled sent → IsBeginning taken sent → BeginsPushed (received_from 0 taken) (meant_in sent)
+begins : (taken sent : List (List ℕ)) → AllByRecursion IsSpelled sent → IsBeginning taken sent → BeginsPushed (received_from 0 taken) (meant_in sent)
 begins taken sent spelled (rest, whole) = record {
   front = meant_in taken;
   each = received_spelled 0 taken (all_front IsSpelled taken rest (subst (AllByRecursion IsSpelled) (sym whole) spelled));
   begins = (meant_in rest, sym (flat_map-append meant taken rest) ∙ ap meant_in whole);
 }
+
+-- each frame is one packet, or a fault
+meant_count : (sent : List (List ℕ)) → AllByRecursion IsSpelled sent → length (meant_in sent) ≡ length sent
+meant_count [] h = refl
+meant_count (frame ∷ sent) ((p, rules, spells), rest) =
+    let meant_is : meant_in (frame ∷ sent) ≡ meaning p ∷ meant_in sent =
+    flat_map-cons meant frame sent ∙ ap (λ (x : List frames.Packet). x ++ meant_in sent) (meant_spelled frame p rules spells) in
+    ap length meant_is ∙ ap suc (meant_count sent rest)
+
+received_count : (n : ℕ) (taken : List (List ℕ)) → length (received_from n taken) ≡ length taken
+received_count n [] = refl
+received_count n (frame ∷ taken) = ap suc (received_count (suc n) taken)
+
+pub told : (o : OutEnd) (i : InEnd) → AllByRecursion IsSpelled o.sent → AreTold (outgoing o) (incoming i)
+told o i spelled = record { begins = begins i.taken o.sent spelled; pushed = meant_count o.sent spelled; taken = received_count 0 i.taken }
 
 -- an item of a mapped list
 item_of_map : {X Y : Type 0} (f : X → Y) (xs : List X) (i : ℕ) (y : Y) → slice_get (map f xs) i ≡ Some y → (x : X) × (slice_get xs i ≡ Some x) × (y ≡ f x)

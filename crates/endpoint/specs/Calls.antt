@@ -1,5 +1,5 @@
 -- What a node's call did to its sides of a link.
-use Rattle.std.specs.Prelude.{ℕ, ◌≡◌, Bool, true, false, List, [], Option, Some, None, IfSome, Result, Err, OnOk, OnErr}
+use Rattle.std.specs.Prelude.{ℕ, ◌≡◌, Bool, true, false, List, [], Option, Some, None, IfSome, Result, Ok, Err, OnOk, OnErr}
 use Rattle.std.specs.Option.{option_map}
 use Rattle.blocks.specs.declared.refusal.Refusal.{Refusal}
 use Rattle.blocks.specs.declared.refusal.Refusal.TheVariants.{LinkFull, NoMemory, NothingThere}
@@ -7,6 +7,15 @@ use Rattle.link.specs.Ends.{OutEnd, InEnd}
 use Rattle.model.specs.Frames.{Packet, Received}
 use Rattle.endpoint.specs.Outgoing.{OutgoingState, with_pushed}
 use Rattle.endpoint.specs.Incoming.{IncomingState, with_received, SameRow}
+
+-- what was pushed, and what was taken: nothing where the node was never opened
+abbrev pub pushed_of : Option OutgoingState → List Packet
+pushed_of None = []
+pushed_of (Some o) = o.pushed
+
+abbrev pub taken_of : Option IncomingState → List Received
+taken_of None = []
+taken_of (Some i) = i.taken
 
 -- what is taken to have been refused for want of memory, or of room in the link
 abbrev pub is_starved : {R : Type 0} → Result R Refusal → Bool
@@ -16,6 +25,11 @@ is_starved _ = false
 abbrev pub has_room : {R : Type 0} → Result R Refusal → Bool
 has_room (Err LinkFull) = false
 has_room _ = true
+
+-- what a call was refused for
+abbrev pub refusal_in : {R : Type 0} → Result R Refusal → Option Refusal
+refusal_in (Ok done) = None
+refusal_in (Err refusal) = Some refusal
 
 -- One packet was pushed, for which the link had room, where it knows its room.
 pub record PushedOne (old new : Option OutgoingState) : Type 0 where

@@ -3,7 +3,7 @@ ghost use Rattle.std.specs.Prelude.{ℕ, ◌≡◌, Some, slice_get};
 ghost use Rattle.std.specs.List.{AllByRecursion};
 ghost use Rattle.packets.specs.Cutting.{IsCut};
 ghost use Rattle.model.specs.Stream.{IsBeginning};
-ghost use Rattle.endpoint.specs.Joined.{BeginsPushed};
+ghost use Rattle.endpoint.specs.Joined.{AreTold, BeginsPushed};
 ghost use Rattle.endpoint.specs.Incoming.{TakenBefore};
 ghost use Rattle.endpoint.specs.Outgoing.{PushedBefore};
 
@@ -14,8 +14,7 @@ use link::connected::{FrameIn, FrameOut};
 /// were pushed: on the present connection, and on each that is over. The frames sent are whole, as a reader
 /// cuts them off a row of bytes. It does nothing.
 pub fn joined<O: FrameOut, I: FrameIn>(outgoing: &Outgoing<O>, incoming: &Incoming<I>)
-    ensures present { IsBeginning incoming.now.frames outgoing.now.frames
-        → BeginsPushed incoming.now.taken outgoing.now.pushed }
+    ensures present { AreTold outgoing.now incoming.now }
     ensures past { (i j : ℕ) (taken : TakenBefore) (pushed : PushedBefore)
         → slice_get incoming.now.past i ≡ Some taken → slice_get outgoing.now.past j ≡ Some pushed
         → IsBeginning taken.frames pushed.frames → BeginsPushed taken.taken pushed.pushed }

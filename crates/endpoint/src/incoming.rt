@@ -1,5 +1,6 @@
 //! The taking side.
 ghost use Rattle.std.specs.Prelude.{◌≡◌, ◌<◌, ◌≤◌, ◌↔◌, [], true, false, IsErr, OnOk, OnErr, IfOk, IfErr, IfSome};
+ghost use Rattle.packets.specs.Frames.{is_fault};
 ghost use Rattle.packets.specs.Spelling.{IsSpellable};
 ghost use Rattle.packets.specs.Table.{has_blocks};
 ghost use Rattle.endpoint.specs.Meaning.{received};
@@ -60,6 +61,7 @@ impl<I: FrameIn> Incoming<I> {
         ensures taken { IfOk result (λ read.
             self.new ≡ with_received (received read) self.new.frames self.new.is_ready self.old) }
         ensures spellable { IfOk result (λ read. IfOk read IsSpellable) }
+        ensures faults { IfOk result (λ read. IfErr read (λ e. is_fault e ≡ true)) }
         // A packet without blocks leaves the room for a longer one.
         ensures still_ready { IfOk result (λ read. IfOk read (λ p. has_blocks p ≡ false → self.new.is_ready ≡ true)) }
         // Where the link knows its queue, there is nothing only where it is empty.

@@ -8,7 +8,7 @@ use Rattle.std.proofs.lemmas.List.Concat.{flat_map-cons}
 use Rattle.blocks.specs.declared.command.Command.{Command}
 use Rattle.blocks.specs.declared.command.Command.TheVariants as command
 use Rattle.blocks.specs.declared.refusal.Refusal.{Refusal}
-use Rattle.blocks.specs.declared.refusal.Refusal.TheVariants.{BadMagic, BadLength, BadField, NoMemory}
+use Rattle.blocks.specs.declared.refusal.Refusal.TheVariants.{BadMagic, BadCommand, BadLength, BadField, NoMemory}
 use Rattle.blocks.specs.declared.settings.Protocol.TheVariants.{A, B, C}
 use Rattle.packets.specs.declared.header.Header.{Header}
 use Rattle.packets.specs.declared.packet.Packet.{Packet}
@@ -17,7 +17,7 @@ use Rattle.packets.specs.Numbers.{number_in}
 use Rattle.packets.specs.Table.{magic, command_at, is_length}
 use Rattle.packets.specs.Spelling.{spelling}
 use Rattle.packets.specs.Reading.{row_at, checked, protocol_at, data_at, rs_data_at, barrier_at, header_at, payload_at}
-use Rattle.packets.specs.Frames.{IsNoSpelling, IsFaultAfter, IsFrameFault, Answers}
+use Rattle.packets.specs.Frames.{IsNoSpelling, IsFaultAfter, IsFrameFault, is_fault, fault_in_hello, Answers}
 use Rattle.packets.specs.Stream.{IsWritten, spellings, IsFaultWith, IsFaultAt, Gives}
 use Rattle.packets.proofs.Digits.{IsBytes, IsBytes_take}
 use Rattle.packets.proofs.Frames.{frame_takes, frame_refused}
@@ -83,38 +83,43 @@ answers_payload frame h (Err e) fits long judged said =
 
 -- ---- what a refusal may be
 
-row_fault : (b : Bool) (h : Header) → cond b (Ok h) (Err BadLength) ≡ Err NoMemory → ⊥
-row_fault true h e = cc
-row_fault false h e = cc
+row_fault : (b : Bool) (h : Header) (e : Refusal) → cond b (Ok h) (Err BadLength) ≡ Err e → is_fault e ≡ true
+row_fault true h e is = absurd cc
+row_fault false h e is = let same : BadLength ≡ e = cc in ap is_fault (sym same)
 
-length_fault : (o : Option Command) (len : ℕ) → row_at o len ≡ Err NoMemory → ⊥
-length_fault None len e = cc
-length_fault (Some c) len e = row_fault (is_length c len) (record { command = c; len = len }) e
+length_fault : (o : Option Command) (len : ℕ) (e : Refusal) → row_at o len ≡ Err e → is_fault e ≡ true
+length_fault None len e is = let same : BadCommand ≡ e = cc in ap is_fault (sym same)
+length_fault (Some c) len e is = row_fault (is_length c len) (record { command = c; len = len }) e is
 
-magic_fault : (b : Bool) (r : Result Header Refusal) → (r ≡ Err NoMemory → ⊥) → cond b r (Err BadMagic) ≡ Err NoMemory → ⊥
-magic_fault true r next e = next e
-magic_fault false r next e = cc
+magic_fault : (b : Bool) (r : Result Header Refusal) (e : Refusal) → (r ≡ Err e → is_fault e ≡ true) → cond b r (Err BadMagic) ≡ Err e → is_fault e ≡ true
+magic_fault true r e next is = next is
+magic_fault false r e next is = let same : BadMagic ≡ e = cc in ap is_fault (sym same)
 
-pub header_fault : (bytes : List ℕ) → header_at bytes ≡ Err NoMemory → ⊥
+pub header_fault : (bytes : List ℕ) (e : Refusal) → header_at bytes ≡ Err e → is_fault e ≡ true
 unfolding header_at
-header_fault bytes e =
-    magic_fault (eqb (number_in 2 0 bytes) magic) (row_at (command_at (number_in 2 2 bytes)) (number_in 4 4 bytes)) (length_fault (command_at (number_in 2 2 bytes)) (number_in 4 4 bytes)) e
+header_fault bytes e is =
+    magic_fault (eqb (number_in 2 0 bytes) magic) (row_at (command_at (number_in 2 2 bytes)) (number_in 4 4 bytes)) e (length_fault (command_at (number_in 2 2 bytes)) (number_in 4 4 bytes) e) is
 
-after_known : (r : Result Header Refusal) (frame : List ℕ) (e : Refusal) → (r ≡ Err NoMemory → ⊥) → IsFaultAfter r frame e → e ≡ NoMemory → ⊥
-after_known (Err fault) frame e never is same =
-    let found : Err fault ≡ Err NoMemory = ap header_refused (sym is ∙ same) in
-    never found
-after_known (Ok h) frame e never (inl length) same = let is = length.1 in cc
-after_known (Ok h) frame e never (inr field) same = let is = field.1 in cc
+after_known : (r : Result Header Refusal) (frame : List ℕ) (e : Refusal) → ((x : Refusal) → r ≡ Err x → is_fault x ≡ true) → IsFaultAfter r frame e → is_fault e ≡ true
+after_known (Err fault) frame e known is = ap is_fault is ∙ known fault refl
+after_known (Ok h) frame e known (inl length) = ap is_fault length.1
+after_known (Ok h) frame e known (inr field) = ap is_fault field.1
+
+-- what stands in a frame's place is a fault of it
+pub fault_known : (frame : List ℕ) (e : Refusal) → IsFrameFault frame e → is_fault e ≡ true
+fault_known frame e (inl short) = ap is_fault short.1
+fault_known frame e (inr after) = after_known (header_at frame) frame e (header_fault frame) after.1
+
+-- and so is what a hello makes of it
+pub fault-in-hello : (expected : Bool) (e : Refusal) → is_fault e ≡ true → is_fault (fault_in_hello expected e) ≡ true
+fault-in-hello true e is = is
+fault-in-hello false BadField is = refl
+fault-in-hello false e is = is
 
 -- no frame has a fault of memory
-pub fault_known : (frame : List ℕ) (e : Refusal) → IsFrameFault frame e → e ≡ NoMemory → ⊥
-fault_known frame e (inl short) same = let is = short.1 in cc
-fault_known frame e (inr after) same = after_known (header_at frame) frame e (header_fault frame) after.1 same
-
 pub answer_known : (frame : List ℕ) (r : Result Packet Refusal) → Answers frame r → IfErr r (λ e. e ≡ NoMemory → ⊥)
 answer_known frame (Ok p) answer = tt
-answer_known frame (Err e) answer = fault_known frame e answer
+answer_known frame (Err e) answer = λ same. let fault : false ≡ true = ap is_fault (sym same) ∙ fault_known frame e answer in cc
 
 -- ---- the frame at the front
 

@@ -2,7 +2,7 @@
 use Rattle.std.specs.Prelude.{ℕ, ◌≡◌, ◌≢◌, ◌+◌, ◌<◌, ◌≤◌, ◌⊎◌, ◌==◌, Bool, true, false, ◌&&◌, nat_le, if◌then◌else◌, List, length, drop, Option, Some, None, Result, Ok, Err}
 use Rattle.blocks.specs.declared.command.Command.{Command}
 use Rattle.blocks.specs.declared.refusal.Refusal.{Refusal}
-use Rattle.blocks.specs.declared.refusal.Refusal.TheVariants.{BadCommand, BadLength, BadField}
+use Rattle.blocks.specs.declared.refusal.Refusal.TheVariants.{BadMagic, BadCommand, BadLength, BadField}
 use Rattle.packets.specs.declared.header.Header.{Header}
 use Rattle.packets.specs.declared.packet.Packet.{Packet}
 use Rattle.packets.specs.Numbers.{number_in}
@@ -26,6 +26,14 @@ IsFaultAfter (Ok header) frame refusal =
 abbrev pub IsFrameFault : List ℕ → Refusal → Type 0
 IsFrameFault frame refusal =
     ((length frame < 8) × (refusal ≡ BadLength)) ⊎ ((8 ≤ length frame) × IsFaultAfter (header_at frame) frame refusal)
+
+-- a fault of a frame: 20 to 23
+abbrev pub is_fault : Refusal → Bool
+is_fault BadMagic = true
+is_fault BadCommand = true
+is_fault BadLength = true
+is_fault BadField = true
+is_fault _ = false
 
 -- the answer to a frame: the packet that it spells, or its first fault
 abbrev pub Answers : List ℕ → Result Packet Refusal → Type 0

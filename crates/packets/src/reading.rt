@@ -1,7 +1,7 @@
 //! From bytes to packets.
 ghost use Rattle.std.specs.Prelude.{◌≡◌, ◌≢◌, ◌+◌, ◌<◌, ◌≤◌, true, false, length, drop, Ok, IfOk, IfErr};
 ghost use Rattle.packets.specs.Spelling.{IsSpellable, Spells};
-ghost use Rattle.packets.specs.Frames.{Answers, IsFrameFault, frame_read, in_hello, is_named, fault_in_hello};
+ghost use Rattle.packets.specs.Frames.{Answers, IsFrameFault, frame_read, in_hello, is_fault, is_named, fault_in_hello};
 ghost use Rattle.packets.specs.Table.{has_blocks, is_length};
 ghost use Rattle.packets.specs.Reading.{checked, payload_at, protocol_at, uuids_at, data_at, rs_data_at, barrier_at, acknowledgement_at, names_write, names_resync};
 ghost use Rattle.packets.specs.declared.packet.Packet.{Packet};
@@ -42,6 +42,7 @@ pub fn decode(frame: Frame) -> Result<Packet, Refusal>
 pub fn read(frame: Frame, hello: Option<Command>) -> Result<Packet, Refusal>
     ensures is { result ≡ in_hello hello frame (frame_read frame) }
     ensures spellable { IfOk result IsSpellable }
+    ensures faults { IfErr result (λ e. is_fault e ≡ true) }
     // One without blocks stands in a short frame.
     ensures short { IfOk result (λ p. has_blocks p ≡ false → length frame ≤ 40) }
 {

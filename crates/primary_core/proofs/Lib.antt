@@ -17,3 +17,4 @@ pub mod Beginning
 pub mod Taken
 pub mod Copying
 pub mod Unmarked
+pub mod Refused

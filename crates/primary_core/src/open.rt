@@ -1,8 +1,9 @@
 //! A connection begins.
-ghost use Rattle.std.specs.Prelude.{◌≡◌};
+ghost use Rattle.std.specs.Prelude.{◌≡◌, false};
 ghost use Rattle.blocks.specs.Identifiers.{are_fresh, is_fresh};
 ghost use Rattle.primary_core.specs.Starved.{is_starved};
-ghost use Rattle.primary_steps.specs.Transitions.{known_tuples, open_end};
+ghost use Rattle.primary_core.specs.Submit.{told_by};
+ghost use Rattle.primary_steps.specs.Transitions.{known_tuples, open_end, open_tests};
 
 use crate::state::{End, PrimaryCore};
 use blocks::Refusal;
@@ -17,15 +18,7 @@ impl PrimaryCore {
     pub fn open(&mut self, sync: u64, loss: u64) -> Result<(), Refusal>
         ensures { (result, self.new.state) ≡ open_end sync loss (is_starved result) self.old.state }
     {
-        if self.end.is_some() {
-            return Err(Refusal::NotDrained);
-        }
-        if !self.are_fresh(sync, loss) {
-            return Err(Refusal::UsedIdentifier);
-        }
-        if self.connections == u32::MAX {
-            return Err(Refusal::StreamFull);
-        }
+        self.may_open(sync, loss)?;
         self.unsent.clear();
         self.unsent.reserve(3)?;
         self.connections += 1;
@@ -38,6 +31,23 @@ impl PrimaryCore {
             is_resync: false,
             under_way: None,
         });
+        Ok(())
+    }
+
+    /// Whether `open` with these words is refused, but for want of memory: `NotDrained` (36), `UsedIdentifier`
+    /// (33) and `StreamFull` (6) come as there. It changes nothing, and takes no memory.
+    pub fn may_open(&self, sync: u64, loss: u64) -> Result<(), Refusal>
+        ensures { result ≡ told_by (open_tests sync loss false self.now.state) }
+    {
+        if self.end.is_some() {
+            return Err(Refusal::NotDrained);
+        }
+        if !self.are_fresh(sync, loss) {
+            return Err(Refusal::UsedIdentifier);
+        }
+        if self.connections == u32::MAX {
+            return Err(Refusal::StreamFull);
+        }
         Ok(())
     }
 

@@ -25,6 +25,7 @@ due-kept : (v : Option (List Packet)) (s t : PrimaryState) → IsStill s t → I
 due-kept None s t still was = tt
 due-kept (Some begun) s t still was = λ stands. let old = was (still.opened stands) in (old.0, still.due old.0 old.1 stands, old.2)
 
+-- the same of a side of a link
 pub begun-kept : (v : Option OutgoingState) (s t : PrimaryState) → IsStill s t → IsBegun v s → IsBegun v t
 begun-kept None s t still was = tt
 begun-kept (Some o) s t still was = due-kept o.partly s t still was
@@ -64,6 +65,7 @@ new-has settings disk tuple given marks s may same size =
     some-get (x ∷ xs) zero = grind (arith, nat_tests)
     some-get (x ∷ xs) (suc n) = some-get xs n ∙ grind (arith, nat_tests)
 
+-- so some history is had
 pub new-is : (settings : Settings) (disk : List (List ℕ)) (tuple : Tuple) (marks : List Bool) (s : PrimaryState) (faults : ℕ) (steady : Bool) → CanBegin settings tuple marks × (s ≡ fresh settings tuple marks) → length disk ≡ settings.blocks
     → IsNode (record { core = s; disk = disk; outgoing = None; incoming = None; faults = faults; steady = steady })
 new-is settings disk tuple marks s faults steady may size = record {

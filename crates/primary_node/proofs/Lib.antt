@@ -1,3 +1,4 @@
+pub mod Asked
 pub mod Copying
 pub mod Kept
 pub mod Opening

@@ -42,6 +42,7 @@ pub submit-steps : (v : PrimaryView) → IsNode v → (core : PrimaryState) (fir
 submit-steps v before core first bytes result done was is =
     node-submits (node v) first bytes false (Ok done) core (subst (λ (r : Result Done Refusal). (r, core) ≡ submit first bytes (inner.is_starved r) v.core) was is)
 
+-- a node it stays
 pub submit-is : (v : PrimaryView) (core : PrimaryState) (first : ℕ) (bytes : List ℕ) (starved : Bool) (result : Result Done Refusal) → (result, core) ≡ submit first bytes starved v.core → IsNode v → IsNode (record v { core = core })
 submit-is v core first bytes starved result is before =
     plain-is (Submits first (whole_blocks bytes) starved) v core (replied reply.Ok result) (submits-keeps first (whole_blocks bytes) starved) before (node-submits (node v) first bytes starved result core is)
@@ -58,9 +59,11 @@ pub open-same : (s core : PrimaryState) (sync loss : ℕ) (result : Result (Unit
 open-same s core sync loss result e was is =
     not-opened-core sync loss (inner.is_starved {R = Unit {0}} (Err e)) s core e (subst (λ (r : Result (Unit {0}) Refusal). (r, core) ≡ open_end sync loss (inner.is_starved r) s) was is)
 
+-- and the node
 pub open-unchanged : (v : PrimaryView) (core : PrimaryState) (sync loss : ℕ) (result : Result (Unit {0}) Refusal) (e : Refusal) → result ≡ Err e → (result, core) ≡ open_end sync loss (inner.is_starved result) v.core → record v { core = core } ≡ v
 open-unchanged v core sync loss result e was is = λ i. record v { core = open-same v.core core sync loss result e was is i }
 
+-- which is a node still
 pub open-refused-is : (v : PrimaryView) (core : PrimaryState) (sync loss : ℕ) (result : Result (Unit {0}) Refusal) (e : Refusal) → result ≡ Err e → (result, core) ≡ open_end sync loss (inner.is_starved result) v.core → IsNode v → IsNode (record v { core = core })
 open-refused-is v core sync loss result e was is before = subst (λ (x : PrimaryState). IsNode (record v { core = x })) (sym (open-same v.core core sync loss result e was is)) before
 
@@ -95,6 +98,7 @@ module _ (v : PrimaryView) (before : IsNode v) (core : PrimaryState) (sync loss 
       subst (λ (l : List Packet). NodeSteps (Opens sync loss false) (node v) (plainly tt) (record { core = core; disk = v.disk; pushed = l; taken = inn.taken })) (sym fresh.pushed)
       (subst (λ (l : List Received). NodeSteps (Opens sync loss false) (node v) (plainly tt) (record { core = core; disk = v.disk; pushed = []; taken = l })) (sym fresh.taken) (node-opened (node v) sync loss core here))
 
+  -- a node it is with these sides
   pub open-is : (out : OutgoingState) (inn : IncomingState) → IsFresh core out inn → IsNode (record v { core = core; outgoing = Some out; incoming = Some inn })
   open-is out inn fresh = record {
     had = node-had (Opens sync loss false) (node v) (plainly tt) (node (record v { core = core; outgoing = Some out; incoming = Some inn })) before.had (open-steps out inn fresh);
@@ -113,11 +117,13 @@ module _ (v : PrimaryView) (before : IsNode v) (core : PrimaryState) (sync loss 
       → x ≡ record v { core = core; outgoing = Some (record (pushing_anew number r.before) { room = r.room; waiting = r.waiting }); incoming = Some (record (taking_anew number r.had) { queued = r.queued; capacity = r.capacity }) }
   there number x same r = r.rest ∙ λ i. record v { core = same i; outgoing = r.out i; incoming = r.inn i }
 
+  -- that is the step of an opening
   pub reopen-steps : (now : PrimaryView) (number : ℕ) (x : PrimaryView) → v ≡ now → IsNode x → number ≡ core.connections → x.core ≡ core → IsRestarted number now x → NodeSteps (Opens sync loss false) (node now) (plainly tt) (node x)
   reopen-steps now number x is after numbered same restarted =
       let r : IsRestarted number v x = subst (λ (w : PrimaryView). IsRestarted number w x) (sym is) restarted in
       subst (λ (w : PrimaryView). NodeSteps (Opens sync loss false) (node w) (plainly tt) (node x)) is
       (subst (λ (y : PrimaryView). NodeSteps (Opens sync loss false) (node v) (plainly tt) (node y)) (sym (there number x same r)) (open-steps _ _ (fresh-there number x numbered r)))
 
+  -- a node it is with the sides that it has
   pub reopen-is : (number : ℕ) (x : PrimaryView) → number ≡ core.connections → x.core ≡ core → IsRestarted number v x → IsNode x
   reopen-is number x numbered same r = subst IsNode (sym (there number x same r)) (open-is _ _ (fresh-there number x numbered r))

@@ -53,6 +53,7 @@ full-or-not : (e : Refusal) → (e ≡ LinkFull) ⊎ ((e ≡ LinkFull) → ⊥)
 full-or-not LinkFull = inl refl
 full-or-not e = inr (λ is. absurd (cc))
 
+-- the step of a push that the link or the memory refused
 pub not-pushed-steps : (v : PrimaryView) → IsNode v → (o p : OutgoingState) (packet : Packet) (e : Refusal) (said : Result Done Refusal) → v.outgoing ≡ Some o → due v.core ≡ Ok packet → said ≡ Err e → ((e ≡ LinkFull → ⊥) → e ≡ NoMemory) → p.pushed ≡ o.pushed
     → NodeSteps (Sends (has_room said) (is_starved said)) (node v) (replied reply.Ok said) (node (record v { outgoing = Some p }))
 not-pushed-steps v before o p packet e said there is told memory pushed =
@@ -73,6 +74,7 @@ nothing-sent o e said told none = subst (λ (r : Result Done Refusal). link.Send
     kept None = (None, refl)
     kept (Some x) = (x.partly, refl)
 
+-- where nothing was due
 pub not-due-sent : (v : PrimaryView) → IsNode v → (now : Option OutgoingState) (e : Refusal) (said : Result Done Refusal) → said ≡ Err e → (due v.core ≡ Err e) ⊎ ((e ≡ NoMemory) × IsOk (due v.core)) → link.Sends said now now
 not-due-sent v before now e said told why = nothing-sent now e said told (λ full. elim why [
   | inl none ↦ elim (due-refused v.core e none) [
@@ -82,6 +84,7 @@ not-due-sent v before now e said told why = nothing-sent now e said told (λ ful
   | inr starved ↦ let no : NoMemory ≡ LinkFull = sym starved.0 ∙ full in absurd (cc)
 ])
 
+-- where a packet went in part, or not at all
 pub part-sent : (o p : OutgoingState) (now : Option OutgoingState) (e : Refusal) (said : Result Done Refusal) → now ≡ Some o → said ≡ Err e → p ≡ record o { partly = p.partly } → (e ≡ LinkFull → IfSome o.room (λ n. n ≡ 0)) → link.Sends said now (Some p)
 part-sent o p now e said there told same full = subst (λ (x : Option OutgoingState). link.Sends said x (Some p)) (sym there) (subst (λ (r : Result Done Refusal). link.Sends r (Some o) (Some p)) (sym told) (record {
   pushed = tt;
@@ -101,11 +104,13 @@ module _ (v : PrimaryView) (before : IsNode v) (o p : OutgoingState) (frame : Li
   as-sent : (Ok done, core) ≡ send true false v.core
   as-sent = ap (λ (x : Done × PrimaryState). (Ok x.0, x.1)) sent ∙ sym (send-now v.core packet is)
 
+  -- the step of a push
   pub sent-steps : NodeSteps (Sends true false) (node v) (reply.Ok done) (node (record v { core = core; outgoing = Some p }))
   sent-steps =
       let more : pushed_of v.outgoing ++ packet ∷ [] ≡ p.pushed = ap (λ x. pushed_of x ++ packet ∷ []) there ∙ sym (ap (λ (x : OutgoingState). x.pushed) pushed) in
       subst (λ (l : List Packet). NodeSteps (Sends true false) (node v) (reply.Ok done) (record (node v) { core = core; pushed = l })) more (node-pushes (node v) packet done core is as-sent)
 
+  -- a node it stays
   pub sent-is : IsNode (record v { core = core; outgoing = Some p })
   sent-is = record {
     had = node-had (Sends true false) (node v) (reply.Ok done) (node (record v { core = core; outgoing = Some p })) before.had sent-steps;

@@ -35,10 +35,12 @@ use Rattle.primary_node.proofs.Kept.{begun-kept}
 abbrev pub IsReadied : Option IncomingState → Option IncomingState → Type 0
 IsReadied old new = (ready : Bool) × (new ≡ option_map (λ (i : IncomingState). record i { is_ready = ready }) old)
 
+-- nothing was done
 pub readied-same : (i : Option IncomingState) → IsReadied i i
 readied-same None = (false, refl)
 readied-same (Some i) = (i.is_ready, refl)
 
+-- a side that is as it was
 pub readied-some : (old : Option IncomingState) (i j : IncomingState) → old ≡ Some i → j ≡ i → IsReadied old (Some j)
 readied-some old i j there same = subst (λ (o : Option IncomingState). IsReadied o (Some j)) (sym there) (i.is_ready, ap Some same)
 
@@ -46,6 +48,7 @@ taken-same : (old new : Option IncomingState) → IsReadied old new → taken_of
 taken-same None new is = ap taken_of is.1
 taken-same (Some i) new is = ap taken_of is.1
 
+-- the call says so
 pub takes-none : (v now : PrimaryView) → IsNode v → (new : Option IncomingState) (e : Refusal) (result : Result Done Refusal) → v ≡ now → result ≡ Err e → IsReadied v.incoming new
     → (e ≡ NothingThere → (before : IncomingState) × (v.incoming ≡ Some before) × IfSome before.queued (λ frames. frames ≡ [])) → (ack_in None (is_starved {R = Done} (Err e)) v.core).0 ≡ Err e
     → TakesOne result now (record v { incoming = new })
@@ -114,6 +117,7 @@ module _ (v : PrimaryView) (before : IsNode v) (i x j : IncomingState) (read : R
     step = takes-step;
   })
 
+  -- a node it stays, with room for the next frame where its stream stands
   pub takes-is : IfOk read (λ p. has_blocks p ≡ false → j.is_ready ≡ true) → IsNode (record v { core = core; incoming = Some j })
   takes-is room = record {
     had = node-had (Takes (Some (received read)) false) (node v) (replied reply.Ok result) (node (record v { core = core; incoming = Some j })) before.had takes-step;

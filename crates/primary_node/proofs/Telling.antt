@@ -36,6 +36,7 @@ receipt-as number entry kind home is = ap of is ∙ ap (λ k. Some (record (rece
     as-kind Alone = refl
 
 module _ (v : PrimaryView) (before : IsNode v) (number : ℕ) (got : Result Entry Refusal) (core : PrimaryState) (is : (got, core) ≡ take_completed number v.core) where
+  -- a node it stays
   pub receipt-is : IsNode (record v { core = core })
   receipt-is = plain-is (Receipts number) v core (reply.Ok (done_with what.Nothing)) (receipts-keeps number) before (node-receipted (node v) number got core is)
 

@@ -3,6 +3,7 @@
 
 mod acknowledge;
 mod close;
+mod ends;
 mod local;
 mod open;
 mod queue;

@@ -1,10 +1,13 @@
 //! A connection begins.
-ghost use Rattle.std.specs.Prelude.{◌≡◌, ◌<◌, Some, is_some, true, OnOk, OnErr, IfOk, IfErr};
-ghost use Rattle.endpoint.specs.Calls.{IsNewIn, IsNewOut, is_starved};
+ghost use Rattle.std.specs.Prelude.{◌≡◌, ◌<◌, Some, is_some, true, false, OnOk, OnErr, IfOk, IfErr};
+ghost use Rattle.endpoint.specs.Calls.{IsNewIn, IsNewOut, is_starved, refusal_in};
 ghost use Rattle.endpoint.specs.Incoming.{incoming};
 ghost use Rattle.endpoint.specs.Outgoing.{outgoing};
 ghost use Rattle.model.specs.LocalRuns.{Opens};
-ghost use Rattle.primary_steps.specs.Node.{NodeSteps};
+ghost use Rattle.model.specs.Primary.{PrimaryHistory};
+ghost use Rattle.model.specs.PrimarySteps.{open_tests};
+ghost use Rattle.model.specs.Refusals.{first_refusal};
+ghost use Rattle.primary_steps.specs.Node.{NodeHas, NodeSteps};
 ghost use Rattle.primary_steps.specs.Steps.{plainly, replied};
 ghost use Rattle.primary_node.specs.State.{IsRestarted, node};
 
@@ -35,6 +38,14 @@ impl<O: FrameOut + Drop, I: FrameIn + Drop, S: Store + Drop> PrimaryNode<O, I, S
         self.outgoing = Some(Outgoing::new(outward));
         self.incoming = Some(Incoming::new(inward));
         Ok(())
+    }
+
+    /// Whether `open` with these words is refused, but for want of memory: `NotDrained` (36), `UsedIdentifier`
+    /// (33) and `StreamFull` (6) come as there. It changes nothing, and takes no memory.
+    pub fn may_open(&self, sync: u64, loss: u64) -> Result<(), Refusal>
+        ensures { (h : PrimaryHistory) → NodeHas (node self.now) h → refusal_in result ≡ first_refusal (open_tests h sync loss false) }
+    {
+        self.core.may_open(sync, loss)
     }
 
     /// Opens the end anew, over the ends of a link that it has, and answers the connection's number. The

@@ -1,4 +1,5 @@
 -- A primary's node: what is read off it, its disk, and its calls as steps of its histories.
+pub mod Asked
 pub mod Calls
 pub mod Counts
 pub mod Disk

@@ -1,1 +1,7 @@
+pub mod Applies
+pub mod Buffers
+pub mod Faults
 pub mod Kept
+pub mod Opens
+pub mod Sends
+pub mod Takes

@@ -1,6 +1,7 @@
 -- What the fields of a node stand for.
 use Rattle.std.specs.Prelude.{ℕ, ◌≡◌, ◌≤◌, Bool, true, List, [], ◌∷◌, Option, Some, None, is_some, Ok}
 use Rattle.model.specs.Frames.{Packet, Received}
+pub use Rattle.endpoint.specs.Calls.{pushed_of, taken_of}
 use Rattle.endpoint.specs.Outgoing.{OutgoingState, pushing_anew}
 use Rattle.endpoint.specs.Incoming.{IncomingState, taking_anew}
 use Rattle.secondary_steps.specs.Core.{SecondaryState, due}
@@ -15,15 +16,6 @@ pub record SecondaryView : Type 0 where
   pub incoming : Option IncomingState
   pub faults : ℕ
   pub steady : Bool
-
--- what was pushed, and what was taken: nothing where the node was never opened
-abbrev pub pushed_of : Option OutgoingState → List Packet
-pushed_of None = []
-pushed_of (Some o) = o.pushed
-
-abbrev pub taken_of : Option IncomingState → List Received
-taken_of None = []
-taken_of (Some i) = i.taken
 
 -- the node as its history sees it
 abbrev pub node : SecondaryView → NodeState

@@ -3,6 +3,7 @@
 
 mod acknowledge;
 mod close;
+mod ends;
 mod open;
 mod peer;
 mod queue;

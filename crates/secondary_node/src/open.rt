@@ -52,12 +52,14 @@ impl<O: FrameOut + Drop, I: FrameIn + Drop, S: Store + Drop> SecondaryNode<O, I,
         ensures unchanged { OnErr result (self.new ≡ self.old) }
     {
         self.core.open(number)?;
-        if let Some(outgoing) = &mut self.outgoing {
-            outgoing.restart(number);
-        }
-        if let Some(incoming) = &mut self.incoming {
-            incoming.restart(number);
-        }
+        let Some(outgoing) = &mut self.outgoing else {
+            return Err(Refusal::NotConnected);
+        };
+        outgoing.restart(number);
+        let Some(incoming) = &mut self.incoming else {
+            return Err(Refusal::NotConnected);
+        };
+        incoming.restart(number);
         Ok(())
     }
 }

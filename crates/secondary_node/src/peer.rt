@@ -28,9 +28,12 @@ impl<O: FrameOut + Drop, I: FrameIn + Drop, S: Store + Drop> SecondaryNode<O, I,
         } }
     {
         let item = self.core.start(place)?;
-        match self.store.write(item.range(), item.bytes()) {
+        match self.store.write(item.range(), item.contents().as_slice()) {
             Ok(()) => self.core.done(place),
-            Err(_) => self.core.failed(place),
+            Err(_) => {
+                self.core.failed(place);
+                return Ok(Done::about(What::Nothing));
+            }
         }
         Ok(Done::about(What::Nothing))
     }
@@ -57,6 +60,10 @@ impl<O: FrameOut + Drop, I: FrameIn + Drop> SecondaryNode<O, I, FaultStore> {
             return Err(Refusal::BadRange);
         }
         self.store.arm(kept);
-        self.peer(place)
+        let _ = self
+            .store
+            .write(item.range(), item.contents().as_slice());
+        self.core.failed(place);
+        Ok(Done::about(What::Nothing))
     }
 }

@@ -1,14 +1,15 @@
 //! The disk is read.
-ghost use Rattle.std.specs.Prelude.{◌≡◌, ◌⊎◌, ◌<◌, ◌≤◌, Some, length, true, false, IfErr, OnOk, IfOk};
+ghost use Rattle.std.specs.Prelude.{◌≡◌, ◌⊎◌, ◌+◌, ◌*◌, ◌/◌, ◌<◌, ◌≤◌, Some, length, true, false, IfErr, OnOk, OnErr, IfOk};
 ghost use Rattle.blocks.specs.declared.block.TheConstants.{BLOCK_BYTES};
 ghost use Rattle.blocks.specs.declared.refusal.Refusal.TheVariants.{BadRange, NoMemory, ReadFault};
 ghost use Rattle.model.specs.Contents.{IsRead, is_range};
 ghost use Rattle.model.specs.Secondary.{SecondaryHistory, secondary_map};
 ghost use Rattle.secondary_steps.specs.Node.{NodeHas};
+ghost use Rattle.secondary_node.specs.Reads.{AreRead};
 ghost use Rattle.secondary_node.specs.State.{node};
 
 use crate::SecondaryNode;
-use blocks::{BLOCK_BYTES, Block, Range, Refusal, Store};
+use blocks::{BLOCK_BYTES, Block, Range, Refusal, Store, StoreFault};
 use link::connected::{FrameIn, FrameOut};
 use std::alloc::Global;
 
@@ -48,15 +49,31 @@ impl<O: FrameOut + Drop, I: FrameIn + Drop, S: Store + Drop> SecondaryNode<O, I,
             ⊎ (((e ≡ NoMemory) × (is_range self.old.core.settings first count ≡ true) × (self.new.faults ≡ self.old.faults))
             ⊎ ((e ≡ ReadFault) × (is_range self.old.core.settings first count ≡ true) × (self.old.faults < self.new.faults)))) }
     {
-        let range = Range::new(first, count, self.store.blocks())?;
+        let range = Range::new(first, count, self.core.settings().blocks)?;
         let mut bytes = Vec::from_elem(alloc, 0u8, range.count as usize * BLOCK_BYTES)?;
-        for offset in 0..range.count {
-            let at = offset as usize * BLOCK_BYTES;
-            let block = Block(range.first.0 + offset);
-            if self.store.read(block, &mut bytes[at..at + BLOCK_BYTES]).is_err() {
-                return Err(Refusal::ReadFault);
-            }
+        match read_blocks(&mut self.store, range.first, &mut bytes) {
+            Ok(()) => Ok(bytes),
+            Err(_) => Err(Refusal::ReadFault),
         }
-        Ok(bytes)
     }
+}
+
+// Reads the blocks of a disk from this one on, as many as the buffer holds.
+fn read_blocks<S: Store>(store: &mut S, first: Block, bytes: &mut [u8]) -> Result<(), StoreFault>
+    requires inside { first.0 + length bytes.old / 4096 ≤ length (S.contents store.old) }
+    requires few { first.0 + length bytes.old / 4096 < 4294967296 }
+    requires whole { 4096 * (length bytes.old / 4096) ≡ length bytes.old }
+    ensures size { length bytes.new ≡ length bytes.old }
+    ensures read { OnOk result (AreRead (S.contents store.old) first.0 bytes.new (length bytes.new / 4096)) }
+    ensures same { S.contents store.new ≡ S.contents store.old }
+    ensures works { S.steady store.old ≡ true → S.steady store.new ≡ true }
+    ensures uncounted { OnOk result (S.faults store.new ≡ S.faults store.old) }
+    ensures counted { OnErr result (S.faults store.old < S.faults store.new) }
+{
+    for offset in 0..bytes.len() / BLOCK_BYTES {
+        let at = offset * BLOCK_BYTES;
+        let block = Block(first.0 + offset as u64);
+        store.read(block, &mut bytes[at..at + BLOCK_BYTES])?;
+    }
+    Ok(())
 }

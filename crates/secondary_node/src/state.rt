@@ -18,6 +18,7 @@ use std::marker::Model;
 /// a packet that went in part is the one that is due.
 #[derive(Drop)]
 pub struct SecondaryNode<O: FrameOut + Drop, I: FrameIn + Drop, S: Store + Drop> {
+    pub(crate) alloc: Global,
     pub(crate) core: SecondaryCore,
     pub(crate) store: S,
     pub(crate) outgoing: Option<Outgoing<O>>,
@@ -70,6 +71,7 @@ impl<O: FrameOut + Drop, I: FrameIn + Drop, S: Store + Drop> SecondaryNode<O, I,
             return Err(Refusal::BadSetting);
         }
         Ok(SecondaryNode {
+            alloc,
             core: SecondaryCore::new(alloc, settings, tuple)?,
             store,
             outgoing: None,

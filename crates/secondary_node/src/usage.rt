@@ -1,7 +1,8 @@
 //! What is read off.
-ghost use Rattle.std.specs.Prelude.{◌≡◌, not, ok_or};
+ghost use Rattle.std.specs.Prelude.{◌≡◌, ◌&&◌, not, ok_or};
 ghost use Rattle.blocks.specs.declared.refusal.Refusal.TheVariants.{NothingThere};
 ghost use Rattle.model.specs.Secondary.{SecondaryHistory, inward, is_drained, next_pending};
+ghost use Rattle.model.specs.Status.{hello_is_done};
 ghost use Rattle.secondary_steps.specs.Node.{NodeHas};
 ghost use Rattle.secondary_node.specs.State.{node};
 ghost use Rattle.secondary_node.specs.Usages.{usage_of};
@@ -52,6 +53,13 @@ impl<O: FrameOut + Drop, I: FrameIn + Drop, S: Store + Drop> SecondaryNode<O, I,
         ensures { (h : SecondaryHistory) → NodeHas (node self.now) h → result ≡ not (inward h).closed }
     {
         self.core.is_open()
+    }
+
+    /// Whether the hello is done: the end is open, and has taken three frames and sent three.
+    pub fn is_hello_done(&self) -> bool
+        ensures { (h : SecondaryHistory) → NodeHas (node self.now) h → result ≡ (not (inward h).closed && hello_is_done (inward h)) }
+    {
+        self.core.is_hello_done()
     }
 
     /// How far the data may be used.

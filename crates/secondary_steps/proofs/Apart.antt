@@ -39,7 +39,7 @@ meet-there first count other size meets =
       and_from (nat_le first (other + (first - other))) (nat_lt (other + (first - other)) (first + count)) (le-leb first (other + (first - other)) (omega arith)) (lt-ltb (other + (first - other)) (first + count) (omega arith)),
     )
 
-meet-back : (first count other size o : ℕ) → o < size → is_between first count (other + o) ≡ true → ranges_meet first count other size ≡ true
+pub meet-back : (first count other size o : ℕ) → o < size → is_between first count (other + o) ≡ true → ranges_meet first count other size ≡ true
 meet-back first count other size o less between =
     let there = between-parts first count (other + o) between in
     let from : first ≤ other + o = there.0 in

@@ -78,8 +78,7 @@ node-plain event n tell result core plain agrees = node-steps event n (replied t
 pub plain-still : (event : PrimaryEvent) (n next : NodeState) (reply : Reply) → IsPlain event → NodeIsHad n → NodeSteps event n reply next → IsStill n.core next.core × (stands next.core ≡ true → stands n.core ≡ true)
 plain-still event n next reply plain had steps =
     let h = had.history in
-    let later = steps.after h had.has in
-    (
+    let later = steps.after h had.has in (
       is-still n.core next.core h (primary_step event h).1 (unchanged h) had.has.leaves.core had.has.reached later.leaves.core later.reached (plain h),
       λ standing. stood n.core next.core h (primary_step event h).1 (unchanged h) had.has.leaves.core later.leaves.core (plain h) refl standing,
     )

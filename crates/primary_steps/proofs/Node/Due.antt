@@ -83,6 +83,7 @@ pub record IsStill (s t : PrimaryState) : Type 0 where
   pub connections : t.connections ≡ s.connections
   pub due : (packet : Packet) → due s ≡ Ok packet → is_some t.end ≡ true → due t ≡ Ok packet
 
+-- such a step
 pub is-still : (s t : PrimaryState) (h later : PrimaryHistory) (change : Change) → Leaves s h → IsReached h → Leaves t later → IsReached later → Keeps h change later → IsStill s t
 is-still s t h later change left reached after reached_too k = record {
   opened = λ some. end-open s.end (outward h) left.rest.end ∙ ap not (false_from_ne_true (outward h).closed (λ was. both_ways (outward later).closed (not-true (outward later).closed (sym (end-open t.end (outward later) after.rest.end) ∙ some)) (k.shut was)));

@@ -20,6 +20,7 @@ use Rattle.laws.proofs.Primary.Moves.{IsKeptByMoves, kept-by-releases, following
 use Rattle.laws.proofs.Primary.StaysClosed.{open-stands}
 use Rattle.primary_steps.specs.Steps.{IsReached}
 
+-- each home is on a connection that was opened
 pub record IsHoused (h : PrimaryHistory) : Type 0 where
   pub writes : (i : ℕ) (a : Accepted) (home : ℕ × ℕ) → slice_get h.writes i ≡ Some a → a.home ≡ Some home → home.0 < length h.connections
   pub journal : (n : ℕ) (entry : Completion) (home : ℕ × ℕ) → slice_get h.journal n ≡ Some entry → entry.home ≡ Some home → home.0 < length h.connections

@@ -226,6 +226,7 @@ closing-keeps h g change unshut k = record {
     out : outward (step.closing g) ≡ record (outward g) { closed = true }
     out = outward-of (λ c. record c { closed = true }) g (step.closing g) refl unshut
 
+-- nothing else is lost by it
 pub closes-keeps : (h : PrimaryHistory) → Keeps h (unchanged h) (step.close_primary h).1
 closes-keeps h = tested-keeps (Keeps h (unchanged h)) h (((outward h).closed, NotConnected) ∷ []) (λ _. let after = follows (step.closing h) in (reply.Closed (length after.completed), after.history)) (keeps-self h)
     (λ passed. keeps-following h (step.closing h) (unchanged h) (closing-keeps h h (unchanged h) (test-passed (outward h).closed NotConnected [] passed).0 (keeps-self h)))

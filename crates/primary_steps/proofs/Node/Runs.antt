@@ -123,15 +123,19 @@ node-refused event still n e is = node-steps event n (reply.Refused e) n (λ h h
 pub opens-to : (sync loss : ℕ) (starved : Bool) (h : PrimaryHistory) (d : Done) → reply.Ok d ≡ (step.open_primary sync loss starved h).0 → (step.open_primary sync loss starved h).1 ≡ (follows (step.opened h sync loss)).history
 opens-to sync loss starved h d is = ap (λ (p : Reply × PrimaryHistory). p.1) (did h (step.open_tests h sync loss starved) (λ _. succeeding what.Nothing (step.opened h sync loss)) d is)
 
+-- the local disk did a write
 pub writes-to : (number : ℕ) (h : PrimaryHistory) (d : Done) → reply.Ok d ≡ (step.local_done number h).0 → (step.local_done number h).1 ≡ (follows (releasing h (step.with_outcome number OnDisk h))).history
 writes-to number h d is = ap (λ (p : Reply × PrimaryHistory). p.1) (did h ((not (step.is_unfinished h number), UnknownJob) ∷ []) (λ _. succeeding what.Nothing (releasing h (step.with_outcome number OnDisk h))) d is)
 
+-- the local disk failed a write
 pub fails-to : (number : ℕ) (offsets : List ℕ) (h : PrimaryHistory) (d : Done) → reply.Ok d ≡ (step.local_fault number offsets h).0 → (step.local_fault number offsets h).1 ≡ (follows (step.faulted number offsets h)).history
 fails-to number offsets h d is = ap (λ (p : Reply × PrimaryHistory). p.1) (did h ((not (step.is_unfinished h number), UnknownJob) ∷ []) (λ _. succeeding what.Nothing (step.faulted number offsets h)) d is)
 
+-- a frame was pushed
 pub pushes-to : (room starved : Bool) (h : PrimaryHistory) (d : Done) → reply.Ok d ≡ (step.send room starved h).0 → (step.send room starved h).1 ≡ (follows (with_outward pushing h)).history
 pushes-to room starved h d is = ap (λ (p : Reply × PrimaryHistory). p.1) (did h (step.send_tests h room starved) (λ _. succeeding (step.sending h) (with_outward pushing h)) d is)
 
+-- a write was accepted
 pub submits-to : (first : ℕ) (contents : List (List ℕ)) (starved : Bool) (h : PrimaryHistory) (d : Done) → reply.Ok d ≡ (step.submit first contents starved h).0
     → step.submit first contents starved h ≡ succeeding (what.Write (suc (length h.writes))) (step.submitted h first contents)
 submits-to first contents starved h d is = did h (step.submit_tests h first contents starved) (λ _. succeeding (what.Write (suc (length h.writes))) (step.submitted h first contents)) d is

@@ -50,6 +50,7 @@ send_owed room starved s e v = elim v as (λ _. Result Done Refusal × PrimarySt
   | Some packet ↦ tested s ((starved, NoMemory) ∷ (not room, LinkFull) ∷ []) (λ _. let after = sent_from e (called e s packet) s in (Ok after.0, after.1))
 ]
 
+-- by the end, where one is open
 abbrev pub send_at : Bool → Bool → PrimaryState → Option EndState → Result Done Refusal × PrimaryState
 send_at room starved s v = elim v as (λ _. Result Done Refusal × PrimaryState) [ None ↦ (Err NotConnected, s) | Some e ↦ send_owed room starved s e (owed e s) ]
 
@@ -81,6 +82,7 @@ of-due P s packet is each = go s.end is
 pub send-starved : (s : PrimaryState) (packet : Packet) → due s ≡ Ok packet → (send true true s).0 ≡ Err NoMemory
 send-starved s packet is = of-due (λ v. (send_at true true s v).0 ≡ Err NoMemory) s packet is (λ e owes. ap (λ v. (send_owed true true s e v).0) owes)
 
+-- the link has no room for it
 pub send-full : (s : PrimaryState) (packet : Packet) → due s ≡ Ok packet → (send false false s).0 ≡ Err LinkFull
 send-full s packet is = of-due (λ v. (send_at false false s v).0 ≡ Err LinkFull) s packet is (λ e owes. ap (λ v. (send_owed false false s e v).0) owes)
 
@@ -139,6 +141,7 @@ module _ (n : NodeState) (packet : Packet) (done : Done) (core : PrimaryState) (
       let a = agrees h had.has in
       a.leaves.rest.connections ∙ ((pushed-keeps h done a.reply).connections ∙ (length-change pushing h.connections ∙ sym had.has.leaves.core.rest.connections))
 
+  -- a stream that stands stood before
   pub pushes-stood : NodeIsHad n → stands core ≡ true → stands n.core ≡ true
   pushes-stood had standing =
       let h = had.history in

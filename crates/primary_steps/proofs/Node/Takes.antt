@@ -144,10 +144,11 @@ module _ (h : PrimaryHistory) (frame : Received) (unshut : (outward h).closed �
           let shut : (outward (with_outward refusing g)).closed ≡ false = ap (λ (c : Outward). c.closed) (outward-of refusing g (with_outward refusing g) refl open-taken) ∙ open-taken in
           let seen : Keeps h (took h frame (outward h).begun) g = keeps-marked g refl refl refl (λ block. refl) in
           let refused : Keeps h (took h frame (outward h).begun) (with_outward refusing g) =
-                keeps-change h g (with_outward refusing g) (took h frame (outward h).begun) (took h frame (outward h).begun) refusing [] seen open-taken refl refl refl refl (sym (append-nil (outward g).stream)) seen.taken seen.begun (λ block. refl) in
-          ((outward h).begun,
+          keeps-change h g (with_outward refusing g) (took h frame (outward h).begun) (took h frame (outward h).begun) refusing [] seen open-taken refl refl refl refl (sym (append-nil (outward g).stream)) seen.taken seen.begun (λ block. refl) in (
+            (outward h).begun,
             subst (λ (x : PrimaryHistory). Keeps h (took h frame (outward h).begun) (step.follows (step.closing (with_outward refusing x))).history) (sym so.1)
-            (keeps-following h (step.closing (with_outward refusing g)) (took h frame (outward h).begun) (closing-keeps h (with_outward refusing g) (took h frame (outward h).begun) shut refused)))
+                (keeps-following h (step.closing (with_outward refusing g)) (took h frame (outward h).begun) (closing-keeps h (with_outward refusing g) (took h frame (outward h).begun) shut refused)),
+          )
 
 -- The step, where an end is open.
 
@@ -177,6 +178,7 @@ takes-frame frame s some = go s.end some
     go (Some e) some = ap (by (Some e)) (and-false (not (stands s)))
 
 module _ (n : NodeState) (frame : Received) (result : Result Done Refusal) (core : PrimaryState) (some : is_some n.core.end ≡ true) (is : (result, core) ≡ take_at frame n.core) where
+  -- the end is open in the history
   pub unshut-end : (h : PrimaryHistory) → NodeHas n h → (outward h).closed ≡ false
   unshut-end h has = not-true (outward h).closed (sym (end-open n.core.end (outward h) has.leaves.core.rest.end) ∙ some)
 
@@ -212,6 +214,7 @@ module _ (n : NodeState) (frame : Received) (result : Result Done Refusal) (core
 pub node-not-taken : (n : NodeState) (starved : Bool) (e : Refusal) → (ack_in None starved n.core).0 ≡ Err e → NodeSteps (Takes None starved) n (reply.Refused e) n
 node-not-taken n starved e is = node-refused (Takes None starved) tt n e (λ h has. ap (replied reply.Ok) (sym is) ∙ (takes-agree None starved n.core h has.reached has.leaves.core).reply)
 
+-- the end is closed
 pub not-open : (s : PrimaryState) → is_some s.end ≡ false → (ack_in None false s).0 ≡ Err NotConnected
 not-open s none = go s.end none
   where
@@ -222,6 +225,7 @@ not-open s none = go s.end none
     go None none = refl
     go (Some e) some = absurd (cc)
 
+-- there is no room for a frame
 pub not-ready : (s : PrimaryState) → is_some s.end ≡ true → stands s ≡ false → (ack_in None true s).0 ≡ Err NoMemory
 not-ready s some down = go s.end some
   where
@@ -234,19 +238,6 @@ not-ready s some down = go s.end some
     go : (v : Option EndState) → is_some v ≡ true → (by v (stands s)).0 ≡ Err NoMemory
     go None none = absurd (cc)
     go (Some e) some = ap (λ b. (by (Some e) b).0) down
-
-pub not-there : (s : PrimaryState) → is_some s.end ≡ true → (ack_in None false s).0 ≡ Err NothingThere
-not-there s some = go s.end some
-  where
-    by : Option EndState → Bool → Result Done Refusal × PrimaryState
-    by v late = elim v as (λ _. Result Done Refusal × PrimaryState) [
-      | None ↦ (Err NotConnected, s)
-      | Some e ↦ tested s ((late, NoMemory) ∷ (true, NothingThere) ∷ []) (λ _. (Err NothingThere, s))
-    ]
-
-    go : (v : Option EndState) → is_some v ≡ true → (by v (not (stands s) && false)).0 ≡ Err NothingThere
-    go None none = absurd (cc)
-    go (Some e) some = ap (λ b. (by (Some e) b).0) (and-false (not (stands s)))
 
 -- A frame that leaves the end open.
 

@@ -1,5 +1,5 @@
 -- A node's calls that leave the disk are steps: opening, closing, taking a frame, and pushing one.
-use Rattle.std.proofs.Common.{ℕ, zero, suc, ◌≡◌, Bool, true, false, List, [], ◌∷◌, ◌++◌, length, take, Option, Some, None, Result, Ok, Err, slice_get, refl, sym, ◌∙◌, ap, subst, arith, nat_le}
+use Rattle.std.proofs.Common.{ℕ, zero, suc, ◌+◌, ◌≡◌, Bool, true, false, List, [], ◌∷◌, ◌++◌, length, take, Option, Some, None, Result, Ok, Err, slice_get, refl, sym, ◌∙◌, ap, subst, arith, nat_le}
 use Rattle.std.specs.Prelude.{is_none, is_some, ok_or}
 use Rattle.blocks.specs.SettingsRange.{IsInRange}
 use Rattle.blocks.specs.declared.tuple.Tuple.{Tuple}
@@ -41,40 +41,37 @@ opening-has settings disk tuple in_range sized = record {
 
 -- Opening.
 
-opening : (n : NodeState) → Result (Unit {0}) Refusal × SecondaryState
-opening n = open_end (suc n.core.number) n.core
+next-number : (unseen : ℕ) (s : SecondaryState) (h : SecondaryHistory) → Leaves s h → step.next_number unseen h ≡ suc (s.number + unseen)
+next-number unseen s h left = let same = left.last.number in omega arith
 
-next-number : (s : SecondaryState) (h : SecondaryHistory) → Leaves s h → step.next_number 0 h ≡ suc s.number
-next-number s h left = let same = left.last.number in omega arith
+opens-as : (unseen : ℕ) (s : SecondaryState) (h : SecondaryHistory) → Leaves s h → Agrees plainly (open_end (suc (s.number + unseen)) s) (step.open_secondary unseen h)
+opens-as unseen s h left = subst (λ (n : ℕ). Agrees plainly (open_end n s) (step.open_secondary unseen h)) (next-number unseen s h left) (opens-agree unseen s h left)
 
-opens-as : (s : SecondaryState) (h : SecondaryHistory) → Leaves s h → Agrees plainly (open_end (suc s.number) s) (step.open_secondary 0 h)
-opens-as s h left = subst (λ (n : ℕ). Agrees plainly (open_end n s) (step.open_secondary 0 h)) (next-number s h left) (opens-agree 0 s h left)
-
--- the end is opened over new ends of a link
-pub node-opened : (n : NodeState) (core : SecondaryState) → (Ok tt, core) ≡ open_end (suc n.core.number) n.core
-    → NodeSteps (OpensToo 0) n (replied plainly (Ok tt)) (record { core = core; disk = n.disk; pushed = []; taken = [] })
-node-opened n core is = node-steps (OpensToo 0) n (replied plainly (Ok tt)) (record { core = core; disk = n.disk; pushed = []; taken = [] }) (λ h leaves.
-    let agrees = subst (λ (p : Result (Unit {0}) Refusal × SecondaryState). Agrees plainly p (step.open_secondary 0 h)) (sym is) (opens-as n.core h leaves.core) in
-    let after = opens-to 0 h (done_with what.Nothing) agrees.reply in
-    let last : inward (step.open_secondary 0 h).1 ≡ new h = ap inward after ∙ ends h in record {
+-- the end is opened over ends of a link through which nothing has gone on this connection
+pub node-opened : (unseen : ℕ) (n : NodeState) (core : SecondaryState) → (Ok tt, core) ≡ open_end (suc (n.core.number + unseen)) n.core
+    → NodeSteps (OpensToo unseen) n (replied plainly (Ok tt)) (record { core = core; disk = n.disk; pushed = []; taken = [] })
+node-opened unseen n core is = node-steps (OpensToo unseen) n (replied plainly (Ok tt)) (record { core = core; disk = n.disk; pushed = []; taken = [] }) (λ h leaves.
+    let agrees = subst (λ (p : Result (Unit {0}) Refusal × SecondaryState). Agrees plainly p (step.open_secondary unseen h)) (sym is) (opens-as unseen n.core h leaves.core) in
+    let after = opens-to unseen h (done_with what.Nothing) agrees.reply in
+    let last : inward (step.open_secondary unseen h).1 ≡ new h = ap inward after ∙ ends h in record {
       reply = agrees.reply;
       leaves = record {
         core = agrees.leaves;
         disk = λ block. leaves.disk block ∙ sym (ap (λ (c : Inward). map_of c block) last);
-        pushed = ap (λ (c : Inward). take c.pushed (answers_due (step.open_secondary 0 h).1.settings c)) (sym last);
+        pushed = ap (λ (c : Inward). take c.pushed (answers_due (step.open_secondary unseen h).1.settings c)) (sym last);
         taken = ap (λ (c : Inward). c.taken) (sym last);
       };
     })
   where
     new : SecondaryHistory → Inward
-    new h = record { number = step.next_number 0 h; base = secondary_map h; hello = h.tuple; taken = []; refused = false; applied = []; gone = []; due = []; pushed = 0; closed = false }
+    new h = record { number = step.next_number unseen h; base = secondary_map h; hello = h.tuple; taken = []; refused = false; applied = []; gone = []; due = []; pushed = 0; closed = false }
 
-    ends : (h : SecondaryHistory) → inward (with_inward step.answering (step.opened_secondary 0 h)) ≡ new h
-    ends h = inward-with step.answering (step.opened_secondary 0 h) (append-one h.connections (new h)) ∙ ap step.answering (last-more (no_inward (step.opened_secondary 0 h)) (new h) h.connections)
+    ends : (h : SecondaryHistory) → inward (with_inward step.answering (step.opened_secondary unseen h)) ≡ new h
+    ends h = inward-with step.answering (step.opened_secondary unseen h) (append-one h.connections (new h)) ∙ ap step.answering (last-more (no_inward (step.opened_secondary unseen h)) (new h) h.connections)
 
-pub node-not-opened : (n : NodeState) (e : Refusal) (core : SecondaryState) → (Err e, core) ≡ open_end (suc n.core.number) n.core → NodeSteps (OpensToo 0) n (replied plainly (Err e)) n
-node-not-opened n e core is = node-refused (OpensToo 0) tt n e (λ h left.
-    (subst (λ (p : Result (Unit {0}) Refusal × SecondaryState). Agrees plainly p (step.open_secondary 0 h)) (sym is) (opens-as n.core h left)).reply)
+pub node-not-opened : (unseen : ℕ) (n : NodeState) (e : Refusal) (core : SecondaryState) → (Err e, core) ≡ open_end (suc (n.core.number + unseen)) n.core → NodeSteps (OpensToo unseen) n (replied plainly (Err e)) n
+node-not-opened unseen n e core is = node-refused (OpensToo unseen) tt n e (λ h left.
+    (subst (λ (p : Result (Unit {0}) Refusal × SecondaryState). Agrees plainly p (step.open_secondary unseen h)) (sym is) (opens-as unseen n.core h left)).reply)
 
 -- Closing.
 

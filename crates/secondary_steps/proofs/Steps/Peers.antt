@@ -36,7 +36,7 @@ use Rattle.secondary_steps.proofs.Tested.{inward-with}
 use Rattle.secondary_steps.proofs.Waiting.{waiting-applied}
 
 -- an item that was taken is on some connection
-taken-some : (h : SecondaryHistory) (place : ℕ) (item : Item) → slice_get (items_taken (inward h)) place ≡ Some item → h.connections ≡ [] → ⊥
+pub taken-some : (h : SecondaryHistory) (place : ℕ) (item : Item) → slice_get (items_taken (inward h)) place ≡ Some item → h.connections ≡ [] → ⊥
 taken-some h place item at none =
     let empty : slice_get (items_taken (no_inward h)) place ≡ Some item = ap (λ (l : List Inward). slice_get (items_taken (last_of (no_inward h) l)) place) (sym none) ∙ at in
     let inside = slice_get_within (items_taken (no_inward h)) place item empty in omega arith
@@ -52,7 +52,7 @@ applied-other asked place (SyncUuidItem word) epoch = refl
 applied-other asked place (UuidsItem tuple) epoch = refl
 
 -- The tests of the disk's steps, where they do not hold, and where one does.
-tests-pass : (h : SecondaryHistory) (place : ℕ) (ps : List (Pending Item)) → MayStart (inward h) place ps → step.peer_tests h place ≡ (false, UnknownJob) ∷ (false, EpochOpen) ∷ []
+pub tests-pass : (h : SecondaryHistory) (place : ℕ) (ps : List (Pending Item)) → MayStart (inward h) place ps → step.peer_tests h place ≡ (false, UnknownJob) ∷ (false, EpochOpen) ∷ []
 tests-pass h place ps may = λ i. (not (may.listed i), UnknownJob) ∷ (may.first i, EpochOpen) ∷ []
 
 refused-alike : (s : SecondaryState) (h : SecondaryHistory) (place : ℕ) (ps : List (Pending Item)) (done : Unit {0} → Reply × SecondaryHistory) (got : Result Item Refusal → Result (Unit {0}) Refusal × SecondaryState) → Leaves s h → (may_not : MayNot (inward h) place ps)

@@ -1,6 +1,7 @@
 use Rattle.std.proofs.Common.{◌≡◌, ◌∙◌, Bool, true, false, Some, Err, rules, refl, sym, ap}
 use Rattle.std.specs.Prelude.{is_some}
 use Rattle.blocks.specs.declared.refusal.Refusal.TheVariants.{NoMemory, NotConnected}
+use Rattle.endpoint.proofs.Faults.{never-nothing}
 use Rattle.primary_steps.specs.Core.{stands}
 use Rattle.primary_steps.proofs.Node.Takes.{not-open, not-ready}
 use Rattle.primary_node.proofs.Taking.{readied-same, readied-some, takes-none, takes-some, takes-is}
@@ -35,4 +36,4 @@ returns-clause-step g c =
       | then-not-stands+in_ok-ready w ↦ (true, w.incoming-is ∙ w.in_ok-ready.ensures.ready)
       | else-not-stands w ↦ (c.in-Some.incoming.is_ready, w.incoming-is)
     ] in
-    takes-some _ c.self.invariant c.in-Some.incoming c.if-not-stands.incoming c.take.new.self c.in_ok-frame.frame _ _ c.in-Some.is some readied c.take-2.ensures c.in_ok-frame.ensures.taken _ c.self.view_is c.in_ok-frame.ensures.row c.in_ok-frame.ensures.exact ?
+    takes-some _ c.self.invariant c.in-Some.incoming c.if-not-stands.incoming c.take.new.self c.in_ok-frame.frame _ _ c.in-Some.is some readied c.take-2.ensures c.in_ok-frame.ensures.taken _ c.self.view_is c.in_ok-frame.ensures.row c.in_ok-frame.ensures.exact (never-nothing c.in_ok-frame.frame c.in_ok-frame.ensures.faults)

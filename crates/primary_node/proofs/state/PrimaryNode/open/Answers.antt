@@ -1,10 +1,10 @@
-use Rattle.std.proofs.Common.{◌≡◌, ◌∙◌, ◌≤◌, Err, rules, ap, arith}
+use Rattle.std.proofs.Common.{◌≡◌, ◌∙◌, Err, rules, ap, arith}
 use Rattle.std.specs.Option.{option_map}
 use Rattle.endpoint.specs.Meaning.{meant, meant_in}
 use Rattle.endpoint.specs.Incoming.{received_from}
 use Rattle.primary_steps.specs.Steps.{plainly}
 use Rattle.primary_node.proofs.Refused.{on-refused}
-use Rattle.primary_node.proofs.Opening.{IsFresh, open-unchanged, open-refused-is, open-refused, open-connections, open-is, open-steps}
+use Rattle.primary_node.proofs.Opening.{open-unchanged, open-refused-is, open-refused, open-connections, open-is, open-steps}
 use Rattle.primary_node.proofs.state.PrimaryNode.open.Goals as goal
 
 pub invariant_of-self : goal.invariant_of-self

@@ -1,4 +1,4 @@
-use Rattle.std.proofs.Common.{◌≡◌, ◌∙◌, true, false, Some, Err, rules, sym, ap}
+use Rattle.std.proofs.Common.{◌≡◌, ◌∙◌, Err, rules, sym, ap}
 use Rattle.std.specs.Prelude.{is_some}
 use Rattle.std.proofs.lemmas.Bool.{both_ways}
 use Rattle.primary_steps.proofs.Node.Sends.{due-open}

@@ -1,0 +1,4 @@
+pub mod Events
+pub mod Openings
+pub mod Reading
+pub mod State

@@ -1,0 +1,95 @@
+//! The two nodes and their link.
+ghost use Rattle.std.specs.Prelude.{◌≡◌, ◌⊎◌, false, length, replicate, slice_get, unwrap_or, IfOk, IfErr};
+ghost use Rattle.blocks.specs.SettingsRange.{IsInRange};
+ghost use Rattle.blocks.specs.declared.refusal.Refusal.TheVariants.{BadSetting, NoMemory};
+ghost use Rattle.model.specs.Contents.{filled};
+ghost use Rattle.model.specs.Pair.{pair_opening};
+ghost use Rattle.model.specs.Rows.{words};
+ghost use Rattle.pair_node.specs.Openings.{CanPair};
+ghost use Rattle.pair_node.specs.State.{state};
+ghost use Rattle.pair_steps.specs.State.{PairHas};
+
+use blocks::{FaultStore, MemStore, Refusal, Settings, Tuple};
+use link::{PlainIn, PlainOut};
+use primary_node::PrimaryNode;
+use secondary_node::SecondaryNode;
+use std::alloc::Global;
+use std::marker::Model;
+
+/// The primary of a pair, over a link in one thread and a disk in memory that fails where it is told to.
+pub type LocalNode = PrimaryNode<PlainOut, PlainIn, FaultStore>;
+
+/// The secondary of a pair.
+pub type PeerNode = SecondaryNode<PlainOut, PlainIn, FaultStore>;
+
+/// A primary and a secondary over two disks in memory, and the link between them. Some history is had, and
+/// the queue of each direction rests at its sending end.
+#[derive(Drop)]
+pub struct Pair {
+    pub(crate) alloc: Global,
+    pub(crate) primary: LocalNode,
+    pub(crate) secondary: PeerNode,
+}
+
+impl Model for Pair {
+    ghost use Rattle.pair_node.specs.State.{PairView, IsPairView};
+
+    ghost Value = { PairView };
+
+    ghost view = { λ p. record { primary = p.primary; secondary = p.secondary } };
+
+    ghost invariant = { λ p. IsPairView (record { primary = p.primary; secondary = p.secondary }) };
+}
+
+impl Pair {
+    /// Two zero-filled disks with the tuple 1,0,0,0 and no marks, and both ends closed.
+    ///
+    /// `BadSetting` (15) comes where a setting is out of its range, and `NoMemory` (7) where there is no
+    /// memory.
+    pub fn fresh(alloc: Global, settings: Settings) -> Result<Pair, Refusal>
+        ensures history { IfOk result (λ p. PairHas (state p) (pair_opening settings
+            (filled settings.blocks (replicate 4096 0)) (filled settings.blocks (replicate 4096 0))
+            (words 1 0 0 0) (words 1 0 0 0) (λ _. false))) }
+        ensures refused { IfErr result (λ e. ((e ≡ BadSetting) × (IsInRange settings → ⊥)) ⊎ ((e ≡ NoMemory) × IsInRange settings)) }
+    {
+        settings.check()?;
+        let tuple = Tuple {
+            current: 1,
+            bitmap: 0,
+            first_historical: 0,
+            second_historical: 0,
+        };
+        let local = MemStore::zeroed(alloc, settings.blocks)?;
+        let peer = MemStore::zeroed(alloc, settings.blocks)?;
+        let marks = Vec::from_elem(alloc, false, settings.blocks as usize)?;
+        Pair::from_parts(alloc, settings, local, peer, tuple, tuple, marks)
+    }
+
+    /// A pair of these disks, identifiers and marks, both ends closed. The caller owes honest identifiers:
+    /// where the peer's current one is the primary's current or bitmap one, the disks are equal but for the
+    /// marked blocks. Without that, nothing is said of the marks.
+    ///
+    /// `BadSetting` (15) comes where a setting is out of its range, where a disk or the list of marks has
+    /// another size than the settings say, and where the primary's current identifier is zero; else
+    /// `NoMemory` (7), where there is no memory. What was handed over is dropped then.
+    pub fn from_parts(
+        alloc: Global,
+        settings: Settings,
+        local: MemStore,
+        peer: MemStore,
+        own: Tuple,
+        peer_tuple: Tuple,
+        marks: Vec<bool>,
+    ) -> Result<Pair, Refusal>
+        ensures history { IfOk result (λ p. PairHas (state p) (pair_opening settings (slice_get local) (slice_get peer)
+            own peer_tuple (λ block. unwrap_or (slice_get marks.items block) false))) }
+        ensures refused { IfErr result (λ e. ((e ≡ BadSetting) × (CanPair settings local peer own marks.items → ⊥))
+            ⊎ ((e ≡ NoMemory) × CanPair settings local peer own marks.items)) }
+    {
+        Ok(Pair {
+            alloc,
+            primary: PrimaryNode::new(alloc, settings, FaultStore::new(local), own, marks)?,
+            secondary: SecondaryNode::new(alloc, settings, FaultStore::new(peer), peer_tuple)?,
+        })
+    }
+}

@@ -1,0 +1,9 @@
+pub mod Carrying
+pub mod Clauses
+pub mod Lending
+pub mod Opening
+pub mod Rooms
+pub mod Rows
+pub mod Running
+pub mod Stepping
+pub mod Takings

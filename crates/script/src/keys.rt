@@ -1,0 +1,142 @@
+//! The keys of `pair`.
+use crate::number;
+use blocks::{Protocol, Settings, Tuple};
+
+/// What a pair is made with. A key that stands twice is no command, so each of them is noted.
+#[derive(Clone, Copy)]
+pub(crate) struct Keys {
+    /// The settings, the defaults where no key names them.
+    pub(crate) settings: Settings,
+    /// The primary's generation identifiers.
+    pub(crate) own: Tuple,
+    /// The secondary's.
+    pub(crate) peer: Tuple,
+    // Which keys stood, by their bits.
+    seen: u16,
+}
+
+/// The keys.
+#[derive(Clone, Copy)]
+enum Key {
+    Protocol,
+    Blocks,
+    MaxEpoch,
+    Slots,
+    Backlog,
+    Link,
+    Pending,
+    Own,
+    Peer,
+}
+
+impl Keys {
+    /// No key stands: the default settings, and both tuples 1,0,0,0.
+    pub(crate) fn standard() -> Keys {
+        let first = Tuple {
+            current: 1,
+            bitmap: 0,
+            first_historical: 0,
+            second_historical: 0,
+        };
+        Keys {
+            settings: Settings::STANDARD,
+            own: first,
+            peer: first,
+            seen: 0,
+        }
+    }
+
+    /// What `KEY=VALUE` words say, parted by one space.
+    pub(crate) fn parse(words: &str) -> Option<Keys> {
+        let mut keys = Keys::standard();
+        for word in words.split(' ') {
+            let (name, value) = word.split_once('=')?;
+            let key = Key::named(name)?;
+            keys = keys.with(key, value)?;
+        }
+        Some(keys)
+    }
+
+    /// One key more, where it did not stand before.
+    fn with(self, key: Key, value: &str) -> Option<Keys> {
+        let bit = key.bit();
+        if self.seen & bit != 0 {
+            return None;
+        }
+        let mut keys = self;
+        keys.seen |= bit;
+        match key {
+            Key::Protocol => keys.settings.protocol = protocol(value)?,
+            Key::Blocks => keys.settings.blocks = setting(value)?,
+            Key::MaxEpoch => keys.settings.max_epoch = setting(value)?,
+            Key::Slots => keys.settings.slots = setting(value)?,
+            Key::Backlog => keys.settings.backlog = setting(value)?,
+            Key::Link => keys.settings.link = setting(value)?,
+            Key::Pending => keys.settings.pending = setting(value)?,
+            Key::Own => keys.own = tuple(value)?,
+            Key::Peer => keys.peer = tuple(value)?,
+        }
+        Some(keys)
+    }
+}
+
+impl Key {
+    /// The key of a name.
+    fn named(name: &str) -> Option<Key> {
+        match name {
+            "protocol" => Some(Key::Protocol),
+            "blocks" => Some(Key::Blocks),
+            "max_epoch" => Some(Key::MaxEpoch),
+            "slots" => Some(Key::Slots),
+            "backlog" => Some(Key::Backlog),
+            "link" => Some(Key::Link),
+            "pending" => Some(Key::Pending),
+            "own" => Some(Key::Own),
+            "peer" => Some(Key::Peer),
+            _ => None,
+        }
+    }
+
+    /// Its bit among the keys that stood.
+    fn bit(self) -> u16 {
+        match self {
+            Key::Protocol => 1,
+            Key::Blocks => 2,
+            Key::MaxEpoch => 4,
+            Key::Slots => 8,
+            Key::Backlog => 16,
+            Key::Link => 32,
+            Key::Pending => 64,
+            Key::Own => 128,
+            Key::Peer => 256,
+        }
+    }
+}
+
+fn protocol(value: &str) -> Option<Protocol> {
+    match value {
+        "A" => Some(Protocol::A),
+        "B" => Some(Protocol::B),
+        "C" => Some(Protocol::C),
+        _ => None,
+    }
+}
+
+/// A number. One that has more than 32 bits is as far out of every range as the greatest that has them.
+fn setting(value: &str) -> Option<u32> {
+    let number = number::decimal(value)?;
+    Some(u32::try_from(number).unwrap_or(u32::MAX))
+}
+
+/// `a,b,c,d`: the current identifier, the bitmap's and the two historical ones.
+fn tuple(value: &str) -> Option<Tuple> {
+    let (current, rest) = value.split_once(',')?;
+    let (bitmap, rest) = rest.split_once(',')?;
+    let (first, second) = rest.split_once(',')?;
+    Some(Tuple {
+        current: number::decimal(current)?,
+        bitmap: number::decimal(bitmap)?,
+        first_historical: number::decimal(first)?,
+        second_historical: number::decimal(second)?,
+    })
+}
