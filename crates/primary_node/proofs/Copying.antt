@@ -146,16 +146,21 @@ pub copy-refused : (v : PrimaryView) (s : PrimaryState) (result : Result Done Re
 copy-refused v s result e same is refused =
     subst (λ (t : PrimaryState). CopiesOne result v (record v { core = t })) (sym same)
     (subst (λ (r : Result Done Refusal). CopiesOne r v v) (sym is)
-    (inl (refl, node-copies (is_starved {R = Done} (Err e)) (node v) (Err e) v.core (sym (none-chosen (held_in v.disk) (is_starved {R = Done} (Err e)) v.core e
-    (subst (λ (b : Bool). resync_choice b v.core ≡ Err e) (starved-same Block Done e) refused)).0))))
+    (inl (
+      refl,
+      node-copies (is_starved {R = Done} (Err e)) (node v) (Err e) v.core (sym (none-chosen (held_in v.disk) (is_starved {R = Done} (Err e)) v.core e
+          (subst (λ (b : Bool). resync_choice b v.core ≡ Err e) (starved-same Block Done e) refused)).0),
+    )))
 
 pub copy-starved : (v : PrimaryView) (s : PrimaryState) (disk : List (List ℕ)) (faults : ℕ) (steady : Bool) (block : ℕ) (result : Result Done Refusal) → s ≡ v.core → resync_choice false v.core ≡ Ok block → disk ≡ v.disk → faults ≡ v.faults → result ≡ Err NoMemory
     → CopiesOne result v (record v { core = s; disk = disk; faults = faults; steady = steady })
 copy-starved v s disk faults steady block result same chosen held counted is =
-    subst (λ (r : Result Done Refusal). CopiesOne r v (record v { core = s; disk = disk; faults = faults; steady = steady })) (sym is) (inl (counted,
+    subst (λ (r : Result Done Refusal). CopiesOne r v (record v { core = s; disk = disk; faults = faults; steady = steady })) (sym is) (inl (
+      counted,
       subst (λ (t : PrimaryState). NodeSteps (Resyncs true) (node v) (reply.Refused NoMemory) (record (node v) { core = t; disk = disk })) (sym same)
-      (subst (λ (l : List (List ℕ)). NodeSteps (Resyncs true) (node v) (reply.Refused NoMemory) (record (node v) { disk = l })) (sym held)
-      (node-copies true (node v) (Err NoMemory) v.core (sym (chosen-starved (held_in v.disk) v.core block (is-chosen v.core block chosen)))))))
+          (subst (λ (l : List (List ℕ)). NodeSteps (Resyncs true) (node v) (reply.Refused NoMemory) (record (node v) { disk = l })) (sym held)
+          (node-copies true (node v) (Err NoMemory) v.core (sym (chosen-starved (held_in v.disk) v.core block (is-chosen v.core block chosen))))),
+    ))
 
 -- the disk fails the read
 pub fault-fails : (v : PrimaryView) (s : PrimaryState) (disk : List (List ℕ)) (block : ℕ) → s ≡ v.core → resync_choice false v.core ≡ Ok block → disk ≡ v.disk
@@ -181,9 +186,11 @@ read-copies v s t block contents done same chosen at copies =
 
 pub copy-done : (v : PrimaryView) (s t : PrimaryState) (disk : List (List ℕ)) (faults : ℕ) (steady : Bool) (block : ℕ) (contents : List ℕ) (done : Done) → s ≡ v.core → resync_choice false v.core ≡ Ok block → disk ≡ v.disk → faults ≡ v.faults
     → slice_get v.disk block ≡ Some contents → ((e : EndState) → s.end ≡ Some e → (done, t) ≡ copying block contents e s) → CopiesOne (Ok done) v (record v { core = t; disk = disk; faults = faults; steady = steady })
-copy-done v s t disk faults steady block contents done same chosen held counted at copies = inl (counted,
-    subst (λ (l : List (List ℕ)). NodeSteps (Resyncs false) (node v) (reply.Ok done) (record (node v) { core = t; disk = l })) (sym held)
-    (node-copies false (node v) (Ok done) t (read-copies v s t block contents done same chosen at copies)))
+copy-done v s t disk faults steady block contents done same chosen held counted at copies = inl (
+  counted,
+  subst (λ (l : List (List ℕ)). NodeSteps (Resyncs false) (node v) (reply.Ok done) (record (node v) { core = t; disk = l })) (sym held)
+      (node-copies false (node v) (Ok done) t (read-copies v s t block contents done same chosen at copies)),
+)
 
 pub copied-is : (v : PrimaryView) (s t : PrimaryState) (disk : List (List ℕ)) (faults : ℕ) (steady : Bool) (block : ℕ) (contents : List ℕ) (done : Done) → IsNode v → s ≡ v.core → resync_choice false v.core ≡ Ok block → disk ≡ v.disk
     → slice_get v.disk block ≡ Some contents → ((e : EndState) → s.end ≡ Some e → (done, t) ≡ copying block contents e s) → IsNode (record v { core = t; disk = disk; faults = faults; steady = steady })

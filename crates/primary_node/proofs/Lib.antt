@@ -7,3 +7,4 @@ pub mod Refused
 pub mod Sending
 pub mod Taking
 pub mod Telling
+pub mod Writing

@@ -47,16 +47,18 @@ pub read-more : (items held buffer : List ℕ) (n offset count first : ℕ) (dis
     → ((k : ℕ) → k < offset → slice_get (blocks_of 4096 items) k ≡ slice_get disk (first + k))
     → (after : List ℕ) → after ≡ take n (put_part (offset * 4096) (offset * 4096 + 4096 - offset * 4096) held buffer ++ drop (length (put_part (offset * 4096) (offset * 4096 + 4096 - offset * 4096) held buffer)) items)
     → (length after ≡ 4096 * count) × ((k : ℕ) → k < offset + 1 → slice_get (blocks_of 4096 after) k ≡ slice_get disk (first + k))
-read-more items held buffer n offset count first disk same long many less size read before after is =
-    (ap length new ∙ (long_still ∙ many), λ k within. let total = all in elim (cases_lt k offset) [
-      | inl early ↦ ap (λ (l : List (List ℕ)). slice_get l k) blocks ∙ (written-before (blocks_of 4096 items) (buffer ∷ []) offset k (omega arith) early ∙ before k early)
-      | inr late ↦
-          let last : k ≡ offset = omega arith in
-          let index : k - offset ≡ 0 = omega arith in
-          ap (λ (l : List (List ℕ)). slice_get l k) blocks
-          ∙ (written-inside (blocks_of 4096 items) (buffer ∷ []) offset k (omega arith) late (omega arith)
-          ∙ (ap (slice_get (buffer ∷ [])) index ∙ sym (ap (λ m. slice_get disk (first + m)) last ∙ read)))
-    ])
+read-more items held buffer n offset count first disk same long many less size read before after is = (
+  ap length new ∙ (long_still ∙ many),
+  λ k within. let total = all in elim (cases_lt k offset) [
+    | inl early ↦ ap (λ (l : List (List ℕ)). slice_get l k) blocks ∙ (written-before (blocks_of 4096 items) (buffer ∷ []) offset k (omega arith) early ∙ before k early)
+    | inr late ↦
+        let last : k ≡ offset = omega arith in
+        let index : k - offset ≡ 0 = omega arith in
+        ap (λ (l : List (List ℕ)). slice_get l k) blocks
+        ∙ (written-inside (blocks_of 4096 items) (buffer ∷ []) offset k (omega arith) late (omega arith)
+        ∙ (ap (slice_get (buffer ∷ [])) index ∙ sym (ap (λ m. slice_get disk (first + m)) last ∙ read)))
+  ],
+)
   where
     part : List ℕ
     part = put_part (offset * 4096) (offset * 4096 + 4096 - offset * 4096) held buffer

@@ -1,4 +1,4 @@
--- A primary's node: its calls as steps of its histories, its disk, and what is read off it.
+-- A primary's node: what is read off it, its disk, and its calls as steps of its histories.
 pub mod Asked
 pub mod Calls
 pub mod Counts

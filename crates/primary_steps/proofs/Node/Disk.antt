@@ -94,10 +94,10 @@ module _ (h : PrimaryHistory) (homes : HasHomes h) (order : IsInOrder h) (number
   outcome-there block covered laid =
       ap (λ (layers : List Layer). overlay h.opening_map layers block) (map-twice local_layer put h.writes)
       ∙ overlay-last (λ (b : Accepted). local_layer (put b)) h.opening_map h.writes block i a (slice_get a.write.contents (block - a.write.first)) at
-        (λ v. ap (λ (b : Accepted). block_under (local_layer b) block v) put-it ∙ under-inside (local_layer (record a { outcome = outcome })) block v covered laid)
-        (λ j b less atb v. under-outside (local_layer (put b)) block v
-            (subst (λ (w : _). covers w block ≡ false) (sym (outcome-write number outcome b))
-              (false_from_ne_true (covers b.write block) (λ cov. both_ways (is_waiting a.outcome) (order.settled_first i j block a b less at atb covered cov) waits))))
+      (λ v. ap (λ (b : Accepted). block_under (local_layer b) block v) put-it ∙ under-inside (local_layer (record a { outcome = outcome })) block v covered laid)
+      (λ j b less atb v. under-outside (local_layer (put b)) block v
+      (subst (λ (w : _). covers w block ≡ false) (sym (outcome-write number outcome b))
+      (false_from_ne_true (covers b.write block) (λ cov. both_ways (is_waiting a.outcome) (order.settled_first i j block a b less at atb covered cov) waits))))
 
   -- elsewhere the disk holds what it held
   pub outcome-elsewhere : (block : ℕ) → (covers a.write block && offset_reached outcome (block - a.write.first)) ≡ false → local_map (with_outcome number outcome h) block ≡ local_map h block
@@ -249,7 +249,7 @@ module _ (h : PrimaryHistory) (homes : HasHomes h) (order : IsInOrder h) (number
               let same = equal-same (slice_get torn (first + (block - first))) (slice_get contents (block - first)) (ap (slice_get torn) (sym index) ∙ written.1) in
               let kept = filtered-pick is_new (below (length contents)) (block - first) (block - first) (get-below (length contents) (block - first) less) same in
               absurd (both_ways (covers a.write block && offset_reached (Failed (within (length contents) news)) (block - first)) none
-                (and_from (covers a.write block) (offset_reached (Failed (within (length contents) news)) (block - first)) covered (among (length contents) news kept.0 (block - first) kept.1 less)))
+              (and_from (covers a.write block) (offset_reached (Failed (within (length contents) news)) (block - first)) covered (among (length contents) news kept.0 (block - first) kept.1 less)))
           | inr outside ↦
               let low = written.0 in
               elim (beside block outside) [

@@ -83,7 +83,7 @@ copies-come : (starved : Bool) (n : NodeState) (result : Result Done Refusal) (c
     → (h : PrimaryHistory) → NodeHas n h → Comes (Resyncs starved) n (replied reply.Ok result) core n.disk h
 copies-come starved n result core is h has =
     let agrees = subst (λ (p : Result Done Refusal × PrimaryState). Agrees reply.Ok p (step.resync_next starved h)) (sym is)
-        (resyncs-agree (held_in n.disk) starved n.core h has.reached has.leaves.core (λ block. ap (λ (v : Option (List ℕ)). unwrap_or v []) (has.leaves.disk block))) in record {
+    (resyncs-agree (held_in n.disk) starved n.core h has.reached has.leaves.core (λ block. ap (λ (v : Option (List ℕ)). unwrap_or v []) (has.leaves.disk block))) in record {
       change = unchanged h;
       reply = agrees.reply;
       leaves = agrees.leaves;

@@ -90,22 +90,22 @@ module _ (number : ℕ) (n : NodeState) (w : LogWrite) (found : write_at number 
   pub write-inside : NodeIsHad n → w.first + w.count ≤ length n.disk
   write-inside had = subst (λ (x : LogWrite). x.first + x.count ≤ length n.disk) (sym (same-write number n w found waits had.history had.has)) (inside number n w found waits had.history had.has)
 
-  -- Where the bytes of each write, cut into blocks, are its blocks.
-  module _ (cut : (h : PrimaryHistory) → NodeHas n h → (i : ℕ) (a : Accepted) → slice_get h.writes i ≡ Some a → IsCut a) where
+  -- Where the bytes of the write, cut into blocks, are its blocks.
+  module _ (cut : (h : PrimaryHistory) (has : NodeHas n h) → IsCut (the number n w found waits h has).accepted) where
     wrote-come : (result : Result Done Refusal) (core : PrimaryState) → (result, core) ≡ transition.local_done number n.core → (h : PrimaryHistory) → NodeHas n h
         → Comes (WritesLocally number) n (replied reply.Ok result) core (overwritten n.disk w.first (blocks_of 4096 w.contents)) h
     wrote-come result core is h has =
         let agrees = subst (λ (p : Result Done Refusal × PrimaryState). Agrees reply.Ok p (step.local_done number h)) (sym is) (writes-agree number n.core h has.reached has.leaves.core) in
         let to : (step.local_done number h).1 ≡ (follows (releasing h (step.with_outcome number OnDisk h))).history =
         ap (λ b. (step.tested h ((not b, UnknownJob) ∷ []) (λ _. step.succeeding what.Nothing (releasing h (step.with_outcome number OnDisk h)))).1) (unfinished number n w found waits h has) in
-        let its = the number n w found waits h has in record {
+        record {
           change = written h (local_map (step.with_outcome number OnDisk h));
           reply = agrees.reply;
           leaves = agrees.leaves;
           keeps = subst (Keeps h (written h (local_map (step.with_outcome number OnDisk h)))) (sym to) (writes-keeps number h);
           taken = refl;
           begun = refl;
-          holds = after-written number n w found waits h has (cut h has its.index its.accepted its.at);
+          holds = after-written number n w found waits h has (cut h has);
         }
 
     failed-come : (offsets : List ℕ) (torn : List (List ℕ)) (result : Result Done Refusal) (core : PrimaryState) → (result, core) ≡ transition.local_fault number n.core
@@ -147,7 +147,7 @@ module _ (number : ℕ) (n : NodeState) (w : LogWrite) (found : write_at number 
         subst (λ (x : LogWrite). IsTorn n.disk x.first (blocks_of 4096 x.contents) torn → slice_get torn block ≡ local_map (step.with_outcome number (Failed (within (length its.accepted.write.contents) (new_offsets x.first (blocks_of 4096 x.contents) torn))) h) block)
         (sym (same-write number n w found waits h has))
         (subst (λ (l : List (List ℕ)). IsTorn n.disk its.accepted.write.first l torn → slice_get torn block ≡ local_map (step.with_outcome number (Failed (within (length its.accepted.write.contents) (new_offsets its.accepted.write.first l torn))) h) block)
-        (sym (cut h has its.index its.accepted its.at))
+        (sym (cut h has))
         (λ torn_so. disk-torn h (homes number n w found waits h has) (order-of h has) number its.index its.accepted its.at its.number_is its.waits n.disk has.leaves.disk (inside number n w found waits h has) torn torn_so block)) is_torn
 
     kept-holds : (kept : ℕ) (h : PrimaryHistory) (has : NodeHas n h) → (block : ℕ)
@@ -155,7 +155,7 @@ module _ (number : ℕ) (n : NodeState) (w : LogWrite) (found : write_at number 
     kept-holds kept h has block =
         let its = the number n w found waits h has in
         ap (λ (x : LogWrite). slice_get (overwritten n.disk x.first (take kept (blocks_of 4096 x.contents))) block) (same-write number n w found waits h has)
-        ∙ (ap (λ (l : List (List ℕ)). slice_get (overwritten n.disk its.accepted.write.first (take kept l)) block) (cut h has its.index its.accepted its.at)
+        ∙ (ap (λ (l : List (List ℕ)). slice_get (overwritten n.disk its.accepted.write.first (take kept l)) block) (cut h has)
         ∙ disk-kept h (homes number n w found waits h has) (order-of h has) number its.index its.accepted its.at its.number_is its.waits n.disk has.leaves.disk (inside number n w found waits h has) kept block)
 
     pub node-failed : (torn : List (List ℕ)) (result : Result Done Refusal) (core : PrimaryState) → (result, core) ≡ transition.local_fault number n.core → IsTorn n.disk w.first (blocks_of 4096 w.contents) torn
@@ -175,3 +175,9 @@ module _ (number : ℕ) (n : NodeState) (w : LogWrite) (found : write_at number 
     node-failed-after kept result core is =
         comes-steps (FailsLocally number (below kept)) n (replied reply.Ok result) core (overwritten n.disk w.first (take kept (blocks_of 4096 w.contents)))
         (failed-come (below kept) (overwritten n.disk w.first (take kept (blocks_of 4096 w.contents))) result core is (kept-holds kept))
+
+    pub failed-after-kept : (kept : ℕ) (result : Result Done Refusal) (core : PrimaryState) → NodeIsHad n → (result, core) ≡ transition.local_fault number n.core
+        → KeepsNode n (record n { core = core; disk = overwritten n.disk w.first (take kept (blocks_of 4096 w.contents)) })
+    failed-after-kept kept result core had is =
+        comes-kept (FailsLocally number (below kept)) n (replied reply.Ok result) core (overwritten n.disk w.first (take kept (blocks_of 4096 w.contents)))
+        (failed-come (below kept) (overwritten n.disk w.first (take kept (blocks_of 4096 w.contents))) result core is (kept-holds kept)) had

@@ -1,4 +1,4 @@
-use Rattle.std.proofs.Common.{rules, ℕ, ◌+◌, List, length, slice_get, arith, ◌≡◌, ◌⊎◌, inl, inr, ◌<◌, ◌∙◌, ap, sym, subst, true, false, Err, refl}
+use Rattle.std.proofs.Common.{rules, ℕ, ◌+◌, List, length, slice_get, ◌≡◌, inl, inr, ◌<◌, ◌∙◌, ap, sym, subst, true, false, Err, refl}
 use Rattle.blocks.specs.declared.refusal.Refusal.TheVariants.{NoMemory}
 use Rattle.primary_node.specs.State.{PrimaryView}
 use Rattle.primary_node.proofs.Copying.{on-err, on-ok}
@@ -23,8 +23,8 @@ pub loop-offset-preserved : goal.loop-offset-preserved
 loop-offset-preserved g c =
     let long : length c.loop-offset.bytes.items ≡ c.loop-offset.bytes.len = sym (ap length c.deref_mut.ensures.value) ∙ c.deref_mut.ensures.len in
     let more = read-more c.loop-offset.bytes.items c.deref_mut.result.now c.read.new.buffer c.loop-offset.bytes.len c.loop-offset.offset c.in_ok-range.range.count c.in_ok-range.range.first.0 (g.S.Store.contents c.read.new.self)
-        c.deref_mut.ensures.value long (sym long ∙ c.loop-offset.invariant.size) c.loop-offset-test.true (c.read.auto.buffer ∙ part-size c.loop-offset.offset c.in_ok-range.range.count c.deref_mut.result.now (ap length c.deref_mut.ensures.value ∙ c.loop-offset.invariant.size) c.loop-offset-test.true) (ap (λ (d : List (List ℕ)). slice_get d (c.in_ok-range.range.first.0 + c.loop-offset.offset)) c.read.ensures.same ∙ on-ok c.read.result c.is_err.result c.is_err.ensures.value c.if-is_err.false c.read.ensures.read)
-        (λ k early. c.loop-offset.invariant.read k early ∙ ap (λ (d : List (List ℕ)). slice_get d (c.in_ok-range.range.first.0 + k)) (sym c.read.ensures.same)) _ refl in record {
+    c.deref_mut.ensures.value long (sym long ∙ c.loop-offset.invariant.size) c.loop-offset-test.true (c.read.auto.buffer ∙ part-size c.loop-offset.offset c.in_ok-range.range.count c.deref_mut.result.now (ap length c.deref_mut.ensures.value ∙ c.loop-offset.invariant.size) c.loop-offset-test.true) (ap (λ (d : List (List ℕ)). slice_get d (c.in_ok-range.range.first.0 + c.loop-offset.offset)) c.read.ensures.same ∙ on-ok c.read.result c.is_err.result c.is_err.ensures.value c.if-is_err.false c.read.ensures.read)
+    (λ k early. c.loop-offset.invariant.read k early ∙ ap (λ (d : List (List ℕ)). slice_get d (c.in_ok-range.range.first.0 + k)) (sym c.read.ensures.same)) _ refl in record {
       rest = search rules;
       same = c.read.ensures.same ∙ c.loop-offset.invariant.same;
       uncounted = on-ok c.read.result c.is_err.result c.is_err.ensures.value c.if-is_err.false c.read.ensures.uncounted ∙ c.loop-offset.invariant.uncounted;

@@ -1,4 +1,4 @@
-use Rattle.std.proofs.Common.{◌≡◌, ℕ, ◌+◌, ◌*◌, ◌<◌, ◌≤◌, Some, length, true, slice_get}
+use Rattle.std.proofs.Common.{◌≡◌, ℕ, ◌+◌, ◌*◌, ◌<◌, length, true, slice_get}
 use Rattle.blocks.specs.Contents.{blocks_of}
 use Rattle.primary_node.proofs.state.PrimaryNode.read.Given as goal
 

@@ -1,4 +1,4 @@
-use Rattle.std.proofs.Common.{rules, ◌≡◌, ◌∙◌, Ok, Err, Some, ap, refl, sym}
+use Rattle.std.proofs.Common.{rules, ◌≡◌, ◌∙◌, Err, refl}
 use Rattle.blocks.specs.declared.refusal.Refusal.TheVariants.{NoMemory}
 use Rattle.primary_node.specs.State.{PrimaryView}
 use Rattle.primary_node.proofs.Copying.{chosen-inside, copied-is, copy-done, copy-failed, copy-refused, copy-starved, is-chosen, on-err, on-ok, read-held, same-is, still-steady}
