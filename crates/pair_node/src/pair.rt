@@ -9,7 +9,7 @@ ghost use Rattle.pair_node.specs.Openings.{CanPair};
 ghost use Rattle.pair_node.specs.State.{state};
 ghost use Rattle.pair_steps.specs.State.{PairHas};
 
-use blocks::{FaultStore, MemStore, Refusal, Settings, Tuple};
+use blocks::{FaultStore, MemStore, Refusal, Settings, Store, Tuple};
 use link::{PlainIn, PlainOut};
 use primary_node::PrimaryNode;
 use secondary_node::SecondaryNode;
@@ -86,6 +86,9 @@ impl Pair {
         ensures refused { IfErr result (λ e. ((e ≡ BadSetting) × (CanPair settings local peer own marks.items → ⊥))
             ⊎ ((e ≡ NoMemory) × CanPair settings local peer own marks.items)) }
     {
+        if peer.blocks() != settings.blocks {
+            return Err(Refusal::BadSetting);
+        }
         Ok(Pair {
             alloc,
             primary: PrimaryNode::new(alloc, settings, FaultStore::new(local), own, marks)?,

@@ -64,6 +64,7 @@ impl<O: FrameOut + Drop, I: FrameIn + Drop, S: Store + Drop> PrimaryNode<O, I, S
         marks: Vec<bool>,
     ) -> Result<PrimaryNode<O, I, S>, Refusal>
         ensures history { IfOk result (λ n. NodeHas (node n) (primary_opening settings (slice_get (S.contents store)) tuple (λ block. unwrap_or (slice_get marks.items block) false))) }
+        ensures begun { IfOk result (λ _. CanBegin settings tuple marks.items × (length (S.contents store) ≡ settings.blocks)) }
         ensures disk { IfOk result (λ n. (n.faults ≡ S.faults store) × (n.steady ≡ S.steady store)) }
         ensures link { IfOk result (λ n. (n.outgoing ≡ None) × (n.incoming ≡ None)) }
         ensures refused { IfErr result (λ e. ((e ≡ BadSetting) × (CanBegin settings tuple marks.items → length (S.contents store) ≡ settings.blocks → ⊥))
