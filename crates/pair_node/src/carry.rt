@@ -7,6 +7,7 @@ ghost use Rattle.pair_node.specs.State.{state};
 ghost use Rattle.pair_steps.specs.Carried.{IsTold};
 ghost use Rattle.pair_steps.specs.State.{IsPairStep};
 ghost use Rattle.primary_steps.specs.Steps.{replied};
+ghost use Rattle.secondary_steps.specs.Steps as from_secondary;
 
 use crate::{LocalNode, Pair, PeerNode};
 use blocks::{Done, Refusal};
@@ -15,16 +16,17 @@ use endpoint::joined;
 impl Pair {
     // The secondary takes the next frame of the primary.
     pub(crate) fn receive(&mut self) -> Result<Done, Refusal>
-        ensures step { IsPairStep ReceiveEvent (is_starved result) (state self.old) (replied reply.Ok result) (state self.new) }
+        ensures step { IsPairStep ReceiveEvent (is_starved result) (state self.old) (from_secondary.replied (λ done. done) result) (state self.new) }
     {
         let Some(queue) = self.primary.give_outward() else {
             return self.secondary.receive();
         };
         self.secondary.lay_inward(queue);
         let done = self.secondary.receive();
-        if let Some(queue) = self.secondary.give_inward() {
-            self.primary.lay_outward(queue);
-        }
+        let Some(queue) = self.secondary.give_inward() else {
+            return done;
+        };
+        self.primary.lay_outward(queue);
         told_there(&self.primary, &self.secondary);
         done
     }
@@ -38,9 +40,10 @@ impl Pair {
         };
         self.primary.lay_inward(queue);
         let done = self.primary.ack_in();
-        if let Some(queue) = self.primary.give_inward() {
-            self.secondary.lay_outward(queue);
-        }
+        let Some(queue) = self.primary.give_inward() else {
+            return done;
+        };
+        self.secondary.lay_outward(queue);
         told_back(&self.primary, &self.secondary);
         done
     }

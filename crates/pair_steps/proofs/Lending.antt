@@ -91,3 +91,28 @@ gave-none {R} capacity d frame result out inn is given takes = go d.out refl is 
           subst (λ (v : Option OutgoingState). IsDirection capacity (record { out = v; inn = inn })) (sym (given.left ∙ ap (option_map without_queue) there)) after,
           same,
         )
+
+-- A queue that was lent comes back.
+pub comes-back : {R : Type 0} (capacity : ℕ) (d : Direction) (q : QueueState) (frame : Option Received) (result : Result R Refusal) (out : Option OutgoingState) (inn later ended : Option IncomingState)
+    → IsDirection capacity d → GivenOut (Some q) d.out out → LaidIn q d.inn inn → Takes frame result inn later → GivenBack None later ended → ⊥
+comes-back {R} capacity d q frame result out inn later ended is given laid takes gave = go d.out refl is
+  where
+    lies : (i : IncomingState) → inn ≡ Some i → i.capacity ≡ Some q.capacity → (f : Option Received) → frame ≡ f → ⊥
+    lies i here size None same =
+        let k = takes.kept same in
+        let now : later ≡ Some (record i { is_ready = k.0 }) = k.1 ∙ ap (option_map (λ (x : IncomingState). record x { is_ready = k.0 })) here in
+        let there : false ≡ is_some i.capacity = gave.there (record i { is_ready = k.0 }) now in
+        let full : is_some i.capacity ≡ true = ap is_some size in
+        let both : false ≡ true = there ∙ full in
+        cc
+    lies i here size (Some one) same =
+        let t = takes.took one same in
+        let was : i ≡ t.before = (let s : Some i ≡ Some t.before = sym here ∙ t.there in cc) in
+        let there : false ≡ is_some t.before.capacity = gave.there (with_received one t.frames t.ready t.before) t.after in
+        let full : is_some t.before.capacity ≡ true = ap (λ (x : IncomingState). is_some x.capacity) (sym was) ∙ ap is_some size in
+        let both : false ≡ true = there ∙ full in
+        cc
+
+    go : (v : Option OutgoingState) → d.out ≡ v → elim v as (λ _. Type 0) [ None ↦ d.inn ≡ None | Some o ↦ (inn : IncomingState) × (d.inn ≡ Some inn) × AreEnds capacity o inn ] → ⊥
+    go None there none = let nothing : Some q ≡ None = given.none there in cc
+    go (Some o) there ends = lies (taking_from q ends.0) (laid ∙ ap (option_map (taking_from q)) ends.1) refl frame refl

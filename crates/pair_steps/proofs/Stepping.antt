@@ -46,6 +46,11 @@ is-run-more event starved h is = record {
   is = run-more is.events event starved (pair_at is.opening) ∙ ap (λ (g : PairHistory). (step event starved g).1) is.is;
 }
 
+-- it began where the run did
+pub same-opening : (event : Event) (starved : Bool) (h : PairHistory) (is : IsRun h) → (is-run-more event starved h is).opening ≡ is.opening
+unfolding is-run-more
+same-opening event starved h is = refl
+
 -- A step of one node.
 
 -- on whichever history the pair has, the event is this step of the primary

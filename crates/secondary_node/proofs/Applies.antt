@@ -1,5 +1,5 @@
 -- A node whose disk does an item, or fails it.
-use Rattle.std.proofs.Common.{ℕ, ◌≡◌, ◌+◌, ◌<◌, ◌≤◌, ◌⊎◌, inl, inr, Bool, true, false, List, ◌∷◌, length, Option, Some, None, Result, Ok, Err, slice_get, refl, sym, ◌∙◌, ap, subst, arith}
+use Rattle.std.proofs.Common.{ℕ, ◌≡◌, ◌+◌, ◌<◌, ◌≤◌, inl, inr, Bool, true, false, List, length, Option, Some, None, Result, Ok, Err, refl, sym, ◌∙◌, ap, subst, arith}
 use Rattle.std.specs.Prelude.{is_some}
 use Rattle.blocks.specs.Contents.{overwritten, IsTorn}
 use Rattle.blocks.specs.declared.refusal.Refusal.{Refusal}
@@ -7,12 +7,12 @@ use Rattle.blocks.specs.declared.outcome.Done.{Done}
 use Rattle.blocks.specs.declared.outcome.Reply.TheVariants as reply
 use Rattle.blocks.specs.declared.outcome.What.TheVariants as what
 use Rattle.model.specs.Frames.{Packet}
-use Rattle.model.specs.Stream.{Item, contents_of, first_of, below, within}
+use Rattle.model.specs.Stream.{Item, contents_of, first_of, below}
 use Rattle.model.specs.Refusals.{done_with}
 use Rattle.model.specs.LocalRuns.{Applies, FailsToApply}
 use Rattle.endpoint.specs.Outgoing.{OutgoingState}
 use Rattle.secondary_steps.specs.Core.{EndState, SecondaryState, applied, due, failing, start}
-use Rattle.secondary_steps.specs.Node.{NodeState, NodeSteps}
+use Rattle.secondary_steps.specs.Node.{NodeSteps}
 use Rattle.secondary_steps.specs.Steps.{replied}
 use Rattle.secondary_steps.proofs.Node.Applies.{applies-due, node-applies, node-fails, node-not-started}
 use Rattle.secondary_steps.proofs.Node.Laid.{LaidAt, torn-laid, torn_offsets, whole-laid}
@@ -36,7 +36,7 @@ written-item device new item first blocks at is new_is = new_is ∙ (λ i. overw
 
 -- The disk did it.
 module _ (v : SecondaryView) (place : ℕ) (item : Item) (first : ℕ) (blocks : List (List ℕ)) (is : IsNode v) (starts : start place v.core ≡ Ok item) (inside : first_of item + length (contents_of item) ≤ v.core.settings.blocks)
-  (at : first ≡ first_of item) (blocks_is : blocks ≡ contents_of item) where
+    (at : first ≡ first_of item) (blocks_is : blocks ≡ contents_of item) where
   done-steps : (core : SecondaryState) (disk : List (List ℕ)) → core ≡ applied place v.core → disk ≡ overwritten v.disk first blocks
       → NodeSteps (Applies place) (node v) (reply.Ok (done_with what.Nothing)) (record (node v) { core = core; disk = disk })
   done-steps core disk does disk_is =
@@ -44,6 +44,7 @@ module _ (v : SecondaryView) (place : ℕ) (item : Item) (first : ℕ) (blocks :
       (node-applies (node v) place item starts disk (λ block. subst (λ (d : List (List ℕ)). LaidAt item (below (length (contents_of item))) v.disk d block) (sym (written-item v.disk disk item first blocks at blocks_is disk_is))
       (whole-laid item v.disk (on-disk v item is inside) block)))
 
+  -- it is a node still
   pub done-is : (core : SecondaryState) (disk : List (List ℕ)) (faults : ℕ) (steady : Bool) → core ≡ applied place v.core → disk ≡ overwritten v.disk first blocks → IsNode (record v { core = core; disk = disk; faults = faults; steady = steady })
   done-is core disk faults steady does disk_is = record {
     had = node-had (Applies place) (node v) (reply.Ok (done_with what.Nothing)) (node (record v { core = core; disk = disk })) is.had (done-steps core disk does disk_is);
@@ -70,6 +71,7 @@ module _ (v : SecondaryView) (place : ℕ) (item : Item) (first : ℕ) (blocks :
       go None was = tt
       go (Some x) was = part x.partly was
 
+  -- and the call is as it says
   pub done-one : (core : SecondaryState) (disk : List (List ℕ)) (faults : ℕ) (steady : Bool) (result : Done) → core ≡ applied place v.core → disk ≡ overwritten v.disk first blocks → faults ≡ v.faults → result ≡ done_with what.Nothing
       → AppliesOne place (Ok result) v (record v { core = core; disk = disk; faults = faults; steady = steady })
   done-one core disk faults steady result does disk_is same said =
@@ -85,6 +87,7 @@ module _ (v : SecondaryView) (place : ℕ) (item : Item) (first : ℕ) (blocks :
             (node-fails (node v) place item starts (torn_offsets item v.disk (on-disk v item is inside) disk is_torn) disk (torn-laid item v.disk (on-disk v item is inside) disk is_torn)),
       )
 
+  -- it is a node still
   pub failed-is : (core : SecondaryState) (disk : List (List ℕ)) (faults : ℕ) (steady : Bool) → core ≡ failing place v.core → IsTorn v.disk first blocks disk → IsNode (record v { core = core; disk = disk; faults = faults; steady = steady })
   failed-is core disk faults steady does torn =
       let steps = failed-steps core disk does torn in
@@ -96,6 +99,7 @@ module _ (v : SecondaryView) (place : ℕ) (item : Item) (first : ℕ) (blocks :
         numbered = numbered-same v.outgoing v.incoming v.core core (ap (λ (s : SecondaryState). s.number) does) is.numbered;
       }
 
+  -- and the call is as it says
   pub failed-one : (core : SecondaryState) (disk : List (List ℕ)) (faults : ℕ) (steady : Bool) (result : Done) → core ≡ failing place v.core → IsTorn v.disk first blocks disk → v.faults < faults → result ≡ done_with what.Nothing
       → AppliesOne place (Ok result) v (record v { core = core; disk = disk; faults = faults; steady = steady })
   failed-one core disk faults steady result does torn more said =

@@ -1,8 +1,7 @@
 -- A node whose disk fails an item after so many blocks.
-use Rattle.std.proofs.Common.{ℕ, ◌≡◌, ◌+◌, ◌<◌, ◌≤◌, Bool, true, false, List, length, take, Result, Ok, Err, sym, ◌∙◌, ap, subst}
+use Rattle.std.proofs.Common.{ℕ, ◌≡◌, ◌+◌, ◌<◌, ◌≤◌, Bool, false, List, length, take, Result, Ok, Err, sym, ◌∙◌, ap, subst}
 use Rattle.std.specs.Prelude.{is_some}
 use Rattle.blocks.specs.Contents.{overwritten}
-use Rattle.blocks.specs.Faults.{FaultState, written}
 use Rattle.blocks.specs.declared.refusal.Refusal.{Refusal}
 use Rattle.blocks.specs.declared.refusal.Refusal.TheVariants.{BadRange}
 use Rattle.blocks.specs.declared.outcome.Done.{Done}
@@ -30,7 +29,7 @@ keeps-too-many v place kept item is starts many = node-keeps-too-many (node v) p
 
 -- The disk fails it.
 module _ (v : SecondaryView) (place kept : ℕ) (item : Item) (first : ℕ) (blocks : List (List ℕ)) (is : IsNode v) (starts : start place v.core ≡ Ok item) (inside : first_of item + length (contents_of item) ≤ v.core.settings.blocks)
-  (at : first ≡ first_of item) (blocks_is : blocks ≡ contents_of item) (few : kept ≤ length (contents_of item)) where
+    (at : first ≡ first_of item) (blocks_is : blocks ≡ contents_of item) (few : kept ≤ length (contents_of item)) where
   kept-steps : (core : SecondaryState) (disk : List (List ℕ)) → core ≡ failing place v.core → disk ≡ overwritten v.disk first (take kept blocks)
       → IsStep (peer_fault_kept place kept) (node v) (reply.Ok (done_with what.Nothing)) (record (node v) { core = core; disk = disk })
   kept-steps core disk does disk_is =
@@ -39,6 +38,7 @@ module _ (v : SecondaryView) (place kept : ℕ) (item : Item) (first : ℕ) (blo
       (node-fails-kept (node v) place kept item starts few disk (λ block. subst (λ (d : List (List ℕ)). LaidAt item (within (length (contents_of item)) (below kept)) v.disk d block) (sym disk_of)
       (kept-laid item v.disk (on-disk v item is inside) kept few block)))
 
+  -- it is a node still
   pub kept-is : (core : SecondaryState) (disk : List (List ℕ)) (faults : ℕ) (steady : Bool) → core ≡ failing place v.core → disk ≡ overwritten v.disk first (take kept blocks) → IsNode (record v { core = core; disk = disk; faults = faults; steady = steady })
   kept-is core disk faults steady does disk_is =
       let shut : is_some core.end ≡ false = ap (λ (s : SecondaryState). is_some s.end) does in record {
@@ -49,6 +49,7 @@ module _ (v : SecondaryView) (place kept : ℕ) (item : Item) (first : ℕ) (blo
         numbered = numbered-same v.outgoing v.incoming v.core core (ap (λ (s : SecondaryState). s.number) does) is.numbered;
       }
 
+  -- and the call is the step
   pub kept-one : (core : SecondaryState) (disk : List (List ℕ)) (done : Done) → core ≡ failing place v.core → disk ≡ overwritten v.disk first (take kept blocks) → done ≡ done_with what.Nothing
       → IsStep (peer_fault_kept place kept) (node v) (reply.Ok done) (record (node v) { core = core; disk = disk })
   kept-one core disk done does disk_is said = subst (λ (d : Done). IsStep (peer_fault_kept place kept) (node v) (reply.Ok d) (record (node v) { core = core; disk = disk })) (sym said) (kept-steps core disk does disk_is)

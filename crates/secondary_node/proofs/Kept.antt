@@ -1,5 +1,5 @@
 -- What each call keeps of a node: a new one, one that closes, and what is read off.
-use Rattle.std.proofs.Common.{ℕ, zero, suc, ◌≡◌, ◌≤◌, Bool, true, false, List, [], ◌∷◌, length, Option, Some, None, Result, Ok, Err, slice_get, refl, sym, ◌∙◌, ap, subst, arith, nat_lt}
+use Rattle.std.proofs.Common.{ℕ, zero, suc, ◌≡◌, Bool, true, false, List, [], ◌∷◌, length, Option, Some, None, Result, slice_get, sym, ◌∙◌, ap, subst, arith, nat_lt}
 use Rattle.std.specs.Prelude.{is_some}
 use Rattle.std.proofs.lemmas.Bool.{both_ways}
 use Rattle.std.proofs.lemmas.Bool.Decides.{nat_tests}
@@ -7,7 +7,7 @@ use Rattle.blocks.specs.SettingsRange.{IsInRange}
 use Rattle.blocks.specs.declared.tuple.Tuple.{Tuple}
 use Rattle.blocks.specs.declared.settings.Settings.{Settings}
 use Rattle.blocks.specs.declared.refusal.Refusal.{Refusal}
-use Rattle.model.specs.Frames.{Packet, Received}
+use Rattle.model.specs.Frames.{Packet}
 use Rattle.model.specs.Secondary.{SecondaryHistory, secondary_opening, inward, items_taken, pending}
 use Rattle.model.specs.LocalRuns.{ClosesToo}
 use Rattle.endpoint.specs.Outgoing.{OutgoingState}
@@ -30,6 +30,7 @@ due-shut : (v : Option (List Packet)) (s : SecondaryState) → is_some s.end ≡
 due-shut None s shut = tt
 due-shut (Some begun) s shut = λ stands. absurd (both_ways (is_some s.end) shut stands)
 
+-- the same of the side
 pub begun-shut : (v : Option OutgoingState) (s : SecondaryState) → is_some s.end ≡ false → IsBegun v s
 begun-shut None s shut = tt
 begun-shut (Some o) s shut = due-shut o.partly s shut
@@ -67,6 +68,7 @@ new-has settings tuple v is no_out no_in in_range size =
     h : SecondaryHistory
     h = secondary_opening settings (slice_get v.disk) tuple
 
+-- It is a node.
 pub new-is : (settings : Settings) (tuple : Tuple) (v : SecondaryView) → v.core ≡ fresh settings tuple → v.outgoing ≡ None → v.incoming ≡ None → IsInRange settings → length v.disk ≡ settings.blocks → IsNode v
 new-is settings tuple v is no_out no_in in_range size =
     let shut : is_some v.core.end ≡ false = ap (λ (x : SecondaryState). is_some x.end) is in record {
@@ -90,9 +92,11 @@ closes-is v t result is closes =
 
 -- What is read off.
 
+-- what its core says
 pub node-says : (v w : SecondaryView) → v ≡ w → (h : SecondaryHistory) → NodeHas (node w) h → Says v.core h
 node-says v w is h has = states-say v.core h (subst (λ (x : SecondaryView). NodeHas (node x) h) (sym is) has).leaves.core
 
+-- how far its data may be used
 pub node-usage : (v w : SecondaryView) → v ≡ w → (h : SecondaryHistory) → NodeHas (node w) h → record { consistent = v.core.consistent; whole = whole v.core; pending = length v.core.pending } ≡ usage_of h
 node-usage v w is h has =
     let left = (subst (λ (x : SecondaryView). NodeHas (node x) h) (sym is) has).leaves.core in

@@ -34,9 +34,11 @@ numbers s t number tests done has is = go (first_refusal tests) is
 pub not-opened-same : (s t : SecondaryState) (number : ℕ) (result : Result (Unit {0}) Refusal) (e : Refusal) → result ≡ Err e → (result, t) ≡ open_end number s → t ≡ s
 not-opened-same s t number result e refused is = stays s t (open_tests s) (opened number s) e (subst (λ (r : Result (Unit {0}) Refusal). (r, t) ≡ open_end number s) refused is)
 
+-- It is a node still.
 pub not-opened-is : (v : SecondaryView) (t : SecondaryState) (number : ℕ) (result : Result (Unit {0}) Refusal) (e : Refusal) → IsNode v → result ≡ Err e → (result, t) ≡ open_end number v.core → IsNode (record v { core = t })
 not-opened-is v t number result e is refused opens = subst (λ (x : SecondaryState). IsNode (record v { core = x })) (sym (not-opened-same v.core t number result e refused opens)) is
 
+-- It is the step of the history, which refuses too.
 pub not-opened-steps : (unseen : ℕ) (v : SecondaryView) (t : SecondaryState) (number : ℕ) (result said : Result (Unit {0}) Refusal) (e : Refusal) → IsNode v → number ≡ suc (v.core.number + unseen)
     → result ≡ Err e → said ≡ Err e → (result, t) ≡ open_end number v.core → NodeSteps (OpensToo unseen) (node v) (replied plainly said) (node (record v { core = t }))
 not-opened-steps unseen v t number result said e node_is next refused told is =
@@ -53,6 +55,7 @@ opened-steps unseen v t out inn number result node_is next accepted is none_out 
     subst (λ (l : List Packet). NodeSteps (OpensToo unseen) (node v) (replied plainly (Ok tt)) (record { core = t; disk = v.disk; pushed = l; taken = inn.taken })) (sym none_out)
     (subst (λ (l : List Received). NodeSteps (OpensToo unseen) (node v) (replied plainly (Ok tt)) (record { core = t; disk = v.disk; pushed = []; taken = l })) (sym none_in) (node-opened unseen (node v) t same))
 
+-- It is a node then.
 pub opened-is : (unseen : ℕ) (v : SecondaryView) (t : SecondaryState) (out : OutgoingState) (inn : IncomingState) (number : ℕ) (result : Result (Unit {0}) Refusal) → IsNode v → number ≡ suc (v.core.number + unseen)
     → result ≡ Ok tt → (result, t) ≡ open_end number v.core → out.pushed ≡ [] → out.partly ≡ None → inn.taken ≡ [] → out.number ≤ number → inn.number ≤ number → IsNode (record v { core = t; outgoing = Some out; incoming = Some inn })
 opened-is unseen v t out inn number result is next accepted opens none_out whole none_in out_under in_under =

@@ -1,5 +1,5 @@
 -- A node that sends what it owes.
-use Rattle.std.proofs.Common.{ℕ, ◌≡◌, ◌⊎◌, inl, inr, Bool, true, false, List, [], ◌∷◌, ◌++◌, Option, Some, None, Result, Ok, Err, refl, sym, ◌∙◌, ap, subst, arith}
+use Rattle.std.proofs.Common.{◌≡◌, ◌⊎◌, inl, inr, Bool, true, false, List, [], ◌∷◌, ◌++◌, Option, Some, None, Result, Ok, Err, refl, sym, ◌∙◌, ap, subst, arith}
 use Rattle.std.specs.Prelude.{ok_or, IfSome}
 use Rattle.blocks.specs.declared.refusal.Refusal.{Refusal}
 use Rattle.blocks.specs.declared.refusal.Refusal.TheVariants.{LinkFull, NoMemory, NotConnected, NothingThere}
@@ -13,7 +13,7 @@ use Rattle.packets.specs.Table as table
 use Rattle.std.specs.Option.{option_map}
 use Rattle.endpoint.specs.Calls.{Sends, has_room, is_starved}
 use Rattle.endpoint.specs.Meaning.{meaning}
-use Rattle.endpoint.specs.Outgoing.{OutgoingState, with_pushed}
+use Rattle.endpoint.specs.Outgoing.{OutgoingState}
 use Rattle.endpoint.specs.Incoming.{IncomingState}
 use Rattle.model.specs.Frames.{Packet, command_of}
 use Rattle.model.specs.Refusals.{done_with}
@@ -53,6 +53,7 @@ sent-steps v t o p packet name done node_is there is same pushed called said =
     (subst (λ (l : List Packet). NodeSteps (Acknowledges true false) (node v) (reply.Ok (done_with (what.Frame (command_of (meaning packet)) None))) (record (node v) { core = sent v.core; pushed = l })) (sym all)
     (node-pushes (node v) (meaning packet) is)))
 
+-- It is a node still.
 pub sent-is : (v : SecondaryView) (t : SecondaryState) (o p : OutgoingState) (packet : packets.Packet) → IsNode v → v.outgoing ≡ Some o → due v.core ≡ Ok (meaning packet) → t ≡ sent v.core
     → p.pushed ≡ o.pushed ++ meaning packet ∷ [] → p.partly ≡ None → p.number ≡ o.number → IsNode (record v { core = t; outgoing = Some p })
 sent-is v t o p packet is there owes same pushed whole number = record {

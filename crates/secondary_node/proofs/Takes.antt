@@ -6,7 +6,7 @@ use Rattle.blocks.specs.declared.outcome.Done.{Done}
 use Rattle.model.specs.Frames.{Packet, DataFrame, RsDataReplyFrame, BarrierFrame, ProtocolFrame, UuidsFrame, SizesFrame, SyncUuidFrame, Received}
 use Rattle.model.specs.LocalRuns.{Receives}
 use Rattle.endpoint.specs.Outgoing.{OutgoingState}
-use Rattle.blocks.specs.declared.refusal.Refusal.TheVariants.{BadCommand, BadField, NoMemory, NotConnected, NothingThere, OtherProtocol, OtherSize, PendingFull}
+use Rattle.blocks.specs.declared.refusal.Refusal.TheVariants.{NoMemory, NotConnected, NothingThere, OtherProtocol, OtherSize, PendingFull}
 use Rattle.blocks.specs.declared.outcome.What.{What}
 use Rattle.blocks.specs.declared.outcome.What.TheVariants as what
 use Rattle.blocks.specs.declared.command.Command.TheVariants as command
@@ -14,6 +14,8 @@ use Rattle.model.specs.Acknowledgements.{same_protocol}
 use Rattle.std.specs.Prelude.{is_none, is_some, if◌then◌else◌, IfSome}
 use Rattle.std.specs.Option.{option_map}
 use Rattle.model.specs.Refusals.{first_refusal}
+use Rattle.packets.specs.declared.packet.Packet as packets
+use Rattle.endpoint.specs.Meaning.{received}
 use Rattle.endpoint.specs.Calls.{Takes, TookOne, is_starved}
 use Rattle.secondary_node.specs.Calls.{ReceivesOne}
 use Rattle.endpoint.specs.Incoming.{IncomingState, with_received, SameRow}
@@ -24,7 +26,6 @@ use Rattle.secondary_steps.proofs.Node.Calls.{node-takes, node-may-not, node-sta
 use Rattle.secondary_steps.proofs.Node.Numbers.{takes-number}
 use Rattle.secondary_steps.proofs.Node.Runs.{node-had}
 use Rattle.secondary_node.specs.State.{SecondaryView, node, taken_of, IsNode, IsBegun, IsDue, IsNumbered}
-use Rattle.secondary_node.proofs.Kept.{numbered-same}
 
 -- The frame of the link is the node's step.
 pub takes-steps : (v : SecondaryView) (r t : SecondaryState) (i j : IncomingState) (frame : Received) (result : Result Done Refusal) → IsNode v → v.incoming ≡ Some i → may_take v.core ≡ Ok tt → r ≡ v.core
@@ -35,6 +36,7 @@ takes-steps v r t i j frame result node_is there may same is taken =
     subst (λ (l : List Received). NodeSteps (Receives (Some frame) false) (node v) (replied (λ done. done) result) (record (node v) { core = t; taken = l })) (sym all)
     (node-takes (node v) frame result t may here)
 
+-- It is a node still.
 pub takes-is : (v : SecondaryView) (r t : SecondaryState) (i j : IncomingState) (frame : Received) (result : Result Done Refusal) → IsNode v → v.incoming ≡ Some i → may_take v.core ≡ Ok tt → r ≡ v.core
     → (result, t) ≡ take_at frame r.end r → j.taken ≡ i.taken ++ frame ∷ [] → j.number ≡ i.number → IsNode (record v { core = t; incoming = Some j })
 takes-is v r t i j frame result is there may same takes taken number = record {
@@ -150,6 +152,11 @@ some-there frame s result t may other is none = go s.end (may-open s may) (sym n
 some-queued : (v : Option (List (List ℕ))) → IfSome v (λ frames. (false ≡ true) ↔ (frames ≡ [])) → IfSome v (λ frames. frames ≡ [] → ⊥)
 some-queued None exact = tt
 some-queued (Some frames) exact = λ is. absurd (both_ways false refl (exact.1 is))
+
+-- what was read is received as no more than its fault
+pub not-none : (read : Result packets.Packet Refusal) → (read ≡ Err NothingThere → ⊥) → received read ≡ Err NothingThere → ⊥
+not-none (Ok p) some is = absurd (cc)
+not-none (Err e) some is = some (let one : e ≡ NothingThere = cc in ap Err one)
 
 -- A frame was taken, the next of the link.
 pub takes-one : (v : SecondaryView) (r t : SecondaryState) (i k j : IncomingState) (frame : Received) (result : Result Done Refusal) → IsNode v → v.incoming ≡ Some i → may_take v.core ≡ Ok tt → r ≡ v.core

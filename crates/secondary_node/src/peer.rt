@@ -55,14 +55,14 @@ impl<O: FrameOut + Drop, I: FrameIn + Drop> SecondaryNode<O, I, FaultStore> {
           steady = self.new.steady;
         } }
     {
-        let item = self.core.start(place)?;
-        if kept > item.range().count {
+        let failing = self.core.start(place)?;
+        if kept > failing.range().count {
             return Err(Refusal::BadRange);
         }
         self.store.arm(kept);
         let _ = self
             .store
-            .write(item.range(), item.contents().as_slice());
+            .write(failing.range(), failing.contents().as_slice());
         self.core.failed(place);
         Ok(Done::about(What::Nothing))
     }

@@ -1,8 +1,8 @@
 -- Of what a secondary took on a connection no two items of one epoch share a block.
-use Rattle.std.proofs.Common.{ℕ, zero, suc, ◌+◌, ◌-◌, ◌≡◌, ◌<◌, ◌≤◌, ◌⊎◌, inl, inr, Bool, true, false, not, ◌&&◌, List, [], ◌∷◌, ◌++◌, length, map, Option, Some, None, slice_get, Ok, Err, refl, sym, ◌∙◌, ap, subst, arith, ◌==◌, nat_lt, nat_le}
-use Rattle.std.specs.Prelude.{is_none, filter}
+use Rattle.std.proofs.Common.{ℕ, ◌+◌, ◌-◌, ◌≡◌, ◌<◌, ◌⊎◌, inl, inr, Bool, true, false, ◌&&◌, List, [], ◌∷◌, ◌++◌, length, map, Option, Some, None, slice_get, Ok, Err, refl, sym, ◌∙◌, ap, subst, arith, ◌==◌, nat_lt, nat_le}
+use Rattle.std.specs.Prelude.{is_none}
 use Rattle.std.specs.List.{list_any}
-use Rattle.std.proofs.lemmas.Bool.{cases_Bool, both_ways, eq-eqb, false_from_ne_true, ltb-true, not-true}
+use Rattle.std.proofs.lemmas.Bool.{both_ways, eq-eqb, false_from_ne_true, ltb-true, not-true}
 use Rattle.std.proofs.lemmas.Option.{slice_get_within}
 use Rattle.blocks.specs.declared.refusal.Refusal.{Refusal}
 use Rattle.blocks.specs.declared.refusal.Refusal.TheVariants.{BadCommand, BadField, NotConnected, PendingFull, NoMemory, NothingThere}
@@ -14,12 +14,12 @@ use Rattle.blocks.specs.declared.outcome.Reply.TheVariants as reply
 use Rattle.model.specs.Contents.{is_range}
 use Rattle.model.specs.Stream.{Item, WriteItem, ResyncItem, BarrierItem, SyncUuidItem, UuidsItem, contents_of, items_meet, items_of_epoch, epoch_of, last_epoch, placed, below}
 use Rattle.model.specs.Frames.{Packet, DataFrame, RsDataReplyFrame, BarrierFrame, UuidsFrame, SyncUuidFrame, Received}
-use Rattle.model.specs.Refusals.{Test, done_with}
+use Rattle.model.specs.Refusals.{Test}
 use Rattle.model.specs.Primary.{last_of, change_last}
 use Rattle.model.specs.Secondary.{Inward, SecondaryHistory, secondary_opening, inward, no_inward, with_inward, items_taken, received_item, is_in_resync, pending}
-use Rattle.model.specs.SecondarySteps.{Checked, has_place, is_above, is_apart, checked_if, checking, checking_hello, checking_item, receiving, adopting, take_item, receive, succeeding_secondary, opened_secondary, next_number, answering, barrier_answer, barriers_to_answer, applying, applied_answer, offsets_at, failing}
+use Rattle.model.specs.SecondarySteps.{Checked, has_place, is_above, is_apart, checked_if, checking, checking_hello, checking_item, adopting, take_item, receive, succeeding_secondary, opened_secondary, answering, barrier_answer, barriers_to_answer, applying, applied_answer, offsets_at, failing}
 use Rattle.model.specs.LocalRuns.{SecondaryEvent, OpensToo, Receives, Applies, FailsToApply, Acknowledges, ClosesToo, secondary_after, secondary_run}
-use Rattle.laws.proofs.Lists.Elements.{get-more, append-one}
+use Rattle.laws.proofs.Lists.Elements.{get-more}
 use Rattle.laws.proofs.Lists.Last.{change-twice, last-change, last-more}
 use Rattle.laws.proofs.Lists.Picks.{any-filtered}
 use Rattle.laws.proofs.Lists.Each.{each-get}
@@ -32,7 +32,6 @@ use Rattle.laws.proofs.Streams.Lawful.{epoch-end, meets-none}
 use Rattle.laws.proofs.Streams.Places.{epoch-grows, placed-at}
 use Rattle.secondary_steps.specs.Node.{IsReached}
 use Rattle.secondary_steps.proofs.Judged.{early-items}
-use Rattle.secondary_steps.proofs.Tested.{inward-of, open-some}
 
 -- No two items of one epoch share a block.
 pub record AreApart (items : List Item) : Type 0 where
@@ -181,5 +180,6 @@ run-settled : (events : List SecondaryEvent) (h : SecondaryHistory) → IsSettle
 run-settled [] h is = is
 run-settled (event ∷ events) h is = run-settled events (secondary_after event h) (record { kept = kept-after event h is.kept; apart = apart-after event h is.kept is.apart })
 
+-- Each reached history is.
 pub reached-settled : (h : SecondaryHistory) → IsReached h → IsSettled h
 reached-settled h is = subst IsSettled (sym is.reached) (run-settled is.events (secondary_opening is.settings is.disk is.tuple) (record { kept = kept-opening is.settings is.disk is.tuple; apart = none-apart }))

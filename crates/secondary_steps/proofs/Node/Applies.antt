@@ -1,18 +1,17 @@
 -- A node's calls that change the disk are steps: it does an item, or fails it.
-use Rattle.std.proofs.Common.{ℕ, ◌≡◌, ◌-◌, ◌<◌, ◌≤◌, ◌⊎◌, inl, inr, Bool, true, false, List, [], ◌∷◌, ◌++◌, length, map, take, filter, Option, Some, None, Result, Ok, Err, slice_get, refl, sym, ◌∙◌, ap, subst, arith, nat_lt}
+use Rattle.std.proofs.Common.{ℕ, ◌≡◌, ◌-◌, ◌≤◌, inl, inr, Bool, true, false, List, [], ◌++◌, length, take, Option, Some, None, Result, Ok, Err, slice_get, refl, sym, ◌∙◌, ap, subst}
 use Rattle.std.specs.Prelude.{is_some}
 use Rattle.std.proofs.lemmas.Bool.{both_ways}
 use Rattle.std.proofs.lemmas.List.{append-nil}
 use Rattle.blocks.specs.declared.settings.Settings.{Settings}
 use Rattle.blocks.specs.declared.settings.Protocol.{Protocol}
 use Rattle.blocks.specs.declared.refusal.Refusal.{Refusal}
-use Rattle.blocks.specs.declared.outcome.Reply.{Reply}
 use Rattle.blocks.specs.declared.outcome.Reply.TheVariants as reply
 use Rattle.blocks.specs.declared.outcome.What.TheVariants as what
-use Rattle.model.specs.Stream.{Item, contents_of, first_of, epoch_of, below, within}
-use Rattle.model.specs.Frames.{Packet, Received}
+use Rattle.model.specs.Stream.{Item, contents_of, below, within}
+use Rattle.model.specs.Frames.{Packet}
 use Rattle.model.specs.Refusals.{done_with}
-use Rattle.model.specs.Secondary.{Inward, SecondaryHistory, inward, no_inward, with_inward, items_taken, pending, answers_due, map_of}
+use Rattle.model.specs.Secondary.{Inward, SecondaryHistory, inward, no_inward, with_inward, items_taken, answers_due, map_of}
 use Rattle.model.specs.SecondarySteps.{answering, applying, applied_answer, failing, offsets_at, blocks_at, is_pending_at, has_earlier}
 use Rattle.model.specs.SecondarySteps as step
 use Rattle.model.specs.LocalRuns.{Applies, FailsToApply}
@@ -24,7 +23,7 @@ use Rattle.laws.proofs.Secondary.Sound as sound
 use Rattle.secondary_steps.specs.Core.{EndState, SecondaryState, start, due, applied, peer, peer_fault}
 use Rattle.secondary_steps.specs.Core as core
 use Rattle.peerdisk.specs.Pending as peerdisk
-use Rattle.secondary_steps.specs.Leaves.{Leaves, EndLeft, pending_in}
+use Rattle.secondary_steps.specs.Leaves.{Leaves, EndLeft}
 use Rattle.secondary_steps.specs.Node.{NodeState, NodeHas, NodeIsHad, NodeSteps}
 use Rattle.secondary_steps.specs.Steps.{Agrees, plainly}
 use Rattle.secondary_steps.proofs.Node.Apart.{AreApart, IsSettled, reached-settled}
@@ -114,6 +113,7 @@ module _ (n : NodeState) (place : ℕ) (item : Item) (starts : start place n.cor
   done-grows : (h : SecondaryHistory) → NodeHas n h → Grows (inward h) (inward (step.peer place h).1)
   done-grows h has = subst (Grows (inward h)) (sym (done-last h has)) (grows-answering (inward h) (applying h.settings.protocol place (inward h)) (grows-applying h.settings.protocol place (inward h)))
 
+  -- that is the step
   pub node-applies : (disk : List (List ℕ)) → ((block : ℕ) → LaidAt item (below (length (contents_of item))) n.disk disk block)
       → NodeSteps (Applies place) n (reply.Ok (done_with what.Nothing)) (record n { core = applied place n.core; disk = disk })
   node-applies disk laid = record {
@@ -148,6 +148,7 @@ module _ (n : NodeState) (place : ℕ) (item : Item) (starts : start place n.cor
   failed-agrees offsets h left = subst (λ (r : Result Item Refusal). Agrees plainly (elim r as (λ _. Result (Unit {0}) Refusal × SecondaryState) [ Err refusal ↦ (Err refusal, n.core) | Ok item ↦ (Ok tt, core.failing place n.core) ]) (step.peer_fault place offsets h)) starts
       (faults-agree place offsets n.core h left)
 
+  -- that is the step
   pub node-fails : (offsets : List ℕ) (disk : List (List ℕ)) → ((block : ℕ) → LaidAt item (within (length (contents_of item)) offsets) n.disk disk block)
       → NodeSteps (FailsToApply place offsets) n (reply.Ok (done_with what.Nothing)) (record n { core = core.failing place n.core; disk = disk })
   node-fails offsets disk laid = record {

@@ -1,5 +1,5 @@
 -- A node whose disk fails an item after so many blocks.
-use Rattle.std.proofs.Common.{ℕ, ◌≡◌, ◌<◌, ◌≤◌, ◌⊎◌, inl, inr, Bool, true, false, not, List, [], ◌∷◌, ◌++◌, length, map, Option, Some, None, Result, Ok, Err, slice_get, refl, sym, ◌∙◌, ap, subst, arith, nat_lt}
+use Rattle.std.proofs.Common.{ℕ, ◌≡◌, ◌<◌, ◌≤◌, inl, inr, Bool, false, not, List, [], ◌∷◌, ◌++◌, length, map, Option, Some, None, Ok, Err, slice_get, sym, ◌∙◌, ap, subst}
 use Rattle.std.specs.Prelude.{option_map}
 use Rattle.std.proofs.lemmas.Bool.{le-ltb, lt-ltb}
 use Rattle.blocks.specs.declared.refusal.Refusal.{Refusal}
@@ -11,13 +11,13 @@ use Rattle.model.specs.Pair.{keeps_too_many, peer_fault_kept}
 use Rattle.model.specs.Refusals.{Test, first_refusal, done_with}
 use Rattle.model.specs.Stream.{Item, contents_of, below, within}
 use Rattle.model.specs.Secondary.{SecondaryHistory, inward, items_taken, pending}
-use Rattle.model.specs.SecondarySteps.{is_pending_at, has_earlier, peer_fault, peer_tests}
-use Rattle.secondary_steps.specs.Core.{SecondaryState, failing, start}
+use Rattle.model.specs.SecondarySteps.{has_earlier, peer_fault, peer_tests}
+use Rattle.secondary_steps.specs.Core.{failing, start}
 use Rattle.secondary_steps.specs.Leaves.{pending_in}
 use Rattle.secondary_steps.specs.Node.{NodeState, NodeHas, IsStep}
 use Rattle.secondary_steps.proofs.Node.Applies.{node-fails}
 use Rattle.secondary_steps.proofs.Node.Laid.{LaidAt}
-use Rattle.secondary_steps.proofs.Starting.{MayStart, MayNot, starting}
+use Rattle.secondary_steps.proofs.Starting.{starting}
 use Rattle.secondary_steps.proofs.Steps.Peers.{tests-pass}
 use Rattle.peerdisk.specs.Pending as peerdisk
 

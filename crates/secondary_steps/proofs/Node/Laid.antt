@@ -1,11 +1,11 @@
 -- The disk after blocks of an item that may be applied were written, whole or in part: what the connection has with them.
-use Rattle.std.proofs.Common.{ℕ, zero, suc, ◌≡◌, ◌+◌, ◌-◌, ◌<◌, ◌≤◌, ◌⊎◌, inl, inr, Bool, true, false, cond, not, ◌&&◌, ◌||◌, List, [], ◌∷◌, ◌++◌, length, take, Option, Some, None, slice_get, refl, sym, ◌∙◌, ap, subst, arith, ◌==◌, nat_lt, nat_le}
+use Rattle.std.proofs.Common.{ℕ, zero, suc, ◌≡◌, ◌+◌, ◌-◌, ◌<◌, ◌≤◌, ◌⊎◌, inl, inr, Bool, true, false, cond, ◌&&◌, ◌||◌, List, [], ◌∷◌, ◌++◌, length, take, Some, None, slice_get, refl, sym, ◌∙◌, ap, subst, arith, ◌==◌, nat_lt, nat_le}
 use Rattle.std.specs.Prelude.{filter}
 use Rattle.std.specs.List.{list_any}
-use Rattle.std.proofs.lemmas.Bool.{cases_Bool, cases_lt, both_ways, eq-eqb, eqb-true, false_from_ne_true, lt-ltb, le-leb, ltb-true, or_cases, or_right, and_from}
+use Rattle.std.proofs.lemmas.Bool.{cases_Bool, cases_lt, both_ways, eq-eqb, eqb-true, false_from_ne_true, lt-ltb, le-leb, or_cases, or_right, and_from}
 use Rattle.std.proofs.lemmas.Option.{slice_get_past, slice_get_cases}
 use Rattle.blocks.specs.Contents.{overwritten, IsTorn}
-use Rattle.model.specs.Contents.{BlockMap, overlay, is_between}
+use Rattle.model.specs.Contents.{overlay, is_between}
 use Rattle.model.specs.Stream.{Item, Part, is_in, is_barrier, barriers_in, epoch_of, first_of, contents_of, items_meet, layers_from, below, within}
 use Rattle.model.specs.Secondary.{Inward, items_taken, map_of}
 use Rattle.model.specs.SecondarySteps.{offsets_at}
@@ -78,7 +78,7 @@ laid-map c place item s start apart there offsets device new same laid block = e
     is-laid listed =
         let here : 0 + place ≡ place = omega arith in
         subst (λ (n : ℕ). is_in part n (block - first_of item) ≡ true) (sym here) (in-append c.applied (offsets_at place offsets) place (block - first_of item)
-            ∙ or_right (is_in c.applied place (block - first_of item)) (is_in (offsets_at place offsets) place (block - first_of item)) (in-has place offsets (block - first_of item) ∙ listed))
+        ∙ or_right (is_in c.applied place (block - first_of item)) (is_in (offsets_at place offsets) place (block - first_of item)) (in-has place offsets (block - first_of item) ∙ listed))
 
     none-later : (n : ℕ) (one : Item) → place < n → slice_get items n ≡ Some one → touches item block ≡ true → touches one block ≡ true → is_in part (0 + n) (block - first_of one) ≡ false
     none-later n one less at touched also = false_from_ne_true (is_in part (0 + n) (block - first_of one)) (λ inside.
@@ -97,12 +97,12 @@ laid-map c place item s start apart there offsets device new same laid block = e
     not-new : (n : ℕ) (one : Item) → slice_get items n ≡ Some one → touches one block ≡ true → (touches item block ≡ true → has offsets (block - first_of item) ≡ false) → is_in part (0 + n) (block - first_of one) ≡ is_in c.applied (0 + n) (block - first_of one)
     not-new n one at touched bare =
         let none : is_in (offsets_at place offsets) (0 + n) (block - first_of one) ≡ false = false_from_ne_true (is_in (offsets_at place offsets) (0 + n) (block - first_of one)) (λ inside.
-            let equal : place ≡ n = let is = in-offsets place offsets (0 + n) (block - first_of one) inside in omega arith in
-            let is : one ≡ item = same-at items place one item (subst (λ (k : ℕ). slice_get items k ≡ Some one) (sym equal) at) there in
-            let here : 0 + n ≡ place = omega arith in
-            let listed : has offsets (block - first_of item) ≡ true = sym (in-has place offsets (block - first_of item)) ∙ subst (λ (x : Item). is_in (offsets_at place offsets) place (block - first_of x) ≡ true) is
-            (subst (λ (k : ℕ). is_in (offsets_at place offsets) k (block - first_of one) ≡ true) here inside) in
-            both_ways (has offsets (block - first_of item)) (bare (subst (λ (x : Item). touches x block ≡ true) is touched)) listed) in
+        let equal : place ≡ n = let is = in-offsets place offsets (0 + n) (block - first_of one) inside in omega arith in
+        let is : one ≡ item = same-at items place one item (subst (λ (k : ℕ). slice_get items k ≡ Some one) (sym equal) at) there in
+        let here : 0 + n ≡ place = omega arith in
+        let listed : has offsets (block - first_of item) ≡ true = sym (in-has place offsets (block - first_of item)) ∙ subst (λ (x : Item). is_in (offsets_at place offsets) place (block - first_of x) ≡ true) is
+        (subst (λ (k : ℕ). is_in (offsets_at place offsets) k (block - first_of one) ≡ true) here inside) in
+        both_ways (has offsets (block - first_of item)) (bare (subst (λ (x : Item). touches x block ≡ true) is touched)) listed) in
         in-append c.applied (offsets_at place offsets) (0 + n) (block - first_of one) ∙ (ap (λ b. is_in c.applied (0 + n) (block - first_of one) || b) none ∙ or-false (is_in c.applied (0 + n) (block - first_of one)))
       where
         or-false : (b : Bool) → (b || false) ≡ b
@@ -206,6 +206,7 @@ module _ (item : Item) (device : List (List ℕ)) (inside : first_of item + leng
         let passed = pick-filtered (λ (x : ℕ). is_new (is.each (first + x))) (below size) among.0 found.1 among.1 in
         both_ways (is_new (is.each (first + o))) old (subst (λ (k : ℕ). is_new (is.each (first + k)) ≡ true) (eqb-true found.1 o found.3) passed.2))
 
+    -- what each block holds then
     pub torn-laid : (block : ℕ) → LaidAt item (within size torn_offsets) device torn block
     torn-laid block = elim (cases_Bool (touches item block)) [
       | inl touched ↦

@@ -1,5 +1,5 @@
 -- A node's disk has the blocks of its device.
-use Rattle.std.proofs.Common.{ℕ, ◌≡◌, ◌<◌, ◌≤◌, inl, inr, true, List, [], ◌∷◌, length, Some, None, slice_get, refl, sym, ◌∙◌, ap, subst, arith}
+use Rattle.std.proofs.Common.{ℕ, ◌≡◌, ◌<◌, ◌≤◌, inl, inr, true, List, [], ◌∷◌, length, None, slice_get, refl, sym, ◌∙◌, ap, subst, arith}
 use Rattle.std.specs.Prelude.{is_some}
 use Rattle.std.proofs.lemmas.Bool.{cases_lt, lt-ltb}
 use Rattle.std.proofs.lemmas.Option.{slice_get_past}
@@ -59,6 +59,7 @@ some-block h is block less =
     let opening : is_some (h.opening_map block) ≡ true = ap (λ (m : BlockMap). is_some (m block)) same.opening ∙ (is.sized block ∙ lt-ltb block is.settings.blocks (omega (arith, blocks))) in
     ap is_some (last-disk (no_inward h) h.connections block) ∙ some-after h.opening_map h.connections block (reached-settled h is).kept.chained opening
 
+-- The disk of a node is as long as that.
 pub disk-long : (n : NodeState) → NodeIsHad n → n.core.settings.blocks ≤ length n.disk
 disk-long n had = elim (cases_lt (length n.disk) n.core.settings.blocks) [
   | inr long ↦ long

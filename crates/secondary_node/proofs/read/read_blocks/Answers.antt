@@ -1,5 +1,4 @@
-use Rattle.std.proofs.Common.{◌≡◌, ◌∙◌, ◌+◌, ◌<◌, ◌/◌, ◌*◌, length, slice_get, refl, ap, sym, subst, arith, rules}
-use Rattle.std.proofs.lemmas.Bool.Decides.{nat_tests}
+use Rattle.std.proofs.Common.{◌≡◌, ◌∙◌, ◌+◌, ◌<◌, ◌/◌, ◌*◌, length, slice_get, refl, ap, sym, arith}
 use Rattle.secondary_node.proofs.Buffers.{none-read, read-more}
 use Rattle.secondary_node.proofs.read.read_blocks.Goals as goal
 

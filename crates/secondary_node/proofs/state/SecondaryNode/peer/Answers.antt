@@ -1,4 +1,4 @@
-use Rattle.std.proofs.Common.{◌≡◌, ◌∙◌, ◌+◌, ◌≤◌, length, Err, rules, ap, sym, subst, arith}
+use Rattle.std.proofs.Common.{◌≡◌, ◌∙◌, ◌+◌, ◌≤◌, length, Err, rules, ap, arith}
 use Rattle.blocks.specs.Contents.{blocks_of}
 use Rattle.model.specs.Stream.{contents_of, first_of}
 use Rattle.secondary_node.proofs.Applies.{done-is, done-one, failed-is, failed-one, not-started-one, on-disk}

@@ -1,4 +1,4 @@
-use Rattle.std.proofs.Common.{◌≡◌, ◌+◌, ◌*◌, ◌/◌, ◌≤◌, length, ap, arith, rules}
+use Rattle.std.proofs.Common.{◌≡◌, ◌*◌, ◌≤◌, length, ap, arith, rules}
 use Rattle.secondary_steps.proofs.Node.Sized.{disk-long}
 use Rattle.secondary_node.proofs.state.SecondaryNode.read.Goals as goal
 
@@ -11,4 +11,3 @@ read_blocks-requires-clause-inside g c =
     let size : length c.deref_mut.result.now ≡ c.in_ok-range.range.count * 4096 = search rules in
     let blocks : c.settings.result.blocks ≡ c.self.inside.core.state.settings.blocks = ap (λ s. s.blocks) c.settings.ensures in
     omega (arith, long, device, first, count, size, blocks)
-

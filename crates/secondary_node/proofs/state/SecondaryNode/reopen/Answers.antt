@@ -1,4 +1,4 @@
-use Rattle.std.proofs.Common.{◌≡◌, ◌∙◌, ◌+◌, ◌-◌, ◌<◌, ◌≤◌, suc, Err, sym, ap, subst, arith, rules}
+use Rattle.std.proofs.Common.{◌≡◌, ◌<◌, ◌≤◌, Err, sym, ap, subst, arith, rules}
 use Rattle.secondary_node.proofs.Opens.{after-unseen, not-opened-is, not-opened-steps, opened-is, opened-steps}
 use Rattle.secondary_node.proofs.state.SecondaryNode.reopen.Goals as goal
 

@@ -1,0 +1,49 @@
+-- What a step keeps of a pair: the settings, and so how much the link holds.
+use Rattle.std.proofs.Common.{ℕ, ◌≡◌, Bool, refl, sym, ◌∙◌, ap, subst}
+use Rattle.blocks.specs.declared.outcome.Reply.{Reply}
+use Rattle.blocks.specs.declared.settings.Settings.{Settings}
+use Rattle.model.specs.Pair.{Event, PairHistory, step, run}
+use Rattle.model.specs.Theorems.{Opening}
+use Rattle.laws.proofs.Headlines.{every_run_is_joined}
+use Rattle.laws.proofs.Joining.Openings.{HasOpening, HasOpeningToo, kept-opening-primary, kept-opening-secondary}
+use Rattle.pair_steps.specs.State.{Direction, IsDirection, IsPair, IsPairStep, IsRun, PairHas, PairState}
+use Rattle.pair_steps.proofs.Stepping.{is-run-more, same-opening}
+
+-- a run keeps the settings of its opening
+here-kept : (h : PairHistory) (is : IsRun h) → h.primary.settings ≡ is.opening.settings
+here-kept h is =
+    let runs = every_run_is_joined is.opening is.events in
+    (subst (λ (x : PairHistory). HasOpening is.opening x.primary) is.is (subst (HasOpening is.opening) (sym runs.primary) (kept-opening-primary is.opening runs.here))).settings
+
+there-kept : (h : PairHistory) (is : IsRun h) → h.secondary.settings ≡ is.opening.peer_settings
+there-kept h is =
+    let runs = every_run_is_joined is.opening is.events in
+    (subst (λ (x : PairHistory). HasOpeningToo is.opening x.secondary) is.is (subst (HasOpeningToo is.opening) (sym runs.secondary) (kept-opening-secondary is.opening runs.there))).settings
+
+-- Some history is had after a step, where both directions are as they are between two calls.
+pub pair-kept : (event : Event) (starved : Bool) (p q : PairState) (said : Reply) → IsPair p → IsPairStep event starved p said q → IsDirection p.primary.settings.link q.there → IsDirection p.secondary.settings.link q.back → IsPair q
+pair-kept event starved p q said was steps there back = record {
+  history = (step event starved h).1;
+  has = after;
+  there = subst (λ (s : Settings). IsDirection s.link q.there) here there;
+  back = subst (λ (s : Settings). IsDirection s.link q.back) over back;
+}
+  where
+    h : PairHistory
+    h = was.history
+
+    after : PairHas q (step event starved h).1
+    after = steps.after h was.has
+
+    here : p.primary.settings ≡ q.primary.settings
+    here = was.has.primary.leaves.core.rest.settings ∙ here-kept h was.has.run ∙ sym (ap (λ (o : Opening). o.settings) (same-opening event starved h was.has.run)) ∙ sym (here-kept (step event starved h).1 (is-run-more event starved h was.has.run)) ∙ sym after.primary.leaves.core.rest.settings
+
+    over : p.secondary.settings ≡ q.secondary.settings
+    over = was.has.secondary.leaves.core.settings ∙ there-kept h was.has.run ∙ sym (ap (λ (o : Opening). o.peer_settings) (same-opening event starved h was.has.run)) ∙ sym (there-kept (step event starved h).1 (is-run-more event starved h was.has.run)) ∙ sym after.secondary.leaves.core.settings
+
+-- both nodes have the same settings
+pub same-settings : (p : PairState) (h : PairHistory) → PairHas p h → p.secondary.settings ≡ h.primary.settings
+same-settings p h has = has.secondary.leaves.core.settings ∙ there-kept h has.run ∙ has.run.shares ∙ sym (here-kept h has.run)
+
+pub own-settings : (p : PairState) (h : PairHistory) → PairHas p h → p.primary.settings ≡ h.primary.settings
+own-settings p h has = has.primary.leaves.core.rest.settings
