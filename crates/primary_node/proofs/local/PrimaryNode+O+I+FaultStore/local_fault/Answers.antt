@@ -5,11 +5,8 @@ use Rattle.transferlog.specs.Ring.{write_at}
 use Rattle.transferlog.specs.Writes.{LogWrite}
 use Rattle.transferlog.specs.declared.local.Local.TheVariants.{Waiting}
 use Rattle.primary_node.specs.State.{PrimaryView}
-use Rattle.primary_node.proofs.Writing.{IsWhole, armed-write, inside-disk, kept-blocks-is, kept-steps, steady-written, too-many, unknown-fault}
+use Rattle.primary_node.proofs.Writing.{armed-write, inside-disk, kept-blocks-is, kept-steps, steady-written, too-many, unknown-fault}
 use Rattle.primary_node.proofs.local.PrimaryNode+O+I+FaultStore.local_fault.Goals as goal
-
-whole : (v : PrimaryView) (number : ℕ) (w : LogWrite) (job : (write_at number v.core.log.writes ≡ Some w) × (w.local ≡ Waiting)) → IsWhole v number w job
-whole v number w job h has = ?
 
 pub returns-in_err-write-clause-step : goal.returns-in_err-write-clause-step
 returns-in_err-write-clause-step g c =
@@ -60,9 +57,10 @@ invariant_of-self g c =
       faults = c.self.inside.store.faults;
       steady = is_steady c.self.inside.store;
     } in
-    let bytes : c.deref.result.now ≡ c.in_ok-write.write.now.contents = search rules in
+    let bytes : c.deref.result.now ≡ c.contents.result.now = search rules in
+    let blocks : blocks_of 4096 c.deref.result.now ≡ c.in_ok-write.write.now.blocks = ap (blocks_of 4096) bytes ∙ c.contents.ensures.blocks in
     let after = armed-write c.self.inside.store c.arm.new.self c.write.new.self c.args.kept c.range-2.result.first.0 (blocks_of 4096 c.deref.result.now) c.arm.ensures c.write.ensures.after in
-    kept-blocks-is v c.args.number c.in_ok-write.write.now c.in_ok-write.ensures.write (whole v c.args.number c.in_ok-write.write.now c.in_ok-write.ensures.write) _ c.local_failed.new.self.state c.write.new.self.disk c.write.new.self.faults (is_steady c.write.new.self) c.self.invariant c.args.kept c.local_failed.ensures (ap (λ (s : FaultState). s.disk) after ∙ (λ i. overwritten c.self.inside.store.disk (c.range-2.ensures.first i) (take c.args.kept (blocks_of 4096 (bytes i)))))
+    kept-blocks-is v c.args.number c.in_ok-write.write.now c.in_ok-write.ensures.write _ c.local_failed.new.self.state c.write.new.self.disk c.write.new.self.faults (is_steady c.write.new.self) c.self.invariant c.args.kept c.local_failed.ensures (ap (λ (s : FaultState). s.disk) after ∙ (λ i. overwritten c.self.inside.store.disk (c.range-2.ensures.first i) (take c.args.kept (blocks i))))
 
 pub returns-clause-step : goal.returns-clause-step
 returns-clause-step g c =
@@ -74,7 +72,8 @@ returns-clause-step g c =
       faults = c.self.inside.store.faults;
       steady = is_steady c.self.inside.store;
     } in
-    let bytes : c.deref.result.now ≡ c.in_ok-write.write.now.contents = search rules in
+    let bytes : c.deref.result.now ≡ c.contents.result.now = search rules in
+    let blocks : blocks_of 4096 c.deref.result.now ≡ c.in_ok-write.write.now.blocks = ap (blocks_of 4096) bytes ∙ c.contents.ensures.blocks in
     let after = armed-write c.self.inside.store c.arm.new.self c.write.new.self c.args.kept c.range-2.result.first.0 (blocks_of 4096 c.deref.result.now) c.arm.ensures c.write.ensures.after in
     let few : c.args.kept ≤ c.in_ok-write.write.now.count = subst (λ n. c.args.kept ≤ n) c.range.ensures.count c.if-kept-range.false in
-    rw (← c.self.view_is) (kept-steps v c.args.number c.in_ok-write.write.now c.in_ok-write.ensures.write (whole v c.args.number c.in_ok-write.write.now c.in_ok-write.ensures.write) _ c.local_failed.new.self.state c.write.new.self.disk c.write.new.self.faults (is_steady c.write.new.self) c.args.kept few c.local_failed.ensures (ap (λ (s : FaultState). s.disk) after ∙ (λ i. overwritten c.self.inside.store.disk (c.range-2.ensures.first i) (take c.args.kept (blocks_of 4096 (bytes i))))))
+    rw (← c.self.view_is) (kept-steps v c.args.number c.in_ok-write.write.now c.in_ok-write.ensures.write _ c.local_failed.new.self.state c.write.new.self.disk c.write.new.self.faults (is_steady c.write.new.self) c.args.kept few c.local_failed.ensures (ap (λ (s : FaultState). s.disk) after ∙ (λ i. overwritten c.self.inside.store.disk (c.range-2.ensures.first i) (take c.args.kept (blocks i)))))

@@ -4,11 +4,8 @@ use Rattle.transferlog.specs.Ring.{write_at}
 use Rattle.transferlog.specs.Writes.{LogWrite}
 use Rattle.transferlog.specs.declared.local.Local.TheVariants.{Waiting}
 use Rattle.primary_node.specs.State.{PrimaryView}
-use Rattle.primary_node.proofs.Writing.{IsWhole, failed-is, failed-steps, inside-disk, unknown-job, wrote-is, wrote-steps}
+use Rattle.primary_node.proofs.Writing.{failed-is, failed-steps, inside-disk, unknown-job, wrote-is, wrote-steps}
 use Rattle.primary_node.proofs.state.PrimaryNode.local.Goals as goal
-
-whole : (v : PrimaryView) (number : ℕ) (w : LogWrite) (job : (write_at number v.core.log.writes ≡ Some w) × (w.local ≡ Waiting)) → IsWhole v number w job
-whole v number w job h has = ?
 
 pub returns-in_err-write-clause-step : goal.returns-in_err-write-clause-step
 returns-in_err-write-clause-step g c =
@@ -45,8 +42,9 @@ invariant_of-self g c =
       faults = g.S.Store.faults c.self.inside.store;
       steady = g.S.Store.steady c.self.inside.store;
     } in
-    let bytes : c.deref.result.now ≡ c.in_ok-write.write.now.contents = search rules in
-    wrote-is v c.args.number c.in_ok-write.write.now c.in_ok-write.ensures.write (whole v c.args.number c.in_ok-write.write.now c.in_ok-write.ensures.write) _ c.local_done.new.self.state (g.S.Store.contents c.write.new.self) (g.S.Store.faults c.write.new.self) (g.S.Store.steady c.write.new.self) c.self.invariant c.local_done.ensures (c.in-Ok.ensures.written ∙ (λ i. overwritten (g.S.Store.contents c.self.inside.store) (c.range.ensures.first i) (blocks_of 4096 (bytes i))))
+    let bytes : c.deref.result.now ≡ c.contents.result.now = search rules in
+    let blocks : blocks_of 4096 c.deref.result.now ≡ c.in_ok-write.write.now.blocks = ap (blocks_of 4096) bytes ∙ c.contents.ensures.blocks in
+    wrote-is v c.args.number c.in_ok-write.write.now c.in_ok-write.ensures.write _ c.local_done.new.self.state (g.S.Store.contents c.write.new.self) (g.S.Store.faults c.write.new.self) (g.S.Store.steady c.write.new.self) c.self.invariant c.local_done.ensures (c.in-Ok.ensures.written ∙ (λ i. overwritten (g.S.Store.contents c.self.inside.store) (c.range.ensures.first i) (blocks i)))
 
 pub invariant_of-self-in-Err : goal.invariant_of-self-in-Err
 invariant_of-self-in-Err g c =
@@ -58,9 +56,10 @@ invariant_of-self-in-Err g c =
       faults = g.S.Store.faults c.self.inside.store;
       steady = g.S.Store.steady c.self.inside.store;
     } in
-    let bytes : c.deref.result.now ≡ c.in_ok-write.write.now.contents = search rules in
-    failed-is v c.args.number c.in_ok-write.write.now c.in_ok-write.ensures.write (whole v c.args.number c.in_ok-write.write.now c.in_ok-write.ensures.write) _ c.local_failed.new.self.state (g.S.Store.contents c.write.new.self) (g.S.Store.faults c.write.new.self) (g.S.Store.steady c.write.new.self) c.self.invariant c.local_failed.ensures
-    (subst (λ (n : ℕ). IsTorn v.disk n (blocks_of 4096 c.in_ok-write.write.now.contents) (g.S.Store.contents c.write.new.self)) c.range.ensures.first (subst (λ (l : List ℕ). IsTorn v.disk c.range.result.first.0 (blocks_of 4096 l) (g.S.Store.contents c.write.new.self)) bytes c.in-Err.ensures.torn))
+    let bytes : c.deref.result.now ≡ c.contents.result.now = search rules in
+    let blocks : blocks_of 4096 c.deref.result.now ≡ c.in_ok-write.write.now.blocks = ap (blocks_of 4096) bytes ∙ c.contents.ensures.blocks in
+    failed-is v c.args.number c.in_ok-write.write.now c.in_ok-write.ensures.write _ c.local_failed.new.self.state (g.S.Store.contents c.write.new.self) (g.S.Store.faults c.write.new.self) (g.S.Store.steady c.write.new.self) c.self.invariant c.local_failed.ensures
+    (subst (λ (n : ℕ). IsTorn v.disk n c.in_ok-write.write.now.blocks (g.S.Store.contents c.write.new.self)) c.range.ensures.first (subst (λ (l : List (List ℕ)). IsTorn v.disk c.range.result.first.0 l (g.S.Store.contents c.write.new.self)) blocks c.in-Err.ensures.torn))
 
 pub returns-in-Ok-clause-step : goal.returns-in-Ok-clause-step
 returns-in-Ok-clause-step g c =
@@ -72,8 +71,9 @@ returns-in-Ok-clause-step g c =
       faults = g.S.Store.faults c.self.inside.store;
       steady = g.S.Store.steady c.self.inside.store;
     } in
-    let bytes : c.deref.result.now ≡ c.in_ok-write.write.now.contents = search rules in
-    rw (← c.self.view_is) (wrote-steps v c.args.number c.in_ok-write.write.now c.in_ok-write.ensures.write (whole v c.args.number c.in_ok-write.write.now c.in_ok-write.ensures.write) _ c.local_done.new.self.state (g.S.Store.contents c.write.new.self) (g.S.Store.faults c.write.new.self) (g.S.Store.steady c.write.new.self) c.local_done.ensures (c.in-Ok.ensures.written ∙ (λ i. overwritten (g.S.Store.contents c.self.inside.store) (c.range.ensures.first i) (blocks_of 4096 (bytes i)))) c.in-Ok.ensures.uncounted)
+    let bytes : c.deref.result.now ≡ c.contents.result.now = search rules in
+    let blocks : blocks_of 4096 c.deref.result.now ≡ c.in_ok-write.write.now.blocks = ap (blocks_of 4096) bytes ∙ c.contents.ensures.blocks in
+    rw (← c.self.view_is) (wrote-steps v c.args.number c.in_ok-write.write.now c.in_ok-write.ensures.write _ c.local_done.new.self.state (g.S.Store.contents c.write.new.self) (g.S.Store.faults c.write.new.self) (g.S.Store.steady c.write.new.self) c.local_done.ensures (c.in-Ok.ensures.written ∙ (λ i. overwritten (g.S.Store.contents c.self.inside.store) (c.range.ensures.first i) (blocks i))) c.in-Ok.ensures.uncounted)
 
 pub returns-in-Err-clause-step : goal.returns-in-Err-clause-step
 returns-in-Err-clause-step g c =
@@ -85,6 +85,7 @@ returns-in-Err-clause-step g c =
       faults = g.S.Store.faults c.self.inside.store;
       steady = g.S.Store.steady c.self.inside.store;
     } in
-    let bytes : c.deref.result.now ≡ c.in_ok-write.write.now.contents = search rules in
-    rw (← c.self.view_is) (failed-steps v c.args.number c.in_ok-write.write.now c.in_ok-write.ensures.write (whole v c.args.number c.in_ok-write.write.now c.in_ok-write.ensures.write) _ c.local_failed.new.self.state (g.S.Store.contents c.write.new.self) (g.S.Store.faults c.write.new.self) (g.S.Store.steady c.write.new.self) c.local_failed.ensures
-    (subst (λ (n : ℕ). IsTorn v.disk n (blocks_of 4096 c.in_ok-write.write.now.contents) (g.S.Store.contents c.write.new.self)) c.range.ensures.first (subst (λ (l : List ℕ). IsTorn v.disk c.range.result.first.0 (blocks_of 4096 l) (g.S.Store.contents c.write.new.self)) bytes c.in-Err.ensures.torn)) c.in-Err.ensures.counted)
+    let bytes : c.deref.result.now ≡ c.contents.result.now = search rules in
+    let blocks : blocks_of 4096 c.deref.result.now ≡ c.in_ok-write.write.now.blocks = ap (blocks_of 4096) bytes ∙ c.contents.ensures.blocks in
+    rw (← c.self.view_is) (failed-steps v c.args.number c.in_ok-write.write.now c.in_ok-write.ensures.write _ c.local_failed.new.self.state (g.S.Store.contents c.write.new.self) (g.S.Store.faults c.write.new.self) (g.S.Store.steady c.write.new.self) c.local_failed.ensures
+    (subst (λ (n : ℕ). IsTorn v.disk n c.in_ok-write.write.now.blocks (g.S.Store.contents c.write.new.self)) c.range.ensures.first (subst (λ (l : List (List ℕ)). IsTorn v.disk c.range.result.first.0 l (g.S.Store.contents c.write.new.self)) blocks c.in-Err.ensures.torn)) c.in-Err.ensures.counted)
