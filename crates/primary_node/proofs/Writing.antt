@@ -2,7 +2,7 @@
 use Rattle.std.proofs.Common.{ℕ, ◌≡◌, ◌+◌, ◌*◌, ◌<◌, ◌≤◌, ◌||◌, ◌&&◌, inl, inr, Bool, true, false, not, List, length, take, Option, Some, None, Result, Ok, Err, slice_get, refl, sym, ◌∙◌, ap, subst, arith}
 use Rattle.std.specs.Prelude.{is_none}
 use Rattle.std.proofs.lemmas.Bool.{and_parts}
-use Rattle.blocks.specs.Contents.{blocks_of, overwritten, IsTorn}
+use Rattle.blocks.specs.Contents.{overwritten, IsTorn}
 use Rattle.blocks.specs.Faults.{FaultState, is_steady, written}
 use Rattle.blocks.specs.Ranges.{below}
 use Rattle.blocks.specs.declared.refusal.Refusal.{Refusal}
@@ -22,7 +22,6 @@ use Rattle.primary_steps.specs.Transitions.{is_unfinished, local_done, local_fau
 use Rattle.primary_steps.specs.Node.{IsStep, NodeHas, NodeSteps}
 use Rattle.primary_steps.specs.Steps.{replied}
 use Rattle.primary_steps.proofs.Node.Disk.{new_offsets}
-use Rattle.primary_steps.proofs.Node.Disks.{IsCut, the}
 use Rattle.primary_steps.proofs.Node.Writing.{fault-kept, fault-too-many, fault-unknown, failed-kept, node-failed, node-failed-after, node-unknown, node-wrote, failed-after-kept, write-inside, wrote-kept}
 use Rattle.primary_node.specs.Calls.{WritesOne}
 use Rattle.primary_node.specs.State.{PrimaryView, IsNode, node}
@@ -49,44 +48,41 @@ inside-disk v number first count w was job from many = let fits = write-inside n
 pub too-many : (v : PrimaryView) (number kept : ℕ) (w : LogWrite) → (write_at number v.core.log.writes ≡ Some w) × (w.local ≡ Waiting) → w.count < kept → IsStep (local_fault_kept number kept) (node v) (reply.Refused BadRange) (node v)
 too-many v number kept w job more = fault-too-many number (node v) w job.0 (waiting w job.1) kept more
 
--- Where the bytes of the write that waits, cut into blocks, are its blocks.
-abbrev pub IsWhole : (v : PrimaryView) (number : ℕ) (w : LogWrite) → (write_at number v.core.log.writes ≡ Some w) × (w.local ≡ Waiting) → Type 0
-IsWhole v number w job = (h : PrimaryHistory) (has : NodeHas (node v) h) → IsCut (the number (node v) w job.0 (waiting w job.1) h has).accepted
-
-module _ (v : PrimaryView) (number : ℕ) (w : LogWrite) (job : (write_at number v.core.log.writes ≡ Some w) × (w.local ≡ Waiting)) (cut : IsWhole v number w job) (result : Result Done Refusal) (core : PrimaryState) (disk : List (List ℕ)) (faults : ℕ) (steady : Bool) where
-  pub wrote-steps : (result, core) ≡ local_done number v.core → disk ≡ overwritten v.disk w.first (blocks_of 4096 w.contents) → faults ≡ v.faults
+-- The disk does the write, or fails it.
+module _ (v : PrimaryView) (number : ℕ) (w : LogWrite) (job : (write_at number v.core.log.writes ≡ Some w) × (w.local ≡ Waiting)) (result : Result Done Refusal) (core : PrimaryState) (disk : List (List ℕ)) (faults : ℕ) (steady : Bool) where
+  pub wrote-steps : (result, core) ≡ local_done number v.core → disk ≡ overwritten v.disk w.first w.blocks → faults ≡ v.faults
       → WritesOne number result v (record v { core = core; disk = disk; faults = faults; steady = steady })
   wrote-steps is held counted = inl (
     counted,
     subst (λ (l : List (List ℕ)). NodeSteps (WritesLocally number) (node v) (replied reply.Ok result) (record (node v) { core = core; disk = l })) (sym held)
-        (node-wrote number (node v) w job.0 (waiting w job.1) cut result core is),
+        (node-wrote number (node v) w job.0 (waiting w job.1) result core is),
   )
 
-  pub wrote-is : IsNode v → (result, core) ≡ local_done number v.core → disk ≡ overwritten v.disk w.first (blocks_of 4096 w.contents) → IsNode (record v { core = core; disk = disk; faults = faults; steady = steady })
+  pub wrote-is : IsNode v → (result, core) ≡ local_done number v.core → disk ≡ overwritten v.disk w.first w.blocks → IsNode (record v { core = core; disk = disk; faults = faults; steady = steady })
   wrote-is was is held = subst (λ (l : List (List ℕ)). IsNode (record v { core = core; disk = l; faults = faults; steady = steady })) (sym held)
-      (let k = wrote-kept number (node v) w job.0 (waiting w job.1) cut result core was.had is in
-      kept-is v core (overwritten v.disk w.first (blocks_of 4096 w.contents)) faults steady was k.had k.still k.stood)
+      (let k = wrote-kept number (node v) w job.0 (waiting w job.1) result core was.had is in
+      kept-is v core (overwritten v.disk w.first w.blocks) faults steady was k.had k.still k.stood)
 
-  pub failed-steps : (result, core) ≡ local_fault number v.core → IsTorn v.disk w.first (blocks_of 4096 w.contents) disk → v.faults < faults
+  pub failed-steps : (result, core) ≡ local_fault number v.core → IsTorn v.disk w.first w.blocks disk → v.faults < faults
       → WritesOne number result v (record v { core = core; disk = disk; faults = faults; steady = steady })
-  failed-steps is torn counted = inr (counted, (new_offsets w.first (blocks_of 4096 w.contents) disk, node-failed number (node v) w job.0 (waiting w job.1) cut disk result core is torn))
+  failed-steps is torn counted = inr (counted, (new_offsets w.first w.blocks disk, node-failed number (node v) w job.0 (waiting w job.1) disk result core is torn))
 
-  pub failed-is : IsNode v → (result, core) ≡ local_fault number v.core → IsTorn v.disk w.first (blocks_of 4096 w.contents) disk → IsNode (record v { core = core; disk = disk; faults = faults; steady = steady })
+  pub failed-is : IsNode v → (result, core) ≡ local_fault number v.core → IsTorn v.disk w.first w.blocks disk → IsNode (record v { core = core; disk = disk; faults = faults; steady = steady })
   failed-is was is torn =
-      let k = failed-kept number (node v) w job.0 (waiting w job.1) cut disk result core was.had is torn in
+      let k = failed-kept number (node v) w job.0 (waiting w job.1) disk result core was.had is torn in
       kept-is v core disk faults steady was k.had k.still k.stood
 
   -- the fault that leaves exactly the first blocks new
-  pub kept-steps : (kept : ℕ) → kept ≤ w.count → (result, core) ≡ local_fault number v.core → disk ≡ overwritten v.disk w.first (take kept (blocks_of 4096 w.contents))
+  pub kept-steps : (kept : ℕ) → kept ≤ w.count → (result, core) ≡ local_fault number v.core → disk ≡ overwritten v.disk w.first (take kept w.blocks)
       → IsStep (local_fault_kept number kept) (node v) (replied reply.Ok result) (record (node v) { core = core; disk = disk })
   kept-steps kept few is held = fault-kept number (node v) w job.0 (waiting w job.1) kept (replied reply.Ok result) (record (node v) { core = core; disk = disk }) few
       (subst (λ (l : List (List ℕ)). NodeSteps (FailsLocally number (below kept)) (node v) (replied reply.Ok result) (record (node v) { core = core; disk = l })) (sym held)
-      (node-failed-after number (node v) w job.0 (waiting w job.1) cut kept result core is))
+      (node-failed-after number (node v) w job.0 (waiting w job.1) kept result core is))
 
-  pub kept-blocks-is : IsNode v → (kept : ℕ) → (result, core) ≡ local_fault number v.core → disk ≡ overwritten v.disk w.first (take kept (blocks_of 4096 w.contents)) → IsNode (record v { core = core; disk = disk; faults = faults; steady = steady })
+  pub kept-blocks-is : IsNode v → (kept : ℕ) → (result, core) ≡ local_fault number v.core → disk ≡ overwritten v.disk w.first (take kept w.blocks) → IsNode (record v { core = core; disk = disk; faults = faults; steady = steady })
   kept-blocks-is was kept is held = subst (λ (l : List (List ℕ)). IsNode (record v { core = core; disk = l; faults = faults; steady = steady })) (sym held)
-      (let k = failed-after-kept number (node v) w job.0 (waiting w job.1) cut kept result core was.had is in
-      kept-is v core (overwritten v.disk w.first (take kept (blocks_of 4096 w.contents))) faults steady was k.had k.still k.stood)
+      (let k = failed-after-kept number (node v) w job.0 (waiting w job.1) kept result core was.had is in
+      kept-is v core (overwritten v.disk w.first (take kept w.blocks)) faults steady was k.had k.still k.stood)
 
 -- the disk after an armed write
 pub armed-write : (s t u : FaultState) (kept first : ℕ) (blocks : List (List ℕ)) → t ≡ record s { write_arming = Some (record { passes = 0; kept = kept }) } → u ≡ written first blocks t

@@ -34,6 +34,14 @@ concat-whole bytes some = go (4096 * (length bytes / 4096) == length bytes) refl
     go true is = ap (λ b. concat (if b then blocks_of 4096 bytes else [])) is ∙ concat-cut (length bytes / 4096) bytes (eqb-true (4096 * (length bytes / 4096)) (length bytes) is)
     go false is = absurd (let none : length (whole_blocks bytes) ≡ 0 = ap (λ b. length (if b then blocks_of 4096 bytes else [])) is in omega arith)
 
+-- and they are these blocks
+pub blocks-whole : (bytes : List ℕ) → 0 < length (whole_blocks bytes) → whole_blocks bytes ≡ blocks_of 4096 bytes
+blocks-whole bytes some = go (4096 * (length bytes / 4096) == length bytes) refl
+  where
+    go : (b : Bool) → (4096 * (length bytes / 4096) == length bytes) ≡ b → whole_blocks bytes ≡ blocks_of 4096 bytes
+    go true is = ap (λ b. if b then blocks_of 4096 bytes else []) is
+    go false is = absurd (let none : length (whole_blocks bytes) ≡ 0 = ap (λ b. length (if b then blocks_of 4096 bytes else [])) is in omega arith)
+
 -- The last write of each block.
 
 latest-front : (g : ℕ → ℕ) (x start count : ℕ) (xs : List ℕ) → count ≤ length xs → ((i b : ℕ) → slice_get xs i ≡ Some b → b ≡ start + i)

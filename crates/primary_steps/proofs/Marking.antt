@@ -25,7 +25,7 @@ use Rattle.primary_steps.specs.Core.{Open, PrimaryState, unmarking}
 use Rattle.primary_steps.specs.Transitions.{whole_blocks}
 use Rattle.primary_steps.specs.Leaves.{logged_of, holding_item, holding_write, held_of, LeavesLog, LeavesStream, LeavesActivity, IsQuiet, Leaves}
 use Rattle.primary_steps.proofs.Accepting.{open-lower, HasRange, accepted_at, entries-more, done-more}
-use Rattle.primary_steps.proofs.Adding.{concat-whole, latest-more, holding-end, filter-one}
+use Rattle.primary_steps.proofs.Adding.{blocks-whole, concat-whole, latest-more, holding-end, filter-one}
 use Rattle.primary_steps.proofs.Beginning.{begins-activity}
 use Rattle.primary_steps.proofs.Following.{IsDue, parted}
 use Rattle.primary_steps.proofs.Marks.{unmarking-none, marking-in}
@@ -78,6 +78,7 @@ module _ (settings : Settings) (bound : 0 < settings.max_epoch) (s : PrimaryStat
     first = first;
     count = length (whole_blocks bytes);
     contents = sym (concat-whole bytes range.some) i;
+    blocks = sym (blocks-whole bytes range.some) i;
     home = None;
     linked = false;
     sent = false;

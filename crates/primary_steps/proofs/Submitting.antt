@@ -38,7 +38,7 @@ use Rattle.primary_steps.specs.Core as core
 use Rattle.primary_steps.specs.Core.{Fate, Failed, Open, Entry, EndState, PrimaryState, unmarking}
 use Rattle.primary_steps.specs.Transitions.{whole_blocks}
 use Rattle.primary_steps.specs.Leaves.{is_sent, logged_of, holding_item, holding_write, held_of, LeavesLog, LeavesStream, LeavesEpochs, LeavesActivity, LeavesEnd, EndLeft, IsQuiet, Leaves}
-use Rattle.primary_steps.proofs.Adding.{concat-whole, latest-more, holding-end, filter-one}
+use Rattle.primary_steps.proofs.Adding.{blocks-whole, concat-whole, latest-more, holding-end, filter-one}
 use Rattle.primary_steps.proofs.Appending.{end-more, under-way-more}
 use Rattle.primary_steps.proofs.Beginning.{begins-activity}
 use Rattle.primary_steps.proofs.Connections.{SeesSame, seen-same, released-same, alone-same, answers-same}
@@ -120,6 +120,7 @@ module _ (settings : Settings) (bound : 0 < settings.max_epoch) (s : PrimaryStat
     first = first;
     count = length (whole_blocks bytes);
     contents = sym (concat-whole bytes range.some) i;
+    blocks = sym (blocks-whole bytes range.some) i;
     home = Some (last_index h.connections, length (outward h).stream);
     linked = not (sym linked_is i);
     sent = sym sent_is i;

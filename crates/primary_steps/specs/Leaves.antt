@@ -67,6 +67,7 @@ logged_of h accepted = record {
   first = accepted.write.first;
   count = length accepted.write.contents;
   contents = concat accepted.write.contents;
+  blocks = accepted.write.contents;
   home = accepted.home;
   linked = not (is_alone h accepted);
   sent = is_sent h accepted;

@@ -10,6 +10,7 @@ use Rattle.epochs.specs.Epochs.{EpochsState, empty, completing, placed, uncounte
 use Rattle.transferlog.specs.Writes.{LogWrite, is_open, is_completed, is_released, completed_of, released_of, awaits, sending, answering, storing, failing, unlinking}
 use Rattle.transferlog.specs.Ring.{on, write_at}
 use Rattle.transferlog.specs.declared.report.Accepted.{Accepted}
+use Rattle.blocks.specs.Contents.{blocks_of}
 use Rattle.blocks.specs.Ranges.{is_between}
 use Rattle.blocks.specs.declared.refusal.Refusal.{Refusal}
 use Rattle.blocks.specs.declared.refusal.Refusal.TheVariants.{BadBarrierAck, UnknownAck}
@@ -120,6 +121,7 @@ accepted_write first count contents home s = record {
   first = first;
   count = count;
   contents = contents;
+  blocks = blocks_of 4096 contents;
   home = home;
   linked = is_some home;
   sent = false;

@@ -7,14 +7,15 @@ use Rattle.transferlog.specs.declared.report.Released.{Released}
 use Rattle.transferlog.specs.declared.report.Turn.{Turn}
 use Rattle.transferlog.specs.declared.local.Local.TheVariants.{Waiting, OnDisk, Failed}
 
--- An accepted write: its number, its blocks and their contents; its home, which is the connection and the place in its stream,
--- where it has one; whether its connection stands; whether it was sent, and answered as the protocol asks; and what the local
--- disk did with it.
+-- An accepted write: its number, its range, its bytes, and the blocks that these are; its home, which is the connection and the
+-- place in its stream, where it has one; whether its connection stands; whether it was sent, and answered as the protocol asks;
+-- and what the local disk did with it.
 pub record LogWrite : Type 0 where
   pub number : ℕ
   pub first : ℕ
   pub count : ℕ
   pub contents : List ℕ
+  pub blocks : List (List ℕ)
   pub home : Option (ℕ × ℕ)
   pub linked : Bool
   pub sent : Bool

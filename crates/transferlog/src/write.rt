@@ -12,6 +12,7 @@
 //! | open, on disk, without a connection | at once | completed (alone, where it is not answered) |
 //! | on disk or failed, without a connection | at once | released, clears nothing |
 ghost use Rattle.std.specs.Prelude.{◌≡◌, is_some, false};
+ghost use Rattle.blocks.specs.Contents.{blocks_of};
 ghost use Rattle.transferlog.specs.Writes.{awaits, completed_of, is_at, is_completed, is_open, is_released, is_settled, is_unanswered, release_of, turn_of};
 ghost use Rattle.transferlog.specs.Ring.{changed};
 
@@ -35,6 +36,7 @@ pub struct Write {
 }
 
 impl Model for Write {
+    ghost use Rattle.blocks.specs.Contents.{blocks_of};
     ghost use Rattle.transferlog.specs.Writes.{LogWrite};
 
     ghost Value = { LogWrite };
@@ -44,6 +46,7 @@ impl Model for Write {
       first = w.range.first.0;
       count = w.range.count;
       contents = w.contents;
+      blocks = blocks_of 4096 w.contents;
       home = w.home;
       linked = w.linked;
       sent = w.sent;
@@ -85,7 +88,8 @@ impl Write {
 
     /// What is to be written.
     pub fn contents(&self) -> &Bytes
-        ensures { result.now ≡ self.now.contents }
+        ensures bytes { result.now ≡ self.now.contents }
+        ensures blocks { blocks_of 4096 result.now ≡ self.now.blocks }
     {
         &self.contents
     }
@@ -125,6 +129,7 @@ impl Write {
           first = range.first.0;
           count = range.count;
           contents = contents;
+          blocks = blocks_of 4096 contents;
           home = home;
           linked = is_some home;
           sent = false;

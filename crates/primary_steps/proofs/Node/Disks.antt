@@ -1,8 +1,7 @@
 -- A node's calls that write the disk or read it are steps.
 use Rattle.std.proofs.Common.{ℕ, ◌≡◌, ◌+◌, ◌≤◌, Bool, true, false, List, [], length, Option, Some, None, Result, Err, slice_get, refl, sym, ◌∙◌, ap, subst, arith, ◌==◌}
 use Rattle.std.specs.Prelude.{find, unwrap_or}
-use Rattle.std.specs.List.{concat}
-use Rattle.blocks.specs.Contents.{blocks_of, overwritten}
+use Rattle.blocks.specs.Contents.{overwritten}
 use Rattle.blocks.specs.declared.refusal.Refusal.{Refusal}
 use Rattle.blocks.specs.declared.outcome.Done.{Done}
 use Rattle.blocks.specs.declared.outcome.Reply.{Reply}
@@ -111,10 +110,6 @@ node-copy-fails starved n e is = node-refused (FailsResync starved) tt n e (λ h
 
 -- The local disk.
 
--- a write's bytes, cut into blocks, are its blocks
-abbrev pub IsCut : Accepted → Type 0
-IsCut a = blocks_of 4096 (concat a.write.contents) ≡ a.write.contents
-
 -- The write of this number is the disk's to do.
 module _ (number : ℕ) (n : NodeState) (w : LogWrite) (found : write_at number n.core.log.writes ≡ Some w) (waits : log.is_waiting w ≡ true) (h : PrimaryHistory) (has : NodeHas n h) where
   pub homes : HasHomes h
@@ -140,8 +135,7 @@ module _ (number : ℕ) (n : NodeState) (w : LogWrite) (found : write_at number 
       let index : number ≡ 1 + the.index = omega arith in
       ap (λ m. find (λ (a : Accepted). a.write.number == m) h.writes) index ∙ (find-number 1 the.index h.writes (λ i a at. homes.numbered i a at ∙ omega arith) ∙ the.at)
 
-  pub after-written : IsCut the.accepted → (block : ℕ) → slice_get (overwritten n.disk w.first (blocks_of 4096 w.contents)) block ≡ local_map (step.with_outcome number OnDisk h) block
-  after-written cut block =
-      ap (λ (x : LogWrite). slice_get (overwritten n.disk x.first (blocks_of 4096 x.contents)) block) same-write
-      ∙ (ap (λ (l : List (List ℕ)). slice_get (overwritten n.disk the.accepted.write.first l) block) cut
-      ∙ disk-written h homes (reached-ordered h has.reached).ordered.1.1.1 number the.index the.accepted the.at the.number_is the.waits n.disk has.leaves.disk inside block)
+  pub after-written : (block : ℕ) → slice_get (overwritten n.disk w.first w.blocks) block ≡ local_map (step.with_outcome number OnDisk h) block
+  after-written block =
+      ap (λ (x : LogWrite). slice_get (overwritten n.disk x.first x.blocks) block) same-write
+      ∙ disk-written h homes (reached-ordered h has.reached).ordered.1.1.1 number the.index the.accepted the.at the.number_is the.waits n.disk has.leaves.disk inside block

@@ -2,7 +2,7 @@
 use Rattle.std.proofs.Common.{ℕ, ◌≡◌, ◌+◌, ◌<◌, ◌≤◌, Bool, true, false, not, List, [], ◌∷◌, length, take, Option, Some, None, Result, slice_get, refl, sym, ◌∙◌, ap, subst}
 use Rattle.std.specs.Option.{option_map}
 use Rattle.std.proofs.lemmas.Bool.{lt-ltb, le-ltb}
-use Rattle.blocks.specs.Contents.{blocks_of, overwritten, IsTorn}
+use Rattle.blocks.specs.Contents.{overwritten, IsTorn}
 use Rattle.blocks.specs.Ranges.{below}
 use Rattle.blocks.specs.declared.refusal.Refusal.{Refusal}
 use Rattle.blocks.specs.declared.refusal.Refusal.TheVariants.{BadRange, UnknownJob}
@@ -30,7 +30,7 @@ use Rattle.primary_steps.proofs.Known.{reached-ordered}
 use Rattle.primary_steps.proofs.Steps.Fault.{faults-agree}
 use Rattle.primary_steps.proofs.Steps.Local.{unfinished-same, writes-agree}
 use Rattle.primary_steps.proofs.Node.Disk.{disk-kept, disk-torn, new_offsets}
-use Rattle.primary_steps.proofs.Node.Disks.{Comes, IsCut, KeepsNode, accepted-is, after-written, comes-kept, comes-steps, homes, inside, same-write, the, unfinished}
+use Rattle.primary_steps.proofs.Node.Disks.{Comes, KeepsNode, accepted-is, after-written, comes-kept, comes-steps, homes, inside, same-write, the, unfinished}
 use Rattle.primary_steps.proofs.Node.Keeps.{Keeps, fails-keeps, writes-keeps, written}
 use Rattle.primary_steps.proofs.Node.Runs.{node-refused}
 
@@ -90,94 +90,89 @@ module _ (number : ℕ) (n : NodeState) (w : LogWrite) (found : write_at number 
   pub write-inside : NodeIsHad n → w.first + w.count ≤ length n.disk
   write-inside had = subst (λ (x : LogWrite). x.first + x.count ≤ length n.disk) (sym (same-write number n w found waits had.history had.has)) (inside number n w found waits had.history had.has)
 
-  -- Where the bytes of the write, cut into blocks, are its blocks.
-  module _ (cut : (h : PrimaryHistory) (has : NodeHas n h) → IsCut (the number n w found waits h has).accepted) where
-    wrote-come : (result : Result Done Refusal) (core : PrimaryState) → (result, core) ≡ transition.local_done number n.core → (h : PrimaryHistory) → NodeHas n h
-        → Comes (WritesLocally number) n (replied reply.Ok result) core (overwritten n.disk w.first (blocks_of 4096 w.contents)) h
-    wrote-come result core is h has =
-        let agrees = subst (λ (p : Result Done Refusal × PrimaryState). Agrees reply.Ok p (step.local_done number h)) (sym is) (writes-agree number n.core h has.reached has.leaves.core) in
-        let to : (step.local_done number h).1 ≡ (follows (releasing h (step.with_outcome number OnDisk h))).history =
-        ap (λ b. (step.tested h ((not b, UnknownJob) ∷ []) (λ _. step.succeeding what.Nothing (releasing h (step.with_outcome number OnDisk h)))).1) (unfinished number n w found waits h has) in
-        record {
-          change = written h (local_map (step.with_outcome number OnDisk h));
-          reply = agrees.reply;
-          leaves = agrees.leaves;
-          keeps = subst (Keeps h (written h (local_map (step.with_outcome number OnDisk h)))) (sym to) (writes-keeps number h);
-          taken = refl;
-          begun = refl;
-          holds = after-written number n w found waits h has (cut h has);
-        }
+  wrote-come : (result : Result Done Refusal) (core : PrimaryState) → (result, core) ≡ transition.local_done number n.core → (h : PrimaryHistory) → NodeHas n h
+      → Comes (WritesLocally number) n (replied reply.Ok result) core (overwritten n.disk w.first w.blocks) h
+  wrote-come result core is h has =
+      let agrees = subst (λ (p : Result Done Refusal × PrimaryState). Agrees reply.Ok p (step.local_done number h)) (sym is) (writes-agree number n.core h has.reached has.leaves.core) in
+      let to : (step.local_done number h).1 ≡ (follows (releasing h (step.with_outcome number OnDisk h))).history =
+      ap (λ b. (step.tested h ((not b, UnknownJob) ∷ []) (λ _. step.succeeding what.Nothing (releasing h (step.with_outcome number OnDisk h)))).1) (unfinished number n w found waits h has) in
+      record {
+        change = written h (local_map (step.with_outcome number OnDisk h));
+        reply = agrees.reply;
+        leaves = agrees.leaves;
+        keeps = subst (Keeps h (written h (local_map (step.with_outcome number OnDisk h)))) (sym to) (writes-keeps number h);
+        taken = refl;
+        begun = refl;
+        holds = after-written number n w found waits h has;
+      }
 
-    failed-come : (offsets : List ℕ) (torn : List (List ℕ)) (result : Result Done Refusal) (core : PrimaryState) → (result, core) ≡ transition.local_fault number n.core
-        → ((h : PrimaryHistory) (has : NodeHas n h) → (block : ℕ) → slice_get torn block ≡ local_map (step.with_outcome number (Failed (within (length (the number n w found waits h has).accepted.write.contents) offsets)) h) block)
-        → (h : PrimaryHistory) → NodeHas n h → Comes (FailsLocally number offsets) n (replied reply.Ok result) core torn h
-    failed-come offsets torn result core is holds h has =
-        let agrees = subst (λ (p : Result Done Refusal × PrimaryState). Agrees reply.Ok p (step.local_fault number offsets h)) (sym is) (faults-agree number offsets n.core h has.reached has.leaves.core) in
-        let to : (step.local_fault number offsets h).1 ≡ (follows (step.faulted number offsets h)).history =
-        ap (λ b. (step.tested h ((not b, UnknownJob) ∷ []) (λ _. step.succeeding what.Nothing (step.faulted number offsets h))).1) (unfinished number n w found waits h has) in record {
-          change = written h (local_map (step.faulted number offsets h));
-          reply = agrees.reply;
-          leaves = agrees.leaves;
-          keeps = subst (Keeps h (written h (local_map (step.faulted number offsets h)))) (sym to) (fails-keeps number offsets h);
-          taken = refl;
-          begun = refl;
-          holds = λ block. holds h has block ∙ sym (ap (λ (v : Option Accepted). local_map (faulted_by v h) block) (accepted-is number n w found waits h has));
-        }
-      where
-        faulted_by : Option Accepted → PrimaryHistory → PrimaryHistory
-        faulted_by v h = elim v as (λ _. PrimaryHistory) [ None ↦ h | Some a ↦ step.with_outcome number (Failed (within (length a.write.contents) offsets)) (record h { marks = marking a.write h.marks }) ]
+  failed-come : (offsets : List ℕ) (torn : List (List ℕ)) (result : Result Done Refusal) (core : PrimaryState) → (result, core) ≡ transition.local_fault number n.core
+      → ((h : PrimaryHistory) (has : NodeHas n h) → (block : ℕ) → slice_get torn block ≡ local_map (step.with_outcome number (Failed (within (length (the number n w found waits h has).accepted.write.contents) offsets)) h) block)
+      → (h : PrimaryHistory) → NodeHas n h → Comes (FailsLocally number offsets) n (replied reply.Ok result) core torn h
+  failed-come offsets torn result core is holds h has =
+      let agrees = subst (λ (p : Result Done Refusal × PrimaryState). Agrees reply.Ok p (step.local_fault number offsets h)) (sym is) (faults-agree number offsets n.core h has.reached has.leaves.core) in
+      let to : (step.local_fault number offsets h).1 ≡ (follows (step.faulted number offsets h)).history =
+      ap (λ b. (step.tested h ((not b, UnknownJob) ∷ []) (λ _. step.succeeding what.Nothing (step.faulted number offsets h))).1) (unfinished number n w found waits h has) in record {
+        change = written h (local_map (step.faulted number offsets h));
+        reply = agrees.reply;
+        leaves = agrees.leaves;
+        keeps = subst (Keeps h (written h (local_map (step.faulted number offsets h)))) (sym to) (fails-keeps number offsets h);
+        taken = refl;
+        begun = refl;
+        holds = λ block. holds h has block ∙ sym (ap (λ (v : Option Accepted). local_map (faulted_by v h) block) (accepted-is number n w found waits h has));
+      }
+    where
+      faulted_by : Option Accepted → PrimaryHistory → PrimaryHistory
+      faulted_by v h = elim v as (λ _. PrimaryHistory) [ None ↦ h | Some a ↦ step.with_outcome number (Failed (within (length a.write.contents) offsets)) (record h { marks = marking a.write h.marks }) ]
 
-    -- the disk did it
-    pub node-wrote : (result : Result Done Refusal) (core : PrimaryState) → (result, core) ≡ transition.local_done number n.core
-        → NodeSteps (WritesLocally number) n (replied reply.Ok result) (record n { core = core; disk = overwritten n.disk w.first (blocks_of 4096 w.contents) })
-    node-wrote result core is = comes-steps (WritesLocally number) n (replied reply.Ok result) core (overwritten n.disk w.first (blocks_of 4096 w.contents)) (wrote-come result core is)
+  -- the disk did it
+  pub node-wrote : (result : Result Done Refusal) (core : PrimaryState) → (result, core) ≡ transition.local_done number n.core
+      → NodeSteps (WritesLocally number) n (replied reply.Ok result) (record n { core = core; disk = overwritten n.disk w.first w.blocks })
+  node-wrote result core is = comes-steps (WritesLocally number) n (replied reply.Ok result) core (overwritten n.disk w.first w.blocks) (wrote-come result core is)
 
-    pub wrote-kept : (result : Result Done Refusal) (core : PrimaryState) → NodeIsHad n → (result, core) ≡ transition.local_done number n.core → KeepsNode n (record n { core = core; disk = overwritten n.disk w.first (blocks_of 4096 w.contents) })
-    wrote-kept result core had is = comes-kept (WritesLocally number) n (replied reply.Ok result) core (overwritten n.disk w.first (blocks_of 4096 w.contents)) (wrote-come result core is) had
+  pub wrote-kept : (result : Result Done Refusal) (core : PrimaryState) → NodeIsHad n → (result, core) ≡ transition.local_done number n.core → KeepsNode n (record n { core = core; disk = overwritten n.disk w.first w.blocks })
+  wrote-kept result core had is = comes-kept (WritesLocally number) n (replied reply.Ok result) core (overwritten n.disk w.first w.blocks) (wrote-come result core is) had
 
-    -- The disk failed, and left any of its blocks new, or the first ones.
+  -- The disk failed, and left any of its blocks new, or the first ones.
 
-    order-of : (h : PrimaryHistory) → NodeHas n h → IsInOrder h
-    order-of h has = (reached-ordered h has.reached).ordered.1.1.1
+  order-of : (h : PrimaryHistory) → NodeHas n h → IsInOrder h
+  order-of h has = (reached-ordered h has.reached).ordered.1.1.1
 
-    torn-holds : (torn : List (List ℕ)) → IsTorn n.disk w.first (blocks_of 4096 w.contents) torn → (h : PrimaryHistory) (has : NodeHas n h) → (block : ℕ)
-        → slice_get torn block ≡ local_map (step.with_outcome number (Failed (within (length (the number n w found waits h has).accepted.write.contents) (new_offsets w.first (blocks_of 4096 w.contents) torn))) h) block
-    torn-holds torn is_torn h has block =
-        let its = the number n w found waits h has in
-        subst (λ (x : LogWrite). IsTorn n.disk x.first (blocks_of 4096 x.contents) torn → slice_get torn block ≡ local_map (step.with_outcome number (Failed (within (length its.accepted.write.contents) (new_offsets x.first (blocks_of 4096 x.contents) torn))) h) block)
-        (sym (same-write number n w found waits h has))
-        (subst (λ (l : List (List ℕ)). IsTorn n.disk its.accepted.write.first l torn → slice_get torn block ≡ local_map (step.with_outcome number (Failed (within (length its.accepted.write.contents) (new_offsets its.accepted.write.first l torn))) h) block)
-        (sym (cut h has))
-        (λ torn_so. disk-torn h (homes number n w found waits h has) (order-of h has) number its.index its.accepted its.at its.number_is its.waits n.disk has.leaves.disk (inside number n w found waits h has) torn torn_so block)) is_torn
+  torn-holds : (torn : List (List ℕ)) → IsTorn n.disk w.first w.blocks torn → (h : PrimaryHistory) (has : NodeHas n h) → (block : ℕ)
+      → slice_get torn block ≡ local_map (step.with_outcome number (Failed (within (length (the number n w found waits h has).accepted.write.contents) (new_offsets w.first w.blocks torn))) h) block
+  torn-holds torn is_torn h has block =
+      let its = the number n w found waits h has in
+      subst (λ (x : LogWrite). IsTorn n.disk x.first x.blocks torn → slice_get torn block ≡ local_map (step.with_outcome number (Failed (within (length its.accepted.write.contents) (new_offsets x.first x.blocks torn))) h) block)
+      (sym (same-write number n w found waits h has))
+      (λ torn_so. disk-torn h (homes number n w found waits h has) (order-of h has) number its.index its.accepted its.at its.number_is its.waits n.disk has.leaves.disk (inside number n w found waits h has) torn torn_so block) is_torn
 
-    kept-holds : (kept : ℕ) (h : PrimaryHistory) (has : NodeHas n h) → (block : ℕ)
-        → slice_get (overwritten n.disk w.first (take kept (blocks_of 4096 w.contents))) block ≡ local_map (step.with_outcome number (Failed (within (length (the number n w found waits h has).accepted.write.contents) (below kept))) h) block
-    kept-holds kept h has block =
-        let its = the number n w found waits h has in
-        ap (λ (x : LogWrite). slice_get (overwritten n.disk x.first (take kept (blocks_of 4096 x.contents))) block) (same-write number n w found waits h has)
-        ∙ (ap (λ (l : List (List ℕ)). slice_get (overwritten n.disk its.accepted.write.first (take kept l)) block) (cut h has)
-        ∙ disk-kept h (homes number n w found waits h has) (order-of h has) number its.index its.accepted its.at its.number_is its.waits n.disk has.leaves.disk (inside number n w found waits h has) kept block)
+  kept-holds : (kept : ℕ) (h : PrimaryHistory) (has : NodeHas n h) → (block : ℕ)
+      → slice_get (overwritten n.disk w.first (take kept w.blocks)) block ≡ local_map (step.with_outcome number (Failed (within (length (the number n w found waits h has).accepted.write.contents) (below kept))) h) block
+  kept-holds kept h has block =
+      let its = the number n w found waits h has in
+      ap (λ (x : LogWrite). slice_get (overwritten n.disk x.first (take kept x.blocks)) block) (same-write number n w found waits h has)
+      ∙ disk-kept h (homes number n w found waits h has) (order-of h has) number its.index its.accepted its.at its.number_is its.waits n.disk has.leaves.disk (inside number n w found waits h has) kept block
 
-    pub node-failed : (torn : List (List ℕ)) (result : Result Done Refusal) (core : PrimaryState) → (result, core) ≡ transition.local_fault number n.core → IsTorn n.disk w.first (blocks_of 4096 w.contents) torn
-        → NodeSteps (FailsLocally number (new_offsets w.first (blocks_of 4096 w.contents) torn)) n (replied reply.Ok result) (record n { core = core; disk = torn })
-    node-failed torn result core is is_torn =
-        comes-steps (FailsLocally number (new_offsets w.first (blocks_of 4096 w.contents) torn)) n (replied reply.Ok result) core torn
-        (failed-come (new_offsets w.first (blocks_of 4096 w.contents) torn) torn result core is (torn-holds torn is_torn))
+  pub node-failed : (torn : List (List ℕ)) (result : Result Done Refusal) (core : PrimaryState) → (result, core) ≡ transition.local_fault number n.core → IsTorn n.disk w.first w.blocks torn
+      → NodeSteps (FailsLocally number (new_offsets w.first w.blocks torn)) n (replied reply.Ok result) (record n { core = core; disk = torn })
+  node-failed torn result core is is_torn =
+      comes-steps (FailsLocally number (new_offsets w.first w.blocks torn)) n (replied reply.Ok result) core torn
+      (failed-come (new_offsets w.first w.blocks torn) torn result core is (torn-holds torn is_torn))
 
-    pub failed-kept : (torn : List (List ℕ)) (result : Result Done Refusal) (core : PrimaryState) → NodeIsHad n → (result, core) ≡ transition.local_fault number n.core → IsTorn n.disk w.first (blocks_of 4096 w.contents) torn
-        → KeepsNode n (record n { core = core; disk = torn })
-    failed-kept torn result core had is is_torn =
-        comes-kept (FailsLocally number (new_offsets w.first (blocks_of 4096 w.contents) torn)) n (replied reply.Ok result) core torn
-        (failed-come (new_offsets w.first (blocks_of 4096 w.contents) torn) torn result core is (torn-holds torn is_torn)) had
+  pub failed-kept : (torn : List (List ℕ)) (result : Result Done Refusal) (core : PrimaryState) → NodeIsHad n → (result, core) ≡ transition.local_fault number n.core → IsTorn n.disk w.first w.blocks torn
+      → KeepsNode n (record n { core = core; disk = torn })
+  failed-kept torn result core had is is_torn =
+      comes-kept (FailsLocally number (new_offsets w.first w.blocks torn)) n (replied reply.Ok result) core torn
+      (failed-come (new_offsets w.first w.blocks torn) torn result core is (torn-holds torn is_torn)) had
 
-    pub node-failed-after : (kept : ℕ) (result : Result Done Refusal) (core : PrimaryState) → (result, core) ≡ transition.local_fault number n.core
-        → NodeSteps (FailsLocally number (below kept)) n (replied reply.Ok result) (record n { core = core; disk = overwritten n.disk w.first (take kept (blocks_of 4096 w.contents)) })
-    node-failed-after kept result core is =
-        comes-steps (FailsLocally number (below kept)) n (replied reply.Ok result) core (overwritten n.disk w.first (take kept (blocks_of 4096 w.contents)))
-        (failed-come (below kept) (overwritten n.disk w.first (take kept (blocks_of 4096 w.contents))) result core is (kept-holds kept))
+  pub node-failed-after : (kept : ℕ) (result : Result Done Refusal) (core : PrimaryState) → (result, core) ≡ transition.local_fault number n.core
+      → NodeSteps (FailsLocally number (below kept)) n (replied reply.Ok result) (record n { core = core; disk = overwritten n.disk w.first (take kept w.blocks) })
+  node-failed-after kept result core is =
+      comes-steps (FailsLocally number (below kept)) n (replied reply.Ok result) core (overwritten n.disk w.first (take kept w.blocks))
+      (failed-come (below kept) (overwritten n.disk w.first (take kept w.blocks)) result core is (kept-holds kept))
 
-    pub failed-after-kept : (kept : ℕ) (result : Result Done Refusal) (core : PrimaryState) → NodeIsHad n → (result, core) ≡ transition.local_fault number n.core
-        → KeepsNode n (record n { core = core; disk = overwritten n.disk w.first (take kept (blocks_of 4096 w.contents)) })
-    failed-after-kept kept result core had is =
-        comes-kept (FailsLocally number (below kept)) n (replied reply.Ok result) core (overwritten n.disk w.first (take kept (blocks_of 4096 w.contents)))
-        (failed-come (below kept) (overwritten n.disk w.first (take kept (blocks_of 4096 w.contents))) result core is (kept-holds kept)) had
+  pub failed-after-kept : (kept : ℕ) (result : Result Done Refusal) (core : PrimaryState) → NodeIsHad n → (result, core) ≡ transition.local_fault number n.core
+      → KeepsNode n (record n { core = core; disk = overwritten n.disk w.first (take kept w.blocks) })
+  failed-after-kept kept result core had is =
+      comes-kept (FailsLocally number (below kept)) n (replied reply.Ok result) core (overwritten n.disk w.first (take kept w.blocks))
+      (failed-come (below kept) (overwritten n.disk w.first (take kept w.blocks)) result core is (kept-holds kept)) had
