@@ -1,0 +1,10 @@
+pub mod Acknowledging
+pub mod Answering
+pub mod Opening
+pub mod Opens
+pub mod Pairing
+pub mod Parts
+pub mod Receiving
+pub mod Running
+pub mod Sending
+pub mod Steady
