@@ -1,6 +1,6 @@
 -- A pair is made of its parts.
 use Rattle.std.proofs.Common.{ℕ, zero, suc, ◌≡◌, ◌⊎◌, inl, inr, Bool, true, false, List, [], ◌∷◌, length, Option, Some, None, slice_get, refl, sym, ◌∙◌, ap, subst, nat_lt, arith}
-use Rattle.std.specs.Prelude.{is_some, unwrap_or, replicate, if◌then◌else◌, Result, Ok, Err, IfErr, IsErr}
+use Rattle.std.specs.Prelude.{is_some, unwrap_or, replicate, if◌then◌else◌, Result, Ok, Err, IfErr, IfOk, IsErr}
 use Rattle.std.specs.Result.{IsErrAnd}
 use Rattle.std.proofs.lemmas.Bool.Decides.{nat_tests}
 use Rattle.blocks.specs.SettingsRange.{IsInRange}
@@ -16,7 +16,7 @@ use Rattle.model.specs.Primary.{primary_opening}
 use Rattle.model.specs.Secondary.{secondary_opening}
 use Rattle.endpoint.specs.Incoming.{IncomingState}
 use Rattle.endpoint.specs.Outgoing.{OutgoingState}
-use Rattle.pair_steps.specs.State.{IsDirection, PairHas}
+use Rattle.pair_steps.specs.State.{IsDirection, PairHas, PairState}
 use Rattle.pair_steps.proofs.Opening.{pair-opening-has}
 use Rattle.primary_steps.specs.Node as primary
 use Rattle.secondary_steps.specs.Node as secondary
@@ -90,3 +90,13 @@ refused-there settings here there own marks e begun size (inr short) = inr (shor
 pub handed-on : {T : Type 0} (r : Result T Refusal) (x : Refusal) (P : Refusal → Type 0) → IsErr r × IsErrAnd r (λ e. e ≡ x) → P x → IfErr r P
 handed-on (Ok done) x P is p = tt
 handed-on (Err e) x P is p = subst P (sym is.1) p
+
+-- Two zero-filled disks, as the histories have them.
+pub zero-filled : {T : Type 0} (r : Result T Refusal) (v : T → PairState) (settings : Settings) (bytes : List ℕ) (here there : List (List ℕ)) (marks : List Bool) (own peer_tuple : Tuple) → here ≡ replicate settings.blocks bytes → there ≡ replicate settings.blocks bytes
+    → marks ≡ replicate settings.blocks false → IfOk r (λ p. PairHas (v p) (pair_opening settings (slice_get here) (slice_get there) own peer_tuple (λ block. unwrap_or (slice_get marks block) false)))
+    → IfOk r (λ p. PairHas (v p) (pair_opening settings (filled settings.blocks bytes) (filled settings.blocks bytes) own peer_tuple (λ block. false)))
+zero-filled (Err e) v settings bytes here there marks own peer_tuple a b c has = tt
+zero-filled (Ok p) v settings bytes here there marks own peer_tuple a b c has =
+    subst (λ (m : ℕ → Bool). PairHas (v p) (pair_opening settings (filled settings.blocks bytes) (filled settings.blocks bytes) own peer_tuple m)) (ap {B = ℕ → Bool} (λ (l : List Bool) (block : ℕ). unwrap_or (slice_get l block) false) c ∙ unmarked-is settings.blocks)
+    (subst (λ (m : BlockMap). PairHas (v p) (pair_opening settings (filled settings.blocks bytes) m own peer_tuple (λ block. unwrap_or (slice_get marks block) false))) (ap slice_get b ∙ filled-is settings.blocks bytes)
+    (subst (λ (m : BlockMap). PairHas (v p) (pair_opening settings m (slice_get there) own peer_tuple (λ block. unwrap_or (slice_get marks block) false))) (ap slice_get a ∙ filled-is settings.blocks bytes) has))

@@ -51,11 +51,13 @@ impl Pair {
         let mut peer = [0u8; BLOCK_BYTES];
         let read_local = self.primary.read_block(block, &mut local).is_ok();
         let read_peer = self.secondary.read_block(block, &mut peer).is_ok();
-        if read_local && read_peer {
-            local != peer
-        } else {
-            read_local != read_peer
+        if read_local != read_peer {
+            return true;
         }
+        if !read_local {
+            return false;
+        }
+        local != peer
     }
 
     /// The primary, for reading.
