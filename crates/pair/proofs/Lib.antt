@@ -1,7 +1,10 @@
-pub mod AckIns
-pub mod Links
+pub mod Acknowledging
+pub mod Answering
+pub mod Opening
 pub mod Opens
-pub mod Readings
-pub mod Receives
-pub mod Submits
-pub mod There
+pub mod Pairing
+pub mod Parts
+pub mod Receiving
+pub mod Running
+pub mod Sending
+pub mod Steady

@@ -1,51 +1,114 @@
--- Both ends open over a new link.
-use Rattle.std.proofs.Common.{ℕ, ◌≡◌, ◌==◌, true, false, not, ◌&&◌, List, [], ◌++◌, length, Option, Some, None, refl, sym, ◌∙◌, ap, subst, arith}
-use Rattle.std.specs.Prelude.{if◌then◌else◌}
+-- Both ends of a pair open, or none.
+use Rattle.std.proofs.Common.{ℕ, zero, suc, ◌≡◌, ◌≤◌, ◌<◌, ◌-◌, nat_le, Bool, true, false, not, ◌&&◌, List, [], ◌∷◌, ◌++◌, length, Option, Some, None, Result, Ok, Err, refl, sym, ◌∙◌, ap, subst, arith}
 use Rattle.std.specs.Option.{option_map}
-use Rattle.blocks.specs.declared.refusal.Refusal.TheVariants.{NotDrained}
-use Rattle.link.specs.Directions.{InState, IsUnused, OutState, frames_in, room_in}
-use Rattle.primary.specs.State.{PrimaryState}
-use Rattle.primary.specs.Streams.{unused_stream}
-use Rattle.primary.specs.declared.hello.Hello.TheVariants.{Protocol}
-use Rattle.secondary.specs.Opened.{opened}
-use Rattle.secondary.specs.Refused.{open_refusal}
-use Rattle.secondary.specs.State.{SecondaryState}
-use Rattle.pair.specs.Linked.{Carries, IsLinked}
+use Rattle.std.specs.Prelude.{if◌then◌else◌}
+use Rattle.std.proofs.lemmas.Bool.Decides.{nat_tests}
+use Rattle.blocks.specs.Identifiers.{are_fresh}
+use Rattle.blocks.specs.declared.refusal.Refusal.{Refusal}
+use Rattle.blocks.specs.declared.refusal.Refusal.TheVariants.{NotDrained, UsedIdentifier, StreamFull, NoMemory}
+use Rattle.blocks.specs.declared.outcome.Done.{Done}
+use Rattle.blocks.specs.declared.outcome.Reply.{Reply}
+use Rattle.blocks.specs.declared.outcome.Reply.TheVariants as reply
+use Rattle.blocks.specs.declared.outcome.What.TheVariants as what
+use Rattle.link.specs.Directions.{InState, OutState, IsUnused, room_in, frames_in}
+use Rattle.endpoint.specs.Calls.{is_starved}
+use Rattle.endpoint.specs.Incoming.{incoming}
+use Rattle.endpoint.specs.Outgoing.{outgoing}
+use Rattle.model.specs.LocalRuns.{Opens, OpensToo}
+use Rattle.model.specs.Pair.{OpenEvent, PairHistory, open_pair_tests}
+use Rattle.model.specs.Primary.{PrimaryHistory, outward}
+use Rattle.model.specs.PrimarySteps.{known_tuples, open_primary, open_tests, opened, succeeding}
+use Rattle.model.specs.Refusals.{Test, done_with, first_refusal}
+use Rattle.model.specs.Secondary.{SecondaryHistory, inward, is_drained}
+use Rattle.model.specs.SecondarySteps.{open_secondary, opened_secondary, succeeding_secondary}
+use Rattle.pair_steps.specs.State.{AreEnds, PairHas, PairState}
+use Rattle.pair_steps.proofs.Rooms.{number-is}
+use Rattle.pair.specs.State.{PairView, state}
 
--- any other opens
-pub drained-opens : (t : SecondaryState) → t.is_open ≡ false → t.intake.pending ≡ [] → open_refusal t ≡ None
-drained-opens t closed none =
-    ap (λ b. if not b && (length t.intake.pending == 0) then None else Some NotDrained) closed
-    ∙ ap (λ (l : List _). if not false && (length l == 0) then None else Some NotDrained) none
+-- Two ends of a new link.
+pub new-ends : (s : OutState) (t : InState) (capacity : ℕ) → IsUnused s t capacity
+    → AreEnds capacity (outgoing (record { sent = s.sent; number = s.number; past = s.past; partly = None; waiting = option_map (λ q. q.frames) s.queue; room = Some (room_in s.queue) }))
+    (incoming (record { taken = t.taken; number = t.number; past = t.past; is_ready = true; queued = Some (frames_in t.queue); capacity = option_map (λ q. q.capacity) t.queue }))
+new-ends s t capacity unused = rw (unused.sending, unused.taking) (record {
+  waiting = [];
+  row = refl;
+  room = refl;
+  count = refl;
+  few = omega arith;
+  queued = refl;
+  away = refl;
+  told = record { begins = λ all. record { front = []; each = refl; begins = ([], refl) }; pushed = refl; taken = refl };
+})
 
--- a primary with a first connection, over ends of which this is known
-abbrev pub on_ends : PrimaryState → ℕ → ℕ → List (List ℕ) → Option (List (List ℕ)) → Option ℕ → List (List ℕ) → Option (List (List ℕ)) → Option ℕ → PrimaryState
-on_ends s sync loss sent waiting room taken queued capacity = record s {
-  connection = Some (record { is_open = true; sync = sync; loss = loss; hello_sent = Protocol; hello_taken = Protocol; stream = unused_stream; sent = sent; waiting = waiting; room = room; taken = taken; queued = queued; capacity = capacity });
-}
+-- Which test refuses.
 
--- The primary over two ends of a link.
-abbrev pub opened_primary : PrimaryState → ℕ → ℕ → OutState → InState → PrimaryState
-opened_primary s sync loss out inn = on_ends s sync loss out.sent (option_map (λ q. q.frames) out.queue) (Some (room_in out.queue)) inn.taken (Some (frames_in inn.queue)) (option_map (λ q. q.capacity) inn.queue)
+-- the secondary's own test passes, so the primary's decide
+pub past-first : (sync loss : ℕ) (starved : Bool) (h : PairHistory) → (inward h.secondary).closed ≡ true → is_drained h.secondary ≡ true → first_refusal (open_pair_tests h sync loss starved) ≡ first_refusal (open_tests h.primary sync loss starved)
+past-first sync loss starved h closed drained =
+    ap (λ b. first_refusal ((not (b && is_drained h.secondary), NotDrained) ∷ open_tests h.primary sync loss starved)) closed
+    ∙ ap (λ b. first_refusal ((not b, NotDrained) ∷ open_tests h.primary sync loss starved)) drained
 
--- a new link carries nothing yet
-carries-unused : (link : ℕ) (out : OutState) (inn : InState) → IsUnused out inn link → Carries link out.sent (option_map (λ q. q.frames) out.queue) (Some (room_in out.queue)) inn.taken
-carries-unused link out inn unused = record {
-  frames = [];
-  here = ap (λ (o : OutState). option_map (λ q. q.frames) o.queue) unused.sending;
-  left = ap (λ (o : OutState). Some (room_in o.queue)) unused.sending;
-  fits = omega arith;
-  whole = ap (λ (o : OutState). o.sent) unused.sending ∙ sym (ap (λ (i : InState). i.taken ++ []) unused.taking);
-}
+-- a refusal but for memory is one with it
+abbrev by : Bool → Bool → Bool → Bool → Option Refusal
+by a b c starved = first_refusal ((a, NotDrained) ∷ (b, UsedIdentifier) ∷ (c, StreamFull) ∷ (starved, NoMemory) ∷ [])
 
--- The secondary over two ends of a link.
-abbrev pub opened_secondary : SecondaryState → OutState → InState → SecondaryState
-opened_secondary t out inn = opened t out.sent (option_map (λ q. q.frames) out.queue) (Some (room_in out.queue)) inn.taken (Some (frames_in inn.queue)) (option_map (λ q. q.capacity) inn.queue)
+same-refusal : (a b c : Bool) (e : Refusal) → Some e ≡ by a b c false → by a b c (is_starved {R = Done} (Err e)) ≡ Some e
+same-refusal true b c e is = sym is
+same-refusal false true c e is = sym is
+same-refusal false false true e is = sym is
+same-refusal false false false e is = absurd (cc)
 
--- The ends of a new link are the two ends of both directions.
-pub link-opened : (link sync loss : ℕ) (here_out there_out : OutState) (here_in there_in : InState) (old s : PrimaryState) (before t : SecondaryState) → IsUnused here_out there_in link → IsUnused there_out here_in link
-    → s ≡ opened_primary old sync loss here_out here_in → t ≡ opened_secondary before there_out there_in → IsLinked link s.connection t
-link-opened link sync loss here_out there_out here_in there_in old s before t there back is is_there =
-    subst (λ (x : SecondaryState). IsLinked link s.connection x) (sym is_there)
-    (subst (λ (x : PrimaryState). IsLinked link x.connection (opened_secondary before there_out there_in)) (sym is)
-    (record { there = carries-unused link here_out there_in there; back = carries-unused link there_out here_in back; opened = refl }))
+short-refusal : (a b c : Bool) → by a b c false ≡ None → by a b c true ≡ Some NoMemory
+short-refusal true b c is = absurd (cc)
+short-refusal false true c is = absurd (cc)
+short-refusal false false true is = absurd (cc)
+short-refusal false false false is = refl
+
+pub may-not : (sync loss : ℕ) (e : Refusal) (h : PrimaryHistory) → Some e ≡ first_refusal (open_tests h sync loss false) → first_refusal (open_tests h sync loss (is_starved {R = Done} (Err e))) ≡ Some e
+may-not sync loss e h is = same-refusal (not (outward h).closed) (not (are_fresh sync loss (known_tuples h))) (nat_le 4294967295 (length h.connections)) e is
+
+pub no-link : (sync loss : ℕ) (h : PrimaryHistory) → first_refusal (open_tests h sync loss false) ≡ None → first_refusal (open_tests h sync loss true) ≡ Some NoMemory
+no-link sync loss h is = short-refusal (not (outward h).closed) (not (are_fresh sync loss (known_tuples h))) (nat_le 4294967295 (length h.connections)) is
+
+-- what the primary's step was refused for
+pub was-refused : (sync loss : ℕ) (starved : Bool) (e : Refusal) (h : PrimaryHistory) → reply.Refused e ≡ (open_primary sync loss starved h).0 → first_refusal (open_tests h sync loss starved) ≡ Some e
+was-refused sync loss starved e h said = go (first_refusal (open_tests h sync loss starved)) said
+  where
+    go : (v : Option Refusal) → reply.Refused e ≡ (elim v as (λ _. Reply × PrimaryHistory) [ Some refusal ↦ (reply.Refused refusal, h) | None ↦ succeeding what.Nothing (opened h sync loss) ]).0 → v ≡ Some e
+    go (Some refusal) said = let same : e ≡ refusal = cc in ap Some (sym same)
+    go None said = absurd (cc)
+
+-- it was not refused
+was-done : (sync loss : ℕ) (starved : Bool) (h : PrimaryHistory) → reply.Ok (done_with what.Nothing) ≡ (open_primary sync loss starved h).0 → first_refusal (open_tests h sync loss starved) ≡ None
+was-done sync loss starved h said = go (first_refusal (open_tests h sync loss starved)) said
+  where
+    go : (v : Option Refusal) → reply.Ok (done_with what.Nothing) ≡ (elim v as (λ _. Reply × PrimaryHistory) [ Some refusal ↦ (reply.Refused refusal, h) | None ↦ succeeding what.Nothing (opened h sync loss) ]).0 → v ≡ None
+    go (Some refusal) said = absurd (cc)
+    go None said = refl
+
+-- Then there are fewer connections than 32 bits count, and the secondary has as many.
+pub counted : (v : PairView) (sync loss : ℕ) (h : PairHistory) → PairHas (state v) h → reply.Ok (done_with what.Nothing) ≡ (open_primary sync loss false h.primary).0 → v.secondary.core.number < 4294967295
+counted v sync loss h has said =
+    let few = go (not (outward h.primary).closed) (not (are_fresh sync loss (known_tuples h.primary))) (was-done sync loss false h.primary said) in
+    let number : v.secondary.core.number ≡ v.primary.core.connections = number-is (state v) h has in
+    let count : v.primary.core.connections ≡ length h.primary.connections = has.primary.leaves.core.rest.connections in
+    omega (arith, few, number, count)
+  where
+    go : (a b : Bool) → by a b (nat_le 4294967295 (length h.primary.connections)) false ≡ None → length h.primary.connections < 4294967295
+    go true b is = absurd (cc)
+    go false true is = absurd (cc)
+    go false false is = at (nat_le 4294967295 (length h.primary.connections)) refl is
+      where
+        at : (c : Bool) → nat_le 4294967295 (length h.primary.connections) ≡ c → by false false c false ≡ None → length h.primary.connections < 4294967295
+        at true same is = absurd (cc)
+        at false same is = grind (arith, nat_tests)
+
+-- A drained secondary whose end is closed is not refused.
+pub never-refused : (e : Refusal) (h : SecondaryHistory) → (inward h).closed ≡ true → is_drained h ≡ true → reply.Refused e ≡ (open_secondary 0 h).0 → ⊥
+never-refused e h closed drained said =
+    go (first_refusal ((not ((inward h).closed && is_drained h), NotDrained) ∷ []))
+    (ap (λ b. first_refusal ((not (b && is_drained h), NotDrained) ∷ [])) closed ∙ ap (λ b. first_refusal ((not b, NotDrained) ∷ [])) drained) said
+  where
+    go : (v : Option Refusal) → v ≡ None → reply.Refused e ≡ (elim v as (λ _. Reply × SecondaryHistory) [ Some refusal ↦ (reply.Refused refusal, h) | None ↦ succeeding_secondary what.Nothing (opened_secondary 0 h) ]).0 → ⊥
+    go (Some refusal) none said = cc
+    go None none said = cc

@@ -1,4 +1,5 @@
-pub mod Disks
-pub mod Linked
+pub mod Events
 pub mod Openings
+pub mod Reading
+pub mod Running
 pub mod State

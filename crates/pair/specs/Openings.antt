@@ -1,6 +1,11 @@
--- How a pair begins.
+-- What a pair is made of.
+use Rattle.std.specs.Prelude.{ℕ, ◌≡◌, Bool, List, length}
+use Rattle.blocks.specs.declared.settings.Settings.{Settings}
 use Rattle.blocks.specs.declared.tuple.Tuple.{Tuple}
+use Rattle.primary_core.specs.State.{CanBegin}
 
--- the tuple 1,0,0,0
-abbrev pub first_generation : Tuple
-first_generation = record { current = 1; bitmap = 0; first_historical = 0; second_historical = 0 }
+-- The settings are in their ranges, both disks and the marks have their size, and the primary has an identifier.
+pub record CanPair (settings : Settings) (local peer : List (List ℕ)) (own : Tuple) (marks : List Bool) : Type 0 where
+  pub begin : CanBegin settings own marks
+  pub local_size : length local ≡ settings.blocks
+  pub peer_size : length peer ≡ settings.blocks

@@ -1,10 +1,27 @@
--- What a clause sees of a pair.
-use Rattle.blocks.specs.declared.settings.Settings.{Settings}
-use Rattle.primary.specs.State.{PrimaryState}
-use Rattle.secondary.specs.State.{SecondaryState}
+-- What the fields of a pair stand for.
+use Rattle.std.specs.Prelude.{◌≡◌, true}
+use Rattle.primary.specs.State.{PrimaryView}
+use Rattle.secondary.specs.State.{SecondaryView}
+use Rattle.pair_steps.specs.State.{IsPair, PairState}
 
--- the settings and the two nodes
-pub record PairState : Type 0 where
-  pub settings : Settings
-  pub primary : PrimaryState
-  pub secondary : SecondaryState
+-- both nodes
+pub record PairView : Type 0 where
+  pub primary : PrimaryView
+  pub secondary : SecondaryView
+
+-- both nodes in plain values: what one sends the other takes
+abbrev pub state : PairView → PairState
+state v = record {
+  primary = v.primary.core;
+  local = v.primary.disk;
+  secondary = v.secondary.core;
+  peer = v.secondary.disk;
+  there = record { out = v.primary.outgoing; inn = v.secondary.incoming };
+  back = record { out = v.secondary.outgoing; inn = v.primary.incoming };
+}
+
+-- Some history is had, and neither disk fails by itself.
+pub record IsPairView (v : PairView) : Type 0 where
+  pub pair : IsPair (state v)
+  pub local : v.primary.steady ≡ true
+  pub peer : v.secondary.steady ≡ true

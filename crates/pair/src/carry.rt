@@ -1,37 +1,68 @@
-//! Taking a frame: the direction's queue is lent to the taking end for the one call.
+//! Taking a frame: the direction's queue is lent to the side that takes, for the one call.
 ghost use Rattle.std.specs.Prelude.{◌≡◌};
+ghost use Rattle.blocks.specs.declared.outcome.Reply.TheVariants as reply;
+ghost use Rattle.endpoint.specs.Calls.{is_starved};
+ghost use Rattle.model.specs.Pair.{AckInEvent, ReceiveEvent};
+ghost use Rattle.pair.specs.State.{state};
+ghost use Rattle.pair_steps.specs.Carried.{IsTold};
+ghost use Rattle.pair_steps.specs.State.{IsPairStep};
+ghost use Rattle.primary_steps.specs.Steps.{replied};
+ghost use Rattle.secondary_steps.specs.Steps as from_secondary;
 
-use crate::Pair;
+use crate::{LocalNode, Pair, PeerNode};
 use blocks::{Done, Refusal};
+use endpoint::joined;
 
 impl Pair {
-    /// The secondary takes the next frame of the primary.
+    // The secondary takes the next frame of the primary.
     pub(crate) fn receive(&mut self) -> Result<Done, Refusal>
-        ensures settings { self.new.settings ≡ self.old.settings }
+        ensures step { IsPairStep ReceiveEvent (is_starved result) (state self.old) (from_secondary.replied (λ done. done) result) (state self.new) }
     {
         let Some(queue) = self.primary.give_outward() else {
             return self.secondary.receive();
         };
         self.secondary.lay_inward(queue);
         let done = self.secondary.receive();
-        if let Some(queue) = self.secondary.give_inward() {
-            self.primary.lay_outward(queue);
-        }
+        let Some(queue) = self.secondary.give_inward() else {
+            return done;
+        };
+        self.primary.lay_outward(queue);
+        told_there(&self.primary, &self.secondary);
         done
     }
 
-    /// The primary takes the next acknowledgement of the secondary.
+    // The primary takes the next acknowledgement of the secondary.
     pub(crate) fn ack_in(&mut self) -> Result<Done, Refusal>
-        ensures settings { self.new.settings ≡ self.old.settings }
+        ensures step { IsPairStep AckInEvent (is_starved result) (state self.old) (replied reply.Ok result) (state self.new) }
     {
         let Some(queue) = self.secondary.give_outward() else {
             return self.primary.ack_in();
         };
         self.primary.lay_inward(queue);
         let done = self.primary.ack_in();
-        if let Some(queue) = self.primary.give_inward() {
-            self.secondary.lay_outward(queue);
-        }
+        let Some(queue) = self.primary.give_inward() else {
+            return done;
+        };
+        self.secondary.lay_outward(queue);
+        told_back(&self.primary, &self.secondary);
         done
+    }
+}
+
+/// Both sides of the way there tell their frames alike. It does nothing.
+pub(crate) fn told_there(primary: &LocalNode, secondary: &PeerNode)
+    ensures { IsTold (record { out = primary.now.outgoing; inn = secondary.now.incoming }) }
+{
+    if let (Some(outgoing), Some(incoming)) = (primary.outgoing(), secondary.incoming()) {
+        joined(outgoing, incoming);
+    }
+}
+
+/// The same of the way back. It does nothing.
+pub(crate) fn told_back(primary: &LocalNode, secondary: &PeerNode)
+    ensures { IsTold (record { out = secondary.now.outgoing; inn = primary.now.incoming }) }
+{
+    if let (Some(outgoing), Some(incoming)) = (secondary.outgoing(), primary.incoming()) {
+        joined(outgoing, incoming);
     }
 }

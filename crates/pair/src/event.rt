@@ -11,16 +11,28 @@ pub enum Event {
     Submit { first: u64, contents: Bytes },
     /// The primary's disk does the write of this number.
     Local(u64),
+    /// It fails the write, after so many of its blocks.
+    LocalFault(u64, u64),
     /// The primary puts its next frame into the link.
     Send,
     /// The secondary takes the next frame.
     Receive,
     /// The secondary's disk does the item at this place of the stream.
     Peer(u32),
+    /// It fails the item, after so many of its blocks.
+    PeerFault(u32, u64),
     /// The secondary puts its next acknowledgement into the link.
     AckOut,
     /// The primary takes the next acknowledgement.
     AckIn,
+    /// The primary reads the block that the resync copies next, and appends it to the stream.
+    Resync,
+    /// Its disk fails that read.
+    ResyncFault,
+    /// The primary closes its end.
+    ClosePrimary,
+    /// The secondary closes its end.
+    CloseSecondary,
 }
 
 /// One of the two nodes.

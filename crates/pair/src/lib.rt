@@ -1,16 +1,16 @@
 //! A primary and a secondary in one thread, with the link between them: `run` takes a pair through a list of
-//! events, and answers each.
+//! events, and answers each. What it says of every run is its contract.
 #![tactic(auto)]
 
 mod carry;
 mod event;
+mod open;
 mod pair;
 mod queries;
+mod runs;
 mod steps;
-#[cfg(test)]
-mod tests;
 
 pub use blocks::{Decision, Done, Reply, What};
 pub use event::{Event, Side};
-pub use pair::Pair;
-pub use steps::run;
+pub use pair::{LocalNode, Pair, PeerNode};
+pub use runs::run;

@@ -1,56 +1,58 @@
 //! The two nodes and their link.
-ghost use Rattle.std.specs.Prelude.{◌≡◌, ◌≢◌, ◌↔◌, false, replicate, IfOk, IfErr, IsErrOf, ◌⊎◌};
-ghost use Rattle.pair.specs.Openings.{first_generation};
+ghost use Rattle.std.specs.Prelude.{◌≡◌, ◌⊎◌, false, length, replicate, slice_get, unwrap_or, IfOk, IfErr};
+ghost use Rattle.blocks.specs.SettingsRange.{IsInRange};
 ghost use Rattle.blocks.specs.declared.refusal.Refusal.TheVariants.{BadSetting, NoMemory};
+ghost use Rattle.model.specs.Contents.{filled};
+ghost use Rattle.model.specs.Pair.{pair_opening};
+ghost use Rattle.model.specs.Rows.{words};
+ghost use Rattle.pair.specs.Openings.{CanPair};
+ghost use Rattle.pair.specs.State.{state};
+ghost use Rattle.pair_steps.specs.State.{PairHas};
 
-use blocks::{MemStore, Refusal, Settings, Tuple};
+use blocks::{FaultStore, MemStore, Refusal, Settings, Store, Tuple};
 use link::{PlainIn, PlainOut};
 use primary::Primary;
 use secondary::Secondary;
 use std::alloc::Global;
 use std::marker::Model;
 
-/// A primary and a secondary over two disks in memory, and the link between them. The queue of each direction
-/// rests at its sending end.
+/// The primary of a pair, over a link in one thread and a disk in memory that fails where it is told to.
+pub type LocalNode = Primary<PlainOut, PlainIn, FaultStore>;
+
+/// The secondary of a pair.
+pub type PeerNode = Secondary<PlainOut, PlainIn, FaultStore>;
+
+/// A primary and a secondary over two disks in memory, and the link between them. Some history is had, and
+/// the queue of each direction rests at its sending end.
 #[derive(Drop)]
 pub struct Pair {
     pub(crate) alloc: Global,
-    pub(crate) settings: Settings,
-    pub(crate) primary: Primary<PlainOut, PlainIn, MemStore>,
-    pub(crate) secondary: Secondary<PlainOut, PlainIn, MemStore>,
+    pub(crate) primary: LocalNode,
+    pub(crate) secondary: PeerNode,
 }
 
 impl Model for Pair {
-    ghost use Rattle.pair.specs.State.{PairState};
+    ghost use Rattle.pair.specs.State.{PairView, IsPairView};
 
-    ghost Value = { PairState };
+    ghost Value = { PairView };
 
-    ghost use Rattle.pair.specs.Linked.{IsLinked};
+    ghost view = { λ p. record { primary = p.primary; secondary = p.secondary } };
 
-    ghost view = { λ p. record { settings = p.settings; primary = p.primary; secondary = p.secondary } };
-
-    // What each end sent, the other took, but for what waits in the link.
-    ghost invariant = { λ p. IsLinked p.settings.link p.primary.connection p.secondary };
+    ghost invariant = { λ p. IsPairView (record { primary = p.primary; secondary = p.secondary }) };
 }
 
 impl Pair {
-    /// Two zero-filled disks with the tuple 1,0,0,0 and no marks, and both ends closed. For now the settings
-    /// are `Settings::ONE_WRITE`.
+    /// Two zero-filled disks with the tuple 1,0,0,0 and no marks, and both ends closed.
     ///
-    /// `BadSetting` (15) comes for other settings, and `NoMemory` (7) where the room for the disks cannot be
-    /// had.
+    /// `BadSetting` (15) comes where a setting is out of its range, and `NoMemory` (7) where there is no
+    /// memory.
     pub fn fresh(alloc: Global, settings: Settings) -> Result<Pair, Refusal>
-        ensures settings { IfOk result (λ p. p.settings ≡ settings) }
-        ensures other_settings { IsErrOf result Refusal.BadSetting ↔ (settings ≢ Settings.ONE_WRITE) }
-        ensures identifiers { IfOk result (λ p. (p.primary.tuple ≡ first_generation) × (p.secondary.tuple ≡ first_generation)) }
-        ensures local { IfOk result (λ p. p.primary.disk ≡ replicate settings.blocks (replicate 4096 0)) }
-        ensures peer { IfOk result (λ p. p.secondary.disk ≡ replicate settings.blocks (replicate 4096 0)) }
-        ensures marks { IfOk result (λ p. p.primary.marks ≡ replicate settings.blocks false) }
-        ensures refused { IfErr result (λ e. (e ≡ BadSetting) ⊎ (e ≡ NoMemory)) }
+        ensures history { IfOk result (λ p. PairHas (state p) (pair_opening settings
+            (filled settings.blocks (replicate 4096 0)) (filled settings.blocks (replicate 4096 0))
+            (words 1 0 0 0) (words 1 0 0 0) (λ _. false))) }
+        ensures refused { IfErr result (λ e. ((e ≡ BadSetting) × (IsInRange settings → ⊥)) ⊎ ((e ≡ NoMemory) × IsInRange settings)) }
     {
-        if settings != Settings::ONE_WRITE {
-            return Err(Refusal::BadSetting);
-        }
+        settings.check()?;
         let tuple = Tuple {
             current: 1,
             bitmap: 0,
@@ -60,25 +62,37 @@ impl Pair {
         let local = MemStore::zeroed(alloc, settings.blocks)?;
         let peer = MemStore::zeroed(alloc, settings.blocks)?;
         let marks = Vec::from_elem(alloc, false, settings.blocks as usize)?;
+        Pair::from_parts(alloc, settings, local, peer, tuple, tuple, marks)
+    }
+
+    /// A pair of these disks, identifiers and marks, both ends closed. The caller owes honest identifiers:
+    /// where the peer's current one is the primary's current or bitmap one, the disks are equal but for the
+    /// marked blocks. Without that, nothing is said of the marks.
+    ///
+    /// `BadSetting` (15) comes where a setting is out of its range, where a disk or the list of marks has
+    /// another size than the settings say, and where the primary's current identifier is zero; else
+    /// `NoMemory` (7), where there is no memory. What was handed over is dropped then.
+    pub fn from_parts(
+        alloc: Global,
+        settings: Settings,
+        local: MemStore,
+        peer: MemStore,
+        own: Tuple,
+        peer_tuple: Tuple,
+        marks: Vec<bool>,
+    ) -> Result<Pair, Refusal>
+        ensures history { IfOk result (λ p. PairHas (state p) (pair_opening settings (slice_get local) (slice_get peer)
+            own peer_tuple (λ block. unwrap_or (slice_get marks.items block) false))) }
+        ensures refused { IfErr result (λ e. ((e ≡ BadSetting) × (CanPair settings local peer own marks.items → ⊥))
+            ⊎ ((e ≡ NoMemory) × CanPair settings local peer own marks.items)) }
+    {
+        if peer.blocks() != settings.blocks {
+            return Err(Refusal::BadSetting);
+        }
         Ok(Pair {
             alloc,
-            settings,
-            primary: Primary::new(alloc, settings, local, tuple, marks)?,
-            secondary: Secondary::new(alloc, settings, peer, tuple)?,
+            primary: Primary::new(alloc, settings, FaultStore::new(local), own, marks)?,
+            secondary: Secondary::new(alloc, settings, FaultStore::new(peer), peer_tuple)?,
         })
-    }
-
-    /// The settings.
-    pub fn settings(&self) -> Settings
-        ensures { result ≡ self.now.settings }
-    {
-        self.settings
-    }
-
-    /// The identifiers of the two disks, the primary's first.
-    pub fn tuples(&self) -> (Tuple, Tuple)
-        ensures both { result ≡ (self.now.primary.tuple, self.now.secondary.tuple) }
-    {
-        (self.primary.tuple(), self.secondary.tuple())
     }
 }

@@ -1,19 +1,37 @@
-//! What a caller may ask of the two disks.
-ghost use Rattle.std.specs.Prelude.{◌≡◌, ◌≢◌, ◌≤◌, ◌↔◌, length, slice_get, Some, IsTrue, OnOk, IsErr, IfErr};
+//! What is read off a pair.
+ghost use Rattle.std.specs.Prelude.{◌≡◌, ◌≤◌, ◌↔◌, length, Some, OnOk, IsErr, IfErr};
 ghost use Rattle.blocks.specs.declared.block.TheConstants.{BLOCK_BYTES};
 ghost use Rattle.blocks.specs.declared.refusal.Refusal.TheVariants.{BadRange};
-ghost use Rattle.pair.specs.Disks.{disk_of};
+ghost use Rattle.model.specs.Headline.{is_marked};
+ghost use Rattle.model.specs.Pair.{PairHistory, differs, tuples};
+ghost use Rattle.pair.specs.Reading.{disk_at, size_of};
+ghost use Rattle.pair.specs.State.{state};
+ghost use Rattle.pair_steps.specs.State.{PairHas};
 
-use crate::{Pair, Side};
-use blocks::{BLOCK_BYTES, Block, Refusal};
+use crate::{LocalNode, Pair, PeerNode, Side};
+use blocks::{BLOCK_BYTES, Block, Refusal, Tuple};
 
 impl Pair {
+    /// The generation identifiers of the primary, and those of the secondary.
+    pub fn tuples(&self) -> (Tuple, Tuple)
+        ensures { (h : PairHistory) → PairHas (state self.now) h → result ≡ tuples h }
+    {
+        (self.primary.tuple(), self.secondary.tuple())
+    }
+
+    /// Whether the block is marked at the primary.
+    pub fn is_marked(&self, block: Block) -> bool
+        ensures { (h : PairHistory) → PairHas (state self.now) h → result ≡ is_marked h.primary block.0 }
+    {
+        self.primary.is_marked(block)
+    }
+
     /// Reads a block of one node's disk into a buffer of 4,096 bytes. `BadRange` (1) comes for a block past the
-    /// end. It changes nothing, and takes no memory; a disk in memory never fails.
+    /// end. It changes nothing, and takes no memory.
     pub fn read(&mut self, side: Side, block: Block, buffer: &mut [u8]) -> Result<(), Refusal>
         requires { length buffer.old ≡ BLOCK_BYTES }
-        ensures read { OnOk result (slice_get (disk_of side self.old) block.0 ≡ Some buffer.new) }
-        ensures past_the_end { IsErr result ↔ (length (disk_of side self.old) ≤ block.0) }
+        ensures read { OnOk result ((h : PairHistory) → PairHas (state self.old) h → disk_at side h block.0 ≡ Some buffer.new) }
+        ensures past_the_end { IsErr result ↔ (size_of side self.old ≤ block.0) }
         ensures refused { IfErr result (λ e. e ≡ BadRange) }
         ensures same { self.new ≡ self.old }
     {
@@ -26,18 +44,33 @@ impl Pair {
     /// Whether the two disks differ in a block. Past their end they do not. It changes nothing, and takes no
     /// memory.
     pub fn differs(&mut self, block: Block) -> bool
-        ensures differs { IsTrue result
-            ↔ (slice_get self.old.primary.disk block.0 ≢ slice_get self.old.secondary.disk block.0) }
+        ensures differs { (h : PairHistory) → PairHas (state self.old) h → result ≡ differs h block.0 }
         ensures same { self.new ≡ self.old }
     {
         let mut local = [0u8; BLOCK_BYTES];
         let mut peer = [0u8; BLOCK_BYTES];
         let read_local = self.primary.read_block(block, &mut local).is_ok();
         let read_peer = self.secondary.read_block(block, &mut peer).is_ok();
-        if read_local && read_peer {
-            local != peer
-        } else {
-            read_local != read_peer
+        if read_local != read_peer {
+            return true;
         }
+        if !read_local {
+            return false;
+        }
+        local != peer
+    }
+
+    /// The primary, for reading.
+    pub fn primary(&self) -> &LocalNode
+        ensures { result.now ≡ self.now.primary }
+    {
+        &self.primary
+    }
+
+    /// The secondary, for reading.
+    pub fn secondary(&self) -> &PeerNode
+        ensures { result.now ≡ self.now.secondary }
+    {
+        &self.secondary
     }
 }

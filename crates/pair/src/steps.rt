@@ -1,113 +1,138 @@
-//! Events, one after another.
-ghost use Rattle.std.specs.Prelude.{◌≡◌, length, IfOk, IfErr};
-ghost use Rattle.blocks.specs.declared.refusal.Refusal.TheVariants.{NoMemory};
+//! Events of one node, and each event.
+ghost use Rattle.std.specs.Prelude.{◌≡◌};
+ghost use Rattle.blocks.specs.declared.outcome.Reply.TheVariants as reply;
+ghost use Rattle.endpoint.specs.Calls as link;
+ghost use Rattle.model.specs.Pair.{AckOutEvent, ClosePrimaryEvent, CloseSecondaryEvent, LocalEvent, LocalFaultEvent, PeerEvent, PeerFaultEvent, ResyncEvent, ResyncFaultEvent, SendEvent, SubmitEvent};
+ghost use Rattle.pair.specs.Events.{event_of};
+ghost use Rattle.pair.specs.State.{state};
+ghost use Rattle.pair_steps.specs.State.{IsPairStep, is_starved};
+ghost use Rattle.primary_steps.specs.Steps.{replied};
+ghost use Rattle.secondary_steps.specs.Steps as from_secondary;
+ghost use Rattle.secondary_steps.specs.Steps.{plainly};
+ghost use Rattle.primary_steps.specs.Transitions.{whole_blocks};
 
+use crate::carry::{told_back, told_there};
 use crate::{Event, Pair};
 use blocks::{Done, Refusal, Reply, What};
 use bytes::Bytes;
-use link::PlainLink;
-use std::alloc::Global;
 
 impl Pair {
-    /// Both ends open, with a new link. `NotDrained` (36) comes where an end is open or an item is pending,
-    /// `UsedIdentifier` (33) for words that are not fresh, and `NoMemory` (7) where the link cannot be had.
-    fn open(&mut self, sync: u64, loss: u64) -> Result<Done, Refusal>
-        ensures settings { self.new.settings ≡ self.old.settings }
+    // The primary accepts a write.
+    fn submit(&mut self, first: u64, contents: &Bytes) -> Result<(u64, Done), Refusal>
+        ensures step { IsPairStep (SubmitEvent first (whole_blocks contents.now)) (link.is_starved result) (state self.old) (replied (λ told. reply.Ok told.1) result) (state self.new) }
     {
-        if self.primary.is_open() || self.secondary.is_open() || !self.secondary.is_drained() {
-            return Err(Refusal::NotDrained);
-        }
-        self.primary.check_words(sync, loss)?;
-        let link = PlainLink::new(self.alloc, self.settings.link)?;
-        let (ours, theirs) = (link.primary, link.secondary);
-        self.primary.open(ours.outward, ours.inward, sync, loss)?;
-        self.secondary.open(theirs.outward, theirs.inward)?;
-        Ok(Done {
-            what: What::Nothing,
-            completed: None,
-            barrier: None,
-            synced: false,
-        })
+        self.primary.submit(first, contents)
     }
 
-    /// The primary accepts a write.
-    fn submit(&mut self, first: u64, contents: &Bytes) -> Result<Done, Refusal>
-        ensures settings { self.new.settings ≡ self.old.settings }
-    {
-        let (_, done) = self.primary.submit(first, contents)?;
-        Ok(done)
-    }
-
-    /// The primary's disk does a write.
+    // The primary's disk does a write.
     fn local(&mut self, number: u64) -> Result<Done, Refusal>
-        ensures settings { self.new.settings ≡ self.old.settings }
+        ensures step { IsPairStep (LocalEvent number) (link.is_starved result) (state self.old) (replied reply.Ok result) (state self.new) }
     {
         self.primary.local(number)
     }
 
-    /// The primary sends a frame.
-    fn send(&mut self) -> Result<Done, Refusal>
-        ensures settings { self.new.settings ≡ self.old.settings }
+    // It fails a write.
+    fn local_fault(&mut self, number: u64, kept: u64) -> Result<Done, Refusal>
+        ensures step { IsPairStep (LocalFaultEvent number kept) (link.is_starved result) (state self.old) (replied reply.Ok result) (state self.new) }
     {
-        self.primary.send()
+        self.primary.local_fault(number, kept)
     }
 
-    /// The secondary's disk does an item.
+    // The primary sends a frame.
+    fn send(&mut self) -> Result<Done, Refusal>
+        ensures step { IsPairStep SendEvent (link.is_starved result) (state self.old) (replied reply.Ok result) (state self.new) }
+    {
+        let done = self.primary.send();
+        told_there(&self.primary, &self.secondary);
+        done
+    }
+
+    // The secondary's disk does an item.
     fn peer(&mut self, place: u32) -> Result<Done, Refusal>
-        ensures settings { self.new.settings ≡ self.old.settings }
+        ensures step { IsPairStep (PeerEvent place) (link.is_starved result) (state self.old) (from_secondary.replied (λ done. done) result) (state self.new) }
     {
         self.secondary.peer(place)
     }
 
-    /// The secondary sends an acknowledgement.
-    fn ack_out(&mut self) -> Result<Done, Refusal>
-        ensures settings { self.new.settings ≡ self.old.settings }
+    // It fails an item.
+    fn peer_fault(&mut self, place: u32, kept: u64) -> Result<Done, Refusal>
+        ensures step { IsPairStep (PeerFaultEvent place kept) (link.is_starved result) (state self.old) (from_secondary.replied (λ done. done) result) (state self.new) }
     {
-        self.secondary.ack_out()
+        self.secondary.peer_fault(place, kept)
     }
 
-    /// One event.
-    fn step(&mut self, event: &Event) -> Reply
-        ensures settings { self.new.settings ≡ self.old.settings }
+    // The secondary sends an acknowledgement.
+    fn ack_out(&mut self) -> Result<Done, Refusal>
+        ensures step { IsPairStep AckOutEvent (link.is_starved result) (state self.old) (from_secondary.replied (λ done. done) result) (state self.new) }
+    {
+        let done = self.secondary.ack_out();
+        told_back(&self.primary, &self.secondary);
+        done
+    }
+
+    // The primary copies a block.
+    fn resync(&mut self) -> Result<Done, Refusal>
+        ensures step { IsPairStep ResyncEvent (link.is_starved result) (state self.old) (replied reply.Ok result) (state self.new) }
+    {
+        self.primary.resync_next()
+    }
+
+    // The primary's disk fails the read of a block.
+    fn resync_fault(&mut self) -> Result<Done, Refusal>
+        ensures step { IsPairStep ResyncFaultEvent (link.is_starved result) (state self.old) (replied reply.Ok result) (state self.new) }
+    {
+        self.primary.resync_fault()
+    }
+
+    // The primary closes its end.
+    fn close_primary(&mut self) -> Result<u32, Refusal>
+        ensures step { IsPairStep ClosePrimaryEvent (link.is_starved result) (state self.old) (replied reply.Closed result) (state self.new) }
+    {
+        self.primary.close()
+    }
+
+    // The secondary closes its end.
+    fn close_secondary(&mut self) -> Result<(), Refusal>
+        ensures step { IsPairStep CloseSecondaryEvent (link.is_starved result) (state self.old) (from_secondary.replied plainly result) (state self.new) }
+    {
+        self.secondary.close()
+    }
+
+    /// One event, and the reply to it. It is the event's step, on whichever history the pair had; memory was
+    /// refused where the reply is 7.
+    pub fn step(&mut self, event: &Event) -> Reply
+        ensures step { IsPairStep (event_of event.now) (is_starved result) (state self.old) result (state self.new) }
     {
         let outcome = match event {
             Event::Open { sync, loss } => self.open(*sync, *loss),
-            Event::Submit { first, contents } => self.submit(*first, contents),
+            Event::Submit { first, contents } => match self.submit(*first, contents) {
+                Ok((_, done)) => Ok(done),
+                Err(refusal) => Err(refusal),
+            },
             Event::Local(number) => self.local(*number),
+            Event::LocalFault(number, kept) => self.local_fault(*number, *kept),
             Event::Send => self.send(),
             Event::Receive => self.receive(),
             Event::Peer(place) => self.peer(*place),
+            Event::PeerFault(place, kept) => self.peer_fault(*place, *kept),
             Event::AckOut => self.ack_out(),
             Event::AckIn => self.ack_in(),
+            Event::Resync => self.resync(),
+            Event::ResyncFault => self.resync_fault(),
+            Event::ClosePrimary => {
+                return match self.close_primary() {
+                    Ok(completed) => Reply::Closed(completed),
+                    Err(refusal) => Reply::Refused(refusal),
+                };
+            }
+            Event::CloseSecondary => match self.close_secondary() {
+                Ok(()) => Ok(Done::about(What::Nothing)),
+                Err(refusal) => Err(refusal),
+            },
         };
         match outcome {
             Ok(done) => Reply::Ok(done),
             Err(refusal) => Reply::Refused(refusal),
         }
     }
-}
-
-/// Takes a pair through the events, in order, and gives the reply to each.
-///
-/// Room for all replies is made first: `NoMemory` (7) where it cannot be had, and then nothing has happened,
-/// and the pair is handed back.
-pub fn run(
-    alloc: Global,
-    pair: Pair,
-    events: &[Event],
-) -> Result<(Pair, Vec<Reply>), (Pair, Refusal)>
-    ensures count { IfOk result (λ r. length r.1.items ≡ length events.now) }
-    ensures settings { IfOk result (λ r. r.0.settings ≡ pair.settings) }
-    ensures handed_back { IfErr result (λ e. (e.0 ≡ pair) × (e.1 ≡ NoMemory)) }
-{
-    let mut pair = pair;
-    let mut replies = match Vec::with_capacity(alloc, events.len()) {
-        Ok(replies) => replies,
-        Err(_) => return Err((pair, Refusal::NoMemory)),
-    };
-    for event in events {
-        let reply = pair.step(event);
-        replies.push(reply).unwrap();
-    }
-    Ok((pair, replies))
 }

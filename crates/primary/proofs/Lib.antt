@@ -1,3 +1,10 @@
-pub mod Decoded
-pub mod Words
-pub mod Judging
+pub mod Asked
+pub mod Copying
+pub mod Kept
+pub mod Opening
+pub mod Reading
+pub mod Refused
+pub mod Sending
+pub mod Taking
+pub mod Telling
+pub mod Writing

@@ -1,13 +1,3 @@
-pub mod Acknowledging
-pub mod Hellos
-pub mod Openings
-pub mod Primaries
-pub mod Sending
+pub mod Calls
+pub mod Receipts
 pub mod State
-pub mod Streams
-pub mod Submissions
-pub mod Taking
-pub mod Writes
-pub mod Judged
-pub mod Settling
-pub mod Outcomes

@@ -1,48 +1,61 @@
--- What clauses see of a primary.
-use Rattle.std.specs.Prelude.{ℕ, Bool, List, Option}
-use Rattle.blocks.specs.declared.settings.Settings.{Settings}
-use Rattle.blocks.specs.declared.tuple.Tuple.{Tuple}
-use Rattle.packets.specs.declared.packet.Packet.{Packet}
-use Rattle.primary.specs.declared.hello.Hello.{Hello}
-use Rattle.primary.specs.declared.write.Write.{Write}
+-- What the fields of a node stand for.
+use Rattle.std.specs.Prelude.{ℕ, ◌≡◌, ◌≤◌, Bool, true, List, [], ◌∷◌, Option, Some, None, IfSome, is_some, Ok}
+use Rattle.model.specs.Frames.{Packet, Received}
+pub use Rattle.endpoint.specs.Calls.{pushed_of, taken_of}
+use Rattle.endpoint.specs.Outgoing.{OutgoingState, pushing_anew}
+use Rattle.endpoint.specs.Incoming.{IncomingState, taking_anew}
+use Rattle.primary_steps.specs.Core.{PrimaryState, stands}
+use Rattle.primary_steps.specs.Transitions.{due}
+use Rattle.primary_steps.specs.Node.{NodeState, NodeIsHad}
 
--- the stream of a connection: the items that are not sent yet, the number of all its items and of its
--- writes, the number of its last epoch and whether that has a write, and how many epochs are acknowledged
-pub record StreamState : Type 0 where
-  pub due : List Packet
-  pub places : ℕ
-  pub writes : ℕ
-  pub epoch : ℕ
-  pub holds_write : Bool
-  pub acknowledged : ℕ
+-- A node: its core, the blocks of its disk, both sides of its link where it was opened, how many of its disk's calls have
+-- failed, and whether these are known not to fail.
+pub record PrimaryView : Type 0 where
+  pub core : PrimaryState
+  pub disk : List (List ℕ)
+  pub outgoing : Option OutgoingState
+  pub incoming : Option IncomingState
+  pub faults : ℕ
+  pub steady : Bool
 
--- a connection: whether this end is open, its two words, the next frames of the hello to send and to take,
--- its stream, and what is known of its two ends
-pub record ConnectionState : Type 0 where
-  pub is_open : Bool
-  pub sync : ℕ
-  pub loss : ℕ
-  pub hello_sent : Hello
-  pub hello_taken : Hello
-  pub stream : StreamState
-  pub sent : List (List ℕ)
-  pub waiting : Option (List (List ℕ))
+-- the node as its history sees it
+abbrev pub node : PrimaryView → NodeState
+node v = record { core = v.core; disk = v.disk; pushed = pushed_of v.outgoing; taken = taken_of v.incoming }
+
+-- Both sides began the connection of this number, and the core opened; all else is as it was.
+pub record IsRestarted (number : ℕ) (old new : PrimaryView) : Type 0 where
+  pub before : OutgoingState
   pub room : Option ℕ
-  pub taken : List (List ℕ)
+  pub waiting : Option ℕ
+  pub out_there : old.outgoing ≡ Some before
+  pub out : new.outgoing ≡ Some (record (pushing_anew number before) { room = room; waiting = waiting })
+  pub had : IncomingState
   pub queued : Option (List (List ℕ))
   pub capacity : Option ℕ
+  pub in_there : old.incoming ≡ Some had
+  pub inn : new.incoming ≡ Some (record (taking_anew number had) { queued = queued; capacity = capacity })
+  pub rest : new ≡ record old { core = new.core; outgoing = new.outgoing; incoming = new.incoming }
 
--- a primary: its settings, its disk block by block and how often that failed, its identifiers and those of
--- the peer that were seen last, the marks, how many writes were accepted, those that are not released, the
--- numbers of the completed ones in the order of completion, and its connection, once it has had one
-pub record PrimaryState : Type 0 where
-  pub settings : Settings
-  pub disk : List (List ℕ)
-  pub faults : ℕ
-  pub tuple : Tuple
-  pub peer : Option Tuple
-  pub marks : List Bool
-  pub accepted : ℕ
-  pub log : List Write
-  pub journal : List ℕ
-  pub connection : Option ConnectionState
+-- What went in part at an open end is the packet that is due.
+abbrev pub IsDue : Option (List Packet) → PrimaryState → Type 0
+IsDue None s = Unit {0}
+IsDue (Some begun) s = is_some s.end ≡ true → (packet : Packet) × (due s ≡ Ok packet) × (begun ≡ packet ∷ [])
+
+abbrev pub IsBegun : Option OutgoingState → PrimaryState → Type 0
+IsBegun None s = Unit {0}
+IsBegun (Some o) s = IsDue o.partly s
+
+-- the sides' connections are not numbered above the node's
+abbrev pub IsNumbered : Option OutgoingState → Option IncomingState → PrimaryState → Type 0
+IsNumbered (Some o) (Some i) s = (o.number ≤ s.connections) × (i.number ≤ s.connections)
+IsNumbered _ _ s = Unit {0}
+
+-- Some history is had. An open end has both sides of its link, what went in part is due, and a link's connections are
+-- numbered as the node's are. Once the stream has begun there is room for the next frame, whatever it is.
+pub record IsNode (v : PrimaryView) : Type 0 where
+  pub had : NodeIsHad (node v)
+  pub out_there : is_some v.core.end ≡ true → is_some v.outgoing ≡ true
+  pub in_there : is_some v.core.end ≡ true → is_some v.incoming ≡ true
+  pub begun : IsBegun v.outgoing v.core
+  pub numbered : IsNumbered v.outgoing v.incoming v.core
+  pub ready : stands v.core ≡ true → IfSome v.incoming (λ i. i.is_ready ≡ true)

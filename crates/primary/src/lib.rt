@@ -1,21 +1,19 @@
-//! The primary node: it accepts writes, writes them to its disk, sends them to the peer, and takes the
-//! peer's acknowledgements. For now it serves one write at a time under protocol C.
+//! The primary as a node: its core, its disk and both ends of its link. Every call is the step of its history.
 #![tactic(auto)]
 
-mod acknowledgements;
-mod connection;
-mod hello;
-mod opening;
-mod queues;
-mod sending;
+mod acknowledge;
+mod close;
+mod ends;
+mod local;
+mod open;
+mod queue;
+mod read;
+mod receipts;
+mod resyncing;
+mod send;
 mod state;
-mod stream;
-mod submission;
-#[cfg(test)]
-mod tests;
-mod transfer_log;
-mod write;
+mod submit;
+mod usage;
 
-pub use hello::Hello;
-pub use state::{MAX_ACCEPTED, Primary};
-pub use write::{Home, LocalState, Write};
+pub use receipts::{Kind, Receipt};
+pub use state::Primary;

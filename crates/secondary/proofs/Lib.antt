@@ -1,4 +1,7 @@
-pub mod Fits
-pub mod Ranges
-pub mod Decoded
-pub mod States
+pub mod Applies
+pub mod Buffers
+pub mod Faults
+pub mod Kept
+pub mod Opens
+pub mod Sends
+pub mod Takes

@@ -1,45 +1,59 @@
--- What a clause sees of the secondary.
-use Rattle.std.specs.Prelude.{ℕ, Bool, List, Option}
-use Rattle.blocks.specs.declared.settings.Settings.{Settings}
-use Rattle.blocks.specs.declared.tuple.Tuple.{Tuple}
-use Rattle.secondary.specs.declared.peer_disk.Item.{Item}
-use Rattle.secondary.specs.declared.stream.Span.{Span}
-use Rattle.secondary.specs.declared.acknowledgements.Due.{Due}
-use Rattle.secondary.specs.declared.acknowledgements.EpochEnd.{EpochEnd}
+-- What the fields of a node stand for.
+use Rattle.std.specs.Prelude.{ℕ, ◌≡◌, ◌≤◌, Bool, true, List, [], ◌∷◌, Option, Some, None, is_some, Ok}
+use Rattle.model.specs.Frames.{Packet, Received}
+pub use Rattle.endpoint.specs.Calls.{pushed_of, taken_of}
+use Rattle.endpoint.specs.Outgoing.{OutgoingState, pushing_anew}
+use Rattle.endpoint.specs.Incoming.{IncomingState, taking_anew}
+use Rattle.secondary_steps.specs.Core.{SecondaryState, due}
+use Rattle.secondary_steps.specs.Node.{NodeState, NodeIsHad}
 
--- what was taken on the connection, and what is owed for it
-pub record IntakeState : Type 0 where
-  -- how many hello frames were taken
-  pub hello : ℕ
-  -- how many items of the stream were taken, the number of the last write, and how many barriers were taken
-  pub next_place : ℕ
-  pub last_number : ℕ
-  pub barriers : ℕ
-  -- what the writes of the last epoch cover
-  pub epoch : List Span
-  -- the writes that are not on the disk
-  pub pending : List Item
-  -- the barriers that are not acknowledged
-  pub ended : List EpochEnd
-  -- the acknowledgements that are not sent
-  pub due : List Due
-
--- a whole secondary
-pub record SecondaryState : Type 0 where
-  pub settings : Settings
-  -- what the disk holds, block by block, and how many of its calls have failed
+-- A node: its core, the blocks of its disk, both sides of its link where it was opened, how many of its disk's calls have
+-- failed, and whether these are known not to fail.
+pub record SecondaryView : Type 0 where
+  pub core : SecondaryState
   pub disk : List (List ℕ)
+  pub outgoing : Option OutgoingState
+  pub incoming : Option IncomingState
   pub faults : ℕ
-  pub tuple : Tuple
-  pub is_open : Bool
-  pub intake : IntakeState
-  -- how many hello frames were sent
-  pub hello_sent : ℕ
-  -- the frames sent, those of them that the primary has not taken, and how many more the link can hold
-  pub sent : List (List ℕ)
-  pub waiting : Option (List (List ℕ))
+  pub steady : Bool
+
+-- the node as its history sees it
+abbrev pub node : SecondaryView → NodeState
+node v = record { core = v.core; disk = v.disk; pushed = pushed_of v.outgoing; taken = taken_of v.incoming }
+
+-- Both sides began the connection of this number, and the core opened; all else is as it was.
+pub record IsRestarted (number : ℕ) (old new : SecondaryView) : Type 0 where
+  pub before : OutgoingState
   pub room : Option ℕ
-  -- the frames taken, those that come next, and how many the queue that lies here can hold
-  pub taken : List (List ℕ)
+  pub waiting : Option ℕ
+  pub out_there : old.outgoing ≡ Some before
+  pub out : new.outgoing ≡ Some (record (pushing_anew number before) { room = room; waiting = waiting })
+  pub had : IncomingState
   pub queued : Option (List (List ℕ))
   pub capacity : Option ℕ
+  pub in_there : old.incoming ≡ Some had
+  pub inn : new.incoming ≡ Some (record (taking_anew number had) { queued = queued; capacity = capacity })
+  pub rest : new ≡ record old { core = new.core; outgoing = new.outgoing; incoming = new.incoming }
+
+-- What went in part at an open end is the packet that is due.
+abbrev pub IsDue : Option (List Packet) → SecondaryState → Type 0
+IsDue None s = Unit {0}
+IsDue (Some begun) s = is_some s.end ≡ true → (packet : Packet) × (due s ≡ Ok packet) × (begun ≡ packet ∷ [])
+
+abbrev pub IsBegun : Option OutgoingState → SecondaryState → Type 0
+IsBegun None s = Unit {0}
+IsBegun (Some o) s = IsDue o.partly s
+
+-- the sides' connections are not numbered above the node's
+abbrev pub IsNumbered : Option OutgoingState → Option IncomingState → SecondaryState → Type 0
+IsNumbered (Some o) (Some i) s = (o.number ≤ s.number) × (i.number ≤ s.number)
+IsNumbered _ _ s = Unit {0}
+
+-- Some history is had. An open end has both sides of its link, what went in part is due, and a link's connections are
+-- numbered as the node's are.
+pub record IsNode (v : SecondaryView) : Type 0 where
+  pub had : NodeIsHad (node v)
+  pub out_there : is_some v.core.end ≡ true → is_some v.outgoing ≡ true
+  pub in_there : is_some v.core.end ≡ true → is_some v.incoming ≡ true
+  pub begun : IsBegun v.outgoing v.core
+  pub numbered : IsNumbered v.outgoing v.incoming v.core

@@ -1,18 +1,15 @@
-//! The secondary node of a mirrored device. It takes the primary's frames, writes them to its disk epoch by
-//! epoch, and acknowledges them.
+//! The secondary as a node: its core, its disk and both ends of its link. Every call is the step of its history.
 #![tactic(auto)]
 
-mod acknowledgements;
-mod apply;
-mod connection;
+mod acknowledge;
+mod close;
 mod ends;
-mod hello;
-mod intake;
-mod peer_disk;
+mod open;
+mod peer;
+mod queue;
+mod read;
 mod receive;
 mod state;
-mod stream;
-#[cfg(test)]
-mod tests;
+mod usage;
 
 pub use state::Secondary;

@@ -1,8 +1,12 @@
--- The link carries the acknowledgement that was sent.
-use Rattle.pair.proofs.There.{link-sent-back}
+use Rattle.std.proofs.Common.{◌≡◌, ◌∙◌, sym, ap}
+use Rattle.secondary.specs.State.{SecondaryView}
+use Rattle.pair.proofs.Sending.{answer-step, answer-is}
 use Rattle.pair.proofs.pair.Pair.ack_out.Goals as goal
 
 pub invariant_of-self : goal.invariant_of-self
 invariant_of-self c =
-    let call = c.ack_out.ensures in
-    link-sent-back c.self.inside.settings.link c.self.inside.primary.connection c.self.inside.secondary c.ack_out.new.self c.ack_out.result call.first call.unchanged call.sent c.self.invariant
+    answer-is (record { primary = c.self.inside.primary; secondary = c.self.inside.secondary }) c.ack_out-done.new.self c.ack_out-done.result c.self.invariant c.ack_out-done.ensures.link c.ack_out-done.ensures.step
+    (ap (λ (v : SecondaryView). v.incoming) c.ack_out-done.ensures.rest) (ap (λ (v : SecondaryView). v.steady) c.ack_out-done.ensures.rest ∙ c.self.invariant.peer) c.told_back.ensures
+
+pub returns : goal.returns
+returns c = record { step = rw (← c.self.view_is) (answer-step (record { primary = c.self.inside.primary; secondary = c.self.inside.secondary }) c.ack_out-done.new.self c.ack_out-done.result c.self.invariant c.ack_out-done.ensures.link c.ack_out-done.ensures.step) }

@@ -1,11 +1,11 @@
--- A new pair has no link yet.
-use Rattle.std.proofs.Common.{ap, subst, sym}
-use Rattle.primary.specs.State.{PrimaryState}
-use Rattle.secondary.specs.State.{SecondaryState}
-use Rattle.pair.specs.Linked.{IsLinked}
+use Rattle.std.proofs.Common.{◌≡◌}
+use Rattle.std.specs.Prelude.{replicate}
+use Rattle.model.specs.Rows.{words}
+use Rattle.pair.specs.State.{PairView, state}
+use Rattle.pair.proofs.Parts.{zero-filled}
 use Rattle.pair.proofs.pair.Pair.fresh.Goals as goal
 
-pub invariant_of-result : goal.invariant_of-result
-invariant_of-result c =
-    subst (λ (s : PrimaryState). IsLinked c.args.settings.link s.connection c.in_ok-new-2.field-0) (sym c.in_ok-new.ensures.closed)
-    (record { closed = ap (λ (s : SecondaryState). s.is_open) c.in_ok-new-2.ensures.made; nothing = ap (λ (s : SecondaryState). s.waiting) c.in_ok-new-2.ensures.made })
+pub returns-clause-history : goal.returns-clause-history
+returns-clause-history c =
+    zero-filled c.from_parts.result (λ (p : PairView). state p) c.args.settings (replicate 4096 0) c.in_ok-local.local c.in_ok-peer.peer c.in_ok-marks.marks.items (words 1 0 0 0) (words 1 0 0 0)
+    c.in_ok-local.ensures.zeros c.in_ok-peer.ensures.zeros (c.in_ok-marks.ensures.items_if_clones_equal (λ y is. is)) c.from_parts.ensures.history

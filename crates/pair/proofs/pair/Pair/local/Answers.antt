@@ -1,6 +1,18 @@
--- The primary's disk has no part in what the link carries.
-use Rattle.pair.proofs.Links.{link-kept}
+use Rattle.std.proofs.Common.{◌≡◌, ◌∙◌, refl, sym, ap}
+use Rattle.endpoint.specs.Calls.{is_starved}
+use Rattle.model.specs.Pair.{LocalEvent}
+use Rattle.model.specs.PrimarySteps.{local_done}
+use Rattle.pair.proofs.Steady.{in-fact}
+use Rattle.primary.specs.State.{PrimaryView}
+use Rattle.pair.specs.State.{PairView}
+use Rattle.pair.proofs.Pairing.{primary-step, primary-is}
 use Rattle.pair.proofs.pair.Pair.local.Goals as goal
 
 pub invariant_of-self : goal.invariant_of-self
-invariant_of-self c = link-kept c.self.inside.settings.link c.self.inside.primary.connection c.local.new.self.connection c.self.inside.secondary c.local.ensures.ends c.self.invariant
+invariant_of-self c =
+    primary-is (LocalEvent c.args.number) (is_starved c.local.result) (record { primary = c.self.inside.primary; secondary = c.self.inside.secondary }) c.local.new.self _ c.self.invariant
+    (primary-step (LocalEvent c.args.number) (is_starved c.local.result) (local_done c.args.number) (λ h. refl) (record { primary = c.self.inside.primary; secondary = c.self.inside.secondary }) c.local.new.self _ (in-fact c.local.ensures.step (c.local.ensures.works c.self.invariant.local).0))
+    (ap (λ (v : PrimaryView). v.outgoing) c.local.ensures.rest) (ap (λ (v : PrimaryView). v.incoming) c.local.ensures.rest) ((c.local.ensures.works c.self.invariant.local).1)
+
+pub returns : goal.returns
+returns c = record { step = rw (← c.self.view_is) (primary-step (LocalEvent c.args.number) (is_starved c.local.result) (local_done c.args.number) (λ h. refl) (record { primary = c.self.inside.primary; secondary = c.self.inside.secondary }) c.local.new.self _ (in-fact c.local.ensures.step (c.local.ensures.works c.self.invariant.local).0)) }

@@ -1,28 +1,39 @@
--- A refusal of a frame that was taken closes this end.
-use Rattle.std.proofs.Common.{◌≡◌, ◌∙◌, Some, ap, refl, sym}
-use Rattle.primary.specs.Judged.{IsJudged}
-use Rattle.primary.specs.Outcomes.{outcome_of}
-use Rattle.primary.specs.State.{PrimaryState}
-use Rattle.primary.proofs.Judging.{closed_by, done_by}
+use Rattle.std.proofs.Common.{◌≡◌, ◌∙◌, Bool, true, false, Some, Err, rules, refl, sym, ap}
+use Rattle.std.specs.Prelude.{is_some}
+use Rattle.blocks.specs.declared.refusal.Refusal.TheVariants.{NoMemory, NotConnected}
+use Rattle.endpoint.proofs.Faults.{never-nothing}
+use Rattle.primary_steps.specs.Core.{stands}
+use Rattle.primary_steps.proofs.Node.Takes.{not-open, not-ready}
+use Rattle.primary.proofs.Taking.{readied-same, readied-some, takes-none, takes-some, takes-is}
 use Rattle.primary.proofs.state.Primary.ack_in.Goals as goal
+use Rattle.primary.proofs.state.Primary.ack_in.Goals.{then-not-stands+in_ok-ready, else-not-stands}
 
-pub returns-then-is_err-clause-refused : goal.returns-then-is_err-clause-refused
-returns-then-is_err-clause-refused g c = λ connected.
-    let old : PrimaryState = c.args.self.now in
-    let noted : PrimaryState = c.judge-outcome.new.self in
-    let new : PrimaryState = c.close.new.self in
-    let there : old.connection ≡ Some c.in-Some.connection = ap (λ (p : PrimaryState). p.connection) (sym c.self.view_is) ∙ c.in-Some.is in
-    let judges : IsJudged (record old { connection = Some c.take.new.self }) c.in_ok-frame.frame (outcome_of c.judge-outcome.result noted) =
-    rw (← c.self.view_is) (c.judge-outcome.ensures.judged refl) in
-    closed_by old noted new c.in-Some.connection c.take.new.self c.in_ok-frame.frame c.judge-outcome.result
-    there c.in_ok-frame.ensures.taken c.in_ok-frame.ensures.rest judges c.close.ensures.ended
+pub returns-then-not-is_open-clause-step : goal.returns-then-not-is_open-clause-step
+returns-then-not-is_open-clause-step g c =
+    let shut : is_some c.self.inside.core.state.end ≡ false = sym c.is_open.ensures ∙ c.if-not-is_open.true in
+    rw (← c.self.view_is) (takes-none _ _ c.self.invariant c.self.inside.incoming NotConnected _ refl refl (readied-same c.self.inside.incoming) (λ no. absurd (cc)) (not-open c.self.inside.core.state shut))
 
-pub returns-else-is_err-clause-done : goal.returns-else-is_err-clause-done
-returns-else-is_err-clause-done g c = λ connected.
-    let old : PrimaryState = c.args.self.now in
-    let new : PrimaryState = c.judge-outcome.new.self in
-    let there : old.connection ≡ Some c.in-Some.connection = ap (λ (p : PrimaryState). p.connection) (sym c.self.view_is) ∙ c.in-Some.is in
-    let judges : IsJudged (record old { connection = Some c.take.new.self }) c.in_ok-frame.frame (outcome_of c.judge-outcome.result new) =
-    rw (← c.self.view_is) (c.judge-outcome.ensures.judged refl) in
-    done_by old new c.in-Some.connection c.take.new.self c.in_ok-frame.frame c.judge-outcome.result
-    there c.in_ok-frame.ensures.taken c.in_ok-frame.ensures.rest judges
+pub returns-in_err-ready-clause-step : goal.returns-in_err-ready-clause-step
+returns-in_err-ready-clause-step g c =
+    let refused : c.from_residual.result ≡ Err c.in_err-ready.field-0.0 = search rules in
+    let some : is_some c.self.inside.core.state.end ≡ true = sym c.is_open.ensures ∙ c.if-not-is_open.false in
+    let down : stands c.self.inside.core.state ≡ false = sym c.stands.ensures ∙ c.if-not-stands.true in
+    takes-none _ _ c.self.invariant (Some c.ready.new.self) NoMemory _ c.self.view_is (refused ∙ ap Err c.in_err-ready.ensures.refused) (readied-some c.self.inside.incoming _ _ c.in-Some.is c.in_err-ready.ensures.unchanged) (λ no. absurd (cc)) (not-ready c.self.inside.core.state some down)
+
+pub invariant_of-self-2 : goal.invariant_of-self-2
+invariant_of-self-2 g c =
+    let some : is_some c.self.inside.core.state.end ≡ true = sym c.is_open.ensures ∙ c.if-not-is_open.false in
+    let readied : (ready : Bool) × (c.if-not-stands.incoming ≡ record c.in-Some.incoming { is_ready = ready }) = elim c.if-not-stands.branch [
+      | then-not-stands+in_ok-ready w ↦ (true, w.incoming-is ∙ w.in_ok-ready.ensures.ready)
+      | else-not-stands w ↦ (c.in-Some.incoming.is_ready, w.incoming-is)
+    ] in
+    takes-is _ c.self.invariant c.in-Some.incoming c.if-not-stands.incoming c.take.new.self c.in_ok-frame.frame _ _ c.in-Some.is some readied c.take-2.ensures c.in_ok-frame.ensures.taken c.in_ok-frame.ensures.still_ready
+
+pub returns-clause-step : goal.returns-clause-step
+returns-clause-step g c =
+    let some : is_some c.self.inside.core.state.end ≡ true = sym c.is_open.ensures ∙ c.if-not-is_open.false in
+    let readied : (ready : Bool) × (c.if-not-stands.incoming ≡ record c.in-Some.incoming { is_ready = ready }) = elim c.if-not-stands.branch [
+      | then-not-stands+in_ok-ready w ↦ (true, w.incoming-is ∙ w.in_ok-ready.ensures.ready)
+      | else-not-stands w ↦ (c.in-Some.incoming.is_ready, w.incoming-is)
+    ] in
+    takes-some _ c.self.invariant c.in-Some.incoming c.if-not-stands.incoming c.take.new.self c.in_ok-frame.frame _ _ c.in-Some.is some readied c.take-2.ensures c.in_ok-frame.ensures.taken _ c.self.view_is c.in_ok-frame.ensures.row c.in_ok-frame.ensures.exact (never-nothing c.in_ok-frame.frame c.in_ok-frame.ensures.faults)

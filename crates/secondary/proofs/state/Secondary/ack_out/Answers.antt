@@ -1,14 +1,41 @@
--- What was kept is kept when the first acknowledgement is gone.
-use Rattle.std.proofs.Common.{rules}
-use Rattle.secondary.specs.Intake.{intake_of}
-use Rattle.secondary.proofs.Fits.{sent_kept}
+use Rattle.std.proofs.Common.{◌≡◌, ◌∙◌, Err, rules, sym, ap, subst, true}
+use Rattle.std.specs.Prelude.{is_some}
+use Rattle.secondary_steps.proofs.Node.Calls.{due-open}
+use Rattle.secondary.proofs.Sends.{nothing-due-steps, not-sent-steps, part-is, sends-none, sends-part, sent-is, sent-steps}
 use Rattle.secondary.proofs.state.Secondary.ack_out.Goals as goal
+
+pub returns-in_err-packet-clause-step : goal.returns-in_err-packet-clause-step
+returns-in_err-packet-clause-step g c =
+    let refused : c.from_residual.result ≡ Err c.in_err-packet.field-0.0 = search rules in
+    rw (← c.self.view_is) (nothing-due-steps _ _ _ c.in_err-packet.ensures.due refused)
+
+pub returns-in_err-packet-clause-link : goal.returns-in_err-packet-clause-link
+returns-in_err-packet-clause-link g c =
+    let refused : c.from_residual.result ≡ Err c.in_err-packet.field-0.0 = search rules in
+    sends-none c.self.inside.core.state _ _ _ c.in_err-packet.ensures.due refused
+
+pub returns-in_err-push-clause-step : goal.returns-in_err-push-clause-step
+returns-in_err-push-clause-step g c =
+    let refused : c.from_residual-in_err-push.result ≡ Err c.in_err-push.field-0.0 = search rules in
+    rw (← c.self.view_is) (not-sent-steps _ c.in-Some.outgoing c.push.new.self _ _ _ c.self.invariant c.in-Some.is c.in_ok-packet.ensures.due refused (λ other. (c.in_err-push.ensures.refused other).0) (ap (λ o. o.pushed) c.in_err-push.ensures.unchanged))
+
+pub returns-in_err-push-clause-link : goal.returns-in_err-push-clause-link
+returns-in_err-push-clause-link g c =
+    let refused : c.from_residual-in_err-push.result ≡ Err c.in_err-push.field-0.0 = search rules in
+    rw (← c.self.view_is) (sends-part _ c.in-Some.outgoing c.push.new.self _ _ c.in-Some.is c.in_err-push.ensures.unchanged refused c.in_err-push.ensures.full)
 
 pub invariant_of-self-2 : goal.invariant_of-self-2
 invariant_of-self-2 g c =
-    let s = c.self.inside in
-    record {
-      node = search rules;
-      intake = rw c.first_sent.ensures.state (sent_kept s.settings.blocks (intake_of s.intake) c.self.invariant.intake);
-      room = c.first_sent.ensures.room;
-    }
+    sent-is _ _ c.in-Some.outgoing _ _ c.self.invariant c.in-Some.is c.in_ok-packet.ensures.due c.sent.ensures
+    (ap (λ o. o.pushed) c.in_ok-push.ensures.pushed) (ap (λ o. o.partly) c.in_ok-push.ensures.pushed) (ap (λ o. o.number) c.in_ok-push.ensures.pushed)
+
+pub returns-clause-step : goal.returns-clause-step
+returns-clause-step g c =
+    rw (← c.self.view_is) (sent-steps _ c.sent.new.self.state c.in-Some.outgoing c.push.new.self _ _ _ c.self.invariant c.in-Some.is c.in_ok-packet.ensures.due c.sent.ensures (ap (λ o. o.pushed) c.in_ok-push.ensures.pushed) c.command-command.ensures c.about.ensures)
+
+-- an open end has its side of the link
+pub returns-in_default-clause-step : goal.returns-in_default-clause-step
+returns-in_default-clause-step g c =
+    let stands : is_some c.self.inside.core.state.end ≡ true = due-open c.self.inside.core.state _ c.in_ok-packet.ensures.due in
+    let there = c.self.invariant.out_there stands in
+    absurd (search rules)

@@ -1,41 +1,33 @@
--- The item that was started is the one that was written, and what was kept is kept.
-use Rattle.std.proofs.Common.{inl, inr, rules, refl}
-use Rattle.secondary.specs.Intake.{intake_of}
-use Rattle.secondary.proofs.States.{same_state}
-use Rattle.secondary.proofs.Fits.{applied_kept, fault_kept}
+use Rattle.std.proofs.Common.{◌≡◌, ◌∙◌, ◌+◌, ◌≤◌, length, Err, rules, ap, arith}
+use Rattle.blocks.specs.Contents.{blocks_of}
+use Rattle.model.specs.Stream.{contents_of, first_of}
+use Rattle.secondary.proofs.Applies.{done-is, done-one, failed-is, failed-one, not-started-one, on-disk}
 use Rattle.secondary.proofs.state.Secondary.peer.Goals as goal
+
+pub returns-in_err-item-clause-step : goal.returns-in_err-item-clause-step
+returns-in_err-item-clause-step g c =
+    let refused : c.from_residual.result ≡ Err c.in_err-item.field-0.0 = search rules in
+    rw (← c.self.view_is) (not-started-one _ _ _ _ c.self.invariant c.in_err-item.ensures.started refused)
+
+pub write-requires-clause-inside : goal.write-requires-clause-inside
+write-requires-clause-inside g c =
+    let inside : first_of c.in_ok-item.item.now + length (contents_of c.in_ok-item.item.now) ≤ length (g.S.Store.contents c.self.inside.store) = on-disk _ c.in_ok-item.item.now c.self.invariant c.in_ok-item.ensures.inside in
+    omega (arith, inside, c.range.ensures.first, c.range.ensures.count)
 
 pub invariant_of-self : goal.invariant_of-self
 invariant_of-self g c =
-    let s = c.self.inside in
-    let item = c.item-item.result.now in
-    record {
-      node = search rules;
-      intake = rw (c.applied.ensures.state item c.item-item.ensures) (applied_kept s.settings.blocks s.is_open c.in_ok-index.index item (intake_of s.intake) c.self.invariant.node.in_range.blocks.1 c.item-item.ensures c.self.invariant.intake);
-      room = c.applied.ensures.room;
-    }
+    done-is _ _ _ _ _ c.self.invariant c.in_ok-item.ensures.started c.in_ok-item.ensures.inside c.range.ensures.first (ap (blocks_of 4096) c.as_slice.ensures ∙ c.contents.ensures.blocks) _ _ _ _ c.done.ensures c.in-Ok.ensures.written
 
 pub invariant_of-self-in-Err : goal.invariant_of-self-in-Err
 invariant_of-self-in-Err g c =
-    let s = c.self.inside in
-    let item = c.item-item.result.now in
-    record {
-      node = search rules;
-      intake = rw (c.fault.ensures.state item c.item-item.ensures) (fault_kept s.settings.blocks c.in_ok-index.index item (intake_of s.intake) c.self.invariant.intake);
-      room = c.fault.ensures.room;
-    }
+    failed-is _ _ _ _ _ c.self.invariant c.in_ok-item.ensures.started c.in_ok-item.ensures.inside c.range.ensures.first (ap (blocks_of 4096) c.as_slice.ensures ∙ c.contents.ensures.blocks) _ _ _ _ c.failed.ensures c.in-Err.ensures.torn
 
-pub returns-in-Ok-clause-applied : goal.returns-in-Ok-clause-applied
-returns-in-Ok-clause-applied g c =
-    let item = c.item-item.result.now in
-    let intake = c.applied.ensures.state item c.item-item.ensures in
-    let disk = rw (c.range_of-range.ensures.0, c.as_slice.ensures) at c.in-Ok.ensures.written in
-    let faults = c.in-Ok.ensures.uncounted in
-    rw (← c.self.view_is) (c.in_ok-index.index, item, c.in_ok-index.ensures.found.1, c.item-item.ensures, inl (same_state disk faults intake))
+pub returns-in-Err-clause-step : goal.returns-in-Err-clause-step
+returns-in-Err-clause-step g c =
+    rw (← c.self.view_is) (failed-one _ _ _ _ _ c.self.invariant c.in_ok-item.ensures.started c.in_ok-item.ensures.inside c.range.ensures.first (ap (blocks_of 4096) c.as_slice.ensures ∙ c.contents.ensures.blocks) _ _ _ (g.S.Store.steady c.write.new.self) _ c.failed.ensures c.in-Err.ensures.torn
+    c.in-Err.ensures.counted c.about.ensures)
 
-pub returns-in-Err-clause-applied : goal.returns-in-Err-clause-applied
-returns-in-Err-clause-applied g c =
-    let item = c.item-item.result.now in
-    let intake = c.fault.ensures.state item c.item-item.ensures in
-    let torn = rw (c.range_of-range.ensures.0, c.as_slice.ensures) at c.in-Err.ensures.torn in
-    rw (← c.self.view_is) (c.in_ok-index.index, item, c.in_ok-index.ensures.found.1, c.item-item.ensures, inr (record { torn = torn; counted = c.in-Err.ensures.counted; state = same_state refl refl intake }))
+pub returns-clause-step : goal.returns-clause-step
+returns-clause-step g c =
+    rw (← c.self.view_is) (done-one _ _ _ _ _ c.self.invariant c.in_ok-item.ensures.started c.in_ok-item.ensures.inside c.range.ensures.first (ap (blocks_of 4096) c.as_slice.ensures ∙ c.contents.ensures.blocks) _ _ _ (g.S.Store.steady c.write.new.self) _ c.done.ensures c.in-Ok.ensures.written
+    c.in-Ok.ensures.uncounted c.about-2.ensures)

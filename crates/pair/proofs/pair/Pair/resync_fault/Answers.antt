@@ -1,0 +1,17 @@
+use Rattle.std.proofs.Common.{◌≡◌, ◌∙◌, refl, sym, ap}
+use Rattle.endpoint.specs.Calls.{is_starved}
+use Rattle.model.specs.Pair.{ResyncFaultEvent}
+use Rattle.model.specs.PrimarySteps.{resync_fault}
+use Rattle.primary.specs.State.{PrimaryView}
+use Rattle.pair.specs.State.{PairView}
+use Rattle.pair.proofs.Pairing.{primary-step, primary-is}
+use Rattle.pair.proofs.pair.Pair.resync_fault.Goals as goal
+
+pub invariant_of-self : goal.invariant_of-self
+invariant_of-self c =
+    primary-is ResyncFaultEvent (is_starved c.resync_fault.result) (record { primary = c.self.inside.primary; secondary = c.self.inside.secondary }) c.resync_fault.new.self _ c.self.invariant
+    (primary-step ResyncFaultEvent (is_starved c.resync_fault.result) (resync_fault (is_starved c.resync_fault.result)) (λ h. refl) (record { primary = c.self.inside.primary; secondary = c.self.inside.secondary }) c.resync_fault.new.self _ c.resync_fault.ensures.step)
+    (ap (λ (v : PrimaryView). v.outgoing) c.resync_fault.ensures.rest) (ap (λ (v : PrimaryView). v.incoming) c.resync_fault.ensures.rest) (c.resync_fault.ensures.works c.self.invariant.local)
+
+pub returns : goal.returns
+returns c = record { step = rw (← c.self.view_is) (primary-step ResyncFaultEvent (is_starved c.resync_fault.result) (resync_fault (is_starved c.resync_fault.result)) (λ h. refl) (record { primary = c.self.inside.primary; secondary = c.self.inside.secondary }) c.resync_fault.new.self _ c.resync_fault.ensures.step) }

@@ -1,0 +1,14 @@
+-- A run, as far as it has come.
+use Rattle.std.specs.Prelude.{ℕ, ◌≡◌, ◌≤◌, List, length, map, take}
+use Rattle.blocks.specs.declared.outcome.Reply.{Reply}
+use Rattle.pair_steps.specs.State.{Ran}
+use Rattle.pair.specs.declared.event.Event.{Event}
+use Rattle.pair.specs.Events.{event_of}
+use Rattle.pair.specs.State.{PairView, state}
+
+-- So many events went from one pair to another, and these are their replies, for all of which there is room.
+pub record HasRun (events : List Event) (count : ℕ) (replies : List Reply) (len capacity : ℕ) (start now : PairView) : Type 0 where
+  pub ran : Ran (map event_of (take count events)) replies (state start) (state now)
+  pub told : length replies ≡ count
+  pub room : length events ≤ capacity
+  pub size : len ≡ count

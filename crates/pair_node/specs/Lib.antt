@@ -1,5 +1,0 @@
-pub mod Events
-pub mod Openings
-pub mod Reading
-pub mod Running
-pub mod State

@@ -1,0 +1,78 @@
+-- What a call keeps of a node.
+use Rattle.std.proofs.Common.{ℕ, zero, suc, ◌≡◌, ◌≤◌, Bool, true, false, List, ◌∷◌, [], Option, Some, None, Ok, slice_get, length, refl, sym, ◌∙◌, ap, subst, arith, nat_lt}
+use Rattle.std.specs.Prelude.{is_some, unwrap_or}
+use Rattle.std.proofs.lemmas.Bool.{both_ways}
+use Rattle.std.proofs.lemmas.Bool.Decides.{nat_tests}
+use Rattle.blocks.specs.declared.tuple.Tuple.{Tuple}
+use Rattle.blocks.specs.declared.settings.Settings.{Settings}
+use Rattle.blocks.specs.declared.outcome.Reply.{Reply}
+use Rattle.model.specs.Primary.{primary_opening}
+use Rattle.model.specs.LocalRuns.{PrimaryEvent}
+use Rattle.model.specs.Frames.{Packet, Received}
+use Rattle.endpoint.specs.Outgoing.{OutgoingState}
+use Rattle.endpoint.specs.Incoming.{IncomingState}
+use Rattle.primary_steps.specs.Core.{PrimaryState, fresh, stands}
+use Rattle.primary_steps.specs.Transitions.{due}
+use Rattle.primary_steps.specs.Node.{NodeHas, NodeIsHad, NodeSteps}
+use Rattle.primary_steps.proofs.Node.Calls.{IsPlain, plain-still, opening-has}
+use Rattle.primary_steps.proofs.Node.Due.{IsStill}
+use Rattle.primary_steps.proofs.Node.Runs.{node-had}
+use Rattle.primary_core.specs.State.{CanBegin}
+use Rattle.primary.specs.State.{PrimaryView, IsNode, IsBegun, IsDue, IsNumbered, node}
+
+-- what went in part is still the packet that is due
+due-kept : (v : Option (List Packet)) (s t : PrimaryState) → IsStill s t → IsDue v s → IsDue v t
+due-kept None s t still was = tt
+due-kept (Some begun) s t still was = λ stands. let old = was (still.opened stands) in (old.0, still.due old.0 old.1 stands, old.2)
+
+-- the same of a side of a link
+pub begun-kept : (v : Option OutgoingState) (s t : PrimaryState) → IsStill s t → IsBegun v s → IsBegun v t
+begun-kept None s t still was = tt
+begun-kept (Some o) s t still was = due-kept o.partly s t still was
+
+numbered-kept : (o : Option OutgoingState) (i : Option IncomingState) (s t : PrimaryState) → t.connections ≡ s.connections → IsNumbered o i s → IsNumbered o i t
+numbered-kept (Some o) (Some i) s t same was = (subst (λ n. o.number ≤ n) (sym same) was.0, subst (λ n. i.number ≤ n) (sym same) was.1)
+numbered-kept None i s t same was = tt
+numbered-kept (Some o) None s t same was = tt
+
+-- A call that leaves both sides of the link, opens no end and begins no stream.
+pub kept-is : (v : PrimaryView) (core : PrimaryState) (disk : List (List ℕ)) (faults : ℕ) (steady : Bool) → IsNode v → NodeIsHad (node (record v { core = core; disk = disk })) → IsStill v.core core → (stands core ≡ true → stands v.core ≡ true)
+    → IsNode (record v { core = core; disk = disk; faults = faults; steady = steady })
+kept-is v core disk faults steady was had still standing = record {
+  had = had;
+  out_there = λ some. was.out_there (still.opened some);
+  in_there = λ some. was.in_there (still.opened some);
+  begun = begun-kept v.outgoing v.core core still was.begun;
+  numbered = numbered-kept v.outgoing v.incoming v.core core still.connections was.numbered;
+  ready = λ begun. was.ready (standing begun);
+}
+
+-- A call that takes no frame, pushes none and leaves the disk.
+pub plain-is : (event : PrimaryEvent) (v : PrimaryView) (core : PrimaryState) (reply : Reply) → IsPlain event → IsNode v → NodeSteps event (node v) reply (node (record v { core = core })) → IsNode (record v { core = core })
+plain-is event v core reply plain was steps =
+    let still = plain-still event (node v) (node (record v { core = core })) reply plain was.had steps in
+    kept-is v core v.disk v.faults v.steady was (node-had event (node v) reply (node (record v { core = core })) was.had steps) still.0 still.1
+
+-- A new node.
+pub new-has : (settings : Settings) (disk : List (List ℕ)) (tuple : Tuple) (given marks : List Bool) (s : PrimaryState) → CanBegin settings tuple given × (s ≡ fresh settings tuple given) → given ≡ marks → length disk ≡ settings.blocks
+    → NodeHas (record { core = s; disk = disk; pushed = []; taken = [] }) (primary_opening settings (slice_get disk) tuple (λ block. unwrap_or (slice_get marks block) false))
+new-has settings disk tuple given marks s may same size =
+    subst (λ (x : PrimaryState). NodeHas (record { core = x; disk = disk; pushed = []; taken = [] }) (primary_opening settings (slice_get disk) tuple (λ block. unwrap_or (slice_get marks block) false))) (sym (may.1 ∙ ap (fresh settings tuple) same))
+    (opening-has settings disk tuple marks may.0.in_range (λ block. some-get disk block ∙ ap (nat_lt block) size) (ap length (sym same) ∙ may.0.size))
+  where
+    some-get : {X : Type 0} (xs : List X) (n : ℕ) → is_some (slice_get xs n) ≡ nat_lt n (length xs)
+    some-get [] n = grind (arith, nat_tests)
+    some-get (x ∷ xs) zero = grind (arith, nat_tests)
+    some-get (x ∷ xs) (suc n) = some-get xs n ∙ grind (arith, nat_tests)
+
+-- so some history is had
+pub new-is : (settings : Settings) (disk : List (List ℕ)) (tuple : Tuple) (marks : List Bool) (s : PrimaryState) (faults : ℕ) (steady : Bool) → CanBegin settings tuple marks × (s ≡ fresh settings tuple marks) → length disk ≡ settings.blocks
+    → IsNode (record { core = s; disk = disk; outgoing = None; incoming = None; faults = faults; steady = steady })
+new-is settings disk tuple marks s faults steady may size = record {
+  had = record { history = _; has = new-has settings disk tuple marks marks s may refl size };
+  out_there = λ some. absurd (both_ways (is_some s.end) (ap (λ (x : PrimaryState). is_some x.end) may.1) some);
+  in_there = λ some. absurd (both_ways (is_some s.end) (ap (λ (x : PrimaryState). is_some x.end) may.1) some);
+  begun = tt;
+  numbered = tt;
+  ready = λ standing. tt;
+}

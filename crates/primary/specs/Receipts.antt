@@ -1,0 +1,31 @@
+-- A receipt as its caller sees it.
+use Rattle.std.specs.Prelude.{ℕ, suc, Bool, true, false, Option, Some, None}
+use Rattle.std.specs.Option.{option_map}
+use Rattle.model.specs.Primary.{Kind, Linked, Alone}
+use Rattle.primary_steps.specs.Core.{Entry, Open, Failed, Completed}
+use Rattle.model.specs.Settlement as model
+use Rattle.primary.specs.declared.receipts.Kind as receipts
+use Rattle.primary.specs.declared.receipts.Kind.TheVariants as kind
+use Rattle.primary.specs.declared.receipts.Receipt.TheInside.{Inside}
+
+-- how a write was completed
+abbrev pub kind_as : receipts.Kind → Kind
+kind_as kind.Linked = Linked
+kind_as kind.Alone = Alone
+
+-- a receipt in plain values
+abbrev pub receipt_as : Inside → model.Receipt
+receipt_as r = record { number = r.number; first = r.first; count = r.count; kind = kind_as r.kind; home = r.home }
+
+-- over the link, or without the peer
+abbrev pub kind_of : Bool → Kind
+kind_of true = Linked
+kind_of false = Alone
+
+-- the receipt of an accepted write, where it was completed
+abbrev pub receipt_in : ℕ → Entry → Option model.Receipt
+receipt_in number entry = elim entry.fate [
+  | Open ↦ None
+  | Failed ↦ None
+  | Completed linked home ↦ Some (record { number = number; first = entry.first; count = entry.count; kind = kind_of linked; home = option_map (λ home. (suc home.0, home.1)) home })
+]

@@ -1,0 +1,32 @@
+//! What the peer sends is taken.
+ghost use Rattle.std.specs.Prelude.{◌≡◌};
+ghost use Rattle.primary.specs.Calls.{TakesOne};
+
+use crate::Primary;
+use blocks::{Done, Refusal, Store};
+use link::connected::{FrameIn, FrameOut};
+
+impl<O: FrameOut + Drop, I: FrameIn + Drop, S: Store + Drop> Primary<O, I, S> {
+    /// Takes the next frame that the link has: of the peer's hello, and then an acknowledgement.
+    ///
+    /// `NotConnected` (12) comes where the end is closed, else, in the hello alone, `NoMemory` (7) where there
+    /// is no room for the longest frame, else `NothingThere` (13) where there is none; these change nothing.
+    /// Every other refusal is a protocol error (20 to 25, 30 to 35): the frame counts as taken, and the end
+    /// closes, with all effects of a close. Once the stream has begun it takes no memory.
+    pub fn ack_in(&mut self) -> Result<Done, Refusal>
+        ensures step { TakesOne result self.old self.new }
+        ensures rest { self.new ≡ record self.old { core = self.new.core; incoming = self.new.incoming } }
+    {
+        if !self.core.is_open() {
+            return Err(Refusal::NotConnected);
+        }
+        let Some(incoming) = &mut self.incoming else {
+            return Err(Refusal::NotConnected);
+        };
+        if !self.core.stands() {
+            incoming.ready()?;
+        }
+        let frame = incoming.take()?;
+        self.core.take(frame)
+    }
+}

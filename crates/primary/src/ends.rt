@@ -1,0 +1,24 @@
+//! Both sides of a node's link.
+ghost use Rattle.std.specs.Prelude.{◌≡◌};
+ghost use Rattle.std.specs.Option.{option_copied};
+
+use crate::Primary;
+use blocks::Store;
+use endpoint::{Incoming, Outgoing};
+use link::connected::{FrameIn, FrameOut};
+
+impl<O: FrameOut + Drop, I: FrameIn + Drop, S: Store + Drop> Primary<O, I, S> {
+    /// What went out, where the node was opened.
+    pub fn outgoing(&self) -> Option<&Outgoing<O>>
+        ensures { option_copied result ≡ self.now.outgoing }
+    {
+        self.outgoing.as_ref()
+    }
+
+    /// What came in, where the node was opened.
+    pub fn incoming(&self) -> Option<&Incoming<I>>
+        ensures { option_copied result ≡ self.now.incoming }
+    {
+        self.incoming.as_ref()
+    }
+}

@@ -1,0 +1,70 @@
+//! The disk does the writes.
+ghost use Rattle.std.specs.Prelude.{◌≡◌, true};
+ghost use Rattle.blocks.specs.declared.outcome.Reply.TheVariants as reply;
+ghost use Rattle.model.specs.Pair.{local_fault_kept};
+ghost use Rattle.model.specs.Primary.{PrimaryHistory, next_local};
+ghost use Rattle.primary_steps.specs.Node.{IsStep, NodeHas};
+ghost use Rattle.primary_steps.specs.Steps.{replied};
+ghost use Rattle.primary.specs.Calls.{WritesOne};
+ghost use Rattle.primary.specs.State.{node};
+
+use crate::Primary;
+use blocks::{Done, FaultStore, Refusal, Store};
+use link::connected::{FrameIn, FrameOut};
+
+impl<O: FrameOut + Drop, I: FrameIn + Drop, S: Store + Drop> Primary<O, I, S> {
+    /// The lowest number of a write that the disk has to do. It takes no memory.
+    pub fn next_local(&self) -> Option<u64>
+        ensures { (h : PrimaryHistory) → NodeHas (node self.now) h → result ≡ next_local h }
+    {
+        self.core.next_local()
+    }
+
+    /// Has the disk do a write. Where the disk fails, each block of the write is as it was or as it was to be,
+    /// they are marked, and the write is never completed.
+    ///
+    /// `UnknownJob` (16) comes where the disk has not that write to do. It takes no memory.
+    pub fn local(&mut self, number: u64) -> Result<Done, Refusal>
+        ensures step { WritesOne number result self.old self.new }
+        ensures works { self.old.steady ≡ true → (self.new.faults ≡ self.old.faults) × (self.new.steady ≡ true) }
+        ensures rest { self.new ≡ record self.old {
+          core = self.new.core;
+          disk = self.new.disk;
+          faults = self.new.faults;
+          steady = self.new.steady;
+        } }
+    {
+        let write = self.core.local_write(number)?;
+        match self.store.write(write.range(), write.contents()) {
+            Ok(()) => self.core.local_done(number),
+            Err(_) => self.core.local_failed(number),
+        }
+    }
+}
+
+impl<O: FrameOut + Drop, I: FrameIn + Drop> Primary<O, I, FaultStore> {
+    /// Has the disk fail a write, after its first `kept` blocks. It does what `local` does then, and
+    /// afterwards no write is armed on the disk.
+    ///
+    /// `UnknownJob` (16) comes as there, else `BadRange` (1) where the write has fewer blocks. It takes no
+    /// memory.
+    pub fn local_fault(&mut self, number: u64, kept: u64) -> Result<Done, Refusal>
+        ensures step { IsStep (local_fault_kept number kept) (node self.old) (replied reply.Ok result) (node self.new) }
+        ensures works { self.old.steady ≡ true → self.new.steady ≡ true }
+        ensures rest { self.new ≡ record self.old {
+          core = self.new.core;
+          disk = self.new.disk;
+          faults = self.new.faults;
+          steady = self.new.steady;
+        } }
+    {
+        let write = self.core.local_write(number)?;
+        if kept > write.range().count {
+            return Err(Refusal::BadRange);
+        }
+        self.store.arm(kept);
+        // It is armed, so it fails.
+        let _ = self.store.write(write.range(), write.contents());
+        self.core.local_failed(number)
+    }
+}

@@ -1,0 +1,116 @@
+//! A caller takes the receipt of a completed write.
+ghost use Rattle.std.specs.Prelude.{ℕ, ◌≡◌, ◌<◌, Bool, Some};
+ghost use Rattle.primary_steps.specs.Core.{Completed};
+ghost use Rattle.primary_steps.specs.Node.{IsStep, take_receipt};
+ghost use Rattle.primary.specs.Receipts.{kind_as, receipt_in};
+ghost use Rattle.primary.specs.State.{node};
+
+use crate::Primary;
+use blocks::{Block, Refusal, Store};
+use link::connected::{FrameIn, FrameOut};
+use primary_core::{Entry, Fate};
+use std::marker::Model;
+
+/// How a write was completed.
+#[derive(Clone, Copy, Debug, PartialEq, Eq)]
+pub enum Kind {
+    /// The peer answered it, as the protocol asks.
+    Linked,
+    /// Without the peer.
+    Alone,
+}
+
+/// That a write was completed, and how. Only `take_completed` makes one, once for each write.
+#[derive(Drop)]
+pub struct Receipt {
+    number: u64,
+    first: u64,
+    count: u64,
+    kind: Kind,
+    // The connection, counted from 1, and the place in its stream.
+    home: Option<(u32, u32)>,
+}
+
+impl Model for Receipt {
+    ghost use Rattle.model.specs.Settlement.{Receipt as Denoted};
+
+    ghost Value = { Denoted };
+
+    ghost use Rattle.primary.specs.Receipts.{receipt_as};
+
+    ghost view = { receipt_as };
+}
+
+impl Receipt {
+    // The receipt of a completed write; none of one that is not. The connection of its home was opened.
+    fn of(number: u64, entry: &Entry) -> Option<Receipt>
+        requires { (linked : Bool) (home : ℕ × ℕ) → entry.now.fate ≡ Completed linked (Some home) → home.0 < 4294967295 }
+        ensures { result ≡ receipt_in number entry.now }
+    {
+        let Fate::Completed { linked, home } = entry.fate() else {
+            return None;
+        };
+        Some(Receipt {
+            number,
+            first: entry.first(),
+            count: entry.count(),
+            kind: if linked { Kind::Linked } else { Kind::Alone },
+            home: home.map(|(connection, place)| (connection + 1, place)),
+        })
+    }
+
+    /// The number of the write.
+    pub fn number(&self) -> u64
+        ensures { result ≡ self.now.number }
+    {
+        self.number
+    }
+
+    /// Its first block.
+    pub fn first(&self) -> Block
+        ensures { result.0 ≡ self.now.first }
+    {
+        Block(self.first)
+    }
+
+    /// How many blocks it has.
+    pub fn count(&self) -> u64
+        ensures { result ≡ self.now.count }
+    {
+        self.count
+    }
+
+    /// How it was completed.
+    pub fn kind(&self) -> Kind
+        ensures { kind_as result ≡ self.now.kind }
+    {
+        self.kind
+    }
+
+    /// Its connection, counted from 1, and its place in the stream, if it has one.
+    pub fn home(&self) -> Option<(u32, u32)>
+        ensures { result ≡ self.now.home }
+    {
+        self.home
+    }
+}
+
+impl<O: FrameOut + Drop, I: FrameIn + Drop, S: Store + Drop> Primary<O, I, S> {
+    /// The receipt of a write, once.
+    ///
+    /// `UnknownJob` (16) comes for a number that was never accepted, or whose receipt was taken;
+    /// `NotCompleted` (9) where the write is open; `LocalFault` (8), once, where the disk failed it. It takes
+    /// no memory, and constant time.
+    pub fn take_completed(&mut self, number: u64) -> Result<Receipt, Refusal>
+        ensures step { IsStep (take_receipt number) (node self.old) result (node self.new) }
+        ensures rest { self.new ≡ record self.old { core = self.new.core } }
+    {
+        // Of so many connections the receipt's one is counted.
+        let _connections = self.core.connections();
+        let entry = self.core.take_completed(number)?;
+        match Receipt::of(number, &entry) {
+            Some(receipt) => Ok(receipt),
+            None => Err(Refusal::NotCompleted),
+        }
+    }
+}

@@ -1,0 +1,57 @@
+//! Blocks are copied to the peer.
+ghost use Rattle.std.specs.Prelude.{◌≡◌, true};
+ghost use Rattle.blocks.specs.declared.outcome.Reply.TheVariants as reply;
+ghost use Rattle.endpoint.specs.Calls.{is_starved};
+ghost use Rattle.model.specs.LocalRuns.{FailsResync};
+ghost use Rattle.primary_steps.specs.Node.{NodeSteps};
+ghost use Rattle.primary_steps.specs.Steps.{replied};
+ghost use Rattle.primary.specs.Calls.{CopiesOne};
+ghost use Rattle.primary.specs.State.{node};
+
+use crate::Primary;
+use blocks::{BLOCK_BYTES, Done, FaultStore, Refusal, Store};
+use bytes::Bytes;
+use link::connected::{FrameIn, FrameOut};
+
+impl<O: FrameOut + Drop, I: FrameIn + Drop, S: Store + Drop> Primary<O, I, S> {
+    /// Reads the block that the resync copies next, and appends it to the stream, in one step.
+    ///
+    /// `NotConnected` (12) comes where the end is closed; `NothingToDo` (10) where no resync runs, a block is
+    /// under way, or no marked block is free; `StreamFull` (6) where the stream has 4,294,967,288 items;
+    /// `NoMemory` (7) where there is no room for the block and its item; else `ReadFault` (14) where the disk
+    /// fails.
+    pub fn resync_next(&mut self) -> Result<Done, Refusal>
+        ensures step { CopiesOne result self.old self.new }
+        ensures works { self.old.steady ≡ true → (self.new.faults ≡ self.old.faults) × (self.new.steady ≡ true) }
+        ensures rest { self.new ≡ record self.old {
+          core = self.new.core;
+          faults = self.new.faults;
+          steady = self.new.steady;
+        } }
+    {
+        let block = self.core.resync_block()?;
+        let mut bytes = Vec::from_elem(self.alloc, 0u8, BLOCK_BYTES)?;
+        if self.store.read(block, &mut bytes).is_err() {
+            return Err(Refusal::ReadFault);
+        }
+        let contents = Bytes::from_vec(bytes)?;
+        Ok(self.core.resync_read(block, contents))
+    }
+}
+
+impl<O: FrameOut + Drop, I: FrameIn + Drop> Primary<O, I, FaultStore> {
+    /// Has the disk fail the read of the block that the resync copies next. It does what `resync_next` does
+    /// then: it is refused, `ReadFault` (14) at the last. Afterwards no read is armed on the disk.
+    pub fn resync_fault(&mut self) -> Result<Done, Refusal>
+        ensures step { NodeSteps (FailsResync (is_starved result)) (node self.old) (replied reply.Ok result) (node self.new) }
+        ensures works { self.old.steady ≡ true → self.new.steady ≡ true }
+        ensures rest { self.new ≡ record self.old { faults = self.new.faults; steady = self.new.steady } }
+    {
+        let block = self.core.resync_block()?;
+        let mut bytes = Vec::from_elem(self.alloc, 0u8, BLOCK_BYTES)?;
+        self.store.arm_read();
+        // It is armed, so it fails.
+        let _ = self.store.read(block, &mut bytes);
+        Err(Refusal::ReadFault)
+    }
+}

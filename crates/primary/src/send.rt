@@ -1,0 +1,34 @@
+//! What is owed is sent.
+ghost use Rattle.std.specs.Prelude.{◌≡◌};
+ghost use Rattle.blocks.specs.declared.outcome.Reply.TheVariants as reply;
+ghost use Rattle.endpoint.specs.Calls as link;
+ghost use Rattle.endpoint.specs.Calls.{has_room, is_starved};
+ghost use Rattle.model.specs.LocalRuns.{Sends};
+ghost use Rattle.primary_steps.specs.Node.{NodeSteps};
+ghost use Rattle.primary_steps.specs.Steps.{replied};
+ghost use Rattle.primary.specs.State.{node};
+
+use crate::Primary;
+use blocks::{Done, Refusal, Store};
+use link::connected::{FrameIn, FrameOut};
+
+impl<O: FrameOut + Drop, I: FrameIn + Drop, S: Store + Drop> Primary<O, I, S> {
+    /// Sends the next frame that the end owes: of its hello, and then of its stream. Under protocol A that may
+    /// complete a write.
+    ///
+    /// `NotConnected` (12) comes where the end is closed, else `NothingThere` (13) where nothing is due, else
+    /// `NoMemory` (7) where there is no room for a frame with blocks, else `LinkFull` (11) where the link is
+    /// full. The link's answer is read off the reply.
+    pub fn send(&mut self) -> Result<Done, Refusal>
+        ensures step { NodeSteps (Sends (has_room result) (is_starved result)) (node self.old) (replied reply.Ok result) (node self.new) }
+        ensures link { link.Sends result self.old.outgoing self.new.outgoing }
+        ensures rest { self.new ≡ record self.old { core = self.new.core; outgoing = self.new.outgoing } }
+    {
+        let packet = self.core.due()?;
+        let Some(outgoing) = &mut self.outgoing else {
+            return Err(Refusal::NotConnected);
+        };
+        outgoing.push(self.alloc, packet)?;
+        Ok(self.core.sent())
+    }
+}

@@ -1,0 +1,106 @@
+//! What is read off.
+ghost use Rattle.std.specs.Prelude.{◌≡◌, length, not};
+ghost use Rattle.model.specs.Headline.{is_marked};
+ghost use Rattle.model.specs.Primary.{PrimaryHistory, marked_blocks, outward, resync_runs, stands};
+ghost use Rattle.model.specs.Status.{incomplete, open_epochs, unanswered};
+ghost use Rattle.primary_steps.specs.Node.{NodeHas};
+ghost use Rattle.primary.specs.State.{node};
+
+use crate::Primary;
+use blocks::{Block, Settings, Store, Tuple};
+use link::connected::{FrameIn, FrameOut};
+
+impl<O: FrameOut + Drop, I: FrameIn + Drop, S: Store + Drop> Primary<O, I, S> {
+    /// The settings.
+    pub fn settings(&self) -> Settings
+        ensures { (h : PrimaryHistory) → NodeHas (node self.now) h → result ≡ h.settings }
+    {
+        self.core.settings()
+    }
+
+    /// The disk's generation identifiers.
+    pub fn tuple(&self) -> Tuple
+        ensures { (h : PrimaryHistory) → NodeHas (node self.now) h → result ≡ h.tuple }
+    {
+        self.core.tuple()
+    }
+
+    /// The peer's generation identifiers, as last seen.
+    pub fn peer(&self) -> Option<Tuple>
+        ensures { (h : PrimaryHistory) → NodeHas (node self.now) h → result ≡ h.peer }
+    {
+        self.core.peer()
+    }
+
+    /// How many connections were opened.
+    pub fn connections(&self) -> u32
+        ensures { (h : PrimaryHistory) → NodeHas (node self.now) h → result ≡ length h.connections }
+    {
+        self.core.connections()
+    }
+
+    /// Whether the end is open.
+    pub fn is_open(&self) -> bool
+        ensures { (h : PrimaryHistory) → NodeHas (node self.now) h → result ≡ not (outward h).closed }
+    {
+        self.core.is_open()
+    }
+
+    /// Whether the stream has begun: the hello is done.
+    pub fn stands(&self) -> bool
+        ensures { (h : PrimaryHistory) → NodeHas (node self.now) h → result ≡ stands (outward h) }
+    {
+        self.core.stands()
+    }
+
+    /// Whether a resync goes on.
+    pub fn is_resync(&self) -> bool
+        ensures { (h : PrimaryHistory) → NodeHas (node self.now) h → result ≡ resync_runs (outward h) }
+    {
+        self.core.is_resync()
+    }
+
+    /// How many writes were accepted, which is the number of the last one.
+    pub fn accepted(&self) -> u64
+        ensures { (h : PrimaryHistory) → NodeHas (node self.now) h → result ≡ length h.writes }
+    {
+        self.core.accepted()
+    }
+
+    /// How many blocks are marked.
+    pub fn marks(&self) -> u32
+        ensures { (h : PrimaryHistory) → NodeHas (node self.now) h → result ≡ length (marked_blocks h) }
+    {
+        self.core.marks()
+    }
+
+    /// How many writes are neither completed nor failed. It takes time for each number from the first unreleased
+    /// write on.
+    pub fn incomplete(&self) -> u32
+        ensures { (h : PrimaryHistory) → NodeHas (node self.now) h → result ≡ incomplete h }
+    {
+        self.core.open_writes()
+    }
+
+    /// How many writes were sent on the connection that stands, and are not answered. It takes time for each
+    /// number from the first unreleased write on.
+    pub fn unanswered(&self) -> u32
+        ensures { (h : PrimaryHistory) → NodeHas (node self.now) h → result ≡ unanswered h }
+    {
+        self.core.unanswered_writes()
+    }
+
+    /// How many epochs of the stream have a write or a resync block and are not acknowledged.
+    pub fn open_epochs(&self) -> u64
+        ensures { (h : PrimaryHistory) → NodeHas (node self.now) h → result ≡ open_epochs h }
+    {
+        self.core.open_epochs()
+    }
+
+    /// Whether the block is marked.
+    pub fn is_marked(&self, block: Block) -> bool
+        ensures { (h : PrimaryHistory) → NodeHas (node self.now) h → result ≡ is_marked h block.0 }
+    {
+        self.core.is_marked(block)
+    }
+}

@@ -1,8 +1,0 @@
-use Rattle.std.proofs.Common.{◌∙◌, ap}
-use Rattle.bitmap.specs.Marks.{marked}
-use Rattle.primary_steps.proofs.Node.Says.{says-marked}
-use Rattle.primary_node.specs.State.{PrimaryView}
-use Rattle.primary_node.proofs.state.PrimaryNode.is_marked.Goals as goal
-
-pub returns : goal.returns
-returns g c = λ h has. c.is_marked.ensures ∙ (ap (λ (v : PrimaryView). marked v.core.marks c.args.block.0) c.self.view_is ∙ says-marked _ h c.args.block.0 has.leaves.core)

@@ -1,0 +1,104 @@
+-- What each call keeps of a node: a new one, one that closes, and what is read off.
+use Rattle.std.proofs.Common.{ℕ, zero, suc, ◌≡◌, Bool, true, false, List, [], ◌∷◌, length, Option, Some, None, Result, slice_get, sym, ◌∙◌, ap, subst, arith, nat_lt}
+use Rattle.std.specs.Prelude.{is_some}
+use Rattle.std.proofs.lemmas.Bool.{both_ways}
+use Rattle.std.proofs.lemmas.Bool.Decides.{nat_tests}
+use Rattle.blocks.specs.SettingsRange.{IsInRange}
+use Rattle.blocks.specs.declared.tuple.Tuple.{Tuple}
+use Rattle.blocks.specs.declared.settings.Settings.{Settings}
+use Rattle.blocks.specs.declared.refusal.Refusal.{Refusal}
+use Rattle.model.specs.Frames.{Packet}
+use Rattle.model.specs.Secondary.{SecondaryHistory, secondary_opening, inward, items_taken, pending}
+use Rattle.model.specs.LocalRuns.{ClosesToo}
+use Rattle.endpoint.specs.Outgoing.{OutgoingState}
+use Rattle.endpoint.specs.Incoming.{IncomingState}
+use Rattle.secondary_steps.specs.Core.{SecondaryState, fresh, close_end, whole}
+use Rattle.secondary_steps.specs.Node.{NodeHas}
+use Rattle.secondary_steps.specs.Steps.{Says, plainly, replied}
+use Rattle.secondary_steps.proofs.Node.Calls.{opening-has, node-closes}
+use Rattle.secondary_steps.proofs.Node.Due.{closes-end}
+use Rattle.secondary_steps.proofs.Node.Numbers.{closes-number}
+use Rattle.secondary_steps.proofs.Node.Runs.{node-had}
+use Rattle.secondary_steps.proofs.Says.{states-say}
+use Rattle.secondary_steps.specs.Leaves.{pending_in}
+use Rattle.secondary_steps.proofs.Tested.{length-map}
+use Rattle.secondary.specs.Usages.{usage_of}
+use Rattle.secondary.specs.State.{SecondaryView, node, IsNode, IsBegun, IsDue, IsNumbered}
+
+-- At a closed end nothing is asked of what went in part.
+due-shut : (v : Option (List Packet)) (s : SecondaryState) → is_some s.end ≡ false → IsDue v s
+due-shut None s shut = tt
+due-shut (Some begun) s shut = λ stands. absurd (both_ways (is_some s.end) shut stands)
+
+-- the same of the side
+pub begun-shut : (v : Option OutgoingState) (s : SecondaryState) → is_some s.end ≡ false → IsBegun v s
+begun-shut None s shut = tt
+begun-shut (Some o) s shut = due-shut o.partly s shut
+
+-- Where nothing went in part, nothing is asked.
+pub due-none : (v : Option (List Packet)) (s : SecondaryState) → v ≡ None → IsDue v s
+due-none v s is = subst (λ (x : Option (List Packet)). IsDue x s) (sym is) tt
+
+-- A core that keeps its number leaves the sides of the link numbered as it is.
+pub numbered-same : (o : Option OutgoingState) (i : Option IncomingState) (s t : SecondaryState) → t.number ≡ s.number → IsNumbered o i s → IsNumbered o i t
+numbered-same None i s t same was = tt
+numbered-same (Some o) None s t same was = tt
+numbered-same (Some o) (Some i) s t same was = let out = was.0 in let inn = was.1 in (omega arith, omega arith)
+
+-- An end that is shut asks for no sides of a link.
+pub absent : (s : SecondaryState) (sides : Bool) → is_some s.end ≡ false → is_some s.end ≡ true → sides ≡ true
+absent s sides shut stands = absurd (both_ways (is_some s.end) shut stands)
+
+-- A new node.
+
+some-get : {X : Type 0} (xs : List X) (n : ℕ) → is_some (slice_get xs n) ≡ nat_lt n (length xs)
+some-get [] n = grind (arith, nat_tests)
+some-get (x ∷ xs) zero = grind (arith, nat_tests)
+some-get (x ∷ xs) (suc n) = some-get xs n ∙ grind (arith, nat_tests)
+
+-- It has the opening over what its disk holds.
+pub new-has : (settings : Settings) (tuple : Tuple) (v : SecondaryView) → v.core ≡ fresh settings tuple → v.outgoing ≡ None → v.incoming ≡ None → IsInRange settings → length v.disk ≡ settings.blocks
+    → NodeHas (node v) (secondary_opening settings (slice_get v.disk) tuple)
+new-has settings tuple v is no_out no_in in_range size =
+    subst (λ (x : SecondaryState). NodeHas (node (record v { core = x })) h) (sym is)
+    (subst (λ (o : Option OutgoingState). NodeHas (node (record v { core = fresh settings tuple; outgoing = o })) h) (sym no_out)
+    (subst (λ (i : Option IncomingState). NodeHas (node (record v { core = fresh settings tuple; outgoing = None; incoming = i })) h) (sym no_in)
+    (opening-has settings v.disk tuple in_range (λ block. some-get v.disk block ∙ ap (nat_lt block) size))))
+  where
+    h : SecondaryHistory
+    h = secondary_opening settings (slice_get v.disk) tuple
+
+-- It is a node.
+pub new-is : (settings : Settings) (tuple : Tuple) (v : SecondaryView) → v.core ≡ fresh settings tuple → v.outgoing ≡ None → v.incoming ≡ None → IsInRange settings → length v.disk ≡ settings.blocks → IsNode v
+new-is settings tuple v is no_out no_in in_range size =
+    let shut : is_some v.core.end ≡ false = ap (λ (x : SecondaryState). is_some x.end) is in record {
+      had = record { history = secondary_opening settings (slice_get v.disk) tuple; has = new-has settings tuple v is no_out no_in in_range size };
+      out_there = absent v.core (is_some v.outgoing) shut;
+      in_there = absent v.core (is_some v.incoming) shut;
+      begun = begun-shut v.outgoing v.core shut;
+      numbered = subst (λ (o : Option OutgoingState). IsNumbered o v.incoming v.core) (sym no_out) tt;
+    }
+
+-- A node that closes.
+pub closes-is : (v : SecondaryView) (t : SecondaryState) (result : Result (Unit {0}) Refusal) → IsNode v → (result, t) ≡ close_end v.core → IsNode (record v { core = t })
+closes-is v t result is closes =
+    let shut = closes-end v.core result t closes in record {
+      had = node-had ClosesToo (node v) (replied plainly result) (node (record v { core = t })) is.had (node-closes (node v) result t closes);
+      out_there = absent t (is_some v.outgoing) shut;
+      in_there = absent t (is_some v.incoming) shut;
+      begun = begun-shut v.outgoing t shut;
+      numbered = numbered-same v.outgoing v.incoming v.core t (closes-number v.core result t closes) is.numbered;
+    }
+
+-- What is read off.
+
+-- what its core says
+pub node-says : (v w : SecondaryView) → v ≡ w → (h : SecondaryHistory) → NodeHas (node w) h → Says v.core h
+node-says v w is h has = states-say v.core h (subst (λ (x : SecondaryView). NodeHas (node x) h) (sym is) has).leaves.core
+
+-- how far its data may be used
+pub node-usage : (v w : SecondaryView) → v ≡ w → (h : SecondaryHistory) → NodeHas (node w) h → record { consistent = v.core.consistent; whole = whole v.core; pending = length v.core.pending } ≡ usage_of h
+node-usage v w is h has =
+    let left = (subst (λ (x : SecondaryView). NodeHas (node x) h) (sym is) has).leaves.core in
+    let size : length v.core.pending ≡ length (pending (inward h)) = ap length left.last.pending ∙ length-map (pending_in (items_taken (inward h))) (pending (inward h)) in
+    λ k. record { consistent = left.consistent k; whole = (states-say v.core h left).whole k; pending = size k }

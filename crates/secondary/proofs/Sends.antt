@@ -1,0 +1,167 @@
+-- A node that sends what it owes.
+use Rattle.std.proofs.Common.{◌≡◌, ◌⊎◌, inl, inr, Bool, true, false, List, [], ◌∷◌, ◌++◌, Option, Some, None, Result, Ok, Err, refl, sym, ◌∙◌, ap, subst, arith}
+use Rattle.std.specs.Prelude.{ok_or, IfSome}
+use Rattle.blocks.specs.declared.refusal.Refusal.{Refusal}
+use Rattle.blocks.specs.declared.refusal.Refusal.TheVariants.{LinkFull, NoMemory, NotConnected, NothingThere}
+use Rattle.blocks.specs.declared.command.Command.{Command}
+use Rattle.blocks.specs.declared.outcome.Done.{Done}
+use Rattle.blocks.specs.declared.outcome.What.TheVariants as what
+use Rattle.blocks.specs.declared.outcome.Reply.TheVariants as reply
+use Rattle.packets.specs.declared.packet.Packet as packets
+use Rattle.packets.specs.declared.packet.Packet.TheVariants as packet
+use Rattle.packets.specs.Table as table
+use Rattle.std.specs.Option.{option_map}
+use Rattle.endpoint.specs.Calls.{Sends, has_room, is_starved}
+use Rattle.endpoint.specs.Meaning.{meaning}
+use Rattle.endpoint.specs.Outgoing.{OutgoingState}
+use Rattle.endpoint.specs.Incoming.{IncomingState}
+use Rattle.model.specs.Frames.{Packet, command_of}
+use Rattle.model.specs.Refusals.{done_with}
+use Rattle.model.specs.LocalRuns.{Acknowledges}
+use Rattle.secondary_steps.specs.Core.{EndState, SecondaryState, owed, due, sent}
+use Rattle.secondary_steps.specs.Node.{NodeState, NodeIsHad, NodeSteps}
+use Rattle.secondary_steps.specs.Steps.{replied}
+use Rattle.secondary_steps.proofs.Node.Calls.{due-open, node-pushes, node-full, node-no-memory, node-not-due}
+use Rattle.secondary_steps.proofs.Node.Runs.{node-had}
+use Rattle.secondary.specs.State.{SecondaryView, node, pushed_of, taken_of, IsDue, IsNumbered, IsNode}
+use Rattle.secondary.proofs.Kept.{due-none}
+
+-- the name of a packet is that of what it means
+same-command : (packet : packets.Packet) → command_of (meaning packet) ≡ table.command_of packet
+same-command (packet.Protocol protocol) = refl
+same-command (packet.Sizes blocks) = refl
+same-command (packet.Uuids tuple) = refl
+same-command (packet.Data first number place contents) = refl
+same-command (packet.RsDataReply first place contents) = refl
+same-command (packet.Barrier number) = refl
+same-command (packet.SyncUuid word) = refl
+same-command (packet.RecvAck ack) = refl
+same-command (packet.WriteAck ack) = refl
+same-command (packet.RsWriteAck ack) = refl
+same-command (packet.BarrierAck number size) = refl
+
+-- What is owed went out.
+pub sent-steps : (v : SecondaryView) (t : SecondaryState) (o p : OutgoingState) (packet : packets.Packet) (name : Command) (done : Done) → IsNode v → v.outgoing ≡ Some o → due v.core ≡ Ok (meaning packet) → t ≡ sent v.core
+    → p.pushed ≡ o.pushed ++ meaning packet ∷ [] → name ≡ table.command_of packet → done ≡ done_with (what.Frame name None)
+    → NodeSteps (Acknowledges true false) (node v) (reply.Ok done) (node (record v { core = t; outgoing = Some p }))
+sent-steps v t o p packet name done node_is there is same pushed called said =
+    let name_is : what.Frame name None ≡ what.Frame (command_of (meaning packet)) None = ap (λ (k : Command). what.Frame k None) (called ∙ sym (same-command packet)) in
+    let done_is : done ≡ done_with (what.Frame (command_of (meaning packet)) None) = said ∙ ap done_with name_is in
+    let all : p.pushed ≡ pushed_of v.outgoing ++ meaning packet ∷ [] = subst (λ (x : Option OutgoingState). p.pushed ≡ pushed_of x ++ meaning packet ∷ []) (sym there) pushed in
+    subst (λ (d : Done). NodeSteps (Acknowledges true false) (node v) (reply.Ok d) (node (record v { core = t; outgoing = Some p }))) (sym done_is)
+    (subst (λ (x : SecondaryState). NodeSteps (Acknowledges true false) (node v) (reply.Ok (done_with (what.Frame (command_of (meaning packet)) None))) (node (record v { core = x; outgoing = Some p }))) (sym same)
+    (subst (λ (l : List Packet). NodeSteps (Acknowledges true false) (node v) (reply.Ok (done_with (what.Frame (command_of (meaning packet)) None))) (record (node v) { core = sent v.core; pushed = l })) (sym all)
+    (node-pushes (node v) (meaning packet) is)))
+
+-- It is a node still.
+pub sent-is : (v : SecondaryView) (t : SecondaryState) (o p : OutgoingState) (packet : packets.Packet) → IsNode v → v.outgoing ≡ Some o → due v.core ≡ Ok (meaning packet) → t ≡ sent v.core
+    → p.pushed ≡ o.pushed ++ meaning packet ∷ [] → p.partly ≡ None → p.number ≡ o.number → IsNode (record v { core = t; outgoing = Some p })
+sent-is v t o p packet is there owes same pushed whole number = record {
+  had = node-had (Acknowledges true false) (node v) (reply.Ok (done_with (what.Frame (table.command_of packet) None))) (node (record v { core = t; outgoing = Some p })) is.had
+      (sent-steps v t o p packet (table.command_of packet) (done_with (what.Frame (table.command_of packet) None)) is there owes same pushed refl refl);
+  out_there = λ stands. refl;
+  in_there = λ stands. is.in_there (due-open v.core (meaning packet) owes);
+  begun = due-none p.partly t whole;
+  numbered = both v.incoming (subst (λ (x : Option OutgoingState). IsNumbered x v.incoming v.core) there is.numbered);
+}
+  where
+    both : (x : Option IncomingState) → IsNumbered (Some o) x v.core → IsNumbered (Some p) x t
+    both None was = tt
+    both (Some i) was = let kept = ap (λ (s : SecondaryState). s.number) same in let out = was.0 in let inn = was.1 in (omega (arith, kept, number), omega (arith, kept))
+
+-- A packet that went in part leaves the node, and is the one that is due.
+pub part-is : (v : SecondaryView) (o p : OutgoingState) (packet : packets.Packet) → IsNode v → v.outgoing ≡ Some o → due v.core ≡ Ok (meaning packet) → p ≡ record o { partly = p.partly }
+    → IfSome p.partly (λ begun. begun ≡ meaning packet ∷ []) → IsNode (record v { outgoing = Some p })
+part-is v o p packet is there owes same begun = record {
+  had = subst (λ (n : NodeState). NodeIsHad n) (λ k. record { core = v.core; disk = v.disk; pushed = unchanged k; taken = taken_of v.incoming }) is.had;
+  out_there = λ stands. refl;
+  in_there = is.in_there;
+  begun = go p.partly begun;
+  numbered = both v.incoming (subst (λ (x : Option OutgoingState). IsNumbered x v.incoming v.core) there is.numbered);
+}
+  where
+    unchanged : pushed_of v.outgoing ≡ p.pushed
+    unchanged = ap pushed_of there ∙ sym (ap (λ (x : OutgoingState). x.pushed) same)
+
+    go : (x : Option (List Packet)) → IfSome x (λ begun. begun ≡ meaning packet ∷ []) → IsDue x v.core
+    go None was = tt
+    go (Some x) was = λ stands. (meaning packet, owes, was)
+
+    both : (x : Option IncomingState) → IsNumbered (Some o) x v.core → IsNumbered (Some p) x v.core
+    both None was = tt
+    both (Some i) was = let number = ap (λ (x : OutgoingState). x.number) same in let out = was.0 in (omega (arith, number), was.1)
+
+-- whether the link had no room
+full-or-not : (e : Refusal) → (e ≡ LinkFull) ⊎ ((e ≡ LinkFull) → ⊥)
+full-or-not LinkFull = inl refl
+full-or-not e = inr (λ is. absurd (cc))
+
+-- The link had no room for what is owed, or there was no memory.
+pub not-sent-steps : (v : SecondaryView) (o p : OutgoingState) (packet : packets.Packet) (e : Refusal) (result : Result Done Refusal) → IsNode v → v.outgoing ≡ Some o → due v.core ≡ Ok (meaning packet) → result ≡ Err e
+    → ((e ≡ LinkFull → ⊥) → e ≡ NoMemory) → p.pushed ≡ o.pushed
+    → NodeSteps (Acknowledges (has_room result) (is_starved result)) (node v) (replied (λ done. done) result) (node (record v { outgoing = Some p }))
+not-sent-steps v o p packet e result node_is there is refused memory pushed =
+    let all : p.pushed ≡ pushed_of v.outgoing = pushed ∙ sym (ap pushed_of there) in
+    subst (λ (l : List Packet). NodeSteps (Acknowledges (has_room result) (is_starved result)) n (replied (λ done. done) result) (record n { pushed = l })) (sym all) (elim (full-or-not e) [
+      | inl full ↦ subst (λ (r : Result Done Refusal). NodeSteps (Acknowledges (has_room r) (is_starved r)) n (replied (λ done. done) r) n) (sym (refused ∙ ap Err full)) (node-full n (meaning packet) is)
+      | inr other ↦ subst (λ (r : Result Done Refusal). NodeSteps (Acknowledges (has_room r) (is_starved r)) n (replied (λ done. done) r) n) (sym (refused ∙ ap Err (memory other))) (node-no-memory n (meaning packet) is)
+    ])
+  where
+    n : NodeState
+    n = node v
+
+-- Of the link nothing changed but that the packet may be there in part.
+pub sends-part : (old : Option OutgoingState) (o p : OutgoingState) (e : Refusal) (result : Result Done Refusal) → old ≡ Some o → p ≡ record o { partly = p.partly } → result ≡ Err e → (e ≡ LinkFull → IfSome o.room (λ n. n ≡ 0))
+    → Sends result old (Some p)
+sends-part old o p e result there same refused full = subst (λ (r : Result Done Refusal). Sends r old (Some p)) (sym refused) (record {
+  pushed = tt;
+  kept = (p.partly, ap (λ (x : OutgoingState). Some x) same ∙ ap (option_map (λ (x : OutgoingState). record x { partly = p.partly })) (sym there));
+  full = λ is. (o, there, full (let one : e ≡ LinkFull = cc in one));
+})
+
+-- Nothing is due.
+pub nothing-due-steps : (n : NodeState) (e : Refusal) (result : Result Done Refusal) → due n.core ≡ Err e → result ≡ Err e → NodeSteps (Acknowledges (has_room result) (is_starved result)) n (replied (λ done. done) result) n
+nothing-due-steps n e result is refused = subst (λ (r : Result Done Refusal). NodeSteps (Acknowledges (has_room r) (is_starved r)) n (replied (λ done. done) r) n) (sym refused) (go n.core.end is)
+  where
+    here : NodeSteps (Acknowledges true false) n (replied (λ (done : Done). done) (Err e)) n
+    here = node-not-due n e is
+
+    told : (x : Refusal) → x ≡ e → has_room {R = Done} (Err x) ≡ true → is_starved {R = Done} (Err x) ≡ false → NodeSteps (Acknowledges (has_room {R = Done} (Err e)) (is_starved {R = Done} (Err e))) n (replied (λ (done : Done). done) (Err e)) n
+    told x same room fed =
+        let a : has_room {R = Done} (Err e) ≡ true = ap (λ (y : Refusal). has_room {R = Done} (Err y)) (sym same) ∙ room in
+        let b : is_starved {R = Done} (Err e) ≡ false = ap (λ (y : Refusal). is_starved {R = Done} (Err y)) (sym same) ∙ fed in
+        subst (λ (v : Bool). NodeSteps (Acknowledges v (is_starved {R = Done} (Err e))) n (replied (λ (done : Done). done) (Err e)) n) (sym a)
+        (subst (λ (v : Bool). NodeSteps (Acknowledges true v) n (replied (λ (done : Done). done) (Err e)) n) (sym b) here)
+
+    owes : (x : Option Packet) → ok_or x NothingThere ≡ Err e → NothingThere ≡ e
+    owes None is = cc
+    owes (Some p) is = absurd (cc)
+
+    go : (v : Option EndState) → elim v as (λ _. Result Packet Refusal) [ None ↦ Err NotConnected | Some x ↦ ok_or (owed n.core.settings x) NothingThere ] ≡ Err e
+        → NodeSteps (Acknowledges (has_room {R = Done} (Err e)) (is_starved {R = Done} (Err e))) n (replied (λ (done : Done). done) (Err e)) n
+    go None is = told NotConnected (let same : NotConnected ≡ e = cc in same) refl refl
+    go (Some x) is = told NothingThere (owes (owed n.core.settings x) is) refl refl
+
+-- What is refused as nothing being due is not the link's.
+pub not-full : (s : SecondaryState) (e : Refusal) → due s ≡ Err e → e ≡ LinkFull → ⊥
+not-full s e is full = go s.end (is ∙ ap Err full)
+  where
+    owes : (x : Option Packet) → ok_or x NothingThere ≡ Err LinkFull → ⊥
+    owes None is = absurd (cc)
+    owes (Some p) is = absurd (cc)
+
+    go : (v : Option EndState) → elim v as (λ _. Result Packet Refusal) [ None ↦ Err NotConnected | Some x ↦ ok_or (owed s.settings x) NothingThere ] ≡ Err LinkFull → ⊥
+    go None is = absurd (cc)
+    go (Some x) is = owes (owed s.settings x) is
+
+-- Then the link is left alone.
+pub sends-none : (s : SecondaryState) (o : Option OutgoingState) (e : Refusal) (result : Result Done Refusal) → due s ≡ Err e → result ≡ Err e → Sends result o o
+sends-none s o e result is refused = subst (λ (r : Result Done Refusal). Sends r o o) (sym refused) (record {
+  pushed = tt;
+  kept = go o;
+  full = λ full. absurd (not-full s e is (let one : e ≡ LinkFull = cc in one));
+})
+  where
+    go : (x : Option OutgoingState) → (partly : Option (List Packet)) × (x ≡ option_map (λ (y : OutgoingState). record y { partly = partly }) x)
+    go None = (None, refl)
+    go (Some y) = (y.partly, refl)

@@ -1,0 +1,22 @@
+-- What a node's calls are whose outcome the link or the disk has a say in.
+use Rattle.std.specs.Prelude.{ℕ, ◌≡◌, ◌<◌, ◌&&◌, ◌⊎◌, List, Option, is_none, Result}
+use Rattle.blocks.specs.declared.refusal.Refusal.{Refusal}
+use Rattle.blocks.specs.declared.outcome.Done.{Done}
+use Rattle.model.specs.Frames.{Received}
+use Rattle.model.specs.LocalRuns.{Receives, Applies, FailsToApply}
+use Rattle.endpoint.specs.Calls.{Takes, is_starved}
+use Rattle.secondary_steps.specs.Node.{NodeSteps}
+use Rattle.secondary_steps.specs.Steps.{replied}
+use Rattle.secondary.specs.State.{SecondaryView, node}
+
+-- A frame was taken, or none, and that was the node's step. Memory is wanting only before a frame is taken.
+pub record ReceivesOne (result : Result Done Refusal) (old new : SecondaryView) : Type 0 where
+  pub frame : Option Received
+  pub link : Takes frame result old.incoming new.incoming
+  pub step : NodeSteps (Receives frame (is_none frame && is_starved result)) (node old) (replied (λ done. done) result) (node new)
+
+-- The disk did the item of the place, or failed in this call, and left any of its blocks new.
+abbrev pub AppliesOne : ℕ → Result Done Refusal → SecondaryView → SecondaryView → Type 0
+AppliesOne place result old new =
+    ((new.faults ≡ old.faults) × NodeSteps (Applies place) (node old) (replied (λ done. done) result) (node new))
+    ⊎ ((old.faults < new.faults) × ((offsets : List ℕ) × NodeSteps (FailsToApply place offsets) (node old) (replied (λ done. done) result) (node new)))

@@ -1,0 +1,33 @@
+//! What is owed is sent.
+ghost use Rattle.std.specs.Prelude.{◌≡◌};
+ghost use Rattle.model.specs.LocalRuns.{Acknowledges};
+ghost use Rattle.secondary_steps.specs.Node.{NodeSteps};
+ghost use Rattle.secondary_steps.specs.Steps.{replied};
+ghost use Rattle.secondary.specs.State.{node};
+ghost use Rattle.endpoint.specs.Calls.{Sends, has_room, is_starved};
+
+use crate::Secondary;
+use blocks::{Done, Refusal, Store, What};
+use link::connected::{FrameIn, FrameOut};
+
+impl<O: FrameOut + Drop, I: FrameIn + Drop, S: Store + Drop> Secondary<O, I, S> {
+    /// Sends the next frame that the end owes: of its hello, and then of the acknowledgements that are due.
+    ///
+    /// `NotConnected` (12) comes where the end is closed, else `NothingThere` (13) where nothing is due, else
+    /// `LinkFull` (11) where the link is full. An acknowledgement has no blocks, so it wants no memory. The
+    /// link's answer is read off the reply.
+    pub fn ack_out(&mut self) -> Result<Done, Refusal>
+        ensures step { NodeSteps (Acknowledges (has_room result) (is_starved result)) (node self.old) (replied (λ done. done) result) (node self.new) }
+        ensures link { Sends result self.old.outgoing self.new.outgoing }
+        ensures rest { self.new ≡ record self.old { core = self.new.core; outgoing = self.new.outgoing } }
+    {
+        let packet = self.core.due()?;
+        let command = packet.command();
+        let Some(outgoing) = &mut self.outgoing else {
+            return Err(Refusal::NotConnected);
+        };
+        outgoing.push(self.alloc, packet)?;
+        self.core.sent();
+        Ok(Done::about(What::Frame(command, None)))
+    }
+}

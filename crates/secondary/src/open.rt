@@ -1,0 +1,65 @@
+//! A connection begins.
+ghost use Rattle.std.specs.Prelude.{◌≡◌, ◌<◌, ◌+◌, ◌-◌, Some, is_some, true, OnOk, OnErr};
+ghost use Rattle.endpoint.specs.Calls.{IsNewIn, IsNewOut};
+ghost use Rattle.endpoint.specs.Incoming.{incoming};
+ghost use Rattle.endpoint.specs.Outgoing.{outgoing};
+ghost use Rattle.model.specs.LocalRuns.{OpensToo};
+ghost use Rattle.secondary_steps.specs.Node.{NodeSteps};
+ghost use Rattle.secondary_steps.specs.Steps.{plainly, replied};
+ghost use Rattle.secondary.specs.State.{IsRestarted, node};
+
+use crate::Secondary;
+use blocks::{Refusal, Store};
+use endpoint::{Incoming, Outgoing};
+use link::connected::{FrameIn, FrameOut};
+
+impl<O: FrameOut + Drop, I: FrameIn + Drop, S: Store + Drop> Secondary<O, I, S> {
+    /// Opens the end, over unused ends of a link. The connection's number is one more than the last one's,
+    /// and the caller owes that there are no more connections than 32 bits count.
+    ///
+    /// `NotDrained` (36) comes where the end is open, and where items are pending; the new ends are dropped
+    /// then. It takes no memory.
+    pub fn open(&mut self, outward: O, inward: I) -> Result<(), Refusal>
+        requires outward { IsNewOut (O.state outward) }
+        requires inward { IsNewIn (I.state inward) }
+        requires counted { self.old.core.number < 4294967295 }
+        ensures step { NodeSteps (OpensToo 0) (node self.old) (replied plainly result) (node self.new) }
+        ensures link { OnOk result (self.new ≡ record self.old {
+          core = self.new.core;
+          outgoing = Some (outgoing (O.state outward));
+          incoming = Some (incoming (I.state inward));
+        }) }
+        ensures unchanged { OnErr result (self.new ≡ self.old) }
+    {
+        let number = self.core.number() + 1;
+        self.core.open(number)?;
+        self.outgoing = Some(Outgoing::new(outward));
+        self.incoming = Some(Incoming::new(inward));
+        Ok(())
+    }
+
+    /// Opens the end anew, over the ends of a link that it has, under the connection's number; those between
+    /// the last one's and this it never saw. The caller owes that it was opened before, and that the number
+    /// is above the last one.
+    ///
+    /// `NotDrained` (36) comes where the end is open, and where items are pending. It takes no memory.
+    pub fn reopen(&mut self, number: u32) -> Result<(), Refusal>
+        requires opened { is_some self.old.outgoing ≡ true }
+        requires opened_too { is_some self.old.incoming ≡ true }
+        requires above { self.old.core.number < number }
+        ensures step { NodeSteps (OpensToo (number - (self.old.core.number + 1))) (node self.old) (replied plainly result) (node self.new) }
+        ensures link { OnOk result (IsRestarted number self.old self.new) }
+        ensures unchanged { OnErr result (self.new ≡ self.old) }
+    {
+        self.core.open(number)?;
+        let Some(outgoing) = &mut self.outgoing else {
+            return Err(Refusal::NotConnected);
+        };
+        outgoing.restart(number);
+        let Some(incoming) = &mut self.incoming else {
+            return Err(Refusal::NotConnected);
+        };
+        incoming.restart(number);
+        Ok(())
+    }
+}

@@ -1,0 +1,79 @@
+//! The disk is read.
+ghost use Rattle.std.specs.Prelude.{◌≡◌, ◌⊎◌, ◌+◌, ◌*◌, ◌/◌, ◌<◌, ◌≤◌, Some, length, true, false, IfErr, OnOk, OnErr, IfOk};
+ghost use Rattle.blocks.specs.declared.block.TheConstants.{BLOCK_BYTES};
+ghost use Rattle.blocks.specs.declared.refusal.Refusal.TheVariants.{BadRange, NoMemory, ReadFault};
+ghost use Rattle.model.specs.Contents.{IsRead, is_range};
+ghost use Rattle.model.specs.Secondary.{SecondaryHistory, secondary_map};
+ghost use Rattle.secondary_steps.specs.Node.{NodeHas};
+ghost use Rattle.secondary.specs.Reads.{AreRead};
+ghost use Rattle.secondary.specs.State.{node};
+
+use crate::Secondary;
+use blocks::{BLOCK_BYTES, Block, Range, Refusal, Store, StoreFault};
+use link::connected::{FrameIn, FrameOut};
+use std::alloc::Global;
+
+impl<O: FrameOut + Drop, I: FrameIn + Drop, S: Store + Drop> Secondary<O, I, S> {
+    /// Reads a block of the disk into a buffer of 4,096 bytes.
+    ///
+    /// `BadRange` (1) comes past the disk's end, else `ReadFault` (14) where the disk fails; the buffer then
+    /// holds nothing of use. It takes no memory.
+    pub fn read_block(&mut self, block: Block, buffer: &mut [u8]) -> Result<(), Refusal>
+        requires { length buffer.old ≡ BLOCK_BYTES }
+        ensures read { OnOk result ((h : SecondaryHistory) → NodeHas (node self.old) h → secondary_map h block.0 ≡ Some buffer.new) }
+        ensures rest { self.new ≡ record self.old { faults = self.new.faults; steady = self.new.steady } }
+        ensures works { self.old.steady ≡ true → (self.new ≡ self.old) × IfErr result (λ e. e ≡ BadRange) }
+        ensures uncounted { OnOk result (self.new.faults ≡ self.old.faults) }
+        ensures refused { IfErr result (λ e. ((e ≡ BadRange) × (length self.old.disk ≤ block.0) × (self.new.faults ≡ self.old.faults))
+            ⊎ ((e ≡ ReadFault) × (block.0 < length self.old.disk) × (self.old.faults < self.new.faults))) }
+    {
+        if block.0 >= u64::from(self.store.blocks()) {
+            return Err(Refusal::BadRange);
+        }
+        match self.store.read(block, buffer) {
+            Ok(()) => Ok(()),
+            Err(_) => Err(Refusal::ReadFault),
+        }
+    }
+
+    /// Reads so many blocks of the disk from this one on, 1 to 32 inside the device and inside one extent.
+    ///
+    /// `BadRange` (1) comes where they are not that, else `NoMemory` (7) where there is no room for their
+    /// bytes, else `ReadFault` (14) where the disk fails.
+    pub fn read(&mut self, alloc: Global, first: u64, count: u64) -> Result<Vec<u8>, Refusal>
+        ensures read { IfOk result (λ bytes. (h : SecondaryHistory) → NodeHas (node self.old) h → IsRead (secondary_map h) first count bytes.items) }
+        ensures rest { self.new ≡ record self.old { faults = self.new.faults; steady = self.new.steady } }
+        ensures works { self.old.steady ≡ true → self.new.steady ≡ true }
+        ensures uncounted { OnOk result (self.new.faults ≡ self.old.faults) }
+        ensures refused { IfErr result (λ e. ((e ≡ BadRange) × (is_range self.old.core.settings first count ≡ false) × (self.new.faults ≡ self.old.faults))
+            ⊎ (((e ≡ NoMemory) × (is_range self.old.core.settings first count ≡ true) × (self.new.faults ≡ self.old.faults))
+            ⊎ ((e ≡ ReadFault) × (is_range self.old.core.settings first count ≡ true) × (self.old.faults < self.new.faults)))) }
+    {
+        let range = Range::new(first, count, self.core.settings().blocks)?;
+        let mut bytes = Vec::from_elem(alloc, 0u8, range.count as usize * BLOCK_BYTES)?;
+        match read_blocks(&mut self.store, range.first, &mut bytes) {
+            Ok(()) => Ok(bytes),
+            Err(_) => Err(Refusal::ReadFault),
+        }
+    }
+}
+
+// Reads the blocks of a disk from this one on, as many as the buffer holds.
+fn read_blocks<S: Store>(store: &mut S, first: Block, bytes: &mut [u8]) -> Result<(), StoreFault>
+    requires inside { first.0 + length bytes.old / 4096 ≤ length (S.contents store.old) }
+    requires few { first.0 + length bytes.old / 4096 < 4294967296 }
+    requires whole { 4096 * (length bytes.old / 4096) ≡ length bytes.old }
+    ensures size { length bytes.new ≡ length bytes.old }
+    ensures read { OnOk result (AreRead (S.contents store.old) first.0 bytes.new (length bytes.new / 4096)) }
+    ensures same { S.contents store.new ≡ S.contents store.old }
+    ensures works { S.steady store.old ≡ true → S.steady store.new ≡ true }
+    ensures uncounted { OnOk result (S.faults store.new ≡ S.faults store.old) }
+    ensures counted { OnErr result (S.faults store.old < S.faults store.new) }
+{
+    for offset in 0..bytes.len() / BLOCK_BYTES {
+        let at = offset * BLOCK_BYTES;
+        let block = Block(first.0 + offset as u64);
+        store.read(block, &mut bytes[at..at + BLOCK_BYTES])?;
+    }
+    Ok(())
+}

@@ -1,0 +1,71 @@
+//! What is read off.
+ghost use Rattle.std.specs.Prelude.{◌≡◌, ◌&&◌, not, ok_or};
+ghost use Rattle.blocks.specs.declared.refusal.Refusal.TheVariants.{NothingThere};
+ghost use Rattle.model.specs.Secondary.{SecondaryHistory, inward, is_drained, next_pending};
+ghost use Rattle.model.specs.Status.{hello_is_done};
+ghost use Rattle.secondary_steps.specs.Node.{NodeHas};
+ghost use Rattle.secondary.specs.State.{node};
+ghost use Rattle.secondary.specs.Usages.{usage_of};
+
+use crate::Secondary;
+use blocks::{Refusal, Settings, Store, Tuple};
+use link::connected::{FrameIn, FrameOut};
+use secondary_core::Usage;
+
+impl<O: FrameOut + Drop, I: FrameIn + Drop, S: Store + Drop> Secondary<O, I, S> {
+    /// The lowest pending place. `NothingThere` (13) comes where nothing is pending. It takes no memory.
+    pub fn next(&self) -> Result<u32, Refusal>
+        ensures { (h : SecondaryHistory) → NodeHas (node self.now) h → result ≡ ok_or (next_pending h) NothingThere }
+    {
+        self.core.next()
+    }
+
+    /// Whether nothing is pending.
+    pub fn is_drained(&self) -> bool
+        ensures { (h : SecondaryHistory) → NodeHas (node self.now) h → result ≡ is_drained h }
+    {
+        self.core.is_drained()
+    }
+
+    /// Whether the identifiers are those of the data.
+    pub fn is_consistent(&self) -> bool
+        ensures { (h : SecondaryHistory) → NodeHas (node self.now) h → result ≡ h.consistent }
+    {
+        self.core.is_consistent()
+    }
+
+    /// The disk's generation identifiers.
+    pub fn tuple(&self) -> Tuple
+        ensures { (h : SecondaryHistory) → NodeHas (node self.now) h → result ≡ h.tuple }
+    {
+        self.core.tuple()
+    }
+
+    /// The settings.
+    pub fn settings(&self) -> Settings
+        ensures { (h : SecondaryHistory) → NodeHas (node self.now) h → result ≡ h.settings }
+    {
+        self.core.settings()
+    }
+
+    /// Whether the end is open.
+    pub fn is_open(&self) -> bool
+        ensures { (h : SecondaryHistory) → NodeHas (node self.now) h → result ≡ not (inward h).closed }
+    {
+        self.core.is_open()
+    }
+
+    /// Whether the hello is done: the end is open, and has taken three frames and sent three.
+    pub fn is_hello_done(&self) -> bool
+        ensures { (h : SecondaryHistory) → NodeHas (node self.now) h → result ≡ (not (inward h).closed && hello_is_done (inward h)) }
+    {
+        self.core.is_hello_done()
+    }
+
+    /// How far the data may be used.
+    pub fn usage(&self) -> Usage
+        ensures { (h : SecondaryHistory) → NodeHas (node self.now) h → result ≡ usage_of h }
+    {
+        self.core.usage()
+    }
+}

@@ -1,7 +1,0 @@
-pub mod Applies
-pub mod Buffers
-pub mod Faults
-pub mod Kept
-pub mod Opens
-pub mod Sends
-pub mod Takes

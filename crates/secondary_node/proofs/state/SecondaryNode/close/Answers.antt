@@ -1,9 +1,0 @@
-use Rattle.secondary_steps.proofs.Node.Calls.{node-closes}
-use Rattle.secondary_node.proofs.Kept.{closes-is}
-use Rattle.secondary_node.proofs.state.SecondaryNode.close.Goals as goal
-
-pub invariant_of-self : goal.invariant_of-self
-invariant_of-self g c = closes-is _ _ _ c.self.invariant c.close.ensures
-
-pub returns-clause-step : goal.returns-clause-step
-returns-clause-step g c = rw (← c.self.view_is) (node-closes _ _ _ c.close.ensures)

@@ -1,4 +1,0 @@
-pub mod Calls
-pub mod Reads
-pub mod State
-pub mod Usages
