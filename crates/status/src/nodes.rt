@@ -6,9 +6,9 @@ ghost use Rattle.model.specs.Pair.{PairHistory};
 ghost use Rattle.model.specs.Primary.{PrimaryHistory};
 ghost use Rattle.model.specs.Secondary.{SecondaryHistory};
 ghost use Rattle.model.specs.Status.{primary_line, secondary_line};
-ghost use Rattle.primary.specs.State as primary;
+ghost use Rattle.primary.specs.State as here;
 ghost use Rattle.primary_steps.specs.Node as local;
-ghost use Rattle.secondary.specs.State as secondary;
+ghost use Rattle.secondary.specs.State as there;
 ghost use Rattle.secondary_steps.specs.Node as peer;
 ghost use Rattle.pair.specs.State.{state};
 ghost use Rattle.pair_steps.specs.State.{PairHas};
@@ -33,7 +33,7 @@ pub fn primary_line<O: FrameOut + Drop, I: FrameIn + Drop, S: Store + Drop>(
     alloc: Global,
     primary: &Primary<O, I, S>,
 ) -> Result<String, Refusal>
-    ensures line { IfOk result (λ line. (h : PrimaryHistory) → local.NodeHas (primary.node primary.now) h → string_bytes line ≡ primary_text (primary_line h)) }
+    ensures line { IfOk result (λ line. (h : PrimaryHistory) → local.NodeHas (here.node primary.now) h → string_bytes line ≡ primary_text (primary_line h)) }
     ensures refused { IfErr result (λ e. e ≡ NoMemory) }
 {
     let line = primary_state(primary);
@@ -45,7 +45,7 @@ pub fn secondary_line<O: FrameOut + Drop, I: FrameIn + Drop, S: Store + Drop>(
     alloc: Global,
     secondary: &Secondary<O, I, S>,
 ) -> Result<String, Refusal>
-    ensures line { IfOk result (λ line. (h : SecondaryHistory) → peer.NodeHas (secondary.node secondary.now) h → string_bytes line ≡ secondary_text (secondary_line h)) }
+    ensures line { IfOk result (λ line. (h : SecondaryHistory) → peer.NodeHas (there.node secondary.now) h → string_bytes line ≡ secondary_text (secondary_line h)) }
     ensures refused { IfErr result (λ e. e ≡ NoMemory) }
 {
     let line = secondary_state(secondary);
@@ -55,7 +55,7 @@ pub fn secondary_line<O: FrameOut + Drop, I: FrameIn + Drop, S: Store + Drop>(
 /// Both lines of a pair, the primary's first, each ended by a newline. `NoMemory` (7) where there is no room for
 /// them.
 pub fn line(alloc: Global, pair: &Pair) -> Result<String, Refusal>
-    ensures lines { IfOk result (λ lines. (h : PairHistory) → PairHas (state pair.now) h → string_bytes lines ≡ primary_text (primary_line h.primary) ++ 10 ∷ [] ++ secondary_text (secondary_line h.secondary) ++ 10 ∷ []) }
+    ensures lines { IfOk result (λ lines. (h : PairHistory) → PairHas (state pair.now) h → string_bytes lines ≡ primary_text (primary_line h.primary) ++ 10 ∷ (secondary_text (secondary_line h.secondary) ++ 10 ∷ [])) }
     ensures refused { IfErr result (λ e. e ≡ NoMemory) }
 {
     let own = primary_state(pair.primary());
@@ -67,7 +67,7 @@ pub fn line(alloc: Global, pair: &Pair) -> Result<String, Refusal>
 fn primary_state<O: FrameOut + Drop, I: FrameIn + Drop, S: Store + Drop>(
     primary: &Primary<O, I, S>,
 ) -> PrimaryLine
-    ensures { (h : PrimaryHistory) → local.NodeHas (primary.node primary.now) h → primary_line_of result ≡ primary_line h }
+    ensures { (h : PrimaryHistory) → local.NodeHas (here.node primary.now) h → primary_line_of result ≡ primary_line h }
 {
     PrimaryLine {
         words: primary_words(primary.is_open(), primary.stands(), primary.is_resync()),
@@ -83,7 +83,7 @@ fn primary_state<O: FrameOut + Drop, I: FrameIn + Drop, S: Store + Drop>(
 fn secondary_state<O: FrameOut + Drop, I: FrameIn + Drop, S: Store + Drop>(
     secondary: &Secondary<O, I, S>,
 ) -> SecondaryLine
-    ensures { (h : SecondaryHistory) → peer.NodeHas (secondary.node secondary.now) h → secondary_line_of result ≡ secondary_line h }
+    ensures { (h : SecondaryHistory) → peer.NodeHas (there.node secondary.now) h → secondary_line_of result ≡ secondary_line h }
 {
     let usage = secondary.usage();
     SecondaryLine {
