@@ -1,12 +1,7 @@
 //! `drbdpair` runs a pair of mirrored disks from a script, and prints what each command of it did.
 #![tactic(auto)]
 
-mod command;
-mod interpreter;
-mod number;
-mod print;
 mod program;
-mod script;
 #[cfg(test)]
 mod tests;
 

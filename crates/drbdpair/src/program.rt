@@ -1,9 +1,9 @@
 //! The program's words.
 ghost use Rattle.std.specs.Prelude.{◌≤◌};
 
-use crate::script::{DONE, FAILED, MISUSED, script_on};
 use clap::error::ErrorKind;
 use clap::{Arg, ArgMatches, Command, Error};
+use script::{DONE, FAILED, MISUSED, script_on};
 use std::alloc::Global;
 use std::convert::AsStr;
 use std::fs;

@@ -9,4 +9,4 @@ mod print;
 mod reading;
 mod script;
 
-pub use script::script_on;
+pub use script::{DONE, FAILED, MISUSED, script_on};

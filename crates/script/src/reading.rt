@@ -70,7 +70,7 @@ fn end_of_blocks<W: Write>(is_any: bool, out: &mut W) -> io::Result<()> {
 /// Prints both status lines.
 pub(crate) fn status<W: Write>(alloc: Global, pair: &Pair, out: &mut W) -> io::Result<()> {
     match status::line(alloc, pair) {
-        Ok(lines) => out.write_all(lines.as_slice()),
+        Ok(lines) => write!(out, "{lines}"),
         Err(_) => print::refused(out, "status", Refusal::NoMemory),
     }
 }

@@ -12,13 +12,13 @@ use std::fmt;
 use std::io::{self, Read, Write};
 
 /// The status of a run that ended well.
-pub(crate) const DONE: u8 = 0;
+pub const DONE: u8 = 0;
 
 /// The status where a file or memory failed, or a script is not UTF-8.
-pub(crate) const FAILED: u8 = 1;
+pub const FAILED: u8 = 1;
 
 /// The status of wrong usage, and of a line that stops a script.
-pub(crate) const MISUSED: u8 = 2;
+pub const MISUSED: u8 = 2;
 
 /// Why a script stopped. A line is named by its number, from 1.
 #[derive(Debug, Drop)]
