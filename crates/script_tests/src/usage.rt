@@ -1,0 +1,300 @@
+//! What is a script, and which lines stop one.
+use crate::rows::{is_one_line, prints};
+use script::script_on;
+use std::process::Abort;
+use std::test::Fail;
+
+/// After a pair, none of these lines is a command.
+fn are_no_commands(rt: &(impl Abort + AllocGlobal), lines: &[&str]) -> Result<(), Fail> {
+    for line in lines {
+        let mut script = String::from_str(rt.alloc(), "pair\n")?;
+        script.push_str(line)?;
+        script.push_str("\nmarks\n")?;
+        prints(
+            rt,
+            script.as_str(),
+            "pair ok\n",
+            "line 2: not a command\n",
+            2,
+        )?;
+    }
+    Ok(())
+}
+
+/// The bytes are no text: nothing is printed, and one line on standard error says so.
+fn are_no_text(rt: &(impl Abort + AllocGlobal), script: &[u8]) -> Result<(), Fail> {
+    let alloc = rt.alloc();
+    let mut written = Vec::new(alloc);
+    let mut said = Vec::new(alloc);
+    let mut input = script;
+    let status = script_on(alloc, &mut input, &mut written, &mut said);
+    assert_eq!(rt; status, 1);
+    assert!(rt; written.is_empty());
+    is_one_line(rt, &said);
+    Ok(())
+}
+
+#[test]
+fn an_empty_script_prints_nothing(rt: HostRuntime) -> Result<(), Fail> {
+    prints(&rt, "", "", "", 0)?;
+    prints(&rt, "\n", "", "", 0)?;
+    prints(&rt, "#", "", "", 0)?;
+    prints(&rt, "\n# pair\n\n#pair\n", "", "", 0)
+}
+
+#[test]
+fn notes_and_empty_lines_are_counted(rt: HostRuntime) -> Result<(), Fail> {
+    prints(
+        &rt,
+        "# größer\n\npair\n\n#\nsent\nmarks\n",
+        "pair ok\n",
+        "line 6: not a command\n",
+        2,
+    )?;
+    let mut script = String::new(rt.alloc());
+    for _ in 0..1000 {
+        script.push_str("\n")?;
+    }
+    script.push_str("marks")?;
+    prints(&rt, script.as_str(), "", "line 1001: no pair\n", 2)
+}
+
+#[test]
+fn the_last_newline_may_be_missing(rt: HostRuntime) -> Result<(), Fail> {
+    prints(&rt, "pair", "pair ok\n", "", 0)?;
+    prints(&rt, "pair\nmarks", "pair ok\nmarks none\n", "", 0)?;
+    prints(&rt, "pair\n# marks", "pair ok\n", "", 0)
+}
+
+/// Each command but `pair`.
+const COMMANDS: [&str; 20] = [
+    "open 5 7",
+    "connect 5 7",
+    "submit 0 1 AA",
+    "local 1",
+    "localfail 1 0",
+    "send",
+    "receive",
+    "ackout",
+    "ackin",
+    "peer 0",
+    "peerfail 0 0",
+    "resync",
+    "resyncfail",
+    "close primary",
+    "close secondary",
+    "marks",
+    "diff",
+    "tuples",
+    "read primary 0",
+    "status",
+];
+
+#[test]
+fn a_pair_comes_first(rt: HostRuntime) -> Result<(), Fail> {
+    for command in COMMANDS {
+        let mut script = String::from_str(rt.alloc(), "#\n")?;
+        script.push_str(command)?;
+        script.push_str("\npair\n")?;
+        prints(&rt, script.as_str(), "", "line 2: no pair\n", 2)?;
+    }
+    prints(&rt, "sent\npair\n", "", "line 1: not a command\n", 2)
+}
+
+#[test]
+fn a_pair_stands_once(rt: HostRuntime) -> Result<(), Fail> {
+    prints(&rt, "pair\npair", "pair ok\n", "line 2: second pair\n", 2)?;
+    prints(
+        &rt,
+        "pair\nsend\n\npair blocks=0\nsend\n",
+        "pair ok\nsend refused 12\n",
+        "line 4: second pair\n",
+        2,
+    )?;
+    prints(
+        &rt,
+        "pair\npair blocks\n",
+        "pair ok\n",
+        "line 2: not a command\n",
+        2,
+    )
+}
+
+#[test]
+fn after_a_refused_pair_there_is_none(rt: HostRuntime) -> Result<(), Fail> {
+    for command in COMMANDS {
+        let mut script = String::from_str(rt.alloc(), "pair slots=0\n\n")?;
+        script.push_str(command)?;
+        prints(
+            &rt,
+            script.as_str(),
+            "pair refused 15\n",
+            "line 3: no pair\n",
+            2,
+        )?;
+    }
+    prints(
+        &rt,
+        "pair slots=0\npair\n",
+        "pair refused 15\n",
+        "line 2: no pair\n",
+        2,
+    )?;
+    prints(
+        &rt,
+        "pair slots=0\n#\n\nsent\n",
+        "pair refused 15\n",
+        "line 4: not a command\n",
+        2,
+    )
+}
+
+#[test]
+fn words_are_parted_by_one_space(rt: HostRuntime) -> Result<(), Fail> {
+    are_no_commands(
+        &rt,
+        &[
+            " ",
+            " # note",
+            "sent",
+            "Send",
+            "SEND",
+            "send ",
+            " send",
+            "send\t",
+            "send\r",
+            "send send",
+            "send 1",
+            "local  1",
+            "local 1 ",
+            "local\t1",
+            "submit 0  1 AA",
+            "submit 0 1  AA",
+            "\0",
+            "größe",
+            "send\u{a0}",
+        ],
+    )
+}
+
+#[test]
+fn commands_have_their_words(rt: HostRuntime) -> Result<(), Fail> {
+    are_no_commands(
+        &rt,
+        &[
+            "open",
+            "open 5",
+            "open 5 7 9",
+            "connect",
+            "connect 5",
+            "connect 5 7 9",
+            "submit",
+            "submit 0",
+            "submit 0 1",
+            "submit 0 1 AA 0",
+            "local",
+            "local 1 1",
+            "localfail 1",
+            "localfail 1 1 1",
+            "peer",
+            "peer 0 0",
+            "peerfail 0",
+            "peerfail 0 0 0",
+            "receive 0",
+            "ackout 0",
+            "ackin 0",
+            "resync 0",
+            "resyncfail 0",
+            "close",
+            "close both",
+            "close primary secondary",
+            "close Primary",
+            "marks 0",
+            "diff 0",
+            "tuples 0",
+            "read",
+            "read 0",
+            "read primary",
+            "read both 0",
+            "read primary 0 0",
+            "status primary",
+        ],
+    )
+}
+
+#[test]
+fn numbers_are_decimal_without_sign(rt: HostRuntime) -> Result<(), Fail> {
+    are_no_commands(
+        &rt,
+        &[
+            "local x",
+            "local +1",
+            "local -1",
+            "local 1.0",
+            "local 0x1",
+            "local 1a",
+            "local 1_000",
+            "local 18446744073709551616",
+            "local 18446744073709551617",
+            "local 99999999999999999999",
+            "local 100000000000000000000000000000000000000001",
+            "localfail 1 18446744073709551616",
+            "peer 18446744073709551616",
+            "peerfail 0 -1",
+            "peerfail 18446744073709551616 0",
+            "open 18446744073709551616 1",
+            "connect 5 18446744073709551616",
+            "submit 18446744073709551616 1 AA",
+            "submit 0 18446744073709551616 AA",
+            "submit 0 18446744073709551617 AA",
+            "submit -1 1 AA",
+            "read primary 18446744073709551616",
+            "read secondary -1",
+        ],
+    )
+}
+
+#[test]
+fn a_command_submits_at_most_so_many_blocks(rt: HostRuntime) -> Result<(), Fail> {
+    are_no_commands(
+        &rt,
+        &[
+            "submit 0 65 AA",
+            "submit 0 256 AA",
+            "submit 0 257 AA",
+            "submit 0 4294967297 AA",
+            "submit 0 18446744073709551615 AA",
+        ],
+    )
+}
+
+#[test]
+fn a_byte_is_two_hexadecimal_digits(rt: HostRuntime) -> Result<(), Fail> {
+    are_no_commands(
+        &rt,
+        &[
+            "submit 0 1 ",
+            "submit 0 1 A",
+            "submit 0 1 AAA",
+            "submit 0 1 0xA",
+            "submit 0 1 G0",
+            "submit 0 1 0g",
+            "submit 0 1 +1",
+            "submit 0 1 @0",
+            "submit 0 1 0`",
+            "submit 0 1 :0",
+            "submit 0 1 0/",
+            "submit 0 1 é",
+        ],
+    )
+}
+
+#[test]
+fn a_script_is_text(rt: HostRuntime) -> Result<(), Fail> {
+    are_no_text(&rt, b"\xFF".as_slice())?;
+    are_no_text(&rt, b"pair\nmarks\n\xFF\n".as_slice())?;
+    are_no_text(&rt, b"pair\nsent\n# \x80\n".as_slice())?;
+    are_no_text(&rt, b"# \xC0\x80\n".as_slice())?;
+    are_no_text(&rt, b"# \xED\xA0\x80\n".as_slice())?;
+    are_no_text(&rt, b"pair\n# \xC3".as_slice())
+}
