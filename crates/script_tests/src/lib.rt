@@ -2,7 +2,7 @@
 #![tactic(auto)]
 
 #[cfg(test)]
-mod epochs;
+mod epoch_rows;
 #[cfg(test)]
 mod faults;
 #[cfg(test)]
