@@ -36,7 +36,7 @@ lent-node v w out rest = ap peer.node rest ∙ ap (λ (l : List Packet). record 
 
 -- Before the first connection there is no queue.
 module _ (v : PairView) (a : SecondaryView) (b : PrimaryView) (result : Result Done Refusal) (was : IsPairView v) (given : GivenOut None v.secondary.outgoing a.outgoing) (same : a ≡ record v.secondary { outgoing = a.outgoing })
-         (one : TakesOne result v.primary b) (rest : b ≡ record v.primary { core = b.core; incoming = b.incoming }) where
+    (one : TakesOne result v.primary b) (rest : b ≡ record v.primary { core = b.core; incoming = b.incoming }) where
   none-given : Gave one.frame result (state v).back × IsDirection v.secondary.core.settings.link (record { out = a.outgoing; inn = b.incoming }) × (one.frame ≡ None)
   none-given = gave-none v.secondary.core.settings.link (state v).back one.frame result a.outgoing b.incoming was.pair.back given one.link
 
@@ -52,12 +52,12 @@ module _ (v : PairView) (a : SecondaryView) (b : PrimaryView) (result : Result D
 
 -- The queue is lent, a frame is taken, and the queue is back.
 module _ (v : PairView) (a e : SecondaryView) (b c d : PrimaryView) (q back : QueueState) (result : Result Done Refusal) (was : IsPairView v)
-         (given : GivenOut (Some q) v.secondary.outgoing a.outgoing) (a_is : a ≡ record v.secondary { outgoing = a.outgoing })
-         (laid : LaidIn q v.primary.incoming b.incoming) (b_is : b ≡ record v.primary { incoming = b.incoming })
-         (one : TakesOne result b c) (c_is : c ≡ record b { core = c.core; incoming = c.incoming })
-         (gave : GivenBack (Some back) c.incoming d.incoming) (d_is : d ≡ record c { incoming = d.incoming })
-         (over : LaidBack back a.outgoing e.outgoing) (e_is : e ≡ record a { outgoing = e.outgoing })
-         (told : IsTold (record { out = e.outgoing; inn = d.incoming })) where
+    (given : GivenOut (Some q) v.secondary.outgoing a.outgoing) (a_is : a ≡ record v.secondary { outgoing = a.outgoing })
+    (laid : LaidIn q v.primary.incoming b.incoming) (b_is : b ≡ record v.primary { incoming = b.incoming })
+    (one : TakesOne result b c) (c_is : c ≡ record b { core = c.core; incoming = c.incoming })
+    (gave : GivenBack (Some back) c.incoming d.incoming) (d_is : d ≡ record c { incoming = d.incoming })
+    (over : LaidBack back a.outgoing e.outgoing) (e_is : e ≡ record a { outgoing = e.outgoing })
+    (told : IsTold (record { out = e.outgoing; inn = d.incoming })) where
   both : Gave one.frame result (state v).back × IsDirection v.secondary.core.settings.link (record { out = e.outgoing; inn = d.incoming })
   both = gave-over v.secondary.core.settings.link (state v).back q back one.frame result a.outgoing e.outgoing b.incoming c.incoming d.incoming was.pair.back given laid one.link gave over told
 

@@ -37,8 +37,8 @@ same-starved A B e = refl
 
 -- The secondary is closed and drained, as its calls told.
 module _ (v : PairView) (was : IsPairView v) (sync loss : ℕ) (is_open drained : Bool) (shut : is_open ≡ false) (empty : drained ≡ true)
-         (tells : (h : SecondaryHistory) → secondary.NodeHas (peer.node v.secondary) h → is_open ≡ not (inward h).closed)
-         (says : (h : SecondaryHistory) → secondary.NodeHas (peer.node v.secondary) h → drained ≡ is_drained h) where
+    (tells : (h : SecondaryHistory) → secondary.NodeHas (peer.node v.secondary) h → is_open ≡ not (inward h).closed)
+    (says : (h : SecondaryHistory) → secondary.NodeHas (peer.node v.secondary) h → drained ≡ is_drained h) where
   closed-then : (b : Bool) → not b ≡ false → b ≡ true
   closed-then true is = refl
   closed-then false is = absurd (cc)

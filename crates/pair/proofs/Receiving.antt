@@ -35,7 +35,7 @@ lent-node v w out rest = ap local.node rest ∙ ap (λ (l : List Packet). record
 
 -- Before the first connection there is no queue.
 module _ (v : PairView) (a : PrimaryView) (b : SecondaryView) (result : Result Done Refusal) (was : IsPairView v) (given : GivenOut None v.primary.outgoing a.outgoing) (same : a ≡ record v.primary { outgoing = a.outgoing })
-         (one : ReceivesOne result v.secondary b) (rest : b ≡ record v.secondary { core = b.core; incoming = b.incoming }) where
+    (one : ReceivesOne result v.secondary b) (rest : b ≡ record v.secondary { core = b.core; incoming = b.incoming }) where
   none-given : Gave one.frame result (state v).there × IsDirection v.primary.core.settings.link (record { out = a.outgoing; inn = b.incoming }) × (one.frame ≡ None)
   none-given = gave-none v.primary.core.settings.link (state v).there one.frame result a.outgoing b.incoming was.pair.there given one.link
 
@@ -51,12 +51,12 @@ module _ (v : PairView) (a : PrimaryView) (b : SecondaryView) (result : Result D
 
 -- The queue is lent, a frame is taken, and the queue is back.
 module _ (v : PairView) (a e : PrimaryView) (b c d : SecondaryView) (q back : QueueState) (result : Result Done Refusal) (was : IsPairView v)
-         (given : GivenOut (Some q) v.primary.outgoing a.outgoing) (a_is : a ≡ record v.primary { outgoing = a.outgoing })
-         (laid : LaidIn q v.secondary.incoming b.incoming) (b_is : b ≡ record v.secondary { incoming = b.incoming })
-         (one : ReceivesOne result b c) (c_is : c ≡ record b { core = c.core; incoming = c.incoming })
-         (gave : GivenBack (Some back) c.incoming d.incoming) (d_is : d ≡ record c { incoming = d.incoming })
-         (over : LaidBack back a.outgoing e.outgoing) (e_is : e ≡ record a { outgoing = e.outgoing })
-         (told : IsTold (record { out = e.outgoing; inn = d.incoming })) where
+    (given : GivenOut (Some q) v.primary.outgoing a.outgoing) (a_is : a ≡ record v.primary { outgoing = a.outgoing })
+    (laid : LaidIn q v.secondary.incoming b.incoming) (b_is : b ≡ record v.secondary { incoming = b.incoming })
+    (one : ReceivesOne result b c) (c_is : c ≡ record b { core = c.core; incoming = c.incoming })
+    (gave : GivenBack (Some back) c.incoming d.incoming) (d_is : d ≡ record c { incoming = d.incoming })
+    (over : LaidBack back a.outgoing e.outgoing) (e_is : e ≡ record a { outgoing = e.outgoing })
+    (told : IsTold (record { out = e.outgoing; inn = d.incoming })) where
   both : Gave one.frame result (state v).there × IsDirection v.primary.core.settings.link (record { out = e.outgoing; inn = d.incoming })
   both = gave-over v.primary.core.settings.link (state v).there q back one.frame result a.outgoing e.outgoing b.incoming c.incoming d.incoming was.pair.there given laid one.link gave over told
 

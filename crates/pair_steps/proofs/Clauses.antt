@@ -39,9 +39,9 @@ sound h is honest =
     let here : HasOpening is.opening h.primary = subst (λ (x : PairHistory). HasOpening is.opening x.primary) is.is (subst (HasOpening is.opening) (sym runs.primary) (kept-opening-primary is.opening runs.here)) in
     let there : HasOpeningToo is.opening h.secondary = subst (λ (x : PairHistory). HasOpeningToo is.opening x.secondary) is.is (subst (HasOpeningToo is.opening) (sym runs.secondary) (kept-opening-secondary is.opening runs.there)) in
     let marked : (block : ℕ) → opening_marked h.primary block ≡ marks_at is.opening block
-        = λ block. ap (λ (s : Settings). nat_lt block s.blocks && h.primary.opening_marks block) here.settings ∙ ap (λ (m : ℕ → Bool). nat_lt block is.opening.settings.blocks && m block) here.marks in
+    = λ block. ap (λ (s : Settings). nat_lt block s.blocks && h.primary.opening_marks block) here.settings ∙ ap (λ (m : ℕ → Bool). nat_lt block is.opening.settings.blocks && m block) here.marks in
     let covers : Cover (opening_marked h.primary) h.primary.opening_map h.secondary.opening_map → Cover (marks_at is.opening) is.opening.local is.opening.peer
-        = λ cover block differs. sym (marked block) ∙ cover block (ap (λ (m : BlockMap). same_block (m block) (h.secondary.opening_map block)) here.disk ∙ ap (λ (m : BlockMap). same_block (is.opening.local block) (m block)) there.disk ∙ differs) in
+    = λ cover block differs. sym (marked block) ∙ cover block (ap (λ (m : BlockMap). same_block (m block) (h.secondary.opening_map block)) here.disk ∙ ap (λ (m : BlockMap). same_block (is.opening.local block) (m block)) there.disk ∙ differs) in
     record {
       ranges = is.ranges;
       local = is.local;

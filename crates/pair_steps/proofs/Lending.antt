@@ -65,7 +65,7 @@ gave-over {R} capacity d q back frame result out ended_out inn later ended is gi
         let now : inn ≡ Some (taking_from q ends.0) = laid ∙ ap (option_map (taking_from q)) ends.1 in
         let last : ended_out ≡ Some (with_queue back (without_queue o)) = over ∙ ap (option_map (with_queue back)) (given.left ∙ ap (option_map without_queue) there) in
         let done = carried capacity o ends.0 q frame result later ended back ends.2 (given.whose o q there refl) (subst (λ (v : Option IncomingState). Takes frame result v later) now takes) gave
-            (subst (λ (v : Option OutgoingState). IsTold (record { out = v; inn = ended })) last told) in (
+        (subst (λ (v : Option OutgoingState). IsTold (record { out = v; inn = ended })) last told) in (
           record {
             took = λ one is. let g = done.0.took one is in record { out = g.out; inn = g.inn; out_there = there ∙ g.out_there; in_there = ends.1 ∙ g.in_there; next = g.next };
             none = λ is nothing. let g = done.0.none is nothing in record { out = g.out; inn = g.inn; out_there = there ∙ g.out_there; in_there = ends.1 ∙ g.in_there; next = g.next };

@@ -61,7 +61,11 @@ impl fmt::Display for Counts {
 
     fn fmt<W: fmt::Write>(&self, f: &mut fmt::Formatter<W>) -> fmt::Result {
         let PrimaryLine {
-            pe, ap, ep, oos, ..
+            pe,
+            ap,
+            ep,
+            oos,
+            ..
         } = self.0;
         write!(f, " pe:{pe} ap:{ap} ep:{ep} oos:{oos}")
     }

@@ -87,7 +87,11 @@ fn secondary_state<O: FrameOut + Drop, I: FrameIn + Drop, S: Store + Drop>(
 {
     let usage = secondary.usage();
     SecondaryLine {
-        words: secondary_words(secondary.is_open(), secondary.is_hello_done(), usage.consistent),
+        words: secondary_words(
+            secondary.is_open(),
+            secondary.is_hello_done(),
+            usage.consistent,
+        ),
         protocol: secondary.settings().protocol,
         pending: u64::from(usage.pending),
         usable: usage.consistent,
@@ -102,9 +106,17 @@ fn primary_words(is_open: bool, stands: bool, is_resync: bool) -> Words
     let (link, other_role, other_disk) = if !is_open {
         (LinkState::StandAlone, Role::Unknown, DiskState::DUnknown)
     } else if !stands {
-        (LinkState::WFReportParams, Role::Unknown, DiskState::DUnknown)
+        (
+            LinkState::WFReportParams,
+            Role::Unknown,
+            DiskState::DUnknown,
+        )
     } else if is_resync {
-        (LinkState::SyncSource, Role::Secondary, DiskState::Inconsistent)
+        (
+            LinkState::SyncSource,
+            Role::Secondary,
+            DiskState::Inconsistent,
+        )
     } else {
         (LinkState::Connected, Role::Secondary, DiskState::UpToDate)
     };
@@ -123,8 +135,16 @@ fn secondary_words(is_open: bool, is_hello_done: bool, consistent: bool) -> Word
 {
     let own_role = Role::Secondary;
     if !is_hello_done {
-        let link = if is_open { LinkState::WFReportParams } else { LinkState::StandAlone };
-        let own_disk = if consistent { DiskState::Consistent } else { DiskState::Inconsistent };
+        let link = if is_open {
+            LinkState::WFReportParams
+        } else {
+            LinkState::StandAlone
+        };
+        let own_disk = if consistent {
+            DiskState::Consistent
+        } else {
+            DiskState::Inconsistent
+        };
         return Words {
             link,
             own_role,

@@ -14,9 +14,11 @@ invariant_of-self c =
     (subst (λ (q : Option QueueState). GivenOut q c.self.inside.primary.outgoing c.give_outward.new.self.outgoing) c.in_default.is c.give_outward.ensures.given) c.give_outward.ensures.rest c.receive.ensures.step c.receive.ensures.rest
 
 pub returns-in_default : goal.returns-in_default
-returns-in_default c = record { step = rw (← c.self.view_is)
-    (receive-none-step (record { primary = c.self.inside.primary; secondary = c.self.inside.secondary }) c.give_outward.new.self c.receive.new.self c.receive.result c.self.invariant
-    (subst (λ (q : Option QueueState). GivenOut q c.self.inside.primary.outgoing c.give_outward.new.self.outgoing) c.in_default.is c.give_outward.ensures.given) c.give_outward.ensures.rest c.receive.ensures.step c.receive.ensures.rest) }
+returns-in_default c = record {
+  step = rw (← c.self.view_is)
+      (receive-none-step (record { primary = c.self.inside.primary; secondary = c.self.inside.secondary }) c.give_outward.new.self c.receive.new.self c.receive.result c.self.invariant
+      (subst (λ (q : Option QueueState). GivenOut q c.self.inside.primary.outgoing c.give_outward.new.self.outgoing) c.in_default.is c.give_outward.ensures.given) c.give_outward.ensures.rest c.receive.ensures.step c.receive.ensures.rest);
+}
 
 -- The queue goes over, and comes back.
 
@@ -46,7 +48,9 @@ invariant_of-self-2 c =
     c.lay_outward.ensures.laid c.lay_outward.ensures.rest c.told_there.ensures
 
 pub returns : goal.returns
-returns c = record { step = rw (← c.self.view_is)
-    (receive-step (record { primary = c.self.inside.primary; secondary = c.self.inside.secondary }) c.give_outward.new.self c.lay_outward.new.self c.lay_inward.new.self c.receive-done.new.self c.give_inward.new.self c.in-Some.queue c.in-Some-give_inward.queue c.receive-done.result c.self.invariant
-    c.in-Some.ensures.given c.give_outward.ensures.rest c.lay_inward.ensures.laid c.lay_inward.ensures.rest c.receive-done.ensures.step c.receive-done.ensures.rest c.in-Some-give_inward.ensures.given c.give_inward.ensures.rest
-    c.lay_outward.ensures.laid c.lay_outward.ensures.rest c.told_there.ensures) }
+returns c = record {
+  step = rw (← c.self.view_is)
+      (receive-step (record { primary = c.self.inside.primary; secondary = c.self.inside.secondary }) c.give_outward.new.self c.lay_outward.new.self c.lay_inward.new.self c.receive-done.new.self c.give_inward.new.self c.in-Some.queue c.in-Some-give_inward.queue c.receive-done.result c.self.invariant
+      c.in-Some.ensures.given c.give_outward.ensures.rest c.lay_inward.ensures.laid c.lay_inward.ensures.rest c.receive-done.ensures.step c.receive-done.ensures.rest c.in-Some-give_inward.ensures.given c.give_inward.ensures.rest
+      c.lay_outward.ensures.laid c.lay_outward.ensures.rest c.told_there.ensures);
+}
