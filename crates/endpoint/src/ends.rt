@@ -8,7 +8,7 @@ ghost use Rattle.endpoint.specs.Incoming.{TakenBefore};
 ghost use Rattle.endpoint.specs.Outgoing.{PushedBefore};
 
 use crate::{Incoming, Outgoing};
-use link::connected::{FrameIn, FrameOut};
+use link::{FrameIn, FrameOut};
 
 /// Where the frames taken begin the frames sent, what was taken is packets, and they begin the packets that
 /// were pushed: on the present connection, and on each that is over. The frames sent are whole, as a reader

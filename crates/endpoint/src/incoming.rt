@@ -8,7 +8,7 @@ ghost use Rattle.endpoint.specs.Incoming.{incoming, hello_after, with_received, 
 ghost use Rattle.blocks.specs.declared.refusal.Refusal.TheVariants.{NoMemory, NothingThere};
 
 use blocks::{Command, Refusal};
-use link::connected::FrameIn;
+use link::FrameIn;
 use packets::{Packet, read};
 use std::marker::Model;
 

@@ -7,7 +7,7 @@ ghost use Rattle.endpoint.specs.Outgoing.{outgoing, with_pushed, pushing_anew};
 ghost use Rattle.blocks.specs.declared.refusal.Refusal.TheVariants.{NoMemory, LinkFull};
 
 use blocks::Refusal;
-use link::connected::FrameOut;
+use link::FrameOut;
 use packets::{Packet, encode};
 use std::alloc::Global;
 use std::marker::Model;

@@ -1,8 +1,10 @@
-//! The two ends of one direction of a link.
-ghost use Rattle.std.specs.Prelude.{◌≡◌, ◌-◌, ◌↔◌, [], ◌∷◌, ◌++◌, ℕ, List, Option, None, IsErr, OnOk, IfOk, OnErr, IfErr, IfSome};
-ghost use Rattle.std.specs.Option.{option_map};
+//! The two ends of one direction of a link, which carries one connection after another.
+ghost use Rattle.std.specs.Prelude.{◌≡◌, ◌<◌, ◌≤◌, ◌↔◌, [], length, true, None, IsErr, IsOk, OnOk, IfOk, OnErr, IfErr, IfSome};
+ghost use Rattle.link.specs.Ends.{OutEnd, InEnd, with_sent, with_taken};
+ghost use Rattle.link.specs.Past.{ended};
 ghost use Rattle.link.specs.Taking.{TakesFirst};
-ghost use Rattle.blocks.specs.declared.refusal.Refusal.TheVariants.{LinkFull, NothingThere};
+ghost use Rattle.packets.specs.Cutting.{IsCut};
+ghost use Rattle.blocks.specs.declared.refusal.Refusal.TheVariants.{LinkFull, NoMemory, NothingThere};
 
 use blocks::Refusal;
 use packets::Frame;
@@ -23,53 +25,76 @@ impl Offered {
     }
 }
 
-/// The sending end of one direction of a link. Frames arrive at the other end whole and in their order.
+/// The sending end of one direction of a link. The frames of a connection arrive at the other end whole and
+/// in their order.
 pub trait FrameOut {
-    /// The frames that it has accepted, in order.
-    ghost sent: { Self → List (List ℕ) };
+    /// What went through it, and what it can take.
+    ghost state: { Self → OutEnd };
 
-    /// Those of them that the other end has not taken, where this end knows.
-    ghost waiting: { Self → Option (List (List ℕ)) };
-
-    /// How many more frames it can accept now, where this end knows.
-    ghost room: { Self → Option ℕ };
-
-    /// Accepts a frame, or hands it back where the link is full (11). It takes no memory.
+    /// Accepts a frame, or hands it back where the link is full (11). What went of it by then stays on its
+    /// way, and the next offer has to be of it. It has to be whole, as a reader cuts it off a row of bytes,
+    /// since a link may carry it as that. It takes no memory.
     fn offer(&mut self, frame: Frame) -> Result<(), Offered>
-        ensures accepted { OnOk result (sent self.new ≡ sent self.old ++ frame ∷ []) }
-        ensures now_waiting { OnOk result
-            (waiting self.new ≡ option_map (λ frames. frames ++ frame ∷ []) (waiting self.old)) }
-        ensures less_room { OnOk result (room self.new ≡ option_map (λ n. n - 1) (room self.old)) }
+        requires whole { IsCut frame }
+        requires again { IfSome (state self.old).partly (λ begun. begun ≡ frame) }
+
+        ensures accepted { OnOk result (state self.new ≡ with_sent frame (state self.old)) }
 
         // Where it knows its room, it refuses only a frame for which there is none.
-        ensures exact { IfSome (room self.old) (λ n. IsErr result ↔ (n ≡ 0)) }
+        ensures exact { IfSome (state self.old).room (λ n. IsErr result ↔ (n ≡ 0)) }
 
         ensures handed_back { IfErr result (λ offered. offered.frame ≡ frame) }
-        ensures unchanged { OnErr result (sent self.new ≡ sent self.old) }
-        ensures still_waiting { OnErr result (waiting self.new ≡ waiting self.old) }
-        ensures same_room { OnErr result (room self.new ≡ room self.old) };
+        ensures unchanged { OnErr result (state self.new
+            ≡ record (state self.old) { partly = (state self.new).partly }) }
+        ensures in_part { OnErr result (IfSome (state self.new).partly (λ begun. begun ≡ frame)) };
+
+    /// Begins the connection of this number. A frame that was offered in part is given up. It takes no
+    /// memory.
+    fn restart(&mut self, number: u32)
+        requires { (state self.old).number < number }
+
+        ensures sent { (state self.new).sent ≡ [] }
+        ensures number { (state self.new).number ≡ number }
+        ensures past { (state self.new).past
+            ≡ ended (state self.old).number (state self.old).sent (state self.old).past }
+        ensures partly { (state self.new).partly ≡ None };
 }
 
 /// The taking end of one direction of a link.
 pub trait FrameIn {
-    /// The frames that it has taken, in order.
-    ghost taken: { Self → List (List ℕ) };
+    /// What came through it, and what it can give.
+    ghost state: { Self → InEnd };
 
-    /// The frames that it will take next, where this end knows.
-    ghost queued: { Self → Option (List (List ℕ)) };
-
-    /// How many frames the queue that lies here can hold, where this end knows.
-    ghost capacity: { Self → Option ℕ } = { λ _. None };
+    /// Makes room for the longest frame. `NoMemory` (7) where it cannot be had.
+    fn ready(&mut self) -> Result<(), Refusal>
+        ensures ready { OnOk result (state self.new ≡ record (state self.old) { is_ready = true }) }
+        ensures unchanged { OnErr result (state self.new ≡ state self.old) }
+        ensures refused { IfErr result (λ e. e ≡ NoMemory) };
 
     /// Takes the next frame. `NothingThere` (13) where there is none. It takes no memory.
     fn take(&mut self) -> Result<Frame, Refusal>
-        ensures next { IfOk result (λ frame. taken self.new ≡ taken self.old ++ frame ∷ []) }
+        requires { (state self.old).is_ready ≡ true }
+
+        ensures next { IfOk result (λ frame.
+            state self.new ≡ with_taken frame (state self.new).is_ready (state self.old)) }
 
         // Where it knows its queue, it takes the first frame of it, and refuses only where it is empty.
-        ensures exact { TakesFirst (queued self.old) result (queued self.new) }
+        ensures exact { TakesFirst (state self.old).queued result (state self.new).queued }
+
+        // A frame of at most 40 bytes leaves the room for a longer one.
+        ensures still_ready { IfOk result (λ frame. length frame ≤ 40 → (state self.new).is_ready ≡ true) }
 
         ensures refused { IfErr result (λ e. e ≡ NothingThere) }
-        ensures unchanged { OnErr result (taken self.new ≡ taken self.old) }
-        ensures still_queued { OnErr result (queued self.new ≡ queued self.old) }
-        ensures same_capacity { capacity self.new ≡ capacity self.old };
+        ensures unchanged { OnErr result (state self.new ≡ state self.old) };
+
+    /// Begins the connection of this number. What is on its way of those before is dropped. It takes no
+    /// memory.
+    fn restart(&mut self, number: u32)
+        requires { (state self.old).number < number }
+
+        ensures taken { (state self.new).taken ≡ [] }
+        ensures number { (state self.new).number ≡ number }
+        ensures past { (state self.new).past
+            ≡ ended (state self.old).number (state self.old).taken (state self.old).past }
+        ensures ready { (state self.new).is_ready ≡ (state self.old).is_ready };
 }

@@ -1,7 +1,7 @@
 //! The taking end of a link that stays in one thread.
-ghost use Rattle.std.specs.Prelude.{◌≡◌, Option, None, Some, [], ◌∷◌, ◌++◌, OnErr, IfOk, IfErr, IfSome};
+ghost use Rattle.std.specs.Prelude.{◌≡◌, ◌<◌, Option, None, Some, [], ◌∷◌, ◌++◌, true, IsOk, OnErr, IfOk, IfErr, IfSome};
 ghost use Rattle.std.specs.Option.{option_map};
-ghost use Rattle.link.specs.Directions.{OutState, IsDirection, IsDirectionWith, frames_in};
+ghost use Rattle.link.specs.Directions.{OutState, IsDirection, IsDirectionWith, frames_in, restarted_in, restarted_out};
 ghost use Rattle.link.specs.Taking.{TakesFirst};
 ghost use Rattle.blocks.specs.declared.refusal.Refusal.TheVariants.{NothingThere};
 
@@ -67,11 +67,21 @@ impl PlainIn {
 }
 
 impl FrameIn for PlainIn {
-    ghost taken = { λ e. e.taken };
+    ghost state = { λ e. record {
+      taken = e.taken;
+      number = e.number;
+      past = e.past;
+      is_ready = true;
+      queued = Some (frames_in e.queue);
+      capacity = option_map (λ q. q.capacity) e.queue;
+    } };
 
-    ghost queued = { λ e. Some (frames_in e.queue) };
-
-    ghost capacity = { λ e. option_map (λ q. q.capacity) e.queue };
+    fn ready(&mut self) -> Result<(), Refusal>
+        ensures works { IsOk result }
+        ensures unchanged { self.new ≡ self.old }
+    {
+        Ok(())
+    }
 
     fn take(&mut self) -> Result<Frame, Refusal>
         ensures next { IfOk result (λ frame. self.new.taken ≡ self.old.taken ++ frame ∷ []) }
@@ -92,5 +102,19 @@ impl FrameIn for PlainIn {
         };
         self.taken = self.taken.and(&frame);
         Ok(frame)
+    }
+
+    fn restart(&mut self, number: u32)
+        requires { self.old.number < number }
+        ensures restarted { self.new ≡ restarted_in number self.old }
+        // Where the other end restarts too, they are still the ends of one direction.
+        ensures direction { (sender : OutState) → IsDirection sender self.old
+            → IsDirection (restarted_out number sender) self.new }
+    {
+        if let Some(queue) = &mut self.queue {
+            queue.restart();
+        }
+        self.taken = self.taken.over(&self.number);
+        self.number = number;
     }
 }

@@ -1,8 +1,6 @@
 //! Links between the two nodes: each direction carries frames in their order.
 #![tactic(auto)]
 
-pub mod connected;
-mod connected_plain;
 mod ends;
 mod inward;
 mod outward;

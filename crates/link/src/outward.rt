@@ -1,7 +1,7 @@
 //! The sending end of a link that stays in one thread.
-ghost use Rattle.std.specs.Prelude.{◌≡◌, ◌≤◌, ◌↔◌, Option, None, Some, [], ◌++◌, length, IsErr, OnOk, OnErr, IfErr, IfSome};
+ghost use Rattle.std.specs.Prelude.{◌≡◌, ◌<◌, ◌≤◌, ◌↔◌, Option, None, Some, [], ◌++◌, length, IsErr, OnOk, OnErr, IfErr, IfSome};
 ghost use Rattle.std.specs.Option.{option_map};
-ghost use Rattle.link.specs.Directions.{InState, IsDirection, IsDirectionWith, accepting, room_in};
+ghost use Rattle.link.specs.Directions.{InState, IsDirection, IsDirectionWith, accepting, restarted_out, room_in};
 
 use crate::queue::Queue;
 use crate::trail::Trail;
@@ -68,11 +68,14 @@ impl PlainOut {
 }
 
 impl FrameOut for PlainOut {
-    ghost sent = { λ e. e.sent };
-
-    ghost waiting = { λ e. option_map (λ q. q.frames) e.queue };
-
-    ghost room = { λ e. Some (room_in e.queue) };
+    ghost state = { λ e. record {
+      sent = e.sent;
+      number = e.number;
+      past = e.past;
+      partly = None;
+      waiting = option_map (λ q. q.frames) e.queue;
+      room = Some (room_in e.queue);
+    } };
 
     fn offer(&mut self, frame: Frame) -> Result<(), Offered>
         ensures full { IsErr result ↔ (room_in self.old.queue ≡ 0) }
@@ -88,5 +91,16 @@ impl FrameOut for PlainOut {
         queue.offer(frame)?;
         self.sent = sent;
         Ok(())
+    }
+
+    fn restart(&mut self, number: u32)
+        requires { self.old.number < number }
+        ensures { self.new ≡ restarted_out number self.old }
+    {
+        if let Some(queue) = &mut self.queue {
+            queue.restart();
+        }
+        self.sent = self.sent.over(&self.number);
+        self.number = number;
     }
 }

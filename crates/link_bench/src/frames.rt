@@ -5,7 +5,7 @@ ghost use Rattle.packets.specs.Spelling.{IsSpellable};
 
 use blocks::{Block, Refusal};
 use bytes::Bytes;
-use link::connected::{FrameIn, FrameOut};
+use link::{FrameIn, FrameOut};
 use packets::{Frame, Packet, encode};
 use std::alloc::Global;
 use std::sync::Wait;

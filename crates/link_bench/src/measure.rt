@@ -4,7 +4,7 @@ ghost use Rattle.std.specs.Prelude.{◌≡◌, None};
 use crate::frames::{receive, send, write};
 use blocks::Refusal;
 use bytes::{Bytes, BytesMut};
-use link::connected::{FrameIn, FrameOut};
+use link::{FrameIn, FrameOut};
 use ruled_link::{PIECE_BYTES, RuledOut, ruled};
 use std::alloc::Global;
 use std::sync::Wait;

@@ -4,7 +4,7 @@ ghost use Rattle.primary.specs.Calls.{TakesOne};
 
 use crate::Primary;
 use blocks::{Done, Refusal, Store};
-use link::connected::{FrameIn, FrameOut};
+use link::{FrameIn, FrameOut};
 
 impl<O: FrameOut + Drop, I: FrameIn + Drop, S: Store + Drop> Primary<O, I, S> {
     /// Takes the next frame that the link has: of the peer's hello, and then an acknowledgement.

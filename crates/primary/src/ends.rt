@@ -5,7 +5,7 @@ ghost use Rattle.std.specs.Option.{option_copied};
 use crate::Primary;
 use blocks::Store;
 use endpoint::{Incoming, Outgoing};
-use link::connected::{FrameIn, FrameOut};
+use link::{FrameIn, FrameOut};
 
 impl<O: FrameOut + Drop, I: FrameIn + Drop, S: Store + Drop> Primary<O, I, S> {
     /// What went out, where the node was opened.

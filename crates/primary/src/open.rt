@@ -14,7 +14,7 @@ ghost use Rattle.primary.specs.State.{IsRestarted, node};
 use crate::Primary;
 use blocks::{Refusal, Store};
 use endpoint::{Incoming, Outgoing};
-use link::connected::{FrameIn, FrameOut};
+use link::{FrameIn, FrameOut};
 
 impl<O: FrameOut + Drop, I: FrameIn + Drop, S: Store + Drop> Primary<O, I, S> {
     /// Opens the end, over unused ends of a link, with a word for a resync and one for the case that the

@@ -9,7 +9,7 @@ ghost use Rattle.primary.specs.State.{node};
 
 use crate::Primary;
 use blocks::{BLOCK_BYTES, Block, Range, Refusal, Store};
-use link::connected::{FrameIn, FrameOut};
+use link::{FrameIn, FrameOut};
 use std::alloc::Global;
 
 impl<O: FrameOut + Drop, I: FrameIn + Drop, S: Store + Drop> Primary<O, I, S> {

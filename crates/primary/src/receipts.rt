@@ -7,7 +7,7 @@ ghost use Rattle.primary.specs.State.{node};
 
 use crate::Primary;
 use blocks::{Block, Refusal, Store};
-use link::connected::{FrameIn, FrameOut};
+use link::{FrameIn, FrameOut};
 use primary_core::{Entry, Fate};
 use std::marker::Model;
 

@@ -11,7 +11,7 @@ ghost use Rattle.primary.specs.State.{node};
 use crate::Primary;
 use blocks::{BLOCK_BYTES, Done, FaultStore, Refusal, Store};
 use bytes::Bytes;
-use link::connected::{FrameIn, FrameOut};
+use link::{FrameIn, FrameOut};
 
 impl<O: FrameOut + Drop, I: FrameIn + Drop, S: Store + Drop> Primary<O, I, S> {
     /// Reads the block that the resync copies next, and appends it to the stream, in one step.

@@ -10,7 +10,7 @@ ghost use Rattle.primary.specs.State.{node};
 
 use crate::Primary;
 use blocks::{Done, Refusal, Store};
-use link::connected::{FrameIn, FrameOut};
+use link::{FrameIn, FrameOut};
 
 impl<O: FrameOut + Drop, I: FrameIn + Drop, S: Store + Drop> Primary<O, I, S> {
     /// Sends the next frame that the end owes: of its hello, and then of its stream. Under protocol A that may

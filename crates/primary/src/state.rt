@@ -8,7 +8,7 @@ ghost use Rattle.primary.specs.State.{node};
 
 use blocks::{Refusal, Settings, Store, Tuple};
 use endpoint::{Incoming, Outgoing};
-use link::connected::{FrameIn, FrameOut};
+use link::{FrameIn, FrameOut};
 use primary_core::PrimaryCore;
 use std::alloc::Global;
 use std::marker::Model;

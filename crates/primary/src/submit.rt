@@ -12,7 +12,7 @@ ghost use Rattle.primary.specs.State.{node};
 use crate::Primary;
 use blocks::{Done, Refusal, Store};
 use bytes::Bytes;
-use link::connected::{FrameIn, FrameOut};
+use link::{FrameIn, FrameOut};
 
 impl<O: FrameOut + Drop, I: FrameIn + Drop, S: Store + Drop> Primary<O, I, S> {
     /// Accepts a write of whole blocks from the first one on, and answers its number; the bytes are shared.

@@ -8,7 +8,7 @@ ghost use Rattle.primary.specs.State.{node};
 
 use crate::Primary;
 use blocks::{Block, Settings, Store, Tuple};
-use link::connected::{FrameIn, FrameOut};
+use link::{FrameIn, FrameOut};
 
 impl<O: FrameOut + Drop, I: FrameIn + Drop, S: Store + Drop> Primary<O, I, S> {
     /// The settings.

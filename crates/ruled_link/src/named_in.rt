@@ -10,7 +10,7 @@ ghost use Rattle.blocks.specs.declared.refusal.Refusal.TheVariants.{NoMemory, No
 
 use crate::{Moment, Named, RuledIn, Unwatched};
 use blocks::Refusal;
-use link::connected::FrameIn;
+use link::FrameIn;
 use packets::Frame;
 use std::marker::{Model, PhantomData};
 use std::sync::Wait;

@@ -7,8 +7,7 @@ ghost use Rattle.ruled_link.specs.Names.{row_of};
 ghost use Rattle.ruled_link.specs.Outward.{sending};
 
 use crate::{Moment, Named, RuledOut, Unwatched};
-use link::Offered;
-use link::connected::FrameOut;
+use link::{FrameOut, Offered};
 use packets::Frame;
 use std::marker::{Model, PhantomData};
 use std::sync::Wait;

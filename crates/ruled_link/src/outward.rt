@@ -6,8 +6,7 @@ ghost use Rattle.ruled_link.specs.Moments.{WasFull};
 ghost use Rattle.ruled_link.specs.Outward.{IsPushed, sending};
 
 use crate::{Moment, PIECE_BYTES, Piece, PieceOut, Unwatched};
-use link::connected::FrameOut;
-use link::{Offered, Trail};
+use link::{FrameOut, Offered, Trail};
 use packets::Frame;
 use std::marker::Model;
 use std::sync::Wait;

@@ -7,7 +7,7 @@ use crate::pieces::{gives, gives_none};
 use crate::vectors::{BARRIER, write};
 use blocks::{Block, Refusal};
 use bytes::Bytes;
-use link::connected::{FrameIn, FrameOut};
+use link::{FrameIn, FrameOut};
 use packets::{Frame, Packet, encode};
 use ruled_link::{RuledIn, RuledOut, row};
 use std::alloc::Global;

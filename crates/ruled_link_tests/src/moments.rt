@@ -4,7 +4,7 @@ ghost use Rattle.std.specs.Prelude.{[]};
 use crate::connections::one_block;
 use crate::pieces::{gives, gives_none};
 use crate::vectors::write;
-use link::connected::FrameOut;
+use link::FrameOut;
 use ruled_link::{Moment, Piece, watched, watched_row};
 use std::alloc::Global;
 use std::marker::Brand;

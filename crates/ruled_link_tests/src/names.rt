@@ -5,7 +5,7 @@ ghost use Rattle.ruled_link.specs.Names.{row_of};
 use crate::connections::spelled;
 use crate::pieces::gives;
 use crate::vectors::BARRIER;
-use link::connected::FrameOut;
+use link::FrameOut;
 use packets::Packet;
 use ruled_link::{Named, RuledIn, RuledOut, join_ends, ruled};
 use std::alloc::Global;

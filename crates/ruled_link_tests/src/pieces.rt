@@ -3,7 +3,7 @@ ghost use Rattle.std.specs.Prelude.{◌≡◌};
 
 use crate::vectors::{BARRIER, OTHER_MAGIC, frames};
 use blocks::Refusal;
-use link::connected::FrameIn;
+use link::FrameIn;
 use packets::Frame;
 use ruled_link::{PIECE_BYTES, Piece, PieceOut, RuledIn, row};
 use std::process::Abort;

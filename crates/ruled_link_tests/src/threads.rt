@@ -7,7 +7,7 @@ use crate::connections::spelled;
 use crate::pieces::next;
 use blocks::{Block, Refusal};
 use bytes::Bytes;
-use link::connected::{FrameIn, FrameOut};
+use link::{FrameIn, FrameOut};
 use packets::{Acknowledgement, Frame, Packet, read};
 use ruled_link::{RuledIn, RuledOut, join_ends, ruled};
 use std::alloc::Global;

@@ -8,7 +8,7 @@ ghost use Rattle.endpoint.specs.Calls.{Sends, has_room, is_starved};
 
 use crate::Secondary;
 use blocks::{Done, Refusal, Store, What};
-use link::connected::{FrameIn, FrameOut};
+use link::{FrameIn, FrameOut};
 
 impl<O: FrameOut + Drop, I: FrameIn + Drop, S: Store + Drop> Secondary<O, I, S> {
     /// Sends the next frame that the end owes: of its hello, and then of the acknowledgements that are due.

@@ -7,7 +7,7 @@ ghost use Rattle.secondary.specs.State.{node};
 
 use crate::Secondary;
 use blocks::{Refusal, Store};
-use link::connected::{FrameIn, FrameOut};
+use link::{FrameIn, FrameOut};
 
 impl<O: FrameOut + Drop, I: FrameIn + Drop, S: Store + Drop> Secondary<O, I, S> {
     /// Closes the end: no frame is taken or sent from then on, and its items stay. `NotConnected` (12) comes

@@ -11,7 +11,7 @@ ghost use Rattle.secondary.specs.State.{IsRestarted, node};
 use crate::Secondary;
 use blocks::{Refusal, Store};
 use endpoint::{Incoming, Outgoing};
-use link::connected::{FrameIn, FrameOut};
+use link::{FrameIn, FrameOut};
 
 impl<O: FrameOut + Drop, I: FrameIn + Drop, S: Store + Drop> Secondary<O, I, S> {
     /// Opens the end, over unused ends of a link. The connection's number is one more than the last one's,

@@ -8,7 +8,7 @@ ghost use Rattle.secondary.specs.State.{node};
 
 use crate::Secondary;
 use blocks::{Done, FaultStore, Refusal, Store, What};
-use link::connected::{FrameIn, FrameOut};
+use link::{FrameIn, FrameOut};
 
 impl<O: FrameOut + Drop, I: FrameIn + Drop, S: Store + Drop> Secondary<O, I, S> {
     /// Has the disk do the item of a place, and owes what is to be acknowledged then. Where the disk fails,

@@ -10,7 +10,7 @@ ghost use Rattle.secondary.specs.State.{node};
 
 use crate::Secondary;
 use blocks::{BLOCK_BYTES, Block, Range, Refusal, Store, StoreFault};
-use link::connected::{FrameIn, FrameOut};
+use link::{FrameIn, FrameOut};
 use std::alloc::Global;
 
 impl<O: FrameOut + Drop, I: FrameIn + Drop, S: Store + Drop> Secondary<O, I, S> {

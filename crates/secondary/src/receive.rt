@@ -4,7 +4,7 @@ ghost use Rattle.secondary.specs.Calls.{ReceivesOne};
 
 use crate::Secondary;
 use blocks::{Done, Refusal, Store};
-use link::connected::{FrameIn, FrameOut};
+use link::{FrameIn, FrameOut};
 
 impl<O: FrameOut + Drop, I: FrameIn + Drop, S: Store + Drop> Secondary<O, I, S> {
     /// Takes the next frame that the link has.

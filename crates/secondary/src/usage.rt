@@ -9,7 +9,7 @@ ghost use Rattle.secondary.specs.Usages.{usage_of};
 
 use crate::Secondary;
 use blocks::{Refusal, Settings, Store, Tuple};
-use link::connected::{FrameIn, FrameOut};
+use link::{FrameIn, FrameOut};
 use secondary_core::Usage;
 
 impl<O: FrameOut + Drop, I: FrameIn + Drop, S: Store + Drop> Secondary<O, I, S> {

@@ -19,7 +19,7 @@ ghost use Rattle.status.specs.Words.{words_of};
 
 use crate::{DiskState, LinkState, PrimaryLine, Role, SecondaryLine, Words};
 use blocks::{Refusal, Store};
-use link::connected::{FrameIn, FrameOut};
+use link::{FrameIn, FrameOut};
 use pair::Pair;
 use primary::Primary;
 use secondary::Secondary;
