@@ -48,6 +48,15 @@ impl<O: FrameOut + Drop, I: FrameIn + Drop, S: Store + Drop> Secondary<O, I, S> 
         self.core.settings()
     }
 
+    /// The number of the last connection, 0 before the first. `open` begins the one after it, and `reopen`
+    /// one with a higher number.
+    pub fn number(&self) -> u32
+        ensures number { result ≡ self.now.core.number }
+        ensures history { (h : SecondaryHistory) → NodeHas (node self.now) h → result ≡ (inward h).number }
+    {
+        self.core.number()
+    }
+
     /// Whether the end is open.
     pub fn is_open(&self) -> bool
         ensures { (h : SecondaryHistory) → NodeHas (node self.now) h → result ≡ not (inward h).closed }
