@@ -59,17 +59,6 @@ impl Settings {
         pending: 1024,
     };
 
-    /// What the two nodes serve so far: the standard settings with one unreleased write at a time.
-    pub const ONE_WRITE: Settings = Settings {
-        protocol: Protocol::C,
-        blocks: 8,
-        max_epoch: 2048,
-        slots: 64,
-        backlog: 1,
-        link: 64,
-        pending: 1024,
-    };
-
     /// Whether each setting is in its range; else `BadSetting` (15). It takes no memory.
     pub fn check(&self) -> Result<(), Refusal>
         ensures accepted { IsOk result ↔ IsInRange self.now }
