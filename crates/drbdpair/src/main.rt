@@ -1,6 +1,7 @@
 //! `drbdpair` runs a pair of mirrored disks from a script, and prints what each command of it did.
 #![tactic(auto)]
 
+mod help;
 mod program;
 #[cfg(test)]
 mod tests;

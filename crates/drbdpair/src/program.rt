@@ -1,6 +1,7 @@
 //! The program's words.
 ghost use Rattle.std.specs.Prelude.{◌≤◌};
 
+use crate::help::Help;
 use clap::error::ErrorKind;
 use clap::{Arg, ArgMatches, Command, Error};
 use script::{DONE, FAILED, MISUSED, script_on};
@@ -11,23 +12,6 @@ use std::io::{Read, Write};
 use std::rt::Files;
 
 const ABOUT: &str = "Runs a pair of mirrored disks, after DRBD 8.4, from a script.";
-
-const EXAMPLE: &str = "\
-The script of one write:
-  pair              => pair ok
-  connect 5 7       => connect ok NoSync
-  submit 2 1 AA     => submit ok 1
-  local 1           => local ok
-  send              => send ok DATA 0
-  receive           => receive ok DATA 0
-  peer 0            => peer ok
-  ackout            => ackout ok WRITE_ACK
-  ackin             => ackin ok WRITE_ACK completed 1 barrier 1
-  tuples            => tuples 1,0,0,0 1,0,0,0
-
-Exit statuses: 0 done (a refusal is a result); 1 a file or memory failed, or the
-script is not UTF-8; 2 wrong usage, or a line that stopped the script.
-";
 
 /// The whole program over its words, the first of which is its name: `script FILE`, where `-` stands for `input`;
 /// no words at all mean `script -`. It answers the exit status.
@@ -44,23 +28,36 @@ pub fn run_on<S: AsStr, H: Files + AllocGlobal, I: Read, W: Write, E: Write>(
     if words.len() < 2 {
         return script_on(alloc, input, out, err);
     }
-    match matches_of(alloc, words) {
+    let help = match format!(in alloc; "{Help}") {
+        Ok(help) => help,
+        Err(error) => {
+            let _ = writeln!(err, "{error}");
+            return FAILED;
+        }
+    };
+    match matches_of(alloc, help.as_str(), words) {
         Ok(matches) => run_matches(rt, &matches, input, out, err),
         Err(error) => explain(&error, out, err),
     }
 }
 
 /// The command line.
-fn matches_of<'a, S: AsStr>(alloc: Global, words: &'a [S]) -> Result<ArgMatches<'a>, Error> {
+fn matches_of<'a, S: AsStr>(
+    alloc: Global,
+    help: &'a str,
+    words: &'a [S],
+) -> Result<ArgMatches<'a>, Error> {
     let file = Arg::new(alloc, "FILE")
         .required(true)
         .help("The script; - is the standard input");
     let script = Command::new(alloc, "script")
         .about("Runs a script, and prints what each command did")
+        .after_help(help)
         .arg(file)?;
     Command::new(alloc, "drbdpair")
+        .bin_name("drbdpair")?
         .about(ABOUT)
-        .after_help(EXAMPLE)
+        .after_help(help)
         .subcommand_required(true)
         .subcommand(script)?
         .try_get_matches_from(words)

@@ -55,3 +55,24 @@ fn words_choose_the_script(rt: HostRuntime) -> Result<(), Fail> {
     runs(&rt, &["drbdpair", "script"], "", 2)?;
     runs(&rt, &["drbdpair", "print"], "", 2)
 }
+
+// Help is printed under the program's own name, whatever it is called by, and names every refusal.
+#[test]
+fn help_is_asked_for(rt: HostRuntime) -> Result<(), Fail> {
+    let alloc = rt.alloc();
+    for words in [
+        ["./program", "--help"].as_slice(),
+        ["./program", "script", "--help"].as_slice(),
+    ] {
+        let mut written = Vec::new(alloc);
+        let mut said = Vec::new(alloc);
+        let status = run_on(&rt, words, &mut b"".as_slice(), &mut written, &mut said);
+        assert_eq!(rt; status, 0);
+        assert!(rt; said.is_empty());
+        let text = std::str::from_utf8(&written).unwrap_or("");
+        assert!(rt; text.contains("Usage: drbdpair"));
+        assert!(rt; text.contains("\n   1  not 1 to 32 whole blocks inside the device"));
+        assert!(rt; text.contains("\n  36  an end is still open, or items are left to apply\n"));
+    }
+    Ok(())
+}
