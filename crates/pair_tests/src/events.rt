@@ -1,0 +1,129 @@
+//! Events of a pair and the replies to them, as tables have them, and how one is given.
+use blocks::{BLOCK_BYTES, Block, Command, Decision, Done, Refusal, Reply, What};
+use bytes::Bytes;
+use pair::{Event, Pair, run};
+use std::alloc::{AllocError, Global};
+use std::process::Abort;
+
+/// An event of a pair. What a write holds is named by a byte, since tables are constants.
+#[derive(Clone, Copy, Debug, PartialEq, Eq)]
+pub(crate) enum Given {
+    /// The words for a resync and for a loss.
+    Open(u64, u64),
+    /// The first block, how many blocks, and the byte that fills them.
+    Submit(u64, u8, u8),
+    Local(u64),
+    LocalFault(u64, u64),
+    Send,
+    Receive,
+    Peer(u32),
+    PeerFault(u32, u64),
+    AckOut,
+    AckIn,
+    Resync,
+    ResyncFault,
+    ClosePrimary,
+    CloseSecondary,
+}
+
+/// The reply to an event.
+#[derive(Clone, Copy, Debug, PartialEq, Eq)]
+pub(crate) enum Said {
+    /// It was done, and there is no more to say of it.
+    Done,
+    /// A write was accepted under this number, and no more.
+    Accepted(u64),
+    /// A frame without a place went over the link, and no more.
+    Went(Command),
+    /// An item of the stream went over the link, with its place, and no more.
+    Item(Command, u32),
+    /// A block was read for the resync, and its item has this place.
+    Copied(u64, u32),
+    /// The peer's identifiers were taken, and this was decided.
+    Decided(Decision),
+    /// What it was about, the write that it completed, the barrier that it appended, and whether a resync
+    /// is over.
+    More(What, Option<u64>, Option<u32>, bool),
+    /// The primary closed its end, and so many writes were completed by that.
+    Closed(u32),
+    Refused(Refusal),
+}
+
+/// An event, and the reply to it.
+pub(crate) type Line = (Given, Said);
+
+impl Given {
+    /// The event. Its contents are made anew, so memory may be refused.
+    pub(crate) fn event(self, alloc: Global) -> Result<Event, AllocError> {
+        Ok(match self {
+            Given::Open(sync, loss) => Event::Open { sync, loss },
+            Given::Submit(first, blocks, byte) => Event::Submit {
+                first,
+                contents: filled(alloc, blocks, byte)?,
+            },
+            Given::Local(number) => Event::Local(number),
+            Given::LocalFault(number, kept) => Event::LocalFault(number, kept),
+            Given::Send => Event::Send,
+            Given::Receive => Event::Receive,
+            Given::Peer(place) => Event::Peer(place),
+            Given::PeerFault(place, kept) => Event::PeerFault(place, kept),
+            Given::AckOut => Event::AckOut,
+            Given::AckIn => Event::AckIn,
+            Given::Resync => Event::Resync,
+            Given::ResyncFault => Event::ResyncFault,
+            Given::ClosePrimary => Event::ClosePrimary,
+            Given::CloseSecondary => Event::CloseSecondary,
+        })
+    }
+}
+
+/// So many blocks filled with a byte.
+fn filled(alloc: Global, blocks: u8, byte: u8) -> Result<Bytes, AllocError> {
+    let bytes = Vec::from_elem(alloc, byte, usize::from(blocks) * BLOCK_BYTES)?;
+    Ok(Bytes::from_vec(bytes)?)
+}
+
+impl Said {
+    /// The reply.
+    pub(crate) fn reply(self) -> Reply {
+        match self {
+            Said::Done => about(What::Nothing),
+            Said::Accepted(number) => about(What::Write(number)),
+            Said::Went(command) => about(What::Frame(command, None)),
+            Said::Item(command, place) => about(What::Frame(command, Some(place))),
+            Said::Copied(block, place) => about(What::Block(Block(block), place)),
+            Said::Decided(decision) => about(What::Decided(decision)),
+            Said::More(what, completed, barrier, synced) => Reply::Ok(Done {
+                what,
+                completed,
+                barrier,
+                synced,
+            }),
+            Said::Closed(completed) => Reply::Closed(completed),
+            Said::Refused(refusal) => Reply::Refused(refusal),
+        }
+    }
+}
+
+fn about(what: What) -> Reply {
+    Reply::Ok(Done::about(what))
+}
+
+/// Gives a pair one event. There is no reply where there was no memory to reply at all.
+pub(crate) fn reply_to(
+    rt: &impl Abort,
+    alloc: Global,
+    pair: Pair,
+    event: &[Event; 1],
+) -> (Pair, Option<Reply>) {
+    match run(alloc, pair, event) {
+        Ok((pair, replies)) => {
+            assert_eq!(rt; replies.len(), 1);
+            (pair, Some(replies[0]))
+        }
+        Err((pair, refusal)) => {
+            assert_eq!(rt; refusal, Refusal::NoMemory);
+            (pair, None)
+        }
+    }
+}
