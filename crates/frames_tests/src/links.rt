@@ -35,9 +35,15 @@ fn a_link_for_one_frame_carries_two(rt: HostRuntime) -> Result<(), Fail> {
     };
     assert_eq!(rt; second.refusal().number(), 11);
     assert_eq!(rt; taker.take().err(), Some(Refusal::NothingThere));
-    assert_eq!(rt; carry(&mut sender, &mut taker)?.as_slice(), PROTOCOL_C.as_slice());
+    assert_eq!(rt;
+        carry(&mut sender, &mut taker)?.as_slice(),
+        PROTOCOL_C.as_slice()
+    );
     assert!(rt; sender.offer(second.frame).is_ok());
-    assert_eq!(rt; carry(&mut sender, &mut taker)?.as_slice(), BARRIER.as_slice());
+    assert_eq!(rt;
+        carry(&mut sender, &mut taker)?.as_slice(),
+        BARRIER.as_slice()
+    );
     assert_eq!(rt;
         carry(&mut sender, &mut taker).err(),
         Some(Refusal::NothingThere)
