@@ -1,7 +1,8 @@
 -- A pair is made of its parts.
-use Rattle.std.proofs.Common.{ℕ, zero, suc, ◌≡◌, ◌⊎◌, inl, inr, Bool, true, false, List, [], ◌∷◌, length, Option, Some, None, slice_get, refl, sym, ◌∙◌, ap, subst, nat_lt, arith}
+use Rattle.std.proofs.Common.{ℕ, zero, suc, ◌≡◌, ◌⊎◌, inl, inr, Bool, true, false, ◌&&◌, List, [], ◌∷◌, length, Option, Some, None, slice_get, refl, sym, ◌∙◌, ap, subst, nat_lt, arith}
 use Rattle.std.specs.Prelude.{is_some, unwrap_or, replicate, if◌then◌else◌, Result, Ok, Err, IfErr, IfOk, IsErr}
 use Rattle.std.specs.Result.{IsErrAnd}
+use Rattle.std.proofs.lemmas.Bool.{both_ways}
 use Rattle.std.proofs.lemmas.Bool.Decides.{nat_tests}
 use Rattle.blocks.specs.SettingsRange.{IsInRange}
 use Rattle.blocks.specs.declared.settings.Settings.{Settings}
@@ -11,12 +12,14 @@ use Rattle.blocks.specs.declared.refusal.Refusal.TheVariants.{BadSetting, NoMemo
 use Rattle.primary_core.specs.State.{CanBegin}
 use Rattle.pair.specs.Openings.{CanPair}
 use Rattle.model.specs.Contents.{BlockMap, IsDisk, filled}
-use Rattle.model.specs.Pair.{pair_opening}
+use Rattle.model.specs.Pair.{pair_opening, same_block}
 use Rattle.model.specs.Primary.{primary_opening}
+use Rattle.model.specs.Rows.{words}
 use Rattle.model.specs.Secondary.{secondary_opening}
 use Rattle.endpoint.specs.Incoming.{IncomingState}
 use Rattle.endpoint.specs.Outgoing.{OutgoingState}
-use Rattle.pair_steps.specs.State.{IsDirection, PairHas, PairState}
+use Rattle.pair_steps.specs.State.{IsDirection, PairHas, PairState, WasHonest}
+use Rattle.laws.proofs.Blocks.SameBlocks.{equal-same}
 use Rattle.pair_steps.proofs.Opening.{pair-opening-has}
 use Rattle.primary_steps.specs.Node as primary
 use Rattle.secondary_steps.specs.Node as secondary
@@ -100,3 +103,14 @@ zero-filled (Ok p) v settings bytes here there marks own peer_tuple a b c has =
     subst (λ (m : ℕ → Bool). PairHas (v p) (pair_opening settings (filled settings.blocks bytes) (filled settings.blocks bytes) own peer_tuple m)) (ap {B = ℕ → Bool} (λ (l : List Bool) (block : ℕ). unwrap_or (slice_get l block) false) c ∙ unmarked-is settings.blocks)
     (subst (λ (m : BlockMap). PairHas (v p) (pair_opening settings (filled settings.blocks bytes) m own peer_tuple (λ block. unwrap_or (slice_get marks block) false))) (ap slice_get b ∙ filled-is settings.blocks bytes)
     (subst (λ (m : BlockMap). PairHas (v p) (pair_opening settings m (slice_get there) own peer_tuple (λ block. unwrap_or (slice_get marks block) false))) (ap slice_get a ∙ filled-is settings.blocks bytes) has))
+
+-- Equal disks have honest identifiers, whatever is marked.
+pub zero-honest : (settings : Settings) (bytes : List ℕ) → WasHonest (pair_opening settings (filled settings.blocks bytes) (filled settings.blocks bytes) (words 1 0 0 0) (words 1 0 0 0) (λ _. false))
+zero-honest settings bytes = record {
+  own_data = omega (arith);
+  same_current = λ _. equal;
+  from_bitmap = λ _ _. equal;
+}
+  where
+    equal : (block : ℕ) → same_block (filled settings.blocks bytes block) (filled settings.blocks bytes block) ≡ false → (nat_lt block settings.blocks && false) ≡ true
+    equal block differs = absurd (both_ways (same_block (filled settings.blocks bytes block) (filled settings.blocks bytes block)) differs (equal-same (filled settings.blocks bytes block) (filled settings.blocks bytes block) refl))

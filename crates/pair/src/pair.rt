@@ -1,13 +1,11 @@
 //! The two nodes and their link.
-ghost use Rattle.std.specs.Prelude.{◌≡◌, ◌⊎◌, false, length, replicate, slice_get, unwrap_or, IfOk, IfErr};
+ghost use Rattle.std.specs.Prelude.{◌≡◌, ◌⊎◌, false, slice_get, unwrap_or, IfOk, IfErr};
 ghost use Rattle.blocks.specs.SettingsRange.{IsInRange};
 ghost use Rattle.blocks.specs.declared.refusal.Refusal.TheVariants.{BadSetting, NoMemory};
-ghost use Rattle.model.specs.Contents.{filled};
 ghost use Rattle.model.specs.Pair.{pair_opening};
-ghost use Rattle.model.specs.Rows.{words};
-ghost use Rattle.pair.specs.Openings.{CanPair};
+ghost use Rattle.pair.specs.Openings.{CanPair, zero_filled};
 ghost use Rattle.pair.specs.State.{state};
-ghost use Rattle.pair_steps.specs.State.{PairHas};
+ghost use Rattle.pair_steps.specs.State.{PairHas, WasHonest};
 
 use blocks::{FaultStore, MemStore, Refusal, Settings, Store, Tuple};
 use link::{PlainIn, PlainOut};
@@ -47,9 +45,9 @@ impl Pair {
     /// `BadSetting` (15) comes where a setting is out of its range, and `NoMemory` (7) where there is no
     /// memory.
     pub fn fresh(alloc: Global, settings: Settings) -> Result<Pair, Refusal>
-        ensures history { IfOk result (λ p. PairHas (state p) (pair_opening settings
-            (filled settings.blocks (replicate 4096 0)) (filled settings.blocks (replicate 4096 0))
-            (words 1 0 0 0) (words 1 0 0 0) (λ _. false))) }
+        ensures history { IfOk result (λ p. PairHas (state p) (zero_filled settings)) }
+        // Its identifiers say that the disks agree, and they do.
+        ensures honest { WasHonest (zero_filled settings) }
         ensures refused { IfErr result (λ e. ((e ≡ BadSetting) × (IsInRange settings → ⊥)) ⊎ ((e ≡ NoMemory) × IsInRange settings)) }
     {
         settings.check()?;

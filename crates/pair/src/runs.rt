@@ -27,6 +27,9 @@ pub fn run(
     // The pair has the history that the events lead to.
     ensures history { IfOk result (λ r. (h : PairHistory) → PairHas (state pair) h
         → PairHas (state r.0) (run (answered (map event_of events.now) r.1.items) h).1) }
+    // Where the identifiers of its opening were honest, they still were: nothing changes how it began.
+    ensures honest { IfOk result (λ r. (h : PairHistory) → PairHas (state pair) h → WasHonest h
+        → WasHonest (run (answered (map event_of events.now) r.1.items) h).1) }
     // What the secondary took on each connection is a beginning of the lawful stream that the primary sent, each
     // write once.
     ensures beginning { IfOk result (λ r. (h : PairHistory) → PairHas (state r.0) h

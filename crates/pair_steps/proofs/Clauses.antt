@@ -10,10 +10,10 @@ use Rattle.model.specs.Secondary.{SecondaryHistory}
 use Rattle.model.specs.Theorems.{Opening, pair_at, primary_at, secondary_at, marks_at, IsSoundOpening}
 use Rattle.model.specs.Headline.{TakesABeginning, StaysClosed, StaysClosedToo, HoldsEarlierEpochs, KeepsPromises, MarksDifferences, CoversDifferences, Cover, IsHonest, opening_marked}
 use Rattle.model.specs.WriteOrder.{KeepsWriteOrder, IsUnharmed}
-use Rattle.laws.proofs.Headlines.{every_run_is_joined, every_beginning, every_epochs, every_promises, every_marks, every_cover, every_close}
-use Rattle.laws.proofs.Joining.Openings.{HasOpening, HasOpeningToo, kept-opening-primary, kept-opening-secondary}
+use Rattle.laws.proofs.Headlines.{every_beginning, every_epochs, every_promises, every_marks, every_cover, every_close}
 use Rattle.laws.proofs.WriteOrder.Theorem.{every_write_order}
 use Rattle.pair_steps.specs.State.{IsRun, WasHonest}
+use Rattle.pair_steps.proofs.Honest.{opens-here, opens-there}
 use Rattle.pair_steps.specs.Steps.{HasClauses}
 
 -- the history of a run
@@ -35,9 +35,8 @@ promises h is = from-run KeepsPromises h is (every_promises is.opening is.events
 -- the identifiers of the opening were honest, as the history has them
 sound : (h : PairHistory) (is : IsRun h) → WasHonest h → IsSoundOpening is.opening
 sound h is honest =
-    let runs = every_run_is_joined is.opening is.events in
-    let here : HasOpening is.opening h.primary = subst (λ (x : PairHistory). HasOpening is.opening x.primary) is.is (subst (HasOpening is.opening) (sym runs.primary) (kept-opening-primary is.opening runs.here)) in
-    let there : HasOpeningToo is.opening h.secondary = subst (λ (x : PairHistory). HasOpeningToo is.opening x.secondary) is.is (subst (HasOpeningToo is.opening) (sym runs.secondary) (kept-opening-secondary is.opening runs.there)) in
+    let here = opens-here h is in
+    let there = opens-there h is in
     let marked : (block : ℕ) → opening_marked h.primary block ≡ marks_at is.opening block
     = λ block. ap (λ (s : Settings). nat_lt block s.blocks && h.primary.opening_marks block) here.settings ∙ ap (λ (m : ℕ → Bool). nat_lt block is.opening.settings.blocks && m block) here.marks in
     let covers : Cover (opening_marked h.primary) h.primary.opening_map h.secondary.opening_map → Cover (marks_at is.opening) is.opening.local is.opening.peer

@@ -4,21 +4,16 @@ use Rattle.blocks.specs.declared.outcome.Reply.{Reply}
 use Rattle.blocks.specs.declared.settings.Settings.{Settings}
 use Rattle.model.specs.Pair.{Event, PairHistory, step, run}
 use Rattle.model.specs.Theorems.{Opening}
-use Rattle.laws.proofs.Headlines.{every_run_is_joined}
-use Rattle.laws.proofs.Joining.Openings.{HasOpening, HasOpeningToo, kept-opening-primary, kept-opening-secondary}
 use Rattle.pair_steps.specs.State.{Direction, IsDirection, IsPair, IsPairStep, IsRun, PairHas, PairState}
+use Rattle.pair_steps.proofs.Honest.{opens-here, opens-there}
 use Rattle.pair_steps.proofs.Stepping.{is-run-more, same-opening}
 
 -- a run keeps the settings of its opening
 here-kept : (h : PairHistory) (is : IsRun h) → h.primary.settings ≡ is.opening.settings
-here-kept h is =
-    let runs = every_run_is_joined is.opening is.events in
-    (subst (λ (x : PairHistory). HasOpening is.opening x.primary) is.is (subst (HasOpening is.opening) (sym runs.primary) (kept-opening-primary is.opening runs.here))).settings
+here-kept h is = (opens-here h is).settings
 
 there-kept : (h : PairHistory) (is : IsRun h) → h.secondary.settings ≡ is.opening.peer_settings
-there-kept h is =
-    let runs = every_run_is_joined is.opening is.events in
-    (subst (λ (x : PairHistory). HasOpeningToo is.opening x.secondary) is.is (subst (HasOpeningToo is.opening) (sym runs.secondary) (kept-opening-secondary is.opening runs.there))).settings
+there-kept h is = (opens-there h is).settings
 
 -- Some history is had after a step, where both directions are as they are between two calls.
 pub pair-kept : (event : Event) (starved : Bool) (p q : PairState) (said : Reply) → IsPair p → IsPairStep event starved p said q → IsDirection p.primary.settings.link q.there → IsDirection p.secondary.settings.link q.back → IsPair q

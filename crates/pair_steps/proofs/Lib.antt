@@ -1,5 +1,6 @@
 pub mod Carrying
 pub mod Clauses
+pub mod Honest
 pub mod Keeping
 pub mod Lending
 pub mod Opening

@@ -3,6 +3,7 @@ use Rattle.std.specs.Vec.{vec_capacity, vec_len}
 use Rattle.model.specs.Pair.{PairHistory}
 use Rattle.pair_steps.specs.State.{answered}
 use Rattle.pair_steps.proofs.Clauses.{has-clauses}
+use Rattle.pair_steps.proofs.Honest.{honest-kept}
 use Rattle.pair.specs.Events.{event_of}
 use Rattle.pair.specs.Running.{HasRun}
 use Rattle.pair.proofs.Running.{all-ran, none-ran, one-ran}
@@ -37,6 +38,9 @@ returns-clause-replies c h has = (all-ran c.args.events.now c.loop-event.event-i
 
 pub returns-clause-history : goal.returns-clause-history
 returns-clause-history c h has = (all-ran c.args.events.now c.loop-event.event-index c.loop-event.replies.items (vec_len c.loop-event.replies) (vec_capacity c.loop-event.replies) c.args.pair c.loop-event.pair c.loop-event.invariant (ended c)).after h has
+
+pub returns-clause-honest : goal.returns-clause-honest
+returns-clause-honest c h has = honest-kept (answered (map event_of c.args.events.now) c.loop-event.replies.items) h has.run
 
 pub returns-clause-beginning : goal.returns-clause-beginning
 returns-clause-beginning c h has = (has-clauses h has.run).beginning
