@@ -5,6 +5,7 @@ use packets::{Acknowledgement, Packet};
 use primary_core::{Fate, PrimaryCore};
 use std::alloc::Global;
 use std::process::Abort;
+use std::test::Fail;
 
 /// A frame, or the fault that stands in its place.
 #[derive(Clone, Copy)]
@@ -40,8 +41,12 @@ pub(crate) enum Step {
     Close,
     /// The first block, how many blocks, and the byte that fills them.
     Submit(u64, u8, u8),
+    /// Of fewer bytes than a block has.
+    SubmitPart,
     /// Which write the local disk does next.
     Next,
+    /// The write of this number is given to the local disk, and has so many blocks, filled with this byte.
+    Given(u64, u8, u8),
     Local(u64),
     LocalFail(u64),
     /// What is due is this frame, and goes out.
@@ -59,6 +64,8 @@ pub(crate) enum Said {
     /// How many writes the close completed.
     Closed(u32),
     Next(Option<u64>),
+    /// The number of a write, its first block, how many it has, and whether its bytes are the expected ones.
+    Given(u64, u64, u64, bool),
     /// A write was accepted under this number, and no more.
     Accepted(u64),
     /// A frame went over the link, with its place if an item of the stream was sent, and no more.
@@ -76,6 +83,38 @@ pub(crate) enum Said {
 
 /// A step, and what it says or why it is refused.
 pub(crate) type Row = (Step, Result<Said, Refusal>);
+
+/// What a core holds.
+#[derive(Clone, Copy, Debug, PartialEq, Eq)]
+pub(crate) enum Fact {
+    Open(bool),
+    /// Whether the hello is done.
+    Stands(bool),
+    Resync(bool),
+    Tuple(Tuple),
+    Peer(Option<Tuple>),
+    Connections(u32),
+    Accepted(u64),
+    OpenWrites(u32),
+    Unanswered(u32),
+    OpenEpochs(u64),
+    Unreleased(u32),
+    Places(u32),
+    Unsent(usize),
+}
+
+/// A part of a test. The tests are tables, since one function goes through all of them and is proved once.
+#[derive(Clone, Copy)]
+pub(crate) enum Part<'a> {
+    Rows(&'a [Row]),
+    Row(Row),
+    /// The hello of a connection: the words, both disks' identifiers, and what is decided.
+    Greeting((u64, u64), (Tuple, Tuple), Decision),
+    Holds(&'a [Fact]),
+    Fact(Fact),
+    /// These blocks are marked, and no other.
+    Marks(&'a [u64]),
+}
 
 /// What every disk begins with, where a row names nothing else.
 pub(crate) const OWN: Tuple = Tuple {
@@ -179,6 +218,14 @@ fn receipt(core: &mut PrimaryCore, number: u64) -> Result<Said, Refusal> {
     Ok(Said::Receipt(entry.first(), entry.count(), entry.fate()))
 }
 
+fn given(core: &PrimaryCore, alloc: Global, number: u64, fill: (u8, u8)) -> Result<Said, Refusal> {
+    let wanted = filled(alloc, fill.0, fill.1)?;
+    let write = core.local_write(number)?;
+    let range = write.range();
+    let is_same = *write.contents() == wanted;
+    Ok(Said::Given(write.number(), range.first.0, range.count, is_same))
+}
+
 fn do_step(core: &mut PrimaryCore, alloc: Global, step: Step) -> Result<Said, Refusal> {
     match step {
         Step::Open(sync, loss) => {
@@ -190,6 +237,11 @@ fn do_step(core: &mut PrimaryCore, alloc: Global, step: Step) -> Result<Said, Re
             let bytes = filled(alloc, blocks, byte)?;
             Ok(told_of(core.submit(first, &bytes)?))
         }
+        Step::SubmitPart => {
+            let bytes = Bytes::copy_from_slice(alloc, &[0xAA; 100])?;
+            Ok(told_of(core.submit(0, &bytes)?))
+        }
+        Step::Given(number, blocks, byte) => given(core, alloc, number, (blocks, byte)),
         Step::Next => Ok(Said::Next(core.next_local())),
         Step::Local(number) => Ok(told_of(core.local_done(number)?)),
         Step::LocalFail(number) => Ok(told_of(core.local_failed(number)?)),
@@ -200,23 +252,46 @@ fn do_step(core: &mut PrimaryCore, alloc: Global, step: Step) -> Result<Said, Re
     }
 }
 
-/// Each step says what its row has.
-pub(crate) fn run(rt: &impl Abort, core: &mut PrimaryCore, alloc: Global, rows: &[Row]) {
+// Each step says what its row has.
+fn run(rt: &impl Abort, core: &mut PrimaryCore, alloc: Global, rows: &[Row]) {
     for (i, (given, wanted)) in rows.iter().enumerate() {
         assert_eq!(rt; do_step(core, alloc, *given), *wanted, "step {i}");
     }
 }
 
-/// These blocks are marked, and no other.
-pub(crate) fn has_marks(rt: &impl Abort, core: &PrimaryCore, blocks: &[u64]) {
+// The fact of the same kind that is true.
+fn true_fact(core: &PrimaryCore, fact: Fact) -> Fact {
+    match fact {
+        Fact::Open(_) => Fact::Open(core.is_open()),
+        Fact::Stands(_) => Fact::Stands(core.stands()),
+        Fact::Resync(_) => Fact::Resync(core.is_resync()),
+        Fact::Tuple(_) => Fact::Tuple(core.tuple()),
+        Fact::Peer(_) => Fact::Peer(core.peer()),
+        Fact::Connections(_) => Fact::Connections(core.connections()),
+        Fact::Accepted(_) => Fact::Accepted(core.accepted()),
+        Fact::OpenWrites(_) => Fact::OpenWrites(core.open_writes()),
+        Fact::Unanswered(_) => Fact::Unanswered(core.unanswered_writes()),
+        Fact::OpenEpochs(_) => Fact::OpenEpochs(core.open_epochs()),
+        Fact::Unreleased(_) => Fact::Unreleased(core.unreleased()),
+        Fact::Places(_) => Fact::Places(core.places()),
+        Fact::Unsent(_) => Fact::Unsent(core.unsent()),
+    }
+}
+
+fn holds(rt: &impl Abort, core: &PrimaryCore, facts: &[Fact]) {
+    for fact in facts {
+        assert_eq!(rt; true_fact(core, *fact), *fact);
+    }
+}
+
+fn has_marks(rt: &impl Abort, core: &PrimaryCore, blocks: &[u64]) {
     assert_eq!(rt; core.marks() as usize, blocks.len());
     for block in blocks {
         assert!(rt; core.is_marked(Block(*block)), "block {block}");
     }
 }
 
-/// The hello of a connection: the words, both disks' identifiers, and what is decided.
-pub(crate) fn greet(
+fn greet(
     rt: &impl Abort,
     core: &mut PrimaryCore,
     alloc: Global,
@@ -250,23 +325,54 @@ pub(crate) fn greet(
     run(rt, core, alloc, &rows);
 }
 
-/// A primary that was never opened, with no marks.
-pub(crate) fn unopened(
-    alloc: Global,
-    settings: Settings,
-    own: Tuple,
-) -> Result<PrimaryCore, Refusal> {
-    let marks = Vec::from_elem(alloc, false, settings.blocks as usize)?;
-    PrimaryCore::new(alloc, settings, own, &marks)
+/// The first connection, whose words are 5 and 7.
+pub(crate) const CONNECTED: Part = Part::Greeting((5, 7), (OWN, OWN), Decision::NoSync);
+
+fn go(rt: &impl Abort, core: &mut PrimaryCore, alloc: Global, parts: &[Part]) {
+    for part in parts {
+        match part {
+            Part::Rows(rows) => run(rt, core, alloc, rows),
+            Part::Row(row) => run(rt, core, alloc, &[*row]),
+            Part::Greeting(words, tuples, decided) => {
+                greet(rt, core, alloc, *words, *tuples, *decided)
+            }
+            Part::Holds(facts) => holds(rt, core, facts),
+            Part::Fact(fact) => holds(rt, core, &[*fact]),
+            Part::Marks(blocks) => has_marks(rt, core, blocks),
+        }
+    }
 }
 
-/// A primary on its first connection, with nothing to send, whose words are 5 and 7.
-pub(crate) fn connected(
-    rt: &impl Abort,
-    alloc: Global,
+/// Goes through two lists of parts with a primary that was never opened, and has these marks.
+pub(crate) fn begins(
+    rt: &(impl Abort + AllocGlobal),
+    (settings, own, marks): (Settings, Tuple, &[bool]),
+    first: &[Part],
+    then: &[Part],
+) -> Result<(), Fail> {
+    let alloc = rt.alloc();
+    let mut core = PrimaryCore::new(alloc, settings, own, marks)?;
+    go(rt, &mut core, alloc, first);
+    go(rt, &mut core, alloc, then);
+    Ok(())
+}
+
+/// Goes through two lists of parts with a primary that was never opened, and has no marks.
+pub(crate) fn passes(
+    rt: &(impl Abort + AllocGlobal),
     settings: Settings,
-) -> Result<PrimaryCore, Refusal> {
-    let mut core = unopened(alloc, settings, OWN)?;
-    greet(rt, &mut core, alloc, (5, 7), (OWN, OWN), Decision::NoSync);
-    Ok(core)
+    first: &[Part],
+    then: &[Part],
+) -> Result<(), Fail> {
+    let marks = Vec::from_elem(rt.alloc(), false, settings.blocks as usize)?;
+    begins(rt, (settings, OWN, &marks), first, then)
+}
+
+/// Goes through parts with a primary on its first connection, with nothing to send.
+pub(crate) fn connects(
+    rt: &(impl Abort + AllocGlobal),
+    settings: Settings,
+    parts: &[Part],
+) -> Result<(), Fail> {
+    passes(rt, settings, &[CONNECTED], parts)
 }

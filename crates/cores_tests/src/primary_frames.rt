@@ -1,10 +1,8 @@
 //! Frames that no secondary sends: each is refused, and closes the end with all that a close does.
 use crate::primary::{
-    DONE, Frame, OWN, PARTED, Row, SETTINGS, Said, Step, connected, has_marks, run, unopened,
+    DONE, Fact, Frame, OWN, PARTED, Part, Row, SETTINGS, Said, Step, connects, passes,
 };
 use blocks::{Command, Protocol, Refusal, Settings, Tuple, What};
-use primary_core::PrimaryCore;
-use std::alloc::Global;
 use std::process::Abort;
 use std::test::Fail;
 
@@ -50,25 +48,35 @@ const CLOSED: [Row; 4] = [
     (Step::Close, Err(Refusal::NotConnected)),
 ];
 
-// The end is closed, block 2 is marked, and the disk goes on under the word for a loss.
-fn is_parted(rt: &impl Abort, core: &mut PrimaryCore, alloc: Global) {
-    run(rt, core, alloc, &CLOSED);
-    assert!(rt; !core.is_open());
-    assert!(rt; !core.stands());
-    has_marks(rt, core, &[2]);
-    assert_eq!(rt; core.tuple(), PARTED);
+/// The end is closed, and the disk goes on under the word for a loss.
+const CUT_OFF: [Fact; 3] = [Fact::Open(false), Fact::Stands(false), Fact::Tuple(PARTED)];
+
+// After these rows the frame is refused, the end is closed, and block 2 is marked.
+fn is_foreign(
+    rt: &(impl Abort + AllocGlobal),
+    settings: Settings,
+    before: &'static [Row],
+    (frame, refusal): (Frame, Refusal),
+    after: &'static [Fact],
+) -> Result<(), Fail> {
+    let parts = [
+        Part::Rows(before),
+        Part::Row((Step::Take(frame), Err(refusal))),
+        Part::Rows(&CLOSED),
+        Part::Holds(&CUT_OFF),
+        Part::Marks(&[2]),
+        Part::Holds(after),
+    ];
+    connects(rt, settings, &parts)
 }
+
+/// Write 1 stays open.
+const IS_OPEN: [Fact; 2] = [Fact::OpenWrites(1), Fact::Unanswered(0)];
 
 #[test]
 fn foreign_frames_after_a_write(rt: HostRuntime) -> Result<(), Fail> {
-    let alloc = rt.alloc();
-    for (frame, refusal) in FOREIGN {
-        let mut core = connected(&rt, alloc, SETTINGS)?;
-        run(&rt, &mut core, alloc, &SENT);
-        run(&rt, &mut core, alloc, &[(Step::Take(frame), Err(refusal))]);
-        is_parted(&rt, &mut core, alloc);
-        assert_eq!(rt; core.open_writes(), 1);
-        assert_eq!(rt; core.unanswered_writes(), 0);
+    for row in FOREIGN {
+        is_foreign(&rt, SETTINGS, &SENT, row, &IS_OPEN)?;
     }
     Ok(())
 }
@@ -91,24 +99,13 @@ const ENDED: [Row; 3] = [
 
 #[test]
 fn an_unanswered_epoch_is_not_acknowledged(rt: HostRuntime) -> Result<(), Fail> {
-    let alloc = rt.alloc();
     let settings = Settings {
         max_epoch: 1,
         ..SETTINGS
     };
-    let early = [(
-        Step::Take(Frame::BarrierAck(1, 1)),
-        Err(Refusal::BadBarrierAck),
-    )];
-    for sent in [2, 3] {
-        let mut core = connected(&rt, alloc, settings)?;
-        for row in ENDED.iter().take(sent) {
-            run(&rt, &mut core, alloc, &[*row]);
-        }
-        run(&rt, &mut core, alloc, &early);
-        is_parted(&rt, &mut core, alloc);
-    }
-    Ok(())
+    let early = (Frame::BarrierAck(1, 1), Refusal::BadBarrierAck);
+    is_foreign(&rt, settings, &ENDED[..2], early, &[])?;
+    is_foreign(&rt, settings, &ENDED, early, &[])
 }
 
 /// Each comes once write 1 was answered and completed, and its barrier was sent.
@@ -119,7 +116,12 @@ const AGAIN: [(Frame, Refusal); 3] = [
 ];
 
 /// Write 1 is completed, and its barrier was sent.
-const COMPLETED: [Row; 3] = [
+const COMPLETED: [Row; 5] = [
+    (Step::Submit(2, 1, 0xAA), Ok(Said::Accepted(1))),
+    (
+        Step::Send(Frame::Data(2, 1, 0, 0xAA)),
+        Ok(Said::Went(Command::Data, Some(0))),
+    ),
     (Step::Local(1), DONE),
     (
         Step::Take(Frame::WriteAck(2, 1, 0)),
@@ -138,14 +140,8 @@ const COMPLETED: [Row; 3] = [
 
 #[test]
 fn a_strange_answer_to_a_completed_write(rt: HostRuntime) -> Result<(), Fail> {
-    let alloc = rt.alloc();
-    for (frame, refusal) in AGAIN {
-        let mut core = connected(&rt, alloc, SETTINGS)?;
-        run(&rt, &mut core, alloc, &SENT);
-        run(&rt, &mut core, alloc, &COMPLETED);
-        run(&rt, &mut core, alloc, &[(Step::Take(frame), Err(refusal))]);
-        is_parted(&rt, &mut core, alloc);
-        assert_eq!(rt; core.open_writes(), 0);
+    for row in AGAIN {
+        is_foreign(&rt, SETTINGS, &COMPLETED, row, &[Fact::OpenWrites(0)])?;
     }
     Ok(())
 }
@@ -192,17 +188,21 @@ const HEARD: [Row; 3] = [
 
 #[test]
 fn a_refused_hello_changes_no_identifier(rt: HostRuntime) -> Result<(), Fail> {
-    let alloc = rt.alloc();
     for (heard, frame, refusal) in HELLOS {
-        let mut core = unopened(alloc, SETTINGS, OWN)?;
-        for row in HEARD.iter().take(heard) {
-            run(&rt, &mut core, alloc, &[*row]);
-        }
-        run(&rt, &mut core, alloc, &[(Step::Take(frame), Err(refusal))]);
-        run(&rt, &mut core, alloc, &CLOSED);
-        assert!(rt; !core.is_open());
-        has_marks(&rt, &core, &[]);
-        assert_eq!(rt; core.tuple(), OWN);
+        let before = match heard {
+            1 => &HEARD[..1],
+            2 => &HEARD[..2],
+            _ => &HEARD[..],
+        };
+        let parts = [
+            Part::Rows(before),
+            Part::Row((Step::Take(frame), Err(refusal))),
+            Part::Rows(&CLOSED),
+            Part::Holds(&[Fact::Open(false)]),
+            Part::Marks(&[]),
+            Part::Holds(&[Fact::Tuple(OWN)]),
+        ];
+        passes(&rt, SETTINGS, &[], &parts)?;
     }
     Ok(())
 }

@@ -1,9 +1,9 @@
 //! What a primary refuses, and in which state: writes, connections and receipts.
 use crate::primary::{
-    DONE, Frame, OWN, PARTED, Row, SETTINGS, Said, Step, connected, greet, has_marks, run, unopened,
+    CONNECTED, DONE, Fact, Frame, OWN, PARTED, Part, Row, SETTINGS, Said, Step, begins, connects,
+    passes,
 };
 use blocks::{Block, Command, Decision, Refusal, Settings, Tuple, What};
-use bytes::Bytes;
 use primary_core::PrimaryCore;
 use std::test::Fail;
 
@@ -25,57 +25,45 @@ const OPENED: [Row; 3] = [
 
 #[test]
 fn a_connection_begins_once(rt: HostRuntime) -> Result<(), Fail> {
-    let alloc = rt.alloc();
-    let mut core = unopened(alloc, SETTINGS, OWN)?;
-    run(&rt, &mut core, alloc, &UNOPENED);
-    assert_eq!(rt; core.connections(), 0);
-    greet(&rt, &mut core, alloc, (5, 7), (OWN, OWN), Decision::NoSync);
-    run(&rt, &mut core, alloc, &OPENED);
-    assert_eq!(rt; core.connections(), 1);
-    assert!(rt; core.stands());
-    assert_eq!(rt; core.accepted(), 0);
-    Ok(())
+    let parts = [
+        Part::Rows(&UNOPENED),
+        Part::Holds(&[Fact::Connections(0)]),
+        CONNECTED,
+        Part::Rows(&OPENED),
+        Part::Holds(&[Fact::Connections(1), Fact::Stands(true), Fact::Accepted(0)]),
+    ];
+    passes(&rt, SETTINGS, &[], &parts)
 }
 
 #[test]
 fn a_primary_has_a_mark_for_each_block(rt: HostRuntime) -> Result<(), Fail> {
-    let alloc = rt.alloc();
-    let core = PrimaryCore::new(
-        alloc,
-        SETTINGS,
-        OWN,
-        &[false, true, false, false, false, false, false, true],
-    )?;
-    has_marks(&rt, &core, &[1, 7]);
-    assert!(rt; !core.is_open());
-    let few = PrimaryCore::new(alloc, SETTINGS, OWN, &[false; 7]);
+    let marks = [false, true, false, false, false, false, false, true];
+    let parts = [Part::Marks(&[1, 7]), Part::Holds(&[Fact::Open(false)])];
+    begins(&rt, (SETTINGS, OWN, &marks), &parts, &[])?;
+    let few = PrimaryCore::new(rt.alloc(), SETTINGS, OWN, &[false; 7]);
     assert_eq!(rt; few.err(), Some(Refusal::BadSetting));
     Ok(())
 }
 
 /// Over 2048 blocks, whose extents have 1024 each.
-const RANGES: [Row; 6] = [
+const RANGES: [Row; 7] = [
     (Step::Submit(2016, 32, 0xAA), Ok(Said::Accepted(1))),
     (Step::Submit(0, 33, 0xAA), Err(Refusal::BadRange)),
     (Step::Submit(0, 0, 0xAA), Err(Refusal::BadRange)),
     (Step::Submit(2048, 1, 0xAA), Err(Refusal::BadRange)),
     (Step::Submit(2047, 2, 0xAA), Err(Refusal::BadRange)),
     (Step::Submit(1023, 2, 0xAA), Err(Refusal::BadRange)),
+    (Step::SubmitPart, Err(Refusal::BadRange)),
 ];
 
 #[test]
 fn ranges_of_writes(rt: HostRuntime) -> Result<(), Fail> {
-    let alloc = rt.alloc();
     let settings = Settings {
         blocks: 2048,
         ..SETTINGS
     };
-    let mut core = connected(&rt, alloc, settings)?;
-    run(&rt, &mut core, alloc, &RANGES);
-    let part = Bytes::copy_from_slice(alloc, &[0xAA; 100])?;
-    assert_eq!(rt; core.submit(0, &part), Err(Refusal::BadRange));
-    assert_eq!(rt; core.accepted(), 1);
-    Ok(())
+    let parts = [Part::Rows(&RANGES), Part::Holds(&[Fact::Accepted(1)])];
+    connects(&rt, settings, &parts)
 }
 
 /// One extent may be active, and stays so until its writes are released.
@@ -110,15 +98,12 @@ const ONE_SLOT: [Row; 9] = [
 
 #[test]
 fn an_extent_is_active_until_its_writes_are_released(rt: HostRuntime) -> Result<(), Fail> {
-    let alloc = rt.alloc();
     let settings = Settings {
         blocks: 2048,
         slots: 1,
         ..SETTINGS
     };
-    let mut core = connected(&rt, alloc, settings)?;
-    run(&rt, &mut core, alloc, &ONE_SLOT);
-    Ok(())
+    connects(&rt, settings, &[Part::Rows(&ONE_SLOT)])
 }
 
 /// The log is full before a conflict is told.
@@ -130,15 +115,12 @@ const ONE_WRITE: [Row; 3] = [
 
 #[test]
 fn the_log_is_full_of_unreleased_writes(rt: HostRuntime) -> Result<(), Fail> {
-    let alloc = rt.alloc();
     let settings = Settings {
         backlog: 1,
         ..SETTINGS
     };
-    let mut core = connected(&rt, alloc, settings)?;
-    run(&rt, &mut core, alloc, &ONE_WRITE);
-    assert_eq!(rt; core.unreleased(), 1);
-    Ok(())
+    let parts = [Part::Rows(&ONE_WRITE), Part::Holds(&[Fact::Unreleased(1)])];
+    connects(&rt, settings, &parts)
 }
 
 /// A write that the local disk failed holds nothing more, and is marked.
@@ -156,28 +138,24 @@ const FAILED: [Row; 6] = [
 
 #[test]
 fn a_failed_write_is_never_completed(rt: HostRuntime) -> Result<(), Fail> {
-    let alloc = rt.alloc();
-    let mut core = connected(&rt, alloc, SETTINGS)?;
-    run(&rt, &mut core, alloc, &FAILED);
-    has_marks(&rt, &core, &[2, 3]);
-    assert_eq!(rt; core.open_writes(), 1);
-    assert_eq!(rt; core.next_local(), Some(2));
-    Ok(())
+    let parts = [
+        Part::Rows(&FAILED),
+        Part::Marks(&[2, 3]),
+        Part::Holds(&[Fact::OpenWrites(1)]),
+        Part::Rows(&[(Step::Next, Ok(Said::Next(Some(2))))]),
+    ];
+    connects(&rt, SETTINGS, &parts)
 }
+
+const GIVEN: [Row; 3] = [
+    (Step::Submit(6, 2, 0x5A), Ok(Said::Accepted(1))),
+    (Step::Given(1, 2, 0x5A), Ok(Said::Given(1, 6, 2, true))),
+    (Step::Given(2, 2, 0x5A), Err(Refusal::UnknownJob)),
+];
 
 #[test]
 fn the_local_disk_is_given_the_bytes_of_a_write(rt: HostRuntime) -> Result<(), Fail> {
-    let alloc = rt.alloc();
-    let mut core = connected(&rt, alloc, SETTINGS)?;
-    let bytes = Bytes::copy_from_slice(alloc, &[0x5A; 8192])?;
-    core.submit(6, &bytes)?;
-    let write = core.local_write(1)?;
-    assert_eq!(rt; write.number(), 1);
-    assert_eq!(rt; write.range().first.0, 6);
-    assert_eq!(rt; write.range().count, 2);
-    assert!(rt; *write.contents() == bytes);
-    assert_eq!(rt; core.local_write(2).err(), Some(Refusal::UnknownJob));
-    Ok(())
+    connects(&rt, SETTINGS, &[Part::Rows(&GIVEN)])
 }
 
 /// A closed end sends nothing, and every unreleased write is marked, sent or not.
@@ -222,18 +200,20 @@ const RESUMED: [Row; 4] = [
 
 #[test]
 fn a_lost_link_marks_what_is_unreleased(rt: HostRuntime) -> Result<(), Fail> {
-    let alloc = rt.alloc();
-    let mut core = connected(&rt, alloc, SETTINGS)?;
-    run(&rt, &mut core, alloc, &CUT);
-    has_marks(&rt, &core, &[0, 1, 2, 3, 5]);
-    assert_eq!(rt; core.open_writes(), 3);
-    assert_eq!(rt; core.unanswered_writes(), 0);
-    assert_eq!(rt; core.open_epochs(), 0);
-    assert_eq!(rt; core.unsent(), 0);
-    assert_eq!(rt; core.tuple(), PARTED);
-    let tuples = (PARTED, OWN);
-    greet(&rt, &mut core, alloc, (9, 11), tuples, Decision::BitmapSync);
-    assert_eq!(rt; core.tuple(), RESYNCING);
-    run(&rt, &mut core, alloc, &RESUMED);
-    Ok(())
+    let facts = [
+        Fact::OpenWrites(3),
+        Fact::Unanswered(0),
+        Fact::OpenEpochs(0),
+        Fact::Unsent(0),
+        Fact::Tuple(PARTED),
+    ];
+    let parts = [
+        Part::Rows(&CUT),
+        Part::Marks(&[0, 1, 2, 3, 5]),
+        Part::Holds(&facts),
+        Part::Greeting((9, 11), (PARTED, OWN), Decision::BitmapSync),
+        Part::Holds(&[Fact::Tuple(RESYNCING)]),
+        Part::Rows(&RESUMED),
+    ];
+    connects(&rt, SETTINGS, &parts)
 }

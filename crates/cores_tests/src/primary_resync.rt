@@ -1,11 +1,9 @@
 //! The primary's half of a resync: marked blocks are read and sent, and what the peer has is not marked.
 use crate::primary::{
-    DONE, Frame, OWN, PARTED, Row, SETTINGS, Said, Step, connected, greet, has_marks, run,
+    CONNECTED, DONE, Fact, Frame, OWN, PARTED, Part, Row, SETTINGS, Said, Step, passes,
 };
 use blocks::{Block, Command, Decision, Refusal, Settings, Tuple, What};
-use primary_core::{Fate, PrimaryCore};
-use std::alloc::Global;
-use std::process::Abort;
+use primary_core::Fate;
 use std::test::Fail;
 
 /// What the disk has while the resync goes on.
@@ -63,18 +61,18 @@ const ALONE: [Row; 8] = [
     (Step::Receipt(1), Err(Refusal::UnknownJob)),
 ];
 
-// Blocks 3 and 6 are marked, and a resync has begun.
-fn resyncing(rt: &impl Abort, alloc: Global, settings: Settings) -> Result<PrimaryCore, Refusal> {
-    let mut core = connected(rt, alloc, settings)?;
-    run(rt, &mut core, alloc, &ALONE);
-    has_marks(rt, &core, &[3, 6]);
-    let tuples = (PARTED, OWN);
-    greet(rt, &mut core, alloc, (9, 11), tuples, Decision::BitmapSync);
-    assert!(rt; core.is_resync());
-    assert_eq!(rt; core.tuple(), RESYNCING);
-    assert_eq!(rt; core.unreleased(), 0);
-    Ok(core)
-}
+/// Blocks 3 and 6 are marked, and a resync has begun.
+const BEGUN: [Part; 5] = [
+    CONNECTED,
+    Part::Rows(&ALONE),
+    Part::Marks(&[3, 6]),
+    Part::Greeting((9, 11), (PARTED, OWN), Decision::BitmapSync),
+    Part::Holds(&[
+        Fact::Resync(true),
+        Fact::Tuple(RESYNCING),
+        Fact::Unreleased(0),
+    ]),
+];
 
 const SYNC_UUID: Row = (
     Step::Send(Frame::SyncUuid(9)),
@@ -132,19 +130,18 @@ const CLOSING: [Row; 3] = [
 
 #[test]
 fn a_resync_copies_the_marked_blocks(rt: HostRuntime) -> Result<(), Fail> {
-    let alloc = rt.alloc();
-    let mut core = resyncing(&rt, alloc, SETTINGS)?;
-    run(&rt, &mut core, alloc, &COPIED[..3]);
-    has_marks(&rt, &core, &[3, 6]);
-    run(&rt, &mut core, alloc, &COPIED[3..4]);
-    has_marks(&rt, &core, &[6]);
-    run(&rt, &mut core, alloc, &COPIED[4..]);
-    assert!(rt; !core.is_resync());
-    assert_eq!(rt; core.tuple(), SYNCED);
-    run(&rt, &mut core, alloc, &CLOSING);
-    has_marks(&rt, &core, &[]);
-    assert_eq!(rt; core.places(), 6);
-    Ok(())
+    let parts = [
+        Part::Rows(&COPIED[..3]),
+        Part::Marks(&[3, 6]),
+        Part::Rows(&COPIED[3..4]),
+        Part::Marks(&[6]),
+        Part::Rows(&COPIED[4..]),
+        Part::Holds(&[Fact::Resync(false), Fact::Tuple(SYNCED)]),
+        Part::Rows(&CLOSING),
+        Part::Marks(&[]),
+        Part::Holds(&[Fact::Places(6)]),
+    ];
+    passes(&rt, SETTINGS, &BEGUN, &parts)
 }
 
 /// What the disk has where the peer is lost before it was told of the resync's end.
@@ -164,17 +161,15 @@ const FULL: Tuple = Tuple {
 
 #[test]
 fn a_target_that_was_not_told_is_copied_whole(rt: HostRuntime) -> Result<(), Fail> {
-    let alloc = rt.alloc();
-    let mut core = resyncing(&rt, alloc, SETTINGS)?;
-    run(&rt, &mut core, alloc, &COPIED);
-    run(&rt, &mut core, alloc, &[(Step::Close, Ok(Said::Closed(0)))]);
-    assert_eq!(rt; core.tuple(), LOST);
-    let tuples = (LOST, TARGET);
-    greet(&rt, &mut core, alloc, (13, 15), tuples, Decision::FullSync);
-    has_marks(&rt, &core, &[0, 1, 2, 3, 4, 5, 6, 7]);
-    assert_eq!(rt; core.tuple(), FULL);
-    assert_eq!(rt; core.connections(), 3);
-    Ok(())
+    let parts = [
+        Part::Rows(&COPIED),
+        Part::Rows(&[(Step::Close, Ok(Said::Closed(0)))]),
+        Part::Holds(&[Fact::Tuple(LOST)]),
+        Part::Greeting((13, 15), (LOST, TARGET), Decision::FullSync),
+        Part::Marks(&[0, 1, 2, 3, 4, 5, 6, 7]),
+        Part::Holds(&[Fact::Tuple(FULL), Fact::Connections(3)]),
+    ];
+    passes(&rt, SETTINGS, &BEGUN, &parts)
 }
 
 /// The block under way is held, and an open write holds the other.
@@ -200,14 +195,18 @@ const PASSED: [Row; 2] = [
 
 #[test]
 fn a_resync_and_a_write_hold_no_block_both(rt: HostRuntime) -> Result<(), Fail> {
-    let alloc = rt.alloc();
-    let mut core = resyncing(&rt, alloc, SETTINGS)?;
-    run(&rt, &mut core, alloc, &SHARED);
-    has_marks(&rt, &core, &[6]);
-    let mut core = resyncing(&rt, alloc, SETTINGS)?;
-    run(&rt, &mut core, alloc, &PASSED);
-    has_marks(&rt, &core, &[3, 6]);
-    Ok(())
+    passes(
+        &rt,
+        SETTINGS,
+        &BEGUN,
+        &[Part::Rows(&SHARED), Part::Marks(&[6])],
+    )?;
+    passes(
+        &rt,
+        SETTINGS,
+        &BEGUN,
+        &[Part::Rows(&PASSED), Part::Marks(&[3, 6])],
+    )
 }
 
 /// A connected write of a marked block goes through.
@@ -255,14 +254,14 @@ const RELEASED: [Row; 2] = [
 
 #[test]
 fn a_released_write_clears_its_mark(rt: HostRuntime) -> Result<(), Fail> {
-    let alloc = rt.alloc();
-    let mut core = resyncing(&rt, alloc, SETTINGS)?;
-    run(&rt, &mut core, alloc, &WRITTEN);
-    has_marks(&rt, &core, &[3, 6]);
-    run(&rt, &mut core, alloc, &RELEASED[..1]);
-    has_marks(&rt, &core, &[6]);
-    run(&rt, &mut core, alloc, &RELEASED[1..]);
-    Ok(())
+    let parts = [
+        Part::Rows(&WRITTEN),
+        Part::Marks(&[3, 6]),
+        Part::Rows(&RELEASED[..1]),
+        Part::Marks(&[6]),
+        Part::Rows(&RELEASED[1..]),
+    ];
+    passes(&rt, SETTINGS, &BEGUN, &parts)
 }
 
 /// Writes of both marked blocks, sent and answered.
@@ -312,14 +311,14 @@ const SYNCED_BY_WRITES: [Row; 2] = [
 
 #[test]
 fn writes_alone_may_end_a_resync(rt: HostRuntime) -> Result<(), Fail> {
-    let alloc = rt.alloc();
-    let mut core = resyncing(&rt, alloc, SETTINGS)?;
-    run(&rt, &mut core, alloc, &BOTH);
-    has_marks(&rt, &core, &[3, 6]);
-    run(&rt, &mut core, alloc, &SYNCED_BY_WRITES);
-    has_marks(&rt, &core, &[]);
-    assert_eq!(rt; core.tuple(), SYNCED);
-    Ok(())
+    let parts = [
+        Part::Rows(&BOTH),
+        Part::Marks(&[3, 6]),
+        Part::Rows(&SYNCED_BY_WRITES),
+        Part::Marks(&[]),
+        Part::Holds(&[Fact::Tuple(SYNCED)]),
+    ];
+    passes(&rt, SETTINGS, &BEGUN, &parts)
 }
 
 /// An epoch of one write is acknowledged before the local disk has the write.
@@ -349,19 +348,19 @@ const ACKNOWLEDGED: [Row; 6] = [
 
 #[test]
 fn a_mark_waits_for_the_local_disk(rt: HostRuntime) -> Result<(), Fail> {
-    let alloc = rt.alloc();
     let settings = Settings {
         max_epoch: 1,
         ..SETTINGS
     };
-    let mut core = resyncing(&rt, alloc, settings)?;
-    run(&rt, &mut core, alloc, &ACKNOWLEDGED);
-    has_marks(&rt, &core, &[3, 6]);
     let local = [(
         Step::Local(3),
         Ok(Said::More(What::Nothing, Some(3), None, false)),
     )];
-    run(&rt, &mut core, alloc, &local);
-    has_marks(&rt, &core, &[6]);
-    Ok(())
+    let parts = [
+        Part::Rows(&ACKNOWLEDGED),
+        Part::Marks(&[3, 6]),
+        Part::Rows(&local),
+        Part::Marks(&[6]),
+    ];
+    passes(&rt, settings, &BEGUN, &parts)
 }

@@ -1,7 +1,5 @@
 //! The primary's half of the worked rows: writes, from their acceptance to their release.
-use crate::primary::{
-    DONE, Frame, OWN, PARTED, Row, SETTINGS, Said, Step, connected, has_marks, run,
-};
+use crate::primary::{DONE, Fact, Frame, OWN, PARTED, Part, Row, SETTINGS, Said, Step, connects};
 use blocks::{Command, Protocol, Refusal, Settings, What};
 use primary_core::Fate;
 use std::test::Fail;
@@ -61,26 +59,30 @@ const RELEASED: [Row; 4] = [
     (Step::Close, Ok(Said::Closed(0))),
 ];
 
+const COMPLETED: [Fact; 7] = [
+    Fact::Tuple(OWN),
+    Fact::Peer(Some(OWN)),
+    Fact::Unanswered(0),
+    Fact::OpenWrites(0),
+    Fact::OpenEpochs(1),
+    Fact::Unreleased(1),
+    Fact::Places(2),
+];
+
+const FREED: [Fact; 3] = [Fact::OpenEpochs(0), Fact::Unreleased(0), Fact::Accepted(1)];
+
 #[test]
 fn a_write_is_completed_once_both_disks_have_it(rt: HostRuntime) -> Result<(), Fail> {
-    let alloc = rt.alloc();
-    let mut core = connected(&rt, alloc, SETTINGS)?;
-    run(&rt, &mut core, alloc, &WRITTEN);
-    assert_eq!(rt; core.tuple(), OWN);
-    assert_eq!(rt; core.peer(), Some(OWN));
-    assert_eq!(rt; core.unanswered_writes(), 0);
-    assert_eq!(rt; core.open_writes(), 0);
-    assert_eq!(rt; core.open_epochs(), 1);
-    assert_eq!(rt; core.unreleased(), 1);
-    assert_eq!(rt; core.places(), 2);
-    run(&rt, &mut core, alloc, &RELEASED[..3]);
-    assert_eq!(rt; core.open_epochs(), 0);
-    assert_eq!(rt; core.unreleased(), 0);
-    assert_eq!(rt; core.accepted(), 1);
-    run(&rt, &mut core, alloc, &RELEASED[3..]);
-    has_marks(&rt, &core, &[]);
-    assert_eq!(rt; core.tuple(), PARTED);
-    Ok(())
+    let parts = [
+        Part::Rows(&WRITTEN),
+        Part::Holds(&COMPLETED),
+        Part::Rows(&RELEASED[..3]),
+        Part::Holds(&FREED),
+        Part::Rows(&RELEASED[3..]),
+        Part::Marks(&[]),
+        Part::Holds(&[Fact::Tuple(PARTED)]),
+    ];
+    connects(&rt, SETTINGS, &parts)
 }
 
 /// Under A a write is completed once the local disk has it and it is sent.
@@ -104,19 +106,23 @@ const DONE_FIRST: [Row; 3] = [
 
 #[test]
 fn a_sent_write_is_completed_without_an_answer(rt: HostRuntime) -> Result<(), Fail> {
-    let alloc = rt.alloc();
     let settings = Settings {
         protocol: Protocol::A,
         ..SETTINGS
     };
+    let facts = [
+        Fact::Unanswered(0),
+        Fact::OpenWrites(0),
+        Fact::Unreleased(1),
+    ];
     for rows in [&SENT_FIRST, &DONE_FIRST] {
-        let mut core = connected(&rt, alloc, settings)?;
-        run(&rt, &mut core, alloc, rows);
-        run(&rt, &mut core, alloc, &[BARRIER]);
-        assert_eq!(rt; core.unanswered_writes(), 0);
-        assert_eq!(rt; core.open_writes(), 0);
-        assert_eq!(rt; core.unreleased(), 1);
-        has_marks(&rt, &core, &[]);
+        let parts = [
+            Part::Rows(rows),
+            Part::Rows(&[BARRIER]),
+            Part::Holds(&facts),
+            Part::Marks(&[]),
+        ];
+        connects(&rt, settings, &parts)?;
     }
     Ok(())
 }
@@ -134,18 +140,18 @@ const RECEIVED: [Row; 4] = [
 
 #[test]
 fn a_completed_write_is_marked_where_it_was_not_acknowledged(rt: HostRuntime) -> Result<(), Fail> {
-    let alloc = rt.alloc();
     let settings = Settings {
         protocol: Protocol::B,
         ..SETTINGS
     };
-    let mut core = connected(&rt, alloc, settings)?;
-    run(&rt, &mut core, alloc, &RECEIVED);
-    has_marks(&rt, &core, &[]);
-    run(&rt, &mut core, alloc, &[(Step::Close, Ok(Said::Closed(0)))]);
-    has_marks(&rt, &core, &[2]);
-    assert_eq!(rt; core.tuple(), PARTED);
-    Ok(())
+    let parts = [
+        Part::Rows(&RECEIVED),
+        Part::Marks(&[]),
+        Part::Rows(&[(Step::Close, Ok(Said::Closed(0)))]),
+        Part::Marks(&[2]),
+        Part::Holds(&[Fact::Tuple(PARTED)]),
+    ];
+    connects(&rt, settings, &parts)
 }
 
 /// The completion ends the epoch: what comes then is behind its barrier.
@@ -176,13 +182,12 @@ const FOLLOWED: [Row; 8] = [
 
 #[test]
 fn a_conflict_ends_with_the_completion(rt: HostRuntime) -> Result<(), Fail> {
-    let alloc = rt.alloc();
-    let mut core = connected(&rt, alloc, SETTINGS)?;
-    run(&rt, &mut core, alloc, &FOLLOWED);
-    assert_eq!(rt; core.open_writes(), 1);
-    assert_eq!(rt; core.unanswered_writes(), 1);
-    assert_eq!(rt; core.open_epochs(), 2);
-    Ok(())
+    let facts = [
+        Fact::OpenWrites(1),
+        Fact::Unanswered(1),
+        Fact::OpenEpochs(2),
+    ];
+    connects(&rt, SETTINGS, &[Part::Rows(&FOLLOWED), Part::Holds(&facts)])
 }
 
 /// Two writes of one epoch, of which the second is completed first, and one of the next epoch.
@@ -237,12 +242,8 @@ const EPOCHS: [Row; 14] = [
 
 #[test]
 fn the_first_completion_ends_an_epoch(rt: HostRuntime) -> Result<(), Fail> {
-    let alloc = rt.alloc();
-    let mut core = connected(&rt, alloc, SETTINGS)?;
-    run(&rt, &mut core, alloc, &EPOCHS);
-    assert_eq!(rt; core.unreleased(), 1);
-    assert_eq!(rt; core.open_epochs(), 1);
-    Ok(())
+    let facts = [Fact::Unreleased(1), Fact::OpenEpochs(1)];
+    connects(&rt, SETTINGS, &[Part::Rows(&EPOCHS), Part::Holds(&facts)])
 }
 
 /// An epoch that is full has its barrier at once, and may be acknowledged before the local disk is done.
@@ -266,18 +267,21 @@ const FULL: [Row; 6] = [
 
 #[test]
 fn a_full_epoch_ends_with_a_barrier(rt: HostRuntime) -> Result<(), Fail> {
-    let alloc = rt.alloc();
     let settings = Settings {
         max_epoch: 1,
         ..SETTINGS
     };
-    let mut core = connected(&rt, alloc, settings)?;
-    run(&rt, &mut core, alloc, &FULL);
-    assert_eq!(rt; core.unanswered_writes(), 0);
-    assert_eq!(rt; core.open_writes(), 1);
-    assert_eq!(rt; core.open_epochs(), 0);
-    has_marks(&rt, &core, &[]);
-    run(&rt, &mut core, alloc, &[(Step::Close, Ok(Said::Closed(0)))]);
-    has_marks(&rt, &core, &[2]);
-    Ok(())
+    let facts = [
+        Fact::Unanswered(0),
+        Fact::OpenWrites(1),
+        Fact::OpenEpochs(0),
+    ];
+    let parts = [
+        Part::Rows(&FULL),
+        Part::Holds(&facts),
+        Part::Marks(&[]),
+        Part::Rows(&[(Step::Close, Ok(Said::Closed(0)))]),
+        Part::Marks(&[2]),
+    ];
+    connects(&rt, settings, &parts)
 }

@@ -5,9 +5,10 @@ ghost use Rattle.packets.specs.Spelling.{IsSpellable};
 use blocks::{Block, Command, Protocol, Refusal, Settings, Tuple, What};
 use bytes::Bytes;
 use packets::{Acknowledgement, Packet};
-use secondary_core::SecondaryCore;
+use secondary_core::{SecondaryCore, Usage};
 use std::alloc::Global;
 use std::process::Abort;
+use std::test::Fail;
 
 /// A frame, or the fault that stands in its place. Blocks are filled with AA.
 #[derive(Clone, Copy)]
@@ -56,6 +57,27 @@ pub(crate) enum Said {
 
 /// A step, and what it says or why it is refused.
 pub(crate) type Row = (Step, Result<Said, Refusal>);
+
+/// What a core holds.
+#[derive(Clone, Copy, Debug, PartialEq, Eq)]
+pub(crate) enum Fact {
+    /// The number of the connection.
+    Number(u32),
+    HelloDone(bool),
+    Open(bool),
+    Drained(bool),
+    Consistent(bool),
+    ItemsTaken(u32),
+    Tuple(Tuple),
+    Usage(Usage),
+}
+
+/// A part of a test. The tests are tables, since one function goes through all of them and is proved once.
+#[derive(Clone, Copy)]
+pub(crate) enum Part<'a> {
+    Rows(&'a [Row]),
+    Holds(&'a [Fact]),
+}
 
 /// What every disk begins with, where a row names nothing else.
 pub(crate) const OWN: Tuple = Tuple {
@@ -163,22 +185,60 @@ fn do_step(core: &mut SecondaryCore, alloc: Global, step: Step) -> Result<Said, 
     Ok(Said::Nothing)
 }
 
-/// Each step says what its row has.
-pub(crate) fn run(rt: &impl Abort, core: &mut SecondaryCore, alloc: Global, rows: &[Row]) {
+// Each step says what its row has.
+fn run(rt: &impl Abort, core: &mut SecondaryCore, alloc: Global, rows: &[Row]) {
     for (i, (given, wanted)) in rows.iter().enumerate() {
         assert_eq!(rt; do_step(core, alloc, *given), *wanted, "step {i}");
     }
 }
 
-/// A secondary on its first connection, whose hello is done.
-pub(crate) fn connected(
-    rt: &impl Abort,
-    alloc: Global,
+// The fact of the same kind that is true.
+fn true_fact(core: &SecondaryCore, fact: Fact) -> Fact {
+    match fact {
+        Fact::Number(_) => Fact::Number(core.number()),
+        Fact::HelloDone(_) => Fact::HelloDone(core.is_hello_done()),
+        Fact::Open(_) => Fact::Open(core.is_open()),
+        Fact::Drained(_) => Fact::Drained(core.is_drained()),
+        Fact::Consistent(_) => Fact::Consistent(core.is_consistent()),
+        Fact::ItemsTaken(_) => Fact::ItemsTaken(core.items_taken()),
+        Fact::Tuple(_) => Fact::Tuple(core.tuple()),
+        Fact::Usage(_) => Fact::Usage(core.usage()),
+    }
+}
+
+fn holds(rt: &impl Abort, core: &SecondaryCore, facts: &[Fact]) {
+    for fact in facts {
+        assert_eq!(rt; true_fact(core, *fact), *fact);
+    }
+}
+
+/// Goes through rows and then parts with a secondary that was never opened.
+pub(crate) fn passes(
+    rt: &(impl Abort + AllocGlobal),
     settings: Settings,
-) -> Result<SecondaryCore, Refusal> {
+    rows: &[Row],
+    parts: &[Part],
+) -> Result<(), Fail> {
+    let alloc = rt.alloc();
     let mut core = SecondaryCore::new(alloc, settings, OWN)?;
+    run(rt, &mut core, alloc, rows);
+    for part in parts {
+        match part {
+            Part::Rows(rows) => run(rt, &mut core, alloc, rows),
+            Part::Holds(facts) => holds(rt, &core, facts),
+        }
+    }
+    Ok(())
+}
+
+/// Goes through parts with a secondary on its first connection, whose hello is done.
+pub(crate) fn connects(
+    rt: &(impl Abort + AllocGlobal),
+    settings: Settings,
+    parts: &[Part],
+) -> Result<(), Fail> {
     let hello = Frame::Protocol(settings.protocol);
-    let rows = [
+    let greeting = [
         (Step::Open(1), Ok(Said::Nothing)),
         (Step::Take(hello), Ok(Said::Took(Command::Protocol, None))),
         (
@@ -194,6 +254,5 @@ pub(crate) fn connected(
         (Step::AckOut, Ok(Said::Sent(Command::Uuids, 0, 0))),
         (Step::AckOut, Err(Refusal::NothingThere)),
     ];
-    run(rt, &mut core, alloc, &rows);
-    Ok(core)
+    passes(rt, settings, &greeting, parts)
 }

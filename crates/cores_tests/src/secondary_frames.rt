@@ -1,7 +1,7 @@
 //! Frames that no primary sends: each is refused, and closes the end.
-use crate::secondary::{Frame, OWN, Row, SETTINGS, Said, Step, connected, run};
+use crate::secondary::{Fact, Frame, OWN, Part, Row, SETTINGS, Said, Step, connects, passes};
 use blocks::{Command, Protocol, Refusal, Tuple};
-use secondary_core::SecondaryCore;
+use std::process::Abort;
 use std::test::Fail;
 
 /// What the primary sends after a resync.
@@ -31,29 +31,23 @@ const FOREIGN: [(Frame, Refusal); 11] = [
     (Frame::Fault(Refusal::BadLength), Refusal::BadLength),
 ];
 
-/// The end is closed, and the write stays pending and is applied.
-const CLOSED: [Row; 5] = [
-    (Step::Take(Frame::Barrier(1)), Err(Refusal::NotConnected)),
-    (Step::AckOut, Err(Refusal::NotConnected)),
-    (Step::Close, Err(Refusal::NotConnected)),
-    (Step::Peer(0), Ok(Said::Nothing)),
-    (Step::Peer(0), Err(Refusal::UnknownJob)),
-];
-
 #[test]
 fn foreign_frames_after_the_hello(rt: HostRuntime) -> Result<(), Fail> {
-    let alloc = rt.alloc();
     for (frame, refusal) in FOREIGN {
-        let mut core = connected(&rt, alloc, SETTINGS)?;
         let rows = [
             (
                 Step::Take(Frame::Data(2, 1, 0)),
                 Ok(Said::Took(Command::Data, Some(0))),
             ),
             (Step::Take(frame), Err(refusal)),
+            // The end is closed, and the write stays pending and is applied.
+            (Step::Take(Frame::Barrier(1)), Err(Refusal::NotConnected)),
+            (Step::AckOut, Err(Refusal::NotConnected)),
+            (Step::Close, Err(Refusal::NotConnected)),
+            (Step::Peer(0), Ok(Said::Nothing)),
+            (Step::Peer(0), Err(Refusal::UnknownJob)),
         ];
-        run(&rt, &mut core, alloc, &rows);
-        run(&rt, &mut core, alloc, &CLOSED);
+        connects(&rt, SETTINGS, &[Part::Rows(&rows)])?;
     }
     Ok(())
 }
@@ -72,27 +66,34 @@ const SECOND: [(Frame, Refusal); 2] = [
     (Frame::Sizes(16), Refusal::OtherSize),
 ];
 
+const OPENING: [Row; 2] = [
+    (Step::Open(1), Ok(Said::Nothing)),
+    (
+        Step::Take(Frame::Protocol(Protocol::C)),
+        Ok(Said::Took(Command::Protocol, None)),
+    ),
+];
+
+// After these rows the frame is refused, and the end is closed.
+fn is_foreign(
+    rt: &(impl Abort + AllocGlobal),
+    before: &[Row],
+    (frame, refusal): (Frame, Refusal),
+) -> Result<(), Fail> {
+    let parts = [
+        Part::Rows(&[(Step::Take(frame), Err(refusal))]),
+        Part::Holds(&[Fact::Open(false)]),
+    ];
+    passes(rt, SETTINGS, before, &parts)
+}
+
 #[test]
 fn foreign_frames_in_the_hello(rt: HostRuntime) -> Result<(), Fail> {
-    let alloc = rt.alloc();
-    let opening = [
-        (Step::Open(1), Ok(Said::Nothing)),
-        (
-            Step::Take(Frame::Protocol(Protocol::C)),
-            Ok(Said::Took(Command::Protocol, None)),
-        ),
-    ];
-    for (frame, refusal) in FIRST {
-        let mut core = SecondaryCore::new(alloc, SETTINGS, OWN)?;
-        run(&rt, &mut core, alloc, &opening[..1]);
-        run(&rt, &mut core, alloc, &[(Step::Take(frame), Err(refusal))]);
-        assert!(rt; !core.is_open());
+    for row in FIRST {
+        is_foreign(&rt, &OPENING[..1], row)?;
     }
-    for (frame, refusal) in SECOND {
-        let mut core = SecondaryCore::new(alloc, SETTINGS, OWN)?;
-        run(&rt, &mut core, alloc, &opening);
-        run(&rt, &mut core, alloc, &[(Step::Take(frame), Err(refusal))]);
-        assert!(rt; !core.is_open());
+    for row in SECOND {
+        is_foreign(&rt, &OPENING, row)?;
     }
     Ok(())
 }

@@ -1,26 +1,22 @@
 //! The secondary's half of the worked rows.
-use crate::secondary::{Frame, OWN, Row, SETTINGS, Said, Step, connected, run};
+use crate::secondary::{Fact, Frame, Part, Row, SETTINGS, Said, Step, connects, passes};
 use blocks::{Command, Protocol, Refusal, Settings, Tuple};
-use secondary_core::{SecondaryCore, Usage};
+use secondary_core::Usage;
 use std::test::Fail;
 
 const DONE: Result<Said, Refusal> = Ok(Said::Nothing);
 
 #[test]
 fn an_end_opens_once(rt: HostRuntime) -> Result<(), Fail> {
-    let alloc = rt.alloc();
-    let mut core = SecondaryCore::new(alloc, SETTINGS, OWN)?;
     let rows = [
         (Step::Take(Frame::Sizes(8)), Err(Refusal::NotConnected)),
         (Step::AckOut, Err(Refusal::NotConnected)),
         (Step::Open(1), DONE),
         (Step::Open(2), Err(Refusal::NotDrained)),
     ];
-    run(&rt, &mut core, alloc, &rows);
-    assert_eq!(rt; core.number(), 1);
-    assert!(rt; !core.is_hello_done());
-    assert!(rt; connected(&rt, alloc, SETTINGS)?.is_hello_done());
-    Ok(())
+    let facts = [Fact::Number(1), Fact::HelloDone(false)];
+    passes(&rt, SETTINGS, &rows, &[Part::Holds(&facts)])?;
+    connects(&rt, SETTINGS, &[Part::Holds(&[Fact::HelloDone(true)])])
 }
 
 /// An item of the second epoch waits for both of the first.
@@ -55,16 +51,13 @@ const EPOCHS: [Row; 14] = [
 
 #[test]
 fn epochs_are_applied_in_order(rt: HostRuntime) -> Result<(), Fail> {
-    let alloc = rt.alloc();
-    let mut core = connected(&rt, alloc, SETTINGS)?;
-    run(&rt, &mut core, alloc, &EPOCHS);
     let usage = Usage {
         consistent: true,
         whole: 1,
         pending: 0,
     };
-    assert_eq!(rt; core.usage(), usage);
-    Ok(())
+    let facts = [Fact::Usage(usage)];
+    connects(&rt, SETTINGS, &[Part::Rows(&EPOCHS), Part::Holds(&facts)])
 }
 
 /// Under A nothing is acknowledged.
@@ -90,16 +83,13 @@ const RECEIVED: [Row; 4] = [
 
 #[test]
 fn each_protocol_acknowledges_its_way(rt: HostRuntime) -> Result<(), Fail> {
-    let alloc = rt.alloc();
     for (protocol, rows) in [(Protocol::A, &NEVER[..]), (Protocol::B, &RECEIVED[..])] {
         let settings = Settings {
             protocol,
             ..SETTINGS
         };
-        let mut core = connected(&rt, alloc, settings)?;
-        run(&rt, &mut core, alloc, rows);
-        assert_eq!(rt; core.is_open(), protocol == Protocol::A);
-        assert!(rt; core.is_drained());
+        let facts = [Fact::Open(protocol == Protocol::A), Fact::Drained(true)];
+        connects(&rt, settings, &[Part::Rows(rows), Part::Holds(&facts)])?;
     }
     Ok(())
 }
@@ -119,15 +109,12 @@ const REOPENED: [Row; 6] = [
 
 #[test]
 fn a_closed_end_keeps_its_items(rt: HostRuntime) -> Result<(), Fail> {
-    let alloc = rt.alloc();
     let settings = Settings {
         pending: 1,
         ..SETTINGS
     };
-    let mut core = connected(&rt, alloc, settings)?;
-    run(&rt, &mut core, alloc, &REOPENED);
-    assert_eq!(rt; core.items_taken(), 0);
-    Ok(())
+    let facts = [Fact::ItemsTaken(0)];
+    connects(&rt, settings, &[Part::Rows(&REOPENED), Part::Holds(&facts)])
 }
 
 const SYNCING: Tuple = Tuple {
@@ -174,20 +161,28 @@ const RESYNC: [Row; 9] = [
 
 #[test]
 fn a_resync_makes_it_consistent_again(rt: HostRuntime) -> Result<(), Fail> {
-    let alloc = rt.alloc();
-    let mut core = connected(&rt, alloc, SETTINGS)?;
-    run(&rt, &mut core, alloc, &RESYNC);
-    assert_eq!(rt; core.tuple(), SYNCING);
-    let before = core.usage();
-    assert!(rt; !before.consistent);
-    assert_eq!(rt; before.whole, 2);
+    let usage = Usage {
+        consistent: false,
+        whole: 2,
+        pending: 0,
+    };
     let end = [(
         Step::Take(Frame::Uuids(SYNCED)),
         Ok(Said::Took(Command::Uuids, Some(5))),
     )];
-    run(&rt, &mut core, alloc, &end);
-    assert_eq!(rt; core.tuple(), SYNCED);
-    assert!(rt; core.is_consistent());
-    assert_eq!(rt; core.usage().whole, 2);
-    Ok(())
+    let synced = Usage {
+        consistent: true,
+        ..usage
+    };
+    let parts = [
+        Part::Rows(&RESYNC),
+        Part::Holds(&[Fact::Tuple(SYNCING), Fact::Usage(usage)]),
+        Part::Rows(&end),
+        Part::Holds(&[
+            Fact::Tuple(SYNCED),
+            Fact::Consistent(true),
+            Fact::Usage(synced),
+        ]),
+    ];
+    connects(&rt, SETTINGS, &parts)
 }
