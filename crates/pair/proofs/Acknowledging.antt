@@ -1,13 +1,13 @@
 -- The primary takes a frame of the pair: its step, and that the pair is one afterwards.
-use Rattle.std.proofs.Common.{◌≡◌, ◌&&◌, ◌++◌, ◌∷◌, [], Bool, true, false, List, Option, Some, None, Result, refl, sym, ◌∙◌, ap, subst}
-use Rattle.std.specs.Prelude.{option_map, is_none, is_some}
+use Rattle.std.proofs.Common.{◌≡◌, ◌&&◌, ◌++◌, ◌∷◌, [], List, Option, Some, None, Result, sym, ◌∙◌, ap, subst}
+use Rattle.std.specs.Prelude.{option_map, is_none}
 use Rattle.blocks.specs.declared.refusal.Refusal.{Refusal}
 use Rattle.blocks.specs.declared.outcome.Done.{Done}
 use Rattle.blocks.specs.declared.outcome.Reply.TheVariants as reply
-use Rattle.endpoint.specs.Calls.{Takes, TookOne, is_starved, pushed_of, taken_of}
+use Rattle.endpoint.specs.Calls.{TookOne, is_starved, pushed_of, taken_of}
 use Rattle.endpoint.specs.Incoming.{IncomingState}
 use Rattle.endpoint.specs.Outgoing.{OutgoingState}
-use Rattle.endpoint.specs.Lending.{GivenOut, GivenBack, LaidBack, LaidIn, without_queue, with_queue, taking_from, empty_handed}
+use Rattle.endpoint.specs.Lending.{GivenOut, GivenBack, LaidBack, LaidIn, without_queue}
 use Rattle.link.specs.Directions.{QueueState}
 use Rattle.model.specs.Frames.{Packet, Received}
 use Rattle.model.specs.LocalRuns.{Takes as TakesFrame}

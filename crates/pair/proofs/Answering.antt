@@ -1,5 +1,5 @@
 -- What a call answered, as the pair's reply.
-use Rattle.std.proofs.Common.{◌≡◌, Bool, true, false, Result, Ok, Err, refl, sym, ◌∙◌, ap, subst}
+use Rattle.std.proofs.Common.{◌≡◌, false, Result, Ok, Err, refl, subst}
 use Rattle.blocks.specs.declared.refusal.Refusal.{Refusal}
 use Rattle.blocks.specs.declared.refusal.Refusal.TheVariants.{NoMemory}
 use Rattle.blocks.specs.declared.outcome.Done.{Done}

@@ -1,5 +1,5 @@
 -- Opening a pair: each way in which the call ends.
-use Rattle.std.proofs.Common.{ℕ, ◌≡◌, ◌<◌, Bool, true, false, not, Option, Some, None, Result, Ok, Err, refl, sym, ◌∙◌, ap, subst}
+use Rattle.std.proofs.Common.{ℕ, ◌≡◌, ◌<◌, Bool, true, false, not, Option, Some, Result, Ok, Err, refl, sym, ◌∙◌, ap, subst}
 use Rattle.blocks.specs.declared.refusal.Refusal.{Refusal}
 use Rattle.blocks.specs.declared.refusal.Refusal.TheVariants.{NoMemory}
 use Rattle.blocks.specs.declared.outcome.Done.{Done}
@@ -15,7 +15,7 @@ use Rattle.model.specs.Primary.{PrimaryHistory}
 use Rattle.model.specs.PrimarySteps.{open_primary, open_tests}
 use Rattle.model.specs.Refusals.{done_with, first_refusal}
 use Rattle.model.specs.Secondary.{SecondaryHistory, inward, is_drained}
-use Rattle.pair_steps.specs.State.{AreEnds, Direction, IsDirection, IsPairStep, PairHas, PairState}
+use Rattle.pair_steps.specs.State.{AreEnds, Direction, IsDirection, IsPairStep, PairHas}
 use Rattle.pair_steps.proofs.Keeping.{own-settings, same-settings}
 use Rattle.pair_steps.proofs.Opening.{not-opened, opened}
 use Rattle.primary_steps.specs.Node as primary
@@ -28,7 +28,6 @@ use Rattle.secondary.specs.State.{SecondaryView}
 use Rattle.secondary.specs.State as peer
 use Rattle.pair.specs.State.{PairView, IsPairView, state}
 use Rattle.pair.proofs.Opens.{counted, may-not, never-refused, no-link, past-first, was-refused}
-use Rattle.pair.proofs.Pairing.{view-kept}
 
 -- whatever would have been answered, memory was refused or not
 same-starved : (A B : Type 0) (e : Refusal) → is_starved {R = A} (Err e) ≡ is_starved {R = B} (Err e)

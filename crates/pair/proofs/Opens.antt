@@ -1,7 +1,6 @@
 -- Both ends of a pair open, or none.
-use Rattle.std.proofs.Common.{ℕ, zero, suc, ◌≡◌, ◌≤◌, ◌<◌, ◌-◌, nat_le, Bool, true, false, not, ◌&&◌, List, [], ◌∷◌, ◌++◌, length, Option, Some, None, Result, Ok, Err, refl, sym, ◌∙◌, ap, subst, arith}
+use Rattle.std.proofs.Common.{ℕ, ◌≡◌, ◌<◌, nat_le, Bool, true, false, not, ◌&&◌, [], ◌∷◌, length, Option, Some, None, Err, refl, sym, ◌∙◌, ap, arith}
 use Rattle.std.specs.Option.{option_map}
-use Rattle.std.specs.Prelude.{if◌then◌else◌}
 use Rattle.std.proofs.lemmas.Bool.Decides.{nat_tests}
 use Rattle.blocks.specs.Identifiers.{are_fresh}
 use Rattle.blocks.specs.declared.refusal.Refusal.{Refusal}
@@ -14,14 +13,13 @@ use Rattle.link.specs.Directions.{InState, OutState, IsUnused, room_in, frames_i
 use Rattle.endpoint.specs.Calls.{is_starved}
 use Rattle.endpoint.specs.Incoming.{incoming}
 use Rattle.endpoint.specs.Outgoing.{outgoing}
-use Rattle.model.specs.LocalRuns.{Opens, OpensToo}
-use Rattle.model.specs.Pair.{OpenEvent, PairHistory, open_pair_tests}
+use Rattle.model.specs.Pair.{PairHistory, open_pair_tests}
 use Rattle.model.specs.Primary.{PrimaryHistory, outward}
 use Rattle.model.specs.PrimarySteps.{known_tuples, open_primary, open_tests, opened, succeeding}
-use Rattle.model.specs.Refusals.{Test, done_with, first_refusal}
+use Rattle.model.specs.Refusals.{done_with, first_refusal}
 use Rattle.model.specs.Secondary.{SecondaryHistory, inward, is_drained}
 use Rattle.model.specs.SecondarySteps.{open_secondary, opened_secondary, succeeding_secondary}
-use Rattle.pair_steps.specs.State.{AreEnds, PairHas, PairState}
+use Rattle.pair_steps.specs.State.{AreEnds, PairHas}
 use Rattle.pair_steps.proofs.Rooms.{number-is}
 use Rattle.pair.specs.State.{PairView, state}
 

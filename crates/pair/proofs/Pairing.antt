@@ -1,12 +1,12 @@
 -- A call of one node, as the pair's: the step, and that the pair is one afterwards.
-use Rattle.std.proofs.Common.{ℕ, ◌≡◌, ◌<◌, ◌⊎◌, Bool, true, Option, Some, None, Result, Ok, Err, refl, sym, ◌∙◌, ap, subst}
+use Rattle.std.proofs.Common.{◌≡◌, Bool, true, Option, refl, sym, subst}
 use Rattle.blocks.specs.declared.outcome.Reply.{Reply}
 use Rattle.model.specs.Pair.{Event, PairHistory, on_primary, on_secondary, step}
 use Rattle.model.specs.Primary.{PrimaryHistory}
 use Rattle.model.specs.Secondary.{SecondaryHistory}
 use Rattle.endpoint.specs.Incoming.{IncomingState}
 use Rattle.endpoint.specs.Outgoing.{OutgoingState}
-use Rattle.pair_steps.specs.State.{Direction, IsDirection, IsPair, IsPairStep, PairHas, PairState}
+use Rattle.pair_steps.specs.State.{IsDirection, IsPairStep}
 use Rattle.pair_steps.proofs.Keeping.{pair-kept}
 use Rattle.pair_steps.proofs.Stepping.{on-primary, on-secondary}
 use Rattle.primary_steps.specs.Node as primary

@@ -1,5 +1,5 @@
 -- A node pushes a frame: the pair is one afterwards.
-use Rattle.std.proofs.Common.{◌≡◌, Bool, true, Option, Result, refl, sym, ◌∙◌, ap, subst}
+use Rattle.std.proofs.Common.{◌≡◌, true, Option, Result, refl, sym, subst}
 use Rattle.blocks.specs.declared.refusal.Refusal.{Refusal}
 use Rattle.blocks.specs.declared.outcome.Done.{Done}
 use Rattle.blocks.specs.declared.outcome.Reply.TheVariants as reply

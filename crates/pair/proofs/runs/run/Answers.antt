@@ -1,6 +1,5 @@
-use Rattle.std.proofs.Common.{ℕ, ◌≡◌, ◌+◌, ◌<◌, length, map, sym, subst, arith}
+use Rattle.std.proofs.Common.{◌≡◌, ◌+◌, length, map, sym, subst, arith}
 use Rattle.std.specs.Vec.{vec_capacity, vec_len}
-use Rattle.model.specs.Pair.{PairHistory}
 use Rattle.pair_steps.specs.State.{answered}
 use Rattle.pair_steps.proofs.Clauses.{has-clauses}
 use Rattle.pair_steps.proofs.Honest.{honest-kept}

@@ -1,4 +1,4 @@
-use Rattle.std.proofs.Common.{◌≡◌, ◌∙◌, sym, ap}
+use Rattle.std.proofs.Common.{◌∙◌, ap}
 use Rattle.secondary.specs.State.{SecondaryView}
 use Rattle.pair.proofs.Sending.{answer-step, answer-is}
 use Rattle.pair.proofs.pair.Pair.ack_out.Goals as goal

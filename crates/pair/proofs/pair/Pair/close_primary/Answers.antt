@@ -1,9 +1,8 @@
-use Rattle.std.proofs.Common.{◌≡◌, ◌∙◌, refl, sym, ap}
+use Rattle.std.proofs.Common.{◌∙◌, refl, ap}
 use Rattle.endpoint.specs.Calls.{is_starved}
 use Rattle.model.specs.Pair.{ClosePrimaryEvent}
 use Rattle.model.specs.PrimarySteps.{close_primary}
 use Rattle.primary.specs.State.{PrimaryView}
-use Rattle.pair.specs.State.{PairView}
 use Rattle.pair.proofs.Pairing.{primary-step, primary-is}
 use Rattle.pair.proofs.pair.Pair.close_primary.Goals as goal
 

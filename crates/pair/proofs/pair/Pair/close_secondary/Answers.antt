@@ -1,9 +1,8 @@
-use Rattle.std.proofs.Common.{◌≡◌, ◌∙◌, refl, sym, ap}
+use Rattle.std.proofs.Common.{◌∙◌, refl, ap}
 use Rattle.endpoint.specs.Calls.{is_starved}
 use Rattle.model.specs.Pair.{CloseSecondaryEvent}
 use Rattle.model.specs.SecondarySteps.{close_secondary}
 use Rattle.secondary.specs.State.{SecondaryView}
-use Rattle.pair.specs.State.{PairView}
 use Rattle.pair.proofs.Pairing.{secondary-step, secondary-is}
 use Rattle.pair.proofs.pair.Pair.close_secondary.Goals as goal
 

@@ -1,4 +1,3 @@
-use Rattle.std.proofs.Common.{◌≡◌}
 use Rattle.std.specs.Prelude.{replicate}
 use Rattle.model.specs.Rows.{words}
 use Rattle.pair.specs.State.{PairView, state}

@@ -1,13 +1,12 @@
-use Rattle.std.proofs.Common.{◌≡◌, ◌∙◌, ◌⊎◌, List, false, length, Result, Err, refl, sym, ap, subst}
+use Rattle.std.proofs.Common.{◌≡◌, ◌∙◌, ◌⊎◌, false, length, sym, ap, subst}
 use Rattle.std.specs.Prelude.{slice_get, unwrap_or}
 use Rattle.blocks.specs.Faults.{FaultState, is_steady}
 use Rattle.blocks.specs.SettingsRange.{IsInRange}
-use Rattle.blocks.specs.declared.refusal.Refusal.{Refusal}
 use Rattle.blocks.specs.declared.refusal.Refusal.TheVariants.{BadSetting, NoMemory}
 use Rattle.model.specs.Pair.{pair_opening}
 use Rattle.pair_steps.specs.State.{PairHas}
 use Rattle.pair.specs.Openings.{CanPair}
-use Rattle.pair.specs.State.{PairView, state}
+use Rattle.pair.specs.State.{state}
 use Rattle.pair.proofs.Parts.{handed-on, parts-are, parts-have, refused-there}
 use Rattle.pair.proofs.pair.Pair.from_parts.Goals as goal
 

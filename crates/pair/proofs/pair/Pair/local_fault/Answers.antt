@@ -1,9 +1,8 @@
-use Rattle.std.proofs.Common.{◌≡◌, ◌∙◌, refl, sym, ap}
+use Rattle.std.proofs.Common.{refl, ap}
 use Rattle.endpoint.specs.Calls.{is_starved}
 use Rattle.model.specs.Pair.{LocalFaultEvent}
 use Rattle.model.specs.Pair.{local_fault_kept}
 use Rattle.primary.specs.State.{PrimaryView}
-use Rattle.pair.specs.State.{PairView}
 use Rattle.pair.proofs.Pairing.{primary-step, primary-is}
 use Rattle.pair.proofs.pair.Pair.local_fault.Goals as goal
 

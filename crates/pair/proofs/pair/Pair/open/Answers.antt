@@ -1,13 +1,8 @@
-use Rattle.std.proofs.Common.{rules, ◌≡◌, ◌∙◌, Bool, true, false, not, Some, Result, Ok, Err, refl, sym, ap, subst}
-use Rattle.blocks.specs.declared.refusal.Refusal.TheVariants.{NoMemory}
-use Rattle.blocks.specs.declared.outcome.Done.{Done}
-use Rattle.pair_steps.specs.State.{Direction, IsDirection}
+use Rattle.std.proofs.Common.{rules, ◌≡◌, ◌∙◌, false, Err, ap}
 use Rattle.primary.specs.State.{PrimaryView}
 use Rattle.secondary.specs.State.{SecondaryView}
-use Rattle.pair.specs.State.{PairView, state}
 use Rattle.blocks.specs.declared.outcome.Reply.TheVariants as reply
 use Rattle.model.specs.Pair.{OpenEvent}
-use Rattle.pair_steps.specs.State.{AreEnds}
 use Rattle.pair.proofs.Opens.{new-ends}
 use Rattle.pair.proofs.Pairing.{view-kept}
 use Rattle.pair.proofs.Opening.{both-there, is-counted, never, not-opened-step, opened-step, own-link, refused-step, resized, short-step}

@@ -1,10 +1,9 @@
-use Rattle.std.proofs.Common.{◌≡◌, ◌∙◌, refl, sym, ap}
+use Rattle.std.proofs.Common.{refl, ap}
 use Rattle.endpoint.specs.Calls.{is_starved}
 use Rattle.model.specs.Pair.{PeerEvent}
 use Rattle.model.specs.SecondarySteps.{peer}
 use Rattle.pair.proofs.Steady.{in-fact}
 use Rattle.secondary.specs.State.{SecondaryView}
-use Rattle.pair.specs.State.{PairView}
 use Rattle.pair.proofs.Pairing.{secondary-step, secondary-is}
 use Rattle.pair.proofs.pair.Pair.peer.Goals as goal
 

@@ -1,9 +1,8 @@
-use Rattle.std.proofs.Common.{◌≡◌, ◌∙◌, refl, sym, ap}
+use Rattle.std.proofs.Common.{refl, ap}
 use Rattle.endpoint.specs.Calls.{is_starved}
 use Rattle.model.specs.Pair.{PeerFaultEvent}
 use Rattle.model.specs.Pair.{peer_fault_kept}
 use Rattle.secondary.specs.State.{SecondaryView}
-use Rattle.pair.specs.State.{PairView}
 use Rattle.pair.proofs.Pairing.{secondary-step, secondary-is}
 use Rattle.pair.proofs.pair.Pair.peer_fault.Goals as goal
 

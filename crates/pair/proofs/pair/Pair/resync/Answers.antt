@@ -1,10 +1,9 @@
-use Rattle.std.proofs.Common.{◌≡◌, ◌∙◌, refl, sym, ap}
+use Rattle.std.proofs.Common.{refl, ap}
 use Rattle.endpoint.specs.Calls.{is_starved}
 use Rattle.model.specs.Pair.{ResyncEvent}
 use Rattle.model.specs.PrimarySteps.{resync_next}
 use Rattle.pair.proofs.Steady.{in-fact}
 use Rattle.primary.specs.State.{PrimaryView}
-use Rattle.pair.specs.State.{PairView}
 use Rattle.pair.proofs.Pairing.{primary-step, primary-is}
 use Rattle.pair.proofs.pair.Pair.resync.Goals as goal
 

@@ -1,9 +1,8 @@
-use Rattle.std.proofs.Common.{◌≡◌, ◌∙◌, refl, sym, ap}
+use Rattle.std.proofs.Common.{refl, ap}
 use Rattle.endpoint.specs.Calls.{is_starved}
 use Rattle.model.specs.Pair.{ResyncFaultEvent}
 use Rattle.model.specs.PrimarySteps.{resync_fault}
 use Rattle.primary.specs.State.{PrimaryView}
-use Rattle.pair.specs.State.{PairView}
 use Rattle.pair.proofs.Pairing.{primary-step, primary-is}
 use Rattle.pair.proofs.pair.Pair.resync_fault.Goals as goal
 

@@ -1,4 +1,4 @@
-use Rattle.std.proofs.Common.{◌≡◌, ◌∙◌, sym, ap}
+use Rattle.std.proofs.Common.{◌∙◌, ap}
 use Rattle.primary.specs.State.{PrimaryView}
 use Rattle.pair.proofs.Sending.{send-step, send-is}
 use Rattle.pair.proofs.pair.Pair.send.Goals as goal

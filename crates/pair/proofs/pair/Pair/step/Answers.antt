@@ -1,5 +1,4 @@
-use Rattle.std.proofs.Common.{ℕ, ◌≡◌, ◌∙◌, Result, Ok, Err, sym, refl, ap}
-use Rattle.blocks.specs.declared.refusal.Refusal.{Refusal}
+use Rattle.std.proofs.Common.{ℕ, ◌∙◌, Err, sym, refl, ap}
 use Rattle.blocks.specs.declared.outcome.Done.{Done}
 use Rattle.blocks.specs.declared.outcome.Reply.TheVariants as reply
 use Rattle.primary_steps.specs.Steps as from_primary

@@ -1,10 +1,9 @@
-use Rattle.std.proofs.Common.{◌≡◌, ◌∙◌, refl, sym, ap}
+use Rattle.std.proofs.Common.{◌∙◌, refl, ap}
 use Rattle.endpoint.specs.Calls.{is_starved}
 use Rattle.model.specs.Pair.{SubmitEvent}
 use Rattle.model.specs.PrimarySteps.{submit}
 use Rattle.primary_steps.specs.Transitions.{whole_blocks}
 use Rattle.primary.specs.State.{PrimaryView}
-use Rattle.pair.specs.State.{PairView}
 use Rattle.pair.proofs.Pairing.{primary-step, primary-is}
 use Rattle.pair.proofs.pair.Pair.submit.Goals as goal
 
