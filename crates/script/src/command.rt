@@ -1,6 +1,6 @@
 //! The commands of a script.
 use crate::keys::Keys;
-use crate::number;
+use numbers::decimal;
 use pair::Side;
 
 /// The most blocks that a command submits: twice those of the largest write, so that a script can ask for too
@@ -92,12 +92,12 @@ impl Command {
                 Some(Command::Connect { sync, loss })
             }
             "submit" => Command::submit(rest),
-            "local" => Some(Command::Local(number::decimal(rest)?)),
+            "local" => Some(Command::Local(decimal(rest)?)),
             "localfail" => {
                 let (write, kept) = two_numbers(rest)?;
                 Some(Command::LocalFault(write, kept))
             }
-            "peer" => Some(Command::Peer(number::decimal(rest)?)),
+            "peer" => Some(Command::Peer(decimal(rest)?)),
             "peerfail" => {
                 let (place, kept) = two_numbers(rest)?;
                 Some(Command::PeerFault(place, kept))
@@ -112,9 +112,9 @@ impl Command {
     fn submit(words: &str) -> Option<Command> {
         let (first, words) = words.split_once(' ')?;
         let (count, byte) = words.split_once(' ')?;
-        let first = number::decimal(first)?;
-        let count = number::decimal(count)?;
-        let byte = number::byte(byte)?;
+        let first = decimal(first)?;
+        let count = decimal(count)?;
+        let byte = numbers::byte(byte)?;
         if count > MOST_BLOCKS {
             return None;
         }
@@ -126,7 +126,7 @@ impl Command {
     fn read(words: &str) -> Option<Command> {
         let (node, block) = words.split_once(' ')?;
         let side = side(node)?;
-        let block = number::decimal(block)?;
+        let block = decimal(block)?;
         Some(Command::Read { side, block })
     }
 }
@@ -142,5 +142,5 @@ fn side(word: &str) -> Option<Side> {
 
 fn two_numbers(words: &str) -> Option<(u64, u64)> {
     let (first, second) = words.split_once(' ')?;
-    Some((number::decimal(first)?, number::decimal(second)?))
+    Some((decimal(first)?, decimal(second)?))
 }

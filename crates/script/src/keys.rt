@@ -1,6 +1,6 @@
 //! The keys of `pair`.
-use crate::number;
 use blocks::{Protocol, Settings, Tuple};
+use numbers::decimal;
 
 /// What a pair is made with. A key that stands twice is no command, so each of them is noted.
 #[derive(Clone, Copy)]
@@ -124,7 +124,7 @@ fn protocol(value: &str) -> Option<Protocol> {
 
 /// A number. One that has more than 32 bits is as far out of every range as the greatest that has them.
 fn setting(value: &str) -> Option<u32> {
-    let number = number::decimal(value)?;
+    let number = decimal(value)?;
     Some(u32::try_from(number).unwrap_or(u32::MAX))
 }
 
@@ -134,9 +134,9 @@ fn tuple(value: &str) -> Option<Tuple> {
     let (bitmap, rest) = rest.split_once(',')?;
     let (first, second) = rest.split_once(',')?;
     Some(Tuple {
-        current: number::decimal(current)?,
-        bitmap: number::decimal(bitmap)?,
-        first_historical: number::decimal(first)?,
-        second_historical: number::decimal(second)?,
+        current: decimal(current)?,
+        bitmap: decimal(bitmap)?,
+        first_historical: decimal(first)?,
+        second_historical: decimal(second)?,
     })
 }

@@ -4,7 +4,6 @@
 mod command;
 mod interpreter;
 mod keys;
-mod number;
 mod print;
 mod reading;
 mod script;

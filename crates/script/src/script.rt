@@ -57,17 +57,6 @@ impl From<io::Error> for Stop {
     }
 }
 
-/// How far a script has come.
-#[derive(Drop)]
-enum Stage {
-    /// Its first command is still to come.
-    Begun,
-    /// Its pair could not be made.
-    Refused,
-    /// It has a pair.
-    Running(Pair),
-}
-
 /// Runs a script: reads all of it, and prints a line for each command. It answers the status: 0, 1 where the
 /// script cannot be read or is not UTF-8 or the output fails, and 2 for a line that stops it; then a line on `err`
 /// says why. A refusal is a result, and what was printed before an error stays.
@@ -97,54 +86,77 @@ pub fn script_on<R: Read, W: Write, E: Write>(
     }
 }
 
+/// Runs the lines up to the first command, which makes the pair, and then the rest over it.
 fn run_lines<W: Write>(alloc: Global, text: &str, out: &mut W) -> Result<(), Stop> {
-    let mut stage = Stage::Begun;
     for (index, line) in text.split('\n').enumerate() {
-        if line.is_empty() || line.starts_with('#') {
-            continue;
-        }
         let number = index + 1;
-        let Some(command) = Command::parse(line) else {
-            return Err(Stop::NotACommand(number));
-        };
-        stage = stage.after(alloc, number, command, out)?;
+        match command_of(number, line)? {
+            None => {}
+            Some(Command::Pair(keys)) => return run_with_pair(alloc, keys, text, number, out),
+            Some(_) => return Err(Stop::NoPair(number)),
+        }
     }
     Ok(())
 }
 
-impl Stage {
-    /// Runs the command of a line.
-    fn after<W: Write>(
-        self,
-        alloc: Global,
-        line: usize,
-        command: Command,
-        out: &mut W,
-    ) -> Result<Stage, Stop> {
-        match (self, command) {
-            (Stage::Begun, Command::Pair(keys)) => Ok(make_pair(alloc, keys, out)?),
-            (Stage::Running(_), Command::Pair(_)) => Err(Stop::SecondPair(line)),
-            (Stage::Running(mut pair), command) => {
-                perform(alloc, &mut pair, command, out)?;
-                Ok(Stage::Running(pair))
-            }
-            _ => Err(Stop::NoPair(line)),
+/// The command of a line. An empty line and a comment have none.
+fn command_of(number: usize, line: &str) -> Result<Option<Command>, Stop> {
+    if line.is_empty() || line.starts_with('#') {
+        return Ok(None);
+    }
+    match Command::parse(line) {
+        Some(command) => Ok(Some(command)),
+        None => Err(Stop::NotACommand(number)),
+    }
+}
+
+/// Makes the pair, with zero-filled disks, and runs the lines after the first `done` over it.
+fn run_with_pair<W: Write>(
+    alloc: Global,
+    keys: Keys,
+    text: &str,
+    done: usize,
+    out: &mut W,
+) -> Result<(), Stop> {
+    match zeroed(alloc, keys) {
+        Ok(mut pair) => {
+            writeln!(out, "pair ok")?;
+            run_commands(alloc, &mut pair, text, done, out)
+        }
+        Err(refusal) => {
+            print::refused(out, "pair", refusal)?;
+            end_without_pair(text, done)
         }
     }
 }
 
-/// Makes the pair, with zero-filled disks.
-fn make_pair<W: Write>(alloc: Global, keys: Keys, out: &mut W) -> io::Result<Stage> {
-    match zeroed(alloc, keys) {
-        Ok(pair) => {
-            writeln!(out, "pair ok")?;
-            Ok(Stage::Running(pair))
-        }
-        Err(refusal) => {
-            print::refused(out, "pair", refusal)?;
-            Ok(Stage::Refused)
+fn run_commands<W: Write>(
+    alloc: Global,
+    pair: &mut Pair,
+    text: &str,
+    done: usize,
+    out: &mut W,
+) -> Result<(), Stop> {
+    for (index, line) in text.split('\n').enumerate().skip(done) {
+        let number = index + 1;
+        match command_of(number, line)? {
+            None => {}
+            Some(Command::Pair(_)) => return Err(Stop::SecondPair(number)),
+            Some(command) => perform(alloc, pair, command, out)?,
         }
     }
+    Ok(())
+}
+
+/// No command can follow a pair that could not be made.
+fn end_without_pair(text: &str, done: usize) -> Result<(), Stop> {
+    for (index, line) in text.split('\n').enumerate().skip(done) {
+        let number = index + 1;
+        if command_of(number, line)?.is_some() {
+            return Err(Stop::NoPair(number));
+        }
+    }
+    Ok(())
 }
 
 /// A pair with zero-filled disks and no marks.

@@ -1,8 +1,8 @@
 -- Where the number so far with the next digit is too large, so is what all the digits spell.
 use Rattle.std.proofs.Common.{◌∙◌, sym, ap, arith}
-use Rattle.script.specs.Numbers.{decimal_from}
-use Rattle.script.proofs.Decimals.{too_large}
-use Rattle.script.proofs.number.decimal.Goals as goal
+use Rattle.numbers.specs.Numbers.{decimal_from}
+use Rattle.numbers.proofs.Decimals.{too_large}
+use Rattle.numbers.proofs.number.decimal.Goals as goal
 
 pub returns-in_err-checked_mul-clause-none : goal.returns-in_err-checked_mul-clause-none
 returns-in_err-checked_mul-clause-none c =

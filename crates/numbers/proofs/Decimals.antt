@@ -1,7 +1,7 @@
 -- Reading more digits makes a number no smaller.
 use Rattle.std.proofs.Common.{ℕ, ◌≡◌, ◌+◌, ◌*◌, ◌≤◌, ◌<◌, List, [], ◌∷◌, Option, Some, None, length, drop, get_or, suc, refl, sym, ◌∙◌, ap, arith, drop-cons}
 use Rattle.std.specs.Option.{option_and_then}
-use Rattle.script.specs.Numbers.{decimal_digit, decimal_from}
+use Rattle.numbers.specs.Numbers.{decimal_digit, decimal_from}
 
 step : (value n : ℕ) (digits : List ℕ) (digit : Option ℕ) → option_and_then (λ units. decimal_from (10 * value + units) digits) digit ≡ Some n → (units : ℕ) × (digit ≡ Some units) × (decimal_from (10 * value + units) digits ≡ Some n)
 step value n digits None h = cc

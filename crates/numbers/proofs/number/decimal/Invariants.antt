@@ -1,6 +1,6 @@
 use Rattle.std.proofs.Common.{◌≡◌, drop}
-use Rattle.script.specs.Numbers.{decimal_from}
-use Rattle.script.proofs.number.decimal.Given as goal
+use Rattle.numbers.specs.Numbers.{decimal_from}
+use Rattle.numbers.proofs.number.decimal.Given as goal
 
 -- what the digits that are left make of the number so far is what all of them spell
 abbrev pub invariant-loop-digit : goal.invariant-loop-digit
