@@ -1,0 +1,20 @@
+//! Tests of both nodes, by calls, over a link whose other end a test has: frames that no peer sends, each as its
+//! bytes.
+#![tactic(auto)]
+
+#[cfg(test)]
+mod either_end;
+#[cfg(test)]
+mod frames;
+#[cfg(test)]
+mod linked_primary;
+#[cfg(test)]
+mod linked_secondary;
+#[cfg(test)]
+mod other_end;
+#[cfg(test)]
+mod primary_frames;
+#[cfg(test)]
+mod replies;
+#[cfg(test)]
+mod secondary_frames;

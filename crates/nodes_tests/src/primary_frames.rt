@@ -1,0 +1,413 @@
+//! Frames that no secondary sends: each is refused, and closes the end with all that a close does.
+use crate::either_end::{FIRST, SECOND, THIRD, UNREADABLE};
+use crate::frames::{BARRIER_ACK_1, PROTOCOL_C, SIZES_8, Spelled, UUIDS_1, WRITE, WRITE_ACK};
+use crate::linked_primary::{After, Before, Row, State, Step, accepts, refuses};
+use crate::replies::{
+    Answer, BARRIER_ACK_WENT, BARRIER_WENT, CLOSED, DONE, NONE, NOTHING, OWN, PROTOCOL_WENT,
+    SIZES_WENT, UUIDS_WENT, WRITE_ACK_WENT, WRITE_WENT,
+};
+use blocks::{Command, Decision, Done, Refusal, Settings, Tuple, What};
+use primary::Kind;
+use std::test::Fail;
+
+/// Each comes once write 1 was sent.
+static FOREIGN: [(Spelled, Refusal); 7] = [
+    // The acknowledgement of write 2 in the place of write 1, of write 1 at place 1, and of 8192 bytes.
+    (
+        Spelled::Short(&[
+            0x83, 0x5A, 0, 0x16, 0, 0, 0, 0x18, 0, 0, 0, 0, 0, 0, 0, 0x10, 0, 0, 0, 0, 0, 0, 0, 2,
+            0, 0, 0x10, 0, 0, 0, 0, 0,
+        ]),
+        Refusal::UnknownAck,
+    ),
+    (
+        Spelled::Short(&[
+            0x83, 0x5A, 0, 0x16, 0, 0, 0, 0x18, 0, 0, 0, 0, 0, 0, 0, 0x10, 0, 0, 0, 0, 0, 0, 0, 1,
+            0, 0, 0x10, 0, 0, 0, 0, 1,
+        ]),
+        Refusal::UnknownAck,
+    ),
+    (
+        Spelled::Short(&[
+            0x83, 0x5A, 0, 0x16, 0, 0, 0, 0x18, 0, 0, 0, 0, 0, 0, 0, 0x10, 0, 0, 0, 0, 0, 0, 0, 1,
+            0, 0, 0x20, 0, 0, 0, 0, 0,
+        ]),
+        Refusal::UnknownAck,
+    ),
+    // The answer of another protocol, and that to block 3 of a resync, at place 1, where none goes on.
+    (
+        Spelled::Short(&[
+            0x83, 0x5A, 0, 0x15, 0, 0, 0, 0x18, 0, 0, 0, 0, 0, 0, 0, 0x10, 0, 0, 0, 0, 0, 0, 0, 1,
+            0, 0, 0x10, 0, 0, 0, 0, 0,
+        ]),
+        Refusal::UnknownAck,
+    ),
+    (
+        Spelled::Short(&[
+            0x83, 0x5A, 0, 0x17, 0, 0, 0, 0x18, 0, 0, 0, 0, 0, 0, 0, 0x18, 0, 0, 0, 0, 0, 0, 0, 0,
+            0, 0, 0x10, 0, 0, 0, 0, 1,
+        ]),
+        Refusal::UnknownAck,
+    ),
+    // The acknowledgement of a barrier that was not sent.
+    (BARRIER_ACK_1, Refusal::BadBarrierAck),
+    // No acknowledgement.
+    (WRITE, Refusal::BadCommand),
+];
+
+/// The acknowledgements of barrier 1 with an epoch of two writes, and of barrier 2, and a second one of write 1. Each comes
+/// once barrier 1 was sent, and write 1 was answered.
+static AGAIN: [(Spelled, Refusal); 3] = [
+    (
+        Spelled::Short(&[0x83, 0x5A, 0, 0x1C, 0, 0, 0, 8, 0, 0, 0, 1, 0, 0, 0, 2]),
+        Refusal::BadBarrierAck,
+    ),
+    (
+        Spelled::Short(&[0x83, 0x5A, 0, 0x1C, 0, 0, 0, 8, 0, 0, 0, 2, 0, 0, 0, 1]),
+        Refusal::BadBarrierAck,
+    ),
+    (WRITE_ACK, Refusal::UnknownAck),
+];
+
+/// The acknowledgement of barrier 1, before that of its write.
+static EARLY: [(Spelled, Refusal); 1] = [(BARRIER_ACK_1, Refusal::BadBarrierAck)];
+
+/// The peer's identifiers are 1,0,7,0, of which 7 is a word of this connection; 9,1,0,0, of a disk that is ahead; and
+/// 20,21,22,23, of one that has nothing to do with this.
+static IDENTIFIERS: [(Spelled, Refusal); 3] = [
+    (
+        Spelled::Short(&[
+            0x83, 0x5A, 0, 0x0C, 0, 0, 0, 0x20, 0, 0, 0, 0, 0, 0, 0, 1, 0, 0, 0, 0, 0, 0, 0, 0, 0,
+            0, 0, 0, 0, 0, 0, 7, 0, 0, 0, 0, 0, 0, 0, 0,
+        ]),
+        Refusal::UsedIdentifier,
+    ),
+    (
+        Spelled::Short(&[
+            0x83, 0x5A, 0, 0x0C, 0, 0, 0, 0x20, 0, 0, 0, 0, 0, 0, 0, 9, 0, 0, 0, 0, 0, 0, 0, 1, 0,
+            0, 0, 0, 0, 0, 0, 0, 0, 0, 0, 0, 0, 0, 0, 0,
+        ]),
+        Refusal::PrimaryStale,
+    ),
+    (
+        Spelled::Short(&[
+            0x83, 0x5A, 0, 0x0C, 0, 0, 0, 0x20, 0, 0, 0, 0, 0, 0, 0, 20, 0, 0, 0, 0, 0, 0, 0, 21,
+            0, 0, 0, 0, 0, 0, 0, 22, 0, 0, 0, 0, 0, 0, 0, 23,
+        ]),
+        Refusal::Unrelated,
+    ),
+];
+
+/// The peer's identifiers are as the disk's.
+const DECIDED: Answer = Ok(Done {
+    what: What::Decided(Decision::NoSync),
+    ..NOTHING
+});
+
+/// A hello.
+const GREETED: [Row; 6] = [
+    (Step::Send, PROTOCOL_WENT),
+    (Step::Send, SIZES_WENT),
+    (Step::Send, UUIDS_WENT),
+    (Step::AckIn, PROTOCOL_WENT),
+    (Step::AckIn, SIZES_WENT),
+    (Step::AckIn, DECIDED),
+];
+
+/// Write 1 of block 2 is sent, at place 0.
+const SENT: [Row; 2] = [
+    (
+        Step::Submit(2),
+        Ok(Done {
+            what: What::Write(1),
+            ..NOTHING
+        }),
+    ),
+    (Step::Send, WRITE_WENT),
+];
+
+/// The same where an epoch has one write.
+const SENT_AS_EPOCH: [Row; 3] = [
+    (
+        Step::Submit(2),
+        Ok(Done {
+            what: What::Write(1),
+            completed: None,
+            barrier: Some(1),
+            synced: false,
+        }),
+    ),
+    (Step::Send, WRITE_WENT),
+    (Step::Send, BARRIER_WENT),
+];
+
+/// The local disk has write 1.
+const WRITTEN: [Row; 1] = [(Step::Local(1), DONE)];
+
+/// That completes it.
+const COMPLETED: Answer = Ok(Done {
+    what: What::Nothing,
+    completed: Some(1),
+    ..NOTHING
+});
+
+/// That completes it, and ends its epoch.
+const COMPLETED_AND_ENDED: Answer = Ok(Done {
+    what: What::Nothing,
+    completed: Some(1),
+    barrier: Some(1),
+    synced: false,
+});
+
+/// The peer's disk has it too, which does the same.
+const ACKNOWLEDGED: Answer = Ok(Done {
+    what: What::Frame(Command::WriteAck, None),
+    completed: Some(1),
+    barrier: Some(1),
+    synced: false,
+});
+
+const ANSWERED: [Row; 2] = [(Step::AckIn, ACKNOWLEDGED), (Step::Send, BARRIER_WENT)];
+
+static NOTHING_HEARD: Before = Before {
+    settings: Settings::STANDARD,
+    heard: &[],
+    rows: &[],
+};
+
+static ONE_HEARD: Before = Before {
+    settings: Settings::STANDARD,
+    heard: &[PROTOCOL_C],
+    rows: &[&[(Step::AckIn, PROTOCOL_WENT)]],
+};
+
+static TWO_HEARD: Before = Before {
+    settings: Settings::STANDARD,
+    heard: &[PROTOCOL_C, SIZES_8],
+    rows: &[&[(Step::AckIn, PROTOCOL_WENT), (Step::AckIn, SIZES_WENT)]],
+};
+
+static WRITE_SENT: Before = Before {
+    settings: Settings::STANDARD,
+    heard: &[PROTOCOL_C, SIZES_8, UUIDS_1],
+    rows: &[&GREETED, &SENT],
+};
+
+static WRITE_SENT_AND_WRITTEN: Before = Before {
+    settings: Settings::STANDARD,
+    heard: &[PROTOCOL_C, SIZES_8, UUIDS_1],
+    rows: &[&GREETED, &SENT, &WRITTEN],
+};
+
+static EPOCH_SENT: Before = Before {
+    settings: Settings {
+        max_epoch: 1,
+        ..Settings::STANDARD
+    },
+    heard: &[PROTOCOL_C, SIZES_8, UUIDS_1],
+    rows: &[&GREETED, &SENT_AS_EPOCH],
+};
+
+static EPOCH_ANSWERED: Before = Before {
+    settings: Settings::STANDARD,
+    heard: &[PROTOCOL_C, SIZES_8, UUIDS_1, WRITE_ACK],
+    rows: &[&GREETED, &SENT, &WRITTEN, &ANSWERED],
+};
+
+/// The end is closed, block 2 is marked and no other, and the disk goes on under the word for a loss.
+const PARTED: State = State {
+    is_open: false,
+    stands: false,
+    is_resync: false,
+    tuple: Tuple {
+        current: 7,
+        bitmap: 1,
+        first_historical: 0,
+        second_historical: 0,
+    },
+    connections: 1,
+    accepted: 1,
+    incomplete: 0,
+    unanswered: 0,
+    open_epochs: 0,
+    marks: 1,
+    is_marked: true,
+};
+
+/// Write 1 is still open. The local disk has it then, and that completes it without the peer.
+static PARTED_BEFORE_IT_IS_WRITTEN: After = After {
+    behind: &[WRITE_ACK],
+    state: State {
+        incomplete: 1,
+        ..PARTED
+    },
+    rows: &[
+        (Step::Send, CLOSED),
+        (Step::AckIn, CLOSED),
+        (Step::Resync, CLOSED),
+        (Step::Close, CLOSED),
+        (Step::Local(1), COMPLETED),
+    ],
+    end: PARTED,
+    receipt: Ok((Kind::Alone, 2, 1, Some((1, 0)))),
+};
+
+/// Nothing is sent or taken over a closed end, though a frame waits that an open one would take.
+const NO_MORE: [Row; 5] = [
+    (Step::Send, CLOSED),
+    (Step::AckIn, CLOSED),
+    (Step::Resync, CLOSED),
+    (Step::Close, CLOSED),
+    (Step::Local(1), Err(Refusal::UnknownJob)),
+];
+
+/// The close completed write 1, which the local disk has, without the peer.
+static PARTED_ALONE: After = After {
+    behind: &[WRITE_ACK],
+    state: PARTED,
+    rows: &NO_MORE,
+    end: PARTED,
+    receipt: Ok((Kind::Alone, 2, 1, Some((1, 0)))),
+};
+
+/// Write 1 was completed by the peer's answer before.
+static PARTED_LINKED: After = After {
+    behind: &[BARRIER_ACK_1],
+    state: PARTED,
+    rows: &NO_MORE,
+    end: PARTED,
+    receipt: Ok((Kind::Linked, 2, 1, Some((1, 0)))),
+};
+
+/// The end is closed, and all else is as before the connection.
+const UNCHANGED: State = State {
+    tuple: OWN,
+    accepted: 0,
+    marks: 0,
+    is_marked: false,
+    ..PARTED
+};
+
+static HELLO_REFUSED: After = After {
+    behind: &[PROTOCOL_C, SIZES_8, UUIDS_1],
+    state: UNCHANGED,
+    rows: &NO_MORE,
+    end: UNCHANGED,
+    receipt: Err(Refusal::UnknownJob),
+};
+
+#[test]
+fn foreign_frames_close_the_end(rt: HostRuntime) -> Result<(), Fail> {
+    refuses(&rt, &WRITE_SENT, &FOREIGN, &PARTED_BEFORE_IT_IS_WRITTEN)?;
+    refuses(&rt, &WRITE_SENT_AND_WRITTEN, &FOREIGN, &PARTED_ALONE)
+}
+
+#[test]
+fn frames_that_are_no_packet_close_the_end(rt: HostRuntime) -> Result<(), Fail> {
+    refuses(&rt, &WRITE_SENT, &UNREADABLE, &PARTED_BEFORE_IT_IS_WRITTEN)
+}
+
+#[test]
+fn acknowledgements_out_of_turn_close_the_end(rt: HostRuntime) -> Result<(), Fail> {
+    refuses(&rt, &EPOCH_SENT, &EARLY, &PARTED_BEFORE_IT_IS_WRITTEN)?;
+    refuses(&rt, &EPOCH_ANSWERED, &AGAIN, &PARTED_LINKED)
+}
+
+#[test]
+fn a_refused_hello_changes_no_identifier(rt: HostRuntime) -> Result<(), Fail> {
+    refuses(&rt, &NOTHING_HEARD, &FIRST, &HELLO_REFUSED)?;
+    refuses(&rt, &ONE_HEARD, &SECOND, &HELLO_REFUSED)?;
+    refuses(&rt, &TWO_HEARD, &THIRD, &HELLO_REFUSED)?;
+    refuses(&rt, &TWO_HEARD, &IDENTIFIERS, &HELLO_REFUSED)
+}
+
+/// The end is open, and its stream stands. Write 1 is completed, and its epoch is not acknowledged.
+const STANDING: State = State {
+    is_open: true,
+    stands: true,
+    open_epochs: 1,
+    tuple: OWN,
+    marks: 0,
+    is_marked: false,
+    ..PARTED
+};
+
+/// The peer's disk has write 1, and the local disk has it then.
+static ANSWERED_BEFORE_IT_IS_WRITTEN: After = After {
+    behind: &[],
+    state: State {
+        incomplete: 1,
+        ..STANDING
+    },
+    rows: &[
+        (Step::AckIn, NONE),
+        (Step::Local(1), COMPLETED_AND_ENDED),
+        (Step::Send, BARRIER_WENT),
+        (Step::Send, NONE),
+    ],
+    end: STANDING,
+    receipt: Ok((Kind::Linked, 2, 1, Some((1, 0)))),
+};
+
+static ANSWERED_LAST: After = After {
+    behind: &[],
+    state: STANDING,
+    rows: &[(Step::Send, BARRIER_WENT), (Step::Send, NONE)],
+    end: STANDING,
+    receipt: Ok((Kind::Linked, 2, 1, Some((1, 0)))),
+};
+
+/// The peer acknowledges the epoch of write 1, which the local disk has last.
+static EPOCH_ENDS: After = After {
+    behind: &[BARRIER_ACK_1],
+    state: State {
+        incomplete: 1,
+        ..STANDING
+    },
+    rows: &[(Step::AckIn, BARRIER_ACK_WENT), (Step::Local(1), COMPLETED)],
+    end: State {
+        open_epochs: 0,
+        ..STANDING
+    },
+    receipt: Ok((Kind::Linked, 2, 1, Some((1, 0)))),
+};
+
+static EPOCH_ENDED: After = After {
+    behind: &[],
+    state: State {
+        open_epochs: 0,
+        ..STANDING
+    },
+    rows: &[(Step::AckIn, NONE), (Step::Send, NONE)],
+    end: State {
+        open_epochs: 0,
+        ..STANDING
+    },
+    receipt: Ok((Kind::Linked, 2, 1, Some((1, 0)))),
+};
+
+#[test]
+fn frames_in_their_turn_are_taken(rt: HostRuntime) -> Result<(), Fail> {
+    accepts(
+        &rt,
+        &WRITE_SENT,
+        WRITE_ACK,
+        WRITE_ACK_WENT,
+        &ANSWERED_BEFORE_IT_IS_WRITTEN,
+    )?;
+    accepts(
+        &rt,
+        &WRITE_SENT_AND_WRITTEN,
+        WRITE_ACK,
+        ACKNOWLEDGED,
+        &ANSWERED_LAST,
+    )?;
+    accepts(&rt, &EPOCH_SENT, WRITE_ACK, WRITE_ACK_WENT, &EPOCH_ENDS)?;
+    accepts(
+        &rt,
+        &EPOCH_ANSWERED,
+        BARRIER_ACK_1,
+        BARRIER_ACK_WENT,
+        &EPOCH_ENDED,
+    )
+}

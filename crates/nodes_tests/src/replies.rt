@@ -1,0 +1,71 @@
+//! What calls answer, as tables have it.
+use blocks::{Command, Done, Refusal, Tuple, What};
+
+/// What a call did, or why it is refused.
+pub(crate) type Answer = Result<Done, Refusal>;
+
+/// What has no name, and no more.
+pub(crate) const NOTHING: Done = Done {
+    what: What::Nothing,
+    completed: None,
+    barrier: None,
+    synced: false,
+};
+
+/// It did that.
+pub(crate) const DONE: Answer = Ok(NOTHING);
+
+/// The end is closed.
+pub(crate) const CLOSED: Answer = Err(Refusal::NotConnected);
+
+/// Nothing is due, or none came.
+pub(crate) const NONE: Answer = Err(Refusal::NothingThere);
+
+/// A frame of a hello went over the link.
+pub(crate) const PROTOCOL_WENT: Answer = Ok(Done {
+    what: What::Frame(Command::Protocol, None),
+    ..NOTHING
+});
+
+/// The one after it.
+pub(crate) const SIZES_WENT: Answer = Ok(Done {
+    what: What::Frame(Command::Sizes, None),
+    ..NOTHING
+});
+
+/// The last one.
+pub(crate) const UUIDS_WENT: Answer = Ok(Done {
+    what: What::Frame(Command::Uuids, None),
+    ..NOTHING
+});
+
+/// Write 1 went over the link, at place 0.
+pub(crate) const WRITE_WENT: Answer = Ok(Done {
+    what: What::Frame(Command::Data, Some(0)),
+    ..NOTHING
+});
+
+/// The barrier behind it.
+pub(crate) const BARRIER_WENT: Answer = Ok(Done {
+    what: What::Frame(Command::Barrier, Some(1)),
+    ..NOTHING
+});
+
+/// What went over the link is an acknowledgement of a write, or of a barrier.
+pub(crate) const WRITE_ACK_WENT: Answer = Ok(Done {
+    what: What::Frame(Command::WriteAck, None),
+    ..NOTHING
+});
+
+pub(crate) const BARRIER_ACK_WENT: Answer = Ok(Done {
+    what: What::Frame(Command::BarrierAck, None),
+    ..NOTHING
+});
+
+/// What every disk begins with.
+pub(crate) const OWN: Tuple = Tuple {
+    current: 1,
+    bitmap: 0,
+    first_historical: 0,
+    second_historical: 0,
+};
