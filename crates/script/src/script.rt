@@ -119,17 +119,12 @@ fn run_with_pair<W: Write>(
     out: &mut W,
 ) -> Result<(), Stop> {
     match zeroed(alloc, keys) {
-        Ok(mut pair) => {
-            writeln!(out, "pair ok")?;
-            run_commands(alloc, &mut pair, text, done, out)
-        }
-        Err(refusal) => {
-            print::refused(out, "pair", refusal)?;
-            end_without_pair(text, done)
-        }
+        Ok(mut pair) => run_commands(alloc, &mut pair, text, done, out),
+        Err(refusal) => end_without_pair(refusal, text, done, out),
     }
 }
 
+/// Tells that the pair was made, and runs the lines after the first `done` over it.
 fn run_commands<W: Write>(
     alloc: Global,
     pair: &mut Pair,
@@ -137,6 +132,7 @@ fn run_commands<W: Write>(
     done: usize,
     out: &mut W,
 ) -> Result<(), Stop> {
+    writeln!(out, "pair ok")?;
     for (index, line) in text.split('\n').enumerate().skip(done) {
         let number = index + 1;
         match command_of(number, line)? {
@@ -148,8 +144,14 @@ fn run_commands<W: Write>(
     Ok(())
 }
 
-/// No command can follow a pair that could not be made.
-fn end_without_pair(text: &str, done: usize) -> Result<(), Stop> {
+/// Tells why no pair was made. No command can follow it.
+fn end_without_pair<W: Write>(
+    refusal: Refusal,
+    text: &str,
+    done: usize,
+    out: &mut W,
+) -> Result<(), Stop> {
+    print::refused(out, "pair", refusal)?;
     for (index, line) in text.split('\n').enumerate().skip(done) {
         let number = index + 1;
         if command_of(number, line)?.is_some() {
