@@ -3,6 +3,8 @@
 #![tactic(auto)]
 
 #[cfg(test)]
+mod answers;
+#[cfg(test)]
 mod either_end;
 #[cfg(test)]
 mod frames;
@@ -14,7 +16,5 @@ mod linked_secondary;
 mod other_end;
 #[cfg(test)]
 mod primary_frames;
-#[cfg(test)]
-mod replies;
 #[cfg(test)]
 mod secondary_frames;

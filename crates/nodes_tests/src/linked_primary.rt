@@ -1,10 +1,10 @@
 //! A primary over a link whose other end the test has, and what is done to it, as tables have it.
+use crate::answers::{Answer, DONE, OWN, Spot, is_answered};
 use crate::frames::Spelled;
-use crate::other_end::told;
-use crate::replies::{Answer, DONE, OWN};
+use crate::other_end::{Frames, linked};
 use blocks::{Block, MemStore, Refusal, Settings, Tuple};
 use bytes::Bytes;
-use link::{PlainIn, PlainLink, PlainOut};
+use link::{PlainIn, PlainOut};
 use primary::{Kind, Primary};
 use std::alloc::Global;
 use std::process::Abort;
@@ -52,9 +52,8 @@ type Told = (Kind, u64, u64, Option<(u32, u32)>);
 /// What comes before a frame of the peer.
 pub(crate) struct Before {
     pub(crate) settings: Settings,
-    /// The frames that the peer sent before.
+    /// The frames that the peer sent before it.
     pub(crate) heard: &'static [Spelled],
-    /// What is done before it is taken.
     pub(crate) rows: &'static [&'static [Row]],
 }
 
@@ -72,6 +71,13 @@ pub(crate) struct After {
     pub(crate) receipt: Result<Told, Refusal>,
 }
 
+/// Frames each of which is answered so, in a primary of its own.
+pub(crate) struct Case {
+    pub(crate) before: &'static Before,
+    pub(crate) frames: &'static [(Spelled, Answer)],
+    pub(crate) after: &'static After,
+}
+
 // A primary over a zero-filled disk of 8 blocks, which was never opened.
 fn closed(alloc: Global, settings: Settings) -> Result<Linked, Refusal> {
     let disk = MemStore::zeroed(alloc, 8)?;
@@ -80,16 +86,9 @@ fn closed(alloc: Global, settings: Settings) -> Result<Linked, Refusal> {
 }
 
 // Opens the first connection, whose words are 5 and 7. These frames of the peer wait in its link.
-fn open(
-    node: &mut Linked,
-    alloc: Global,
-    before: &[Spelled],
-    frame: Spelled,
-    behind: &[Spelled],
-) -> Result<(), Refusal> {
-    let PlainLink { primary, secondary } = PlainLink::new(alloc, 64)?;
-    let queue = told(alloc, secondary.outward, before, frame, behind)?;
-    node.open(primary.outward, primary.inward, 5, 7)?;
+fn open(node: &mut Linked, alloc: Global, frames: Frames) -> Result<(), Refusal> {
+    let (ends, queue) = linked(alloc, frames)?;
+    node.open(ends.outward, ends.inward, 5, 7)?;
     node.lay_inward(queue);
     Ok(())
 }
@@ -137,73 +136,80 @@ fn receipt(node: &mut Linked) -> Result<Told, Refusal> {
     ))
 }
 
-// Each call says what its row has.
-fn run(rt: &impl Abort, node: &mut Linked, alloc: Global, at: usize, rows: &[Row]) {
+fn is_told(rt: &impl Abort, node: &mut Linked, spot: Spot, wanted: &Result<Told, Refusal>) {
+    assert_eq!(rt;
+        receipt(node),
+        *wanted,
+        "case {}, frame {}",
+        spot.case,
+        spot.frame
+    );
+}
+
+fn is(rt: &impl Abort, node: &Linked, spot: Spot, wanted: &State) {
+    assert_eq!(rt;
+        state_of(node),
+        *wanted,
+        "case {}, frame {}",
+        spot.case,
+        spot.frame
+    );
+}
+
+// Each call answers what its row has.
+fn run(
+    rt: &impl Abort,
+    (node, alloc): (&mut Linked, Global),
+    spot: Spot,
+    when: &'static str,
+    rows: &'static [Row],
+) {
     for (i, (step, wanted)) in rows.iter().enumerate() {
-        assert_eq!(rt;
-            do_step(node, alloc, *step),
-            *wanted,
-            "frame {at}, step {i}"
-        );
+        let answer = do_step(node, alloc, *step);
+        is_answered(rt, spot, (when, i), answer, *wanted);
     }
 }
 
-fn is(rt: &impl Abort, node: &Linked, at: usize, wanted: &State) {
-    assert_eq!(rt; state_of(node), *wanted, "frame {at}");
-}
-
-// The frame that comes next is answered so, after what is done before it and before what is done then.
 fn goes(
     rt: &impl Abort,
     (node, alloc): (&mut Linked, Global),
-    before: &'static Before,
-    (at, answer): (usize, Answer),
-    after: &'static After,
-) {
-    for rows in before.rows {
-        run(rt, node, alloc, at, rows);
+    spot: Spot,
+    case: &'static Case,
+    (frame, wanted): (Spelled, Answer),
+) -> Result<(), Refusal> {
+    let frames = Frames {
+        before: case.before.heard,
+        tested: frame,
+        behind: case.after.behind,
+    };
+    open(node, alloc, frames)?;
+    for rows in case.before.rows {
+        run(rt, (node, alloc), spot, "before", rows);
     }
-    run(rt, node, alloc, at, &[(Step::AckIn, answer)]);
-    is(rt, node, at, &after.state);
-    run(rt, node, alloc, at, after.rows);
-    is(rt, node, at, &after.end);
-    assert_eq!(rt; receipt(node), after.receipt, "frame {at}");
+    is_answered(rt, spot, ("tested", 0), node.ack_in(), wanted);
+    is(rt, node, spot, &case.after.state);
+    run(rt, (node, alloc), spot, "after", case.after.rows);
+    is(rt, node, spot, &case.after.end);
+    is_told(rt, node, spot, &case.after.receipt);
+    Ok(())
 }
 
 fn takes(
     rt: &(impl Abort + AllocGlobal),
-    before: &'static Before,
-    frame: Spelled,
-    answer: (usize, Answer),
-    after: &'static After,
+    spot: Spot,
+    case: &'static Case,
+    frame: (Spelled, Answer),
 ) -> Result<(), Refusal> {
-    let alloc = rt.alloc();
-    let mut node = closed(alloc, before.settings)?;
-    open(&mut node, alloc, before.heard, frame, after.behind)?;
-    goes(rt, (&mut node, alloc), before, answer, after);
-    Ok(())
+    let mut node = closed(rt.alloc(), case.before.settings)?;
+    goes(rt, (&mut node, rt.alloc()), spot, case, frame)
 }
 
-/// Each of these frames is refused so.
-pub(crate) fn refuses(
-    rt: &(impl Abort + AllocGlobal),
-    before: &'static Before,
-    frames: &'static [(Spelled, Refusal)],
-    after: &'static After,
-) -> Result<(), Fail> {
-    for (i, (frame, refusal)) in frames.iter().enumerate() {
-        takes(rt, before, *frame, (i, Err(*refusal)), after)?;
+/// Goes through the cases.
+pub(crate) fn passes(rt: &(impl Abort + AllocGlobal), cases: &'static [Case]) -> Result<(), Fail> {
+    for (i, case) in cases.iter().enumerate() {
+        for (j, frame) in case.frames.iter().enumerate() {
+            takes(rt, Spot { case: i, frame: j }, case, *frame)?;
+        }
     }
     Ok(())
-}
-
-/// This frame is answered so.
-pub(crate) fn accepts(
-    rt: &(impl Abort + AllocGlobal),
-    before: &'static Before,
-    frame: Spelled,
-    answer: Answer,
-    after: &'static After,
-) -> Result<(), Fail> {
-    Ok(takes(rt, before, frame, (0, answer), after)?)
 }

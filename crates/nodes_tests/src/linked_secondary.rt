@@ -1,9 +1,9 @@
 //! A secondary over a link whose other end the test has, and what is done to it, as tables have it.
+use crate::answers::{Answer, DONE, OWN, Spot, is_answered};
 use crate::frames::Spelled;
-use crate::other_end::told;
-use crate::replies::{Answer, DONE, OWN};
+use crate::other_end::{Frames, linked};
 use blocks::{Block, MemStore, Refusal, Settings, Tuple};
-use link::{PlainIn, PlainLink, PlainOut};
+use link::{PlainIn, PlainOut};
 use secondary::Secondary;
 use secondary_core::Usage;
 use std::alloc::Global;
@@ -42,9 +42,8 @@ pub(crate) struct State {
 
 /// What comes before a frame of the primary.
 pub(crate) struct Before {
-    /// The frames that the primary sent before.
+    /// The frames that the primary sent before it.
     pub(crate) heard: &'static [Spelled],
-    /// What is done before it is taken.
     pub(crate) rows: &'static [Row],
 }
 
@@ -62,6 +61,13 @@ pub(crate) struct After {
     pub(crate) disk: &'static [(u64, u8)],
 }
 
+/// Frames each of which is answered so, in a secondary of its own.
+pub(crate) struct Case {
+    pub(crate) before: &'static Before,
+    pub(crate) frames: &'static [(Spelled, Answer)],
+    pub(crate) after: &'static After,
+}
+
 // A secondary over a zero-filled disk of 8 blocks, which was never opened.
 fn closed(alloc: Global) -> Result<Linked, Refusal> {
     let disk = MemStore::zeroed(alloc, 8)?;
@@ -69,19 +75,12 @@ fn closed(alloc: Global) -> Result<Linked, Refusal> {
 }
 
 // Opens the end. These frames of the primary wait in its link.
-fn open(
-    node: &mut Linked,
-    alloc: Global,
-    before: &[Spelled],
-    frame: Spelled,
-    behind: &[Spelled],
-) -> Result<(), Refusal> {
+fn open(node: &mut Linked, alloc: Global, frames: Frames) -> Result<(), Refusal> {
     if node.number() == u32::MAX {
         return Err(Refusal::StreamFull);
     }
-    let PlainLink { primary, secondary } = PlainLink::new(alloc, 64)?;
-    let queue = told(alloc, primary.outward, before, frame, behind)?;
-    node.open(secondary.outward, secondary.inward)?;
+    let (ends, queue) = linked(alloc, frames)?;
+    node.open(ends.outward, ends.inward)?;
     node.lay_inward(queue);
     Ok(())
 }
@@ -111,76 +110,77 @@ fn state_of(node: &Linked) -> State {
     }
 }
 
-// Each call answers what its row has.
-fn run(rt: &impl Abort, node: &mut Linked, at: usize, rows: &[Row]) {
-    for (i, (step, wanted)) in rows.iter().enumerate() {
-        assert_eq!(rt; do_step(node, *step), *wanted, "frame {at}, step {i}");
-    }
+fn is(rt: &impl Abort, node: &Linked, spot: Spot, wanted: &State) {
+    assert_eq!(rt;
+        state_of(node),
+        *wanted,
+        "case {}, frame {}",
+        spot.case,
+        spot.frame
+    );
 }
 
-fn is(rt: &impl Abort, node: &Linked, at: usize, wanted: &State) {
-    assert_eq!(rt; state_of(node), *wanted, "frame {at}");
+fn is_filled(node: &mut Linked, block: u64, byte: u8) -> bool {
+    let mut read = [!byte; 4096];
+    node.read_block(Block(block), &mut read).is_ok() && read == [byte; 4096]
 }
 
-fn holds(rt: &impl Abort, node: &mut Linked, at: usize, blocks: &[(u64, u8)]) {
+fn holds(rt: &impl Abort, node: &mut Linked, spot: Spot, blocks: &'static [(u64, u8)]) {
     for (block, byte) in blocks {
-        let mut read = [!*byte; 4096];
-        let answer = node.read_block(Block(*block), &mut read);
-        let is_filled = answer.is_ok() && read.iter().all(|it| *it == *byte);
-        assert!(rt; is_filled, "frame {at}, block {block}");
+        let is_held = is_filled(node, *block, *byte);
+        assert!(rt;
+            is_held,
+            "case {}, frame {}: block {block}",
+            spot.case, spot.frame
+        );
     }
 }
 
-// The frame that comes next is answered so, after what is done before it and before what is done then.
+// Each call answers what its row has.
+fn run(rt: &impl Abort, node: &mut Linked, spot: Spot, when: &'static str, rows: &'static [Row]) {
+    for (i, (step, wanted)) in rows.iter().enumerate() {
+        is_answered(rt, spot, (when, i), do_step(node, *step), *wanted);
+    }
+}
+
 fn goes(
     rt: &impl Abort,
-    node: &mut Linked,
-    before: &'static Before,
-    (at, answer): (usize, Answer),
-    after: &'static After,
-) {
-    run(rt, node, at, before.rows);
-    run(rt, node, at, &[(Step::Receive, answer)]);
-    is(rt, node, at, &after.state);
-    run(rt, node, at, after.rows);
-    is(rt, node, at, &after.end);
-    holds(rt, node, at, after.disk);
+    (node, alloc): (&mut Linked, Global),
+    spot: Spot,
+    case: &'static Case,
+    (frame, wanted): (Spelled, Answer),
+) -> Result<(), Refusal> {
+    let frames = Frames {
+        before: case.before.heard,
+        tested: frame,
+        behind: case.after.behind,
+    };
+    open(node, alloc, frames)?;
+    run(rt, node, spot, "before", case.before.rows);
+    is_answered(rt, spot, ("tested", 0), node.receive(), wanted);
+    is(rt, node, spot, &case.after.state);
+    run(rt, node, spot, "after", case.after.rows);
+    is(rt, node, spot, &case.after.end);
+    holds(rt, node, spot, case.after.disk);
+    Ok(())
 }
 
 fn takes(
     rt: &(impl Abort + AllocGlobal),
-    before: &'static Before,
-    frame: Spelled,
-    answer: (usize, Answer),
-    after: &'static After,
+    spot: Spot,
+    case: &'static Case,
+    frame: (Spelled, Answer),
 ) -> Result<(), Refusal> {
-    let alloc = rt.alloc();
-    let mut node = closed(alloc)?;
-    open(&mut node, alloc, before.heard, frame, after.behind)?;
-    goes(rt, &mut node, before, answer, after);
-    Ok(())
+    let mut node = closed(rt.alloc())?;
+    goes(rt, (&mut node, rt.alloc()), spot, case, frame)
 }
 
-/// Each of these frames is refused so.
-pub(crate) fn refuses(
-    rt: &(impl Abort + AllocGlobal),
-    before: &'static Before,
-    frames: &'static [(Spelled, Refusal)],
-    after: &'static After,
-) -> Result<(), Fail> {
-    for (i, (frame, refusal)) in frames.iter().enumerate() {
-        takes(rt, before, *frame, (i, Err(*refusal)), after)?;
+/// Goes through the cases.
+pub(crate) fn passes(rt: &(impl Abort + AllocGlobal), cases: &'static [Case]) -> Result<(), Fail> {
+    for (i, case) in cases.iter().enumerate() {
+        for (j, frame) in case.frames.iter().enumerate() {
+            takes(rt, Spot { case: i, frame: j }, case, *frame)?;
+        }
     }
     Ok(())
-}
-
-/// This frame is answered so.
-pub(crate) fn accepts(
-    rt: &(impl Abort + AllocGlobal),
-    before: &'static Before,
-    frame: Spelled,
-    answer: Answer,
-    after: &'static After,
-) -> Result<(), Fail> {
-    Ok(takes(rt, before, frame, (0, answer), after)?)
 }

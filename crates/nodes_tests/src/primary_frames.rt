@@ -1,38 +1,38 @@
 //! Frames that no secondary sends: each is refused, and closes the end with all that a close does.
-use crate::either_end::{FIRST, SECOND, THIRD, UNREADABLE};
-use crate::frames::{BARRIER_ACK_1, PROTOCOL_C, SIZES_8, Spelled, UUIDS_1, WRITE, WRITE_ACK};
-use crate::linked_primary::{After, Before, Row, State, Step, accepts, refuses};
-use crate::replies::{
+use crate::answers::{
     Answer, BARRIER_ACK_WENT, BARRIER_WENT, CLOSED, DONE, NONE, NOTHING, OWN, PROTOCOL_WENT,
     SIZES_WENT, UUIDS_WENT, WRITE_ACK_WENT, WRITE_WENT,
 };
+use crate::either_end::{FIRST, SECOND, THIRD, UNREADABLE};
+use crate::frames::{BARRIER_ACK_1, PROTOCOL_C, SIZES_8, Spelled, UUIDS_1, WRITE, WRITE_ACK};
+use crate::linked_primary::{After, Before, Case, Row, State, Step, passes};
 use blocks::{Command, Decision, Done, Refusal, Settings, Tuple, What};
 use primary::Kind;
 use std::test::Fail;
 
 /// Each comes once write 1 was sent.
-static FOREIGN: [(Spelled, Refusal); 7] = [
+const FOREIGN: [(Spelled, Answer); 7] = [
     // The acknowledgement of write 2 in the place of write 1, of write 1 at place 1, and of 8192 bytes.
     (
         Spelled::Short(&[
             0x83, 0x5A, 0, 0x16, 0, 0, 0, 0x18, 0, 0, 0, 0, 0, 0, 0, 0x10, 0, 0, 0, 0, 0, 0, 0, 2,
             0, 0, 0x10, 0, 0, 0, 0, 0,
         ]),
-        Refusal::UnknownAck,
+        Err(Refusal::UnknownAck),
     ),
     (
         Spelled::Short(&[
             0x83, 0x5A, 0, 0x16, 0, 0, 0, 0x18, 0, 0, 0, 0, 0, 0, 0, 0x10, 0, 0, 0, 0, 0, 0, 0, 1,
             0, 0, 0x10, 0, 0, 0, 0, 1,
         ]),
-        Refusal::UnknownAck,
+        Err(Refusal::UnknownAck),
     ),
     (
         Spelled::Short(&[
             0x83, 0x5A, 0, 0x16, 0, 0, 0, 0x18, 0, 0, 0, 0, 0, 0, 0, 0x10, 0, 0, 0, 0, 0, 0, 0, 1,
             0, 0, 0x20, 0, 0, 0, 0, 0,
         ]),
-        Refusal::UnknownAck,
+        Err(Refusal::UnknownAck),
     ),
     // The answer of another protocol, and that to block 3 of a resync, at place 1, where none goes on.
     (
@@ -40,61 +40,61 @@ static FOREIGN: [(Spelled, Refusal); 7] = [
             0x83, 0x5A, 0, 0x15, 0, 0, 0, 0x18, 0, 0, 0, 0, 0, 0, 0, 0x10, 0, 0, 0, 0, 0, 0, 0, 1,
             0, 0, 0x10, 0, 0, 0, 0, 0,
         ]),
-        Refusal::UnknownAck,
+        Err(Refusal::UnknownAck),
     ),
     (
         Spelled::Short(&[
             0x83, 0x5A, 0, 0x17, 0, 0, 0, 0x18, 0, 0, 0, 0, 0, 0, 0, 0x18, 0, 0, 0, 0, 0, 0, 0, 0,
             0, 0, 0x10, 0, 0, 0, 0, 1,
         ]),
-        Refusal::UnknownAck,
+        Err(Refusal::UnknownAck),
     ),
     // The acknowledgement of a barrier that was not sent.
-    (BARRIER_ACK_1, Refusal::BadBarrierAck),
+    (BARRIER_ACK_1, Err(Refusal::BadBarrierAck)),
     // No acknowledgement.
-    (WRITE, Refusal::BadCommand),
+    (WRITE, Err(Refusal::BadCommand)),
 ];
 
 /// The acknowledgements of barrier 1 with an epoch of two writes, and of barrier 2, and a second one of write 1. Each comes
 /// once barrier 1 was sent, and write 1 was answered.
-static AGAIN: [(Spelled, Refusal); 3] = [
+const AGAIN: [(Spelled, Answer); 3] = [
     (
         Spelled::Short(&[0x83, 0x5A, 0, 0x1C, 0, 0, 0, 8, 0, 0, 0, 1, 0, 0, 0, 2]),
-        Refusal::BadBarrierAck,
+        Err(Refusal::BadBarrierAck),
     ),
     (
         Spelled::Short(&[0x83, 0x5A, 0, 0x1C, 0, 0, 0, 8, 0, 0, 0, 2, 0, 0, 0, 1]),
-        Refusal::BadBarrierAck,
+        Err(Refusal::BadBarrierAck),
     ),
-    (WRITE_ACK, Refusal::UnknownAck),
+    (WRITE_ACK, Err(Refusal::UnknownAck)),
 ];
 
 /// The acknowledgement of barrier 1, before that of its write.
-static EARLY: [(Spelled, Refusal); 1] = [(BARRIER_ACK_1, Refusal::BadBarrierAck)];
+const EARLY: [(Spelled, Answer); 1] = [(BARRIER_ACK_1, Err(Refusal::BadBarrierAck))];
 
 /// The peer's identifiers are 1,0,7,0, of which 7 is a word of this connection; 9,1,0,0, of a disk that is ahead; and
 /// 20,21,22,23, of one that has nothing to do with this.
-static IDENTIFIERS: [(Spelled, Refusal); 3] = [
+const IDENTIFIERS: [(Spelled, Answer); 3] = [
     (
         Spelled::Short(&[
             0x83, 0x5A, 0, 0x0C, 0, 0, 0, 0x20, 0, 0, 0, 0, 0, 0, 0, 1, 0, 0, 0, 0, 0, 0, 0, 0, 0,
             0, 0, 0, 0, 0, 0, 7, 0, 0, 0, 0, 0, 0, 0, 0,
         ]),
-        Refusal::UsedIdentifier,
+        Err(Refusal::UsedIdentifier),
     ),
     (
         Spelled::Short(&[
             0x83, 0x5A, 0, 0x0C, 0, 0, 0, 0x20, 0, 0, 0, 0, 0, 0, 0, 9, 0, 0, 0, 0, 0, 0, 0, 1, 0,
             0, 0, 0, 0, 0, 0, 0, 0, 0, 0, 0, 0, 0, 0, 0,
         ]),
-        Refusal::PrimaryStale,
+        Err(Refusal::PrimaryStale),
     ),
     (
         Spelled::Short(&[
             0x83, 0x5A, 0, 0x0C, 0, 0, 0, 0x20, 0, 0, 0, 0, 0, 0, 0, 20, 0, 0, 0, 0, 0, 0, 0, 21,
             0, 0, 0, 0, 0, 0, 0, 22, 0, 0, 0, 0, 0, 0, 0, 23,
         ]),
-        Refusal::Unrelated,
+        Err(Refusal::Unrelated),
     ),
 ];
 
@@ -169,37 +169,37 @@ const ACKNOWLEDGED: Answer = Ok(Done {
 
 const ANSWERED: [Row; 2] = [(Step::AckIn, ACKNOWLEDGED), (Step::Send, BARRIER_WENT)];
 
-static NOTHING_HEARD: Before = Before {
+const NOTHING_HEARD: Before = Before {
     settings: Settings::STANDARD,
     heard: &[],
     rows: &[],
 };
 
-static ONE_HEARD: Before = Before {
+const ONE_HEARD: Before = Before {
     settings: Settings::STANDARD,
     heard: &[PROTOCOL_C],
     rows: &[&[(Step::AckIn, PROTOCOL_WENT)]],
 };
 
-static TWO_HEARD: Before = Before {
+const TWO_HEARD: Before = Before {
     settings: Settings::STANDARD,
     heard: &[PROTOCOL_C, SIZES_8],
     rows: &[&[(Step::AckIn, PROTOCOL_WENT), (Step::AckIn, SIZES_WENT)]],
 };
 
-static WRITE_SENT: Before = Before {
+const WRITE_SENT: Before = Before {
     settings: Settings::STANDARD,
     heard: &[PROTOCOL_C, SIZES_8, UUIDS_1],
     rows: &[&GREETED, &SENT],
 };
 
-static WRITE_SENT_AND_WRITTEN: Before = Before {
+const WRITE_SENT_AND_WRITTEN: Before = Before {
     settings: Settings::STANDARD,
     heard: &[PROTOCOL_C, SIZES_8, UUIDS_1],
     rows: &[&GREETED, &SENT, &WRITTEN],
 };
 
-static EPOCH_SENT: Before = Before {
+const EPOCH_SENT: Before = Before {
     settings: Settings {
         max_epoch: 1,
         ..Settings::STANDARD
@@ -208,7 +208,7 @@ static EPOCH_SENT: Before = Before {
     rows: &[&GREETED, &SENT_AS_EPOCH],
 };
 
-static EPOCH_ANSWERED: Before = Before {
+const EPOCH_ANSWERED: Before = Before {
     settings: Settings::STANDARD,
     heard: &[PROTOCOL_C, SIZES_8, UUIDS_1, WRITE_ACK],
     rows: &[&GREETED, &SENT, &WRITTEN, &ANSWERED],
@@ -235,7 +235,7 @@ const PARTED: State = State {
 };
 
 /// Write 1 is still open. The local disk has it then, and that completes it without the peer.
-static PARTED_BEFORE_IT_IS_WRITTEN: After = After {
+const PARTED_BEFORE_IT_IS_WRITTEN: After = After {
     behind: &[WRITE_ACK],
     state: State {
         incomplete: 1,
@@ -262,7 +262,7 @@ const NO_MORE: [Row; 5] = [
 ];
 
 /// The close completed write 1, which the local disk has, without the peer.
-static PARTED_ALONE: After = After {
+const PARTED_ALONE: After = After {
     behind: &[WRITE_ACK],
     state: PARTED,
     rows: &NO_MORE,
@@ -271,7 +271,7 @@ static PARTED_ALONE: After = After {
 };
 
 /// Write 1 was completed by the peer's answer before.
-static PARTED_LINKED: After = After {
+const PARTED_LINKED: After = After {
     behind: &[BARRIER_ACK_1],
     state: PARTED,
     rows: &NO_MORE,
@@ -288,7 +288,7 @@ const UNCHANGED: State = State {
     ..PARTED
 };
 
-static HELLO_REFUSED: After = After {
+const HELLO_REFUSED: After = After {
     behind: &[PROTOCOL_C, SIZES_8, UUIDS_1],
     state: UNCHANGED,
     rows: &NO_MORE,
@@ -296,29 +296,65 @@ static HELLO_REFUSED: After = After {
     receipt: Err(Refusal::UnknownJob),
 };
 
+static FOREIGN_FRAMES: [Case; 5] = [
+    Case {
+        before: &WRITE_SENT,
+        frames: &FOREIGN,
+        after: &PARTED_BEFORE_IT_IS_WRITTEN,
+    },
+    Case {
+        before: &WRITE_SENT_AND_WRITTEN,
+        frames: &FOREIGN,
+        after: &PARTED_ALONE,
+    },
+    Case {
+        before: &EPOCH_SENT,
+        frames: &EARLY,
+        after: &PARTED_BEFORE_IT_IS_WRITTEN,
+    },
+    Case {
+        before: &EPOCH_ANSWERED,
+        frames: &AGAIN,
+        after: &PARTED_LINKED,
+    },
+    Case {
+        before: &WRITE_SENT,
+        frames: &UNREADABLE,
+        after: &PARTED_BEFORE_IT_IS_WRITTEN,
+    },
+];
+
 #[test]
 fn foreign_frames_close_the_end(rt: HostRuntime) -> Result<(), Fail> {
-    refuses(&rt, &WRITE_SENT, &FOREIGN, &PARTED_BEFORE_IT_IS_WRITTEN)?;
-    refuses(&rt, &WRITE_SENT_AND_WRITTEN, &FOREIGN, &PARTED_ALONE)
+    passes(&rt, &FOREIGN_FRAMES)
 }
 
-#[test]
-fn frames_that_are_no_packet_close_the_end(rt: HostRuntime) -> Result<(), Fail> {
-    refuses(&rt, &WRITE_SENT, &UNREADABLE, &PARTED_BEFORE_IT_IS_WRITTEN)
-}
-
-#[test]
-fn acknowledgements_out_of_turn_close_the_end(rt: HostRuntime) -> Result<(), Fail> {
-    refuses(&rt, &EPOCH_SENT, &EARLY, &PARTED_BEFORE_IT_IS_WRITTEN)?;
-    refuses(&rt, &EPOCH_ANSWERED, &AGAIN, &PARTED_LINKED)
-}
+static HELLOS: [Case; 4] = [
+    Case {
+        before: &NOTHING_HEARD,
+        frames: &FIRST,
+        after: &HELLO_REFUSED,
+    },
+    Case {
+        before: &ONE_HEARD,
+        frames: &SECOND,
+        after: &HELLO_REFUSED,
+    },
+    Case {
+        before: &TWO_HEARD,
+        frames: &THIRD,
+        after: &HELLO_REFUSED,
+    },
+    Case {
+        before: &TWO_HEARD,
+        frames: &IDENTIFIERS,
+        after: &HELLO_REFUSED,
+    },
+];
 
 #[test]
 fn a_refused_hello_changes_no_identifier(rt: HostRuntime) -> Result<(), Fail> {
-    refuses(&rt, &NOTHING_HEARD, &FIRST, &HELLO_REFUSED)?;
-    refuses(&rt, &ONE_HEARD, &SECOND, &HELLO_REFUSED)?;
-    refuses(&rt, &TWO_HEARD, &THIRD, &HELLO_REFUSED)?;
-    refuses(&rt, &TWO_HEARD, &IDENTIFIERS, &HELLO_REFUSED)
+    passes(&rt, &HELLOS)
 }
 
 /// The end is open, and its stream stands. Write 1 is completed, and its epoch is not acknowledged.
@@ -333,7 +369,7 @@ const STANDING: State = State {
 };
 
 /// The peer's disk has write 1, and the local disk has it then.
-static ANSWERED_BEFORE_IT_IS_WRITTEN: After = After {
+const ANSWERED_BEFORE_IT_IS_WRITTEN: After = After {
     behind: &[],
     state: State {
         incomplete: 1,
@@ -349,7 +385,7 @@ static ANSWERED_BEFORE_IT_IS_WRITTEN: After = After {
     receipt: Ok((Kind::Linked, 2, 1, Some((1, 0)))),
 };
 
-static ANSWERED_LAST: After = After {
+const ANSWERED_LAST: After = After {
     behind: &[],
     state: STANDING,
     rows: &[(Step::Send, BARRIER_WENT), (Step::Send, NONE)],
@@ -358,7 +394,7 @@ static ANSWERED_LAST: After = After {
 };
 
 /// The peer acknowledges the epoch of write 1, which the local disk has last.
-static EPOCH_ENDS: After = After {
+const EPOCH_ENDS: After = After {
     behind: &[BARRIER_ACK_1],
     state: State {
         incomplete: 1,
@@ -372,7 +408,7 @@ static EPOCH_ENDS: After = After {
     receipt: Ok((Kind::Linked, 2, 1, Some((1, 0)))),
 };
 
-static EPOCH_ENDED: After = After {
+const EPOCH_ENDED: After = After {
     behind: &[],
     state: State {
         open_epochs: 0,
@@ -386,28 +422,30 @@ static EPOCH_ENDED: After = After {
     receipt: Ok((Kind::Linked, 2, 1, Some((1, 0)))),
 };
 
+static RIGHT_FRAMES: [Case; 4] = [
+    Case {
+        before: &WRITE_SENT,
+        frames: &[(WRITE_ACK, WRITE_ACK_WENT)],
+        after: &ANSWERED_BEFORE_IT_IS_WRITTEN,
+    },
+    Case {
+        before: &WRITE_SENT_AND_WRITTEN,
+        frames: &[(WRITE_ACK, ACKNOWLEDGED)],
+        after: &ANSWERED_LAST,
+    },
+    Case {
+        before: &EPOCH_SENT,
+        frames: &[(WRITE_ACK, WRITE_ACK_WENT)],
+        after: &EPOCH_ENDS,
+    },
+    Case {
+        before: &EPOCH_ANSWERED,
+        frames: &[(BARRIER_ACK_1, BARRIER_ACK_WENT)],
+        after: &EPOCH_ENDED,
+    },
+];
+
 #[test]
 fn frames_in_their_turn_are_taken(rt: HostRuntime) -> Result<(), Fail> {
-    accepts(
-        &rt,
-        &WRITE_SENT,
-        WRITE_ACK,
-        WRITE_ACK_WENT,
-        &ANSWERED_BEFORE_IT_IS_WRITTEN,
-    )?;
-    accepts(
-        &rt,
-        &WRITE_SENT_AND_WRITTEN,
-        WRITE_ACK,
-        ACKNOWLEDGED,
-        &ANSWERED_LAST,
-    )?;
-    accepts(&rt, &EPOCH_SENT, WRITE_ACK, WRITE_ACK_WENT, &EPOCH_ENDS)?;
-    accepts(
-        &rt,
-        &EPOCH_ANSWERED,
-        BARRIER_ACK_1,
-        BARRIER_ACK_WENT,
-        &EPOCH_ENDED,
-    )
+    passes(&rt, &RIGHT_FRAMES)
 }

@@ -1,19 +1,19 @@
 //! Frames that no primary sends: each is refused, and closes the end; what was taken before stays, and is applied.
+use crate::answers::{
+    Answer, BARRIER_ACK_WENT, BARRIER_WENT, CLOSED, DONE, NONE, NOTHING, OWN, PROTOCOL_WENT,
+    SIZES_WENT, UUIDS_WENT, WRITE_ACK_WENT, WRITE_WENT,
+};
 use crate::either_end::{FIRST, SECOND, THIRD, UNREADABLE};
 use crate::frames::{
     BARRIER_1, PROTOCOL_C, RESYNC, SIZES_8, Spelled, UUIDS_1, UUIDS_7_0_9_1, WRITE, WRITE_ACK,
 };
-use crate::linked_secondary::{After, Before, Row, State, Step, accepts, refuses};
-use crate::replies::{
-    BARRIER_ACK_WENT, BARRIER_WENT, CLOSED, DONE, NONE, NOTHING, OWN, PROTOCOL_WENT, SIZES_WENT,
-    UUIDS_WENT, WRITE_ACK_WENT, WRITE_WENT,
-};
+use crate::linked_secondary::{After, Before, Case, State, Step, passes};
 use blocks::{Command, Done, Refusal, What};
 use secondary_core::Usage;
 use std::test::Fail;
 
 /// Each comes after write 1 of block 2, at place 0.
-static FOREIGN: [(Spelled, Refusal); 10] = [
+const FOREIGN: [(Spelled, Answer); 10] = [
     // Write 2 of block 3 at place 2, write 2 of block 2, again write 1, and write 2 of blocks 7 and 8, at place 1.
     (
         Spelled::Long(
@@ -23,7 +23,7 @@ static FOREIGN: [(Spelled, Refusal); 10] = [
             ],
             1,
         ),
-        Refusal::BadField,
+        Err(Refusal::BadField),
     ),
     (
         Spelled::Long(
@@ -33,7 +33,7 @@ static FOREIGN: [(Spelled, Refusal); 10] = [
             ],
             1,
         ),
-        Refusal::BadField,
+        Err(Refusal::BadField),
     ),
     (
         Spelled::Long(
@@ -43,7 +43,7 @@ static FOREIGN: [(Spelled, Refusal); 10] = [
             ],
             1,
         ),
-        Refusal::BadField,
+        Err(Refusal::BadField),
     ),
     (
         Spelled::Long(
@@ -53,41 +53,41 @@ static FOREIGN: [(Spelled, Refusal); 10] = [
             ],
             2,
         ),
-        Refusal::BadField,
+        Err(Refusal::BadField),
     ),
     // The barrier after the next, and what belongs to a resync where none goes on.
     (
         Spelled::Short(&[0x83, 0x5A, 0, 3, 0, 0, 0, 8, 0, 0, 0, 2, 0, 0, 0, 0]),
-        Refusal::BadField,
+        Err(Refusal::BadField),
     ),
     (
         Spelled::Short(&[0x83, 0x5A, 0, 0x0F, 0, 0, 0, 8, 0, 0, 0, 0, 0, 0, 0, 9]),
-        Refusal::BadField,
+        Err(Refusal::BadField),
     ),
-    (UUIDS_7_0_9_1, Refusal::BadField),
-    (RESYNC, Refusal::BadField),
+    (UUIDS_7_0_9_1, Err(Refusal::BadField)),
+    (RESYNC, Err(Refusal::BadField)),
     // No items.
-    (PROTOCOL_C, Refusal::BadCommand),
-    (WRITE_ACK, Refusal::BadCommand),
+    (PROTOCOL_C, Err(Refusal::BadCommand)),
+    (WRITE_ACK, Err(Refusal::BadCommand)),
 ];
 
-static NOTHING_HEARD: Before = Before {
+const NOTHING_HEARD: Before = Before {
     heard: &[],
     rows: &[],
 };
 
-static ONE_HEARD: Before = Before {
+const ONE_HEARD: Before = Before {
     heard: &[PROTOCOL_C],
     rows: &[(Step::Receive, PROTOCOL_WENT)],
 };
 
-static TWO_HEARD: Before = Before {
+const TWO_HEARD: Before = Before {
     heard: &[PROTOCOL_C, SIZES_8],
     rows: &[(Step::Receive, PROTOCOL_WENT), (Step::Receive, SIZES_WENT)],
 };
 
 /// The hello is done, and write 1 was taken.
-static WRITE_HEARD: Before = Before {
+const WRITE_HEARD: Before = Before {
     heard: &[PROTOCOL_C, SIZES_8, UUIDS_1, WRITE],
     rows: &[
         (Step::Receive, PROTOCOL_WENT),
@@ -121,7 +121,7 @@ const DRAINED: State = State {
 
 /// Write 1 is pending. It is applied, once, and is not acknowledged. Nothing is taken or sent over a closed end, though
 /// a barrier waits that an open one would take.
-static WRITE_STAYS: After = After {
+const WRITE_STAYS: After = After {
     behind: &[BARRIER_1],
     state: State {
         is_drained: false,
@@ -143,7 +143,7 @@ static WRITE_STAYS: After = After {
 };
 
 /// The same with nothing taken.
-static HELLO_REFUSED: After = After {
+const HELLO_REFUSED: After = After {
     behind: &[PROTOCOL_C, SIZES_8, UUIDS_1],
     state: DRAINED,
     rows: &[
@@ -156,21 +156,45 @@ static HELLO_REFUSED: After = After {
     disk: &[(2, 0)],
 };
 
-#[test]
-fn foreign_frames_close_the_end(rt: HostRuntime) -> Result<(), Fail> {
-    refuses(&rt, &WRITE_HEARD, &FOREIGN, &WRITE_STAYS)
-}
+static FOREIGN_FRAMES: [Case; 2] = [
+    Case {
+        before: &WRITE_HEARD,
+        frames: &FOREIGN,
+        after: &WRITE_STAYS,
+    },
+    Case {
+        before: &WRITE_HEARD,
+        frames: &UNREADABLE,
+        after: &WRITE_STAYS,
+    },
+];
 
 #[test]
-fn frames_that_are_no_packet_close_the_end(rt: HostRuntime) -> Result<(), Fail> {
-    refuses(&rt, &WRITE_HEARD, &UNREADABLE, &WRITE_STAYS)
+fn foreign_frames_close_the_end(rt: HostRuntime) -> Result<(), Fail> {
+    passes(&rt, &FOREIGN_FRAMES)
 }
+
+static HELLOS: [Case; 3] = [
+    Case {
+        before: &NOTHING_HEARD,
+        frames: &FIRST,
+        after: &HELLO_REFUSED,
+    },
+    Case {
+        before: &ONE_HEARD,
+        frames: &SECOND,
+        after: &HELLO_REFUSED,
+    },
+    Case {
+        before: &TWO_HEARD,
+        frames: &THIRD,
+        after: &HELLO_REFUSED,
+    },
+];
 
 #[test]
 fn a_refused_hello_closes_the_end(rt: HostRuntime) -> Result<(), Fail> {
-    refuses(&rt, &NOTHING_HEARD, &FIRST, &HELLO_REFUSED)?;
-    refuses(&rt, &ONE_HEARD, &SECOND, &HELLO_REFUSED)?;
-    refuses(&rt, &TWO_HEARD, &THIRD, &HELLO_REFUSED)
+    passes(&rt, &HELLOS)
 }
 
 /// The end is open, its hello is done, and nothing is pending.
@@ -181,7 +205,7 @@ const STANDING: State = State {
 };
 
 /// The hello is done once three frames were sent too.
-static GREETS: After = After {
+const GREETS: After = After {
     behind: &[],
     state: State {
         is_hello_done: false,
@@ -199,7 +223,7 @@ static GREETS: After = After {
 };
 
 /// Both writes are applied, the second one first.
-static TWO_APPLIED: After = After {
+const TWO_APPLIED: After = After {
     behind: &[],
     state: State {
         is_drained: false,
@@ -220,7 +244,7 @@ static TWO_APPLIED: After = After {
 };
 
 /// Write 1 is applied, and its epoch is whole.
-static EPOCH_APPLIED: After = After {
+const EPOCH_APPLIED: After = After {
     behind: &[],
     state: State {
         is_drained: false,
@@ -242,6 +266,12 @@ static EPOCH_APPLIED: After = After {
     disk: &[(1, 0), (2, 0xAA), (3, 0), (7, 0)],
 };
 
+/// Write 2 went over the link.
+const WRITE_2_WENT: Answer = Ok(Done {
+    what: What::Frame(Command::Data, Some(1)),
+    ..NOTHING
+});
+
 /// Write 2 of block 3, at place 1.
 const WRITE_2: Spelled = Spelled::Long(
     &[
@@ -251,13 +281,25 @@ const WRITE_2: Spelled = Spelled::Long(
     1,
 );
 
+static RIGHT_FRAMES: [Case; 3] = [
+    Case {
+        before: &TWO_HEARD,
+        frames: &[(UUIDS_1, UUIDS_WENT)],
+        after: &GREETS,
+    },
+    Case {
+        before: &WRITE_HEARD,
+        frames: &[(WRITE_2, WRITE_2_WENT)],
+        after: &TWO_APPLIED,
+    },
+    Case {
+        before: &WRITE_HEARD,
+        frames: &[(BARRIER_1, BARRIER_WENT)],
+        after: &EPOCH_APPLIED,
+    },
+];
+
 #[test]
 fn frames_in_their_turn_are_taken(rt: HostRuntime) -> Result<(), Fail> {
-    let second = Ok(Done {
-        what: What::Frame(Command::Data, Some(1)),
-        ..NOTHING
-    });
-    accepts(&rt, &TWO_HEARD, UUIDS_1, UUIDS_WENT, &GREETS)?;
-    accepts(&rt, &WRITE_HEARD, WRITE_2, second, &TWO_APPLIED)?;
-    accepts(&rt, &WRITE_HEARD, BARRIER_1, BARRIER_WENT, &EPOCH_APPLIED)
+    passes(&rt, &RIGHT_FRAMES)
 }

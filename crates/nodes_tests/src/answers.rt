@@ -1,8 +1,32 @@
 //! What calls answer, as tables have it.
 use blocks::{Command, Done, Refusal, Tuple, What};
+use std::process::Abort;
 
 /// What a call did, or why it is refused.
 pub(crate) type Answer = Result<Done, Refusal>;
+
+/// A frame of a table's case.
+#[derive(Clone, Copy)]
+pub(crate) struct Spot {
+    pub(crate) case: usize,
+    pub(crate) frame: usize,
+}
+
+/// A call around that frame answers what its row has.
+pub(crate) fn is_answered(
+    rt: &impl Abort,
+    spot: Spot,
+    (when, step): (&'static str, usize),
+    given: Answer,
+    wanted: Answer,
+) {
+    assert_eq!(rt;
+        given,
+        wanted,
+        "case {}, frame {}: {when} {step}",
+        spot.case, spot.frame
+    );
+}
 
 /// What has no name, and no more.
 pub(crate) const NOTHING: Done = Done {
