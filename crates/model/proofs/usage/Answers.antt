@@ -1,0 +1,12 @@
+-- Each row computes. A search for its proof would take long to give up where the row is false.
+use Rattle.std.proofs.Common.{refl}
+use Rattle.model.proofs.usage.Goals as goal
+
+pub returns-clause-usage : goal.returns-clause-usage
+returns-clause-usage c = record { waiting = refl; two_epochs = refl; started = refl; nearly = refl; ended = refl }
+
+pub returns-clause-never_opened : goal.returns-clause-never_opened
+returns-clause-never_opened c = record { number = refl; stands = refl; first = refl; unseen = refl; untaken = refl; there = refl; beyond = refl }
+
+pub returns-clause-settlements : goal.returns-clause-settlements
+returns-clause-settlements c = record { through = refl; failed = refl; twice = refl; strange = refl; faulty = refl; unfinished = refl; larger = refl; smaller = refl }

@@ -1,0 +1,5 @@
+use Rattle.std.proofs.Common.{rules}
+use Rattle.transferlog.proofs.log.TransferLog.blocks.Goals as goal
+
+pub returns : goal.returns
+returns c = search rules
