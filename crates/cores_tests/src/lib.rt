@@ -14,6 +14,8 @@ mod primary_resync;
 #[cfg(test)]
 mod primary_rows;
 #[cfg(test)]
+mod primary_tables;
+#[cfg(test)]
 mod secondary;
 #[cfg(test)]
 mod secondary_frames;

@@ -1,142 +1,21 @@
-//! What is done to a primary's core, as tables have it.
-use blocks::{Block, Command, Decision, Done, Protocol, Refusal, Settings, Tuple, What};
+//! Takes a primary's core through tables.
+use crate::primary_tables::{
+    Answer, Case, Fact, Frame, PROTOCOL_WENT, Part, Row, SIZES_WENT, Said, Start, Step, UUIDS_WENT,
+};
+use blocks::{Block, Decision, Done, Refusal, Tuple, What};
 use bytes::Bytes;
 use packets::{Acknowledgement, Packet};
-use primary_core::{Fate, PrimaryCore};
+use primary_core::PrimaryCore;
 use std::alloc::Global;
 use std::process::Abort;
 use std::test::Fail;
 
-/// A frame, or the fault that stands in its place.
+/// Where a part is gone through: the name of the case, and what gives memory.
 #[derive(Clone, Copy)]
-pub(crate) enum Frame {
-    Protocol(Protocol),
-    Sizes(u64),
-    Uuids(Tuple),
-    /// A write of one block: the block, the number, the place, and the byte that fills it.
-    Data(u64, u64, u32, u8),
-    /// A write of two blocks.
-    TwoBlocks(u64, u64, u32, u8),
-    /// A block of a resync, its place, and the byte that fills it.
-    RsDataReply(u64, u32, u8),
-    Barrier(u32),
-    SyncUuid(u64),
-    /// Of one block: the block, the number, the place.
-    RecvAck(u64, u64, u32),
-    WriteAck(u64, u64, u32),
-    /// As the one before, but of two blocks.
-    WideAck(u64, u64, u32),
-    /// Of one block and its place.
-    RsWriteAck(u64, u32),
-    /// The number of the barrier, and its epoch's size.
-    BarrierAck(u32, u32),
-    Fault(Refusal),
+struct Scene {
+    name: &'static str,
+    alloc: Global,
 }
-
-/// What is done to a core.
-#[derive(Clone, Copy)]
-pub(crate) enum Step {
-    /// The words for a resync and for a loss.
-    Open(u64, u64),
-    Close,
-    /// The first block, how many blocks, and the byte that fills them.
-    Submit(u64, u8, u8),
-    /// Of fewer bytes than a block has.
-    SubmitPart,
-    /// Which write the local disk does next.
-    Next,
-    /// The write of this number is given to the local disk, and has so many blocks, filled with this byte.
-    Given(u64, u8, u8),
-    Local(u64),
-    LocalFail(u64),
-    /// What is due is this frame, and goes out.
-    Send(Frame),
-    Take(Frame),
-    /// The next block of a resync is read, and is filled with this byte.
-    Resync(u8),
-    Receipt(u64),
-}
-
-/// What a step says.
-#[derive(Clone, Copy, Debug, PartialEq, Eq)]
-pub(crate) enum Said {
-    Nothing,
-    /// How many writes the close completed.
-    Closed(u32),
-    Next(Option<u64>),
-    /// The number of a write, its first block, how many it has, and whether its bytes are the expected ones.
-    Given(u64, u64, u64, bool),
-    /// A write was accepted under this number, and no more.
-    Accepted(u64),
-    /// A frame went over the link, with its place if an item of the stream was sent, and no more.
-    Went(Command, Option<u32>),
-    /// What else it was about, and no more.
-    Did(What),
-    /// What it was about, the write that it completed, the barrier that it appended, and whether a resync
-    /// is over.
-    More(What, Option<u64>, Option<u32>, bool),
-    /// Another packet was due.
-    Other(Command),
-    /// The first block of a write, how many it has, and its fate.
-    Receipt(u64, u64, Fate),
-}
-
-/// A step, and what it says or why it is refused.
-pub(crate) type Row = (Step, Result<Said, Refusal>);
-
-/// What a core holds.
-#[derive(Clone, Copy, Debug, PartialEq, Eq)]
-pub(crate) enum Fact {
-    Open(bool),
-    /// Whether the hello is done.
-    Stands(bool),
-    Resync(bool),
-    Tuple(Tuple),
-    Peer(Option<Tuple>),
-    Connections(u32),
-    Accepted(u64),
-    OpenWrites(u32),
-    Unanswered(u32),
-    OpenEpochs(u64),
-    Unreleased(u32),
-    Places(u32),
-    Unsent(usize),
-}
-
-/// A part of a test. The tests are tables, since one function goes through all of them and is proved once.
-#[derive(Clone, Copy)]
-pub(crate) enum Part<'a> {
-    Rows(&'a [Row]),
-    Row(Row),
-    /// The hello of a connection: the words, both disks' identifiers, and what is decided.
-    Greeting((u64, u64), (Tuple, Tuple), Decision),
-    Holds(&'a [Fact]),
-    Fact(Fact),
-    /// These blocks are marked, and no other.
-    Marks(&'a [u64]),
-}
-
-/// What every disk begins with, where a row names nothing else.
-pub(crate) const OWN: Tuple = Tuple {
-    current: 1,
-    bitmap: 0,
-    first_historical: 0,
-    second_historical: 0,
-};
-
-/// What a primary has whose first connection was lost.
-pub(crate) const PARTED: Tuple = Tuple {
-    current: 7,
-    bitmap: 1,
-    first_historical: 0,
-    second_historical: 0,
-};
-
-/// The settings of the worked rows, under protocol C.
-pub(crate) const SETTINGS: Settings = Settings::STANDARD;
-
-/// The step did what has no name, and no more.
-pub(crate) const DONE: Result<Said, Refusal> = Ok(Said::Did(What::Nothing));
 
 fn ack(first: u64, number: u64, place: u32, count: u32) -> Acknowledgement {
     Acknowledgement {
@@ -197,7 +76,7 @@ fn told_of(done: Done) -> Said {
     Said::More(done.what, done.completed, done.barrier, done.synced)
 }
 
-fn send(core: &mut PrimaryCore, alloc: Global, frame: Frame) -> Result<Said, Refusal> {
+fn send(core: &mut PrimaryCore, alloc: Global, frame: Frame) -> Answer {
     let wanted = packet_of(alloc, frame)?;
     let packet = core.due()?;
     let done = core.sent();
@@ -207,18 +86,18 @@ fn send(core: &mut PrimaryCore, alloc: Global, frame: Frame) -> Result<Said, Ref
     Ok(told_of(done))
 }
 
-fn resync(core: &mut PrimaryCore, alloc: Global, byte: u8) -> Result<Said, Refusal> {
+fn resync(core: &mut PrimaryCore, alloc: Global, byte: u8) -> Answer {
     let contents = Bytes::copy_from_slice(alloc, &[byte; 4096])?;
     let block = core.resync_block()?;
     Ok(told_of(core.resync_read(block, contents)))
 }
 
-fn receipt(core: &mut PrimaryCore, number: u64) -> Result<Said, Refusal> {
+fn receipt(core: &mut PrimaryCore, number: u64) -> Answer {
     let entry = core.take_completed(number)?;
     Ok(Said::Receipt(entry.first(), entry.count(), entry.fate()))
 }
 
-fn given(core: &PrimaryCore, alloc: Global, number: u64, fill: (u8, u8)) -> Result<Said, Refusal> {
+fn given(core: &PrimaryCore, alloc: Global, number: u64, fill: (u8, u8)) -> Answer {
     let wanted = filled(alloc, fill.0, fill.1)?;
     let write = core.local_write(number)?;
     let range = write.range();
@@ -226,7 +105,7 @@ fn given(core: &PrimaryCore, alloc: Global, number: u64, fill: (u8, u8)) -> Resu
     Ok(Said::Given(write.number(), range.first.0, range.count, is_same))
 }
 
-fn do_step(core: &mut PrimaryCore, alloc: Global, step: Step) -> Result<Said, Refusal> {
+fn do_step(core: &mut PrimaryCore, alloc: Global, step: Step) -> Answer {
     match step {
         Step::Open(sync, loss) => {
             core.open(sync, loss)?;
@@ -252,127 +131,175 @@ fn do_step(core: &mut PrimaryCore, alloc: Global, step: Step) -> Result<Said, Re
     }
 }
 
+fn is_answered(rt: &impl Abort, (name, step): (&str, usize), answer: Answer, wanted: Answer) {
+    assert_eq!(rt; answer, wanted, "{name}: step {step}");
+}
+
 // Each step says what its row has.
-fn run(rt: &impl Abort, core: &mut PrimaryCore, alloc: Global, rows: &[Row]) {
+fn run(rt: &impl Abort, core: &mut PrimaryCore, scene: Scene, rows: &[Row]) {
     for (i, (given, wanted)) in rows.iter().enumerate() {
-        assert_eq!(rt; do_step(core, alloc, *given), *wanted, "step {i}");
+        is_answered(
+            rt,
+            (scene.name, i),
+            do_step(core, scene.alloc, *given),
+            *wanted,
+        );
     }
 }
 
-// The fact of the same kind that is true.
-fn true_fact(core: &PrimaryCore, fact: Fact) -> Fact {
+fn is_true(core: &PrimaryCore, fact: Fact) -> bool {
     match fact {
-        Fact::Open(_) => Fact::Open(core.is_open()),
-        Fact::Stands(_) => Fact::Stands(core.stands()),
-        Fact::Resync(_) => Fact::Resync(core.is_resync()),
-        Fact::Tuple(_) => Fact::Tuple(core.tuple()),
-        Fact::Peer(_) => Fact::Peer(core.peer()),
-        Fact::Connections(_) => Fact::Connections(core.connections()),
-        Fact::Accepted(_) => Fact::Accepted(core.accepted()),
-        Fact::OpenWrites(_) => Fact::OpenWrites(core.open_writes()),
-        Fact::Unanswered(_) => Fact::Unanswered(core.unanswered_writes()),
-        Fact::OpenEpochs(_) => Fact::OpenEpochs(core.open_epochs()),
-        Fact::Unreleased(_) => Fact::Unreleased(core.unreleased()),
-        Fact::Places(_) => Fact::Places(core.places()),
-        Fact::Unsent(_) => Fact::Unsent(core.unsent()),
+        Fact::Open(wanted) => core.is_open() == wanted,
+        Fact::Stands(wanted) => core.stands() == wanted,
+        Fact::Resync(wanted) => core.is_resync() == wanted,
+        Fact::Tuple(wanted) => core.tuple() == wanted,
+        Fact::Peer(wanted) => core.peer() == wanted,
+        Fact::Connections(wanted) => core.connections() == wanted,
+        Fact::Accepted(wanted) => core.accepted() == wanted,
+        Fact::OpenWrites(wanted) => core.open_writes() == wanted,
+        Fact::Unanswered(wanted) => core.unanswered_writes() == wanted,
+        Fact::OpenEpochs(wanted) => core.open_epochs() == wanted,
+        Fact::Unreleased(wanted) => core.unreleased() == wanted,
+        Fact::Places(wanted) => core.places() == wanted,
+        Fact::Unsent(wanted) => core.unsent() == wanted,
     }
 }
 
-fn holds(rt: &impl Abort, core: &PrimaryCore, facts: &[Fact]) {
-    for fact in facts {
-        assert_eq!(rt; true_fact(core, *fact), *fact);
+fn holds(rt: &impl Abort, core: &PrimaryCore, name: &str, facts: &[Fact]) {
+    for (i, fact) in facts.iter().enumerate() {
+        assert!(rt; is_true(core, *fact), "{name}: fact {i}");
     }
 }
 
-fn has_marks(rt: &impl Abort, core: &PrimaryCore, blocks: &[u64]) {
-    assert_eq!(rt; core.marks() as usize, blocks.len());
+fn has_marks(rt: &impl Abort, core: &PrimaryCore, name: &str, blocks: &[usize]) {
+    assert_eq!(rt; core.marks() as usize, blocks.len(), "{name}");
     for block in blocks {
-        assert!(rt; core.is_marked(Block(*block)), "block {block}");
+        assert!(rt;
+            core.is_marked(Block(*block as u64)),
+            "{name}: block {block}"
+        );
     }
 }
 
+fn decides(
+    rt: &impl Abort,
+    core: &mut PrimaryCore,
+    scene: Scene,
+    peer: Tuple,
+    decided: Result<Decision, Refusal>,
+) {
+    let said = match decided {
+        Ok(decision) => Ok(Said::Did(What::Decided(decision))),
+        Err(refusal) => Err(refusal),
+    };
+    run(rt, core, scene, &[(Step::Take(Frame::Uuids(peer)), said)]);
+    holds(
+        rt,
+        core,
+        scene.name,
+        &[Fact::Open(decided.is_ok()), Fact::Peer(Some(peer))],
+    );
+}
+
+// Both ends send their protocol, their size and their identifiers.
 fn greet(
     rt: &impl Abort,
     core: &mut PrimaryCore,
-    alloc: Global,
+    scene: Scene,
     words: (u64, u64),
-    tuples: (Tuple, Tuple),
+    (own, peer): (Tuple, Tuple),
     decided: Decision,
 ) {
     let settings = core.settings();
     let protocol = Frame::Protocol(settings.protocol);
     let sizes = Frame::Sizes(u64::from(settings.blocks));
-    let uuids = Frame::Uuids(tuples.0);
     let rows = [
         (Step::Open(words.0, words.1), Ok(Said::Nothing)),
-        (
-            Step::Send(protocol),
-            Ok(Said::Went(Command::Protocol, None)),
-        ),
-        (Step::Send(sizes), Ok(Said::Went(Command::Sizes, None))),
-        (Step::Send(uuids), Ok(Said::Went(Command::Uuids, None))),
-        (Step::Send(uuids), Err(Refusal::NothingThere)),
-        (
-            Step::Take(protocol),
-            Ok(Said::Went(Command::Protocol, None)),
-        ),
-        (Step::Take(sizes), Ok(Said::Went(Command::Sizes, None))),
-        (
-            Step::Take(Frame::Uuids(tuples.1)),
-            Ok(Said::Did(What::Decided(decided))),
-        ),
+        (Step::Send(protocol), PROTOCOL_WENT),
+        (Step::Send(sizes), SIZES_WENT),
+        (Step::Send(Frame::Uuids(own)), UUIDS_WENT),
+        (Step::Send(Frame::Uuids(own)), Err(Refusal::NothingThere)),
+        (Step::Take(protocol), PROTOCOL_WENT),
+        (Step::Take(sizes), SIZES_WENT),
     ];
-    run(rt, core, alloc, &rows);
+    run(rt, core, scene, &rows);
+    decides(rt, core, scene, peer, Ok(decided));
 }
 
-/// The first connection, whose words are 5 and 7.
-pub(crate) const CONNECTED: Part = Part::Greeting((5, 7), (OWN, OWN), Decision::NoSync);
-
-fn go(rt: &impl Abort, core: &mut PrimaryCore, alloc: Global, parts: &[Part]) {
-    for part in parts {
-        match part {
-            Part::Rows(rows) => run(rt, core, alloc, rows),
-            Part::Row(row) => run(rt, core, alloc, &[*row]),
-            Part::Greeting(words, tuples, decided) => {
-                greet(rt, core, alloc, *words, *tuples, *decided)
-            }
-            Part::Holds(facts) => holds(rt, core, facts),
-            Part::Fact(fact) => holds(rt, core, &[*fact]),
-            Part::Marks(blocks) => has_marks(rt, core, blocks),
+fn go(rt: &impl Abort, core: &mut PrimaryCore, scene: Scene, part: &Part) {
+    match part {
+        Part::Rows(rows) => run(rt, core, scene, rows),
+        Part::Greeting(words, tuples, decided) => {
+            greet(rt, core, scene, *words, *tuples, *decided)
         }
+        Part::Decides(peer, decided) => decides(rt, core, scene, *peer, *decided),
+        Part::Refused(frame, refusal) => {
+            run(rt, core, scene, &[(Step::Take(*frame), Err(*refusal))])
+        }
+        Part::Holds(facts) => holds(rt, core, scene.name, facts),
+        Part::Marks(blocks) => has_marks(rt, core, scene.name, blocks),
     }
 }
 
-/// Goes through two lists of parts with a primary that was never opened, and has these marks.
-pub(crate) fn begins(
+fn marks_of(alloc: Global, start: &Start) -> Result<Vec<bool>, Refusal> {
+    let mut marks = Vec::from_elem(alloc, false, start.settings.blocks as usize)?;
+    for block in start.marked {
+        if let Some(mark) = marks.get_mut(*block) {
+            *mark = true;
+        }
+    }
+    Ok(marks)
+}
+
+fn go_on(rt: &impl Abort, core: &mut PrimaryCore, scene: Scene, parts: &[Part]) {
+    for part in parts {
+        go(rt, core, scene, part);
+    }
+}
+
+fn go_through(
+    rt: &impl Abort,
+    core: &mut PrimaryCore,
+    scene: Scene,
+    (before, parts, after): &(&[Part], &[Part], &[Part]),
+) {
+    go_on(rt, core, scene, before);
+    go_on(rt, core, scene, parts);
+    go_on(rt, core, scene, after);
+}
+
+// This function alone owns a primary, since each exit of an owner has to drop it.
+fn lives(
     rt: &(impl Abort + AllocGlobal),
-    (settings, own, marks): (Settings, Tuple, &[bool]),
-    first: &[Part],
-    then: &[Part],
-) -> Result<(), Fail> {
-    let alloc = rt.alloc();
-    let mut core = PrimaryCore::new(alloc, settings, own, marks)?;
-    go(rt, &mut core, alloc, first);
-    go(rt, &mut core, alloc, then);
+    name: &'static str,
+    start: &Start,
+    marks: &[bool],
+    lists: &(&[Part], &[Part], &[Part]),
+) -> Result<(), Refusal> {
+    let mut core = PrimaryCore::new(rt.alloc(), start.settings, start.own, marks)?;
+    let scene = Scene {
+        name,
+        alloc: rt.alloc(),
+    };
+    go_through(rt, &mut core, scene, lists);
     Ok(())
 }
 
-/// Goes through two lists of parts with a primary that was never opened, and has no marks.
-pub(crate) fn passes(
+/// A primary that was never opened goes through three lists of parts.
+pub(crate) fn goes(
     rt: &(impl Abort + AllocGlobal),
-    settings: Settings,
-    first: &[Part],
-    then: &[Part],
-) -> Result<(), Fail> {
-    let marks = Vec::from_elem(rt.alloc(), false, settings.blocks as usize)?;
-    begins(rt, (settings, OWN, &marks), first, then)
+    name: &'static str,
+    start: &Start,
+    lists: (&[Part], &[Part], &[Part]),
+) -> Result<(), Refusal> {
+    let marks = marks_of(rt.alloc(), start)?;
+    lives(rt, name, start, &marks, &lists)
 }
 
-/// Goes through parts with a primary on its first connection, with nothing to send.
-pub(crate) fn connects(
-    rt: &(impl Abort + AllocGlobal),
-    settings: Settings,
-    parts: &[Part],
-) -> Result<(), Fail> {
-    passes(rt, settings, &[CONNECTED], parts)
+/// Each case's primary goes through its parts.
+pub(crate) fn passes(rt: &(impl Abort + AllocGlobal), cases: &'static [Case]) -> Result<(), Fail> {
+    for case in cases {
+        goes(rt, case.name, case.start, (case.before, case.parts, &[]))?;
+    }
+    Ok(())
 }

@@ -1,6 +1,8 @@
 //! What a primary decides once it has the peer's identifiers.
-use crate::primary::{Fact, Frame, Part, Row, SETTINGS, Said, Step, begins};
-use blocks::{Command, Decision, Protocol, Refusal, Tuple, What};
+use crate::primary::goes;
+use crate::primary_tables::{Frame, PROTOCOL_WENT, Part, SETTINGS, SIZES_WENT, Said, Start, Step};
+use blocks::{Decision, Protocol, Refusal, Tuple};
+use std::process::Abort;
 use std::test::Fail;
 
 /// The disk's four identifiers, the peer's, what is decided, and which blocks are then marked.
@@ -8,10 +10,10 @@ type Case = (
     [u64; 4],
     [u64; 4],
     Result<Decision, Refusal>,
-    &'static [u64],
+    &'static [usize],
 );
 
-const CASES: [Case; 9] = [
+static CASES: [Case; 9] = [
     ([1, 0, 0, 0], [1, 0, 0, 0], Ok(Decision::NoSync), &[4]),
     ([7, 1, 0, 0], [1, 0, 0, 0], Ok(Decision::BitmapSync), &[4]),
     (
@@ -43,20 +45,11 @@ const CASES: [Case; 9] = [
     ),
 ];
 
-const HEARD: [Row; 3] = [
+const HEARD: [Part; 1] = [Part::Rows(&[
     (Step::Open(101, 103), Ok(Said::Nothing)),
-    (
-        Step::Take(Frame::Protocol(Protocol::C)),
-        Ok(Said::Went(Command::Protocol, None)),
-    ),
-    (
-        Step::Take(Frame::Sizes(8)),
-        Ok(Said::Went(Command::Sizes, None)),
-    ),
-];
-
-/// Block 4 is marked.
-const MARKS: [bool; 8] = [false, false, false, false, true, false, false, false];
+    (Step::Take(Frame::Protocol(Protocol::C)), PROTOCOL_WENT),
+    (Step::Take(Frame::Sizes(8)), SIZES_WENT),
+])];
 
 fn tuple_of(words: [u64; 4]) -> Tuple {
     let [current, bitmap, first_historical, second_historical] = words;
@@ -68,21 +61,27 @@ fn tuple_of(words: [u64; 4]) -> Tuple {
     }
 }
 
+// Block 4 is marked before.
+fn decides(rt: &(impl Abort + AllocGlobal), case: &'static Case) -> Result<(), Refusal> {
+    let (own, peer, decided, marked) = *case;
+    let start = Start {
+        settings: SETTINGS,
+        own: tuple_of(own),
+        marked: &[4],
+    };
+    let decides = [Part::Decides(tuple_of(peer), decided)];
+    goes(
+        rt,
+        "identifiers",
+        &start,
+        (&HEARD, &decides, &[Part::Marks(marked)]),
+    )
+}
+
 #[test]
 fn the_peers_identifiers_decide(rt: HostRuntime) -> Result<(), Fail> {
-    for (own, peer, decided, marked) in CASES {
-        let said = match decided {
-            Ok(decision) => Ok(Said::Did(What::Decided(decision))),
-            Err(refusal) => Err(refusal),
-        };
-        let parts = [
-            Part::Rows(&HEARD),
-            Part::Row((Step::Take(Frame::Uuids(tuple_of(peer))), said)),
-            Part::Fact(Fact::Open(decided.is_ok())),
-            Part::Fact(Fact::Peer(Some(tuple_of(peer)))),
-            Part::Marks(marked),
-        ];
-        begins(&rt, (SETTINGS, tuple_of(own), &MARKS), &[], &parts)?;
+    for case in &CASES {
+        decides(&rt, case)?;
     }
     Ok(())
 }

@@ -1,6 +1,8 @@
 //! Frames that no secondary sends: each is refused, and closes the end with all that a close does.
-use crate::primary::{
-    DONE, Fact, Frame, OWN, PARTED, Part, Row, SETTINGS, Said, Step, connects, passes,
+use crate::primary::goes;
+use crate::primary_tables::{
+    CONNECTED, DONE, Fact, Frame, OWN, PARTED, PROTOCOL_WENT, Part, Row, SETTINGS, SIZES_WENT,
+    START, Said, Start, Step,
 };
 use blocks::{Command, Protocol, Refusal, Settings, Tuple, What};
 use std::process::Abort;
@@ -51,38 +53,48 @@ const CLOSED: [Row; 4] = [
 /// The end is closed, and the disk goes on under the word for a loss.
 const CUT_OFF: [Fact; 3] = [Fact::Open(false), Fact::Stands(false), Fact::Tuple(PARTED)];
 
-// After these rows the frame is refused, the end is closed, and block 2 is marked.
-fn is_foreign(
-    rt: &(impl Abort + AllocGlobal),
-    settings: Settings,
-    before: &'static [Row],
-    (frame, refusal): (Frame, Refusal),
-    after: &'static [Fact],
-) -> Result<(), Fail> {
-    let parts = [
-        Part::Rows(before),
-        Part::Row((Step::Take(frame), Err(refusal))),
-        Part::Rows(&CLOSED),
-        Part::Holds(&CUT_OFF),
-        Part::Marks(&[2]),
-        Part::Holds(after),
-    ];
-    connects(rt, settings, &parts)
+/// Frames that are refused, each of them by a primary of its own, with what comes before and after.
+struct Foreign {
+    name: &'static str,
+    start: &'static Start,
+    before: &'static [Part],
+    frames: &'static [(Frame, Refusal)],
+    after: &'static [Part],
 }
 
-/// Write 1 stays open.
-const IS_OPEN: [Fact; 2] = [Fact::OpenWrites(1), Fact::Unanswered(0)];
+fn is_foreign(
+    rt: &(impl Abort + AllocGlobal),
+    case: &'static Foreign,
+    (frame, refusal): (Frame, Refusal),
+) -> Result<(), Refusal> {
+    let refused = [Part::Refused(frame, refusal)];
+    goes(
+        rt,
+        case.name,
+        case.start,
+        (case.before, &refused, case.after),
+    )
+}
 
-#[test]
-fn foreign_frames_after_a_write(rt: HostRuntime) -> Result<(), Fail> {
-    for row in FOREIGN {
-        is_foreign(&rt, SETTINGS, &SENT, row, &IS_OPEN)?;
+fn are_foreign(rt: &(impl Abort + AllocGlobal), cases: &'static [Foreign]) -> Result<(), Fail> {
+    for case in cases {
+        for row in case.frames {
+            is_foreign(rt, case, *row)?;
+        }
     }
     Ok(())
 }
 
+/// The end is closed, block 2 is marked, and write 1 stays open.
+const LEFT_OPEN: [Part; 4] = [
+    Part::Rows(&CLOSED),
+    Part::Holds(&CUT_OFF),
+    Part::Marks(&[2]),
+    Part::Holds(&[Fact::OpenWrites(1), Fact::Unanswered(0)]),
+];
+
 /// The epoch of one write has its barrier at once.
-const ENDED: [Row; 3] = [
+const ENDED: [Row; 2] = [
     (
         Step::Submit(2, 1, 0xAA),
         Ok(Said::More(What::Write(1), None, Some(1), false)),
@@ -91,22 +103,29 @@ const ENDED: [Row; 3] = [
         Step::Send(Frame::Data(2, 1, 0, 0xAA)),
         Ok(Said::Went(Command::Data, Some(0))),
     ),
-    (
-        Step::Send(Frame::Barrier(1)),
-        Ok(Said::Went(Command::Barrier, Some(1))),
-    ),
 ];
 
-#[test]
-fn an_unanswered_epoch_is_not_acknowledged(rt: HostRuntime) -> Result<(), Fail> {
-    let settings = Settings {
+const BARRIER: Row = (
+    Step::Send(Frame::Barrier(1)),
+    Ok(Said::Went(Command::Barrier, Some(1))),
+);
+
+const EARLY: [(Frame, Refusal); 1] = [(Frame::BarrierAck(1, 1), Refusal::BadBarrierAck)];
+
+const OF_ONE: Start = Start {
+    settings: Settings {
         max_epoch: 1,
         ..SETTINGS
-    };
-    let early = (Frame::BarrierAck(1, 1), Refusal::BadBarrierAck);
-    is_foreign(&rt, settings, &ENDED[..2], early, &[])?;
-    is_foreign(&rt, settings, &ENDED, early, &[])
-}
+    },
+    ..START
+};
+
+/// The end is closed, and block 2 is marked.
+const PARTED_END: [Part; 3] = [
+    Part::Rows(&CLOSED),
+    Part::Holds(&CUT_OFF),
+    Part::Marks(&[2]),
+];
 
 /// Each comes once write 1 was answered and completed, and its barrier was sent.
 const AGAIN: [(Frame, Refusal); 3] = [
@@ -132,32 +151,26 @@ const COMPLETED: [Row; 5] = [
             false,
         )),
     ),
-    (
-        Step::Send(Frame::Barrier(1)),
-        Ok(Said::Went(Command::Barrier, Some(1))),
-    ),
+    BARRIER,
 ];
 
-#[test]
-fn a_strange_answer_to_a_completed_write(rt: HostRuntime) -> Result<(), Fail> {
-    for row in AGAIN {
-        is_foreign(&rt, SETTINGS, &COMPLETED, row, &[Fact::OpenWrites(0)])?;
-    }
-    Ok(())
-}
+const FIRST: [(Frame, Refusal); 4] = [
+    (Frame::Sizes(8), Refusal::BadCommand),
+    (Frame::WriteAck(2, 1, 0), Refusal::BadCommand),
+    (Frame::Protocol(Protocol::A), Refusal::OtherProtocol),
+    (Frame::Fault(Refusal::BadMagic), Refusal::BadMagic),
+];
 
-/// How many of the steps below come before, what is taken then, and why that is refused.
-const HELLOS: [(usize, Frame, Refusal); 9] = [
-    (1, Frame::Sizes(8), Refusal::BadCommand),
-    (1, Frame::WriteAck(2, 1, 0), Refusal::BadCommand),
-    (1, Frame::Protocol(Protocol::A), Refusal::OtherProtocol),
-    (1, Frame::Fault(Refusal::BadMagic), Refusal::BadMagic),
-    (2, Frame::Uuids(OWN), Refusal::BadCommand),
-    (2, Frame::Sizes(16), Refusal::OtherSize),
-    (3, Frame::Protocol(Protocol::C), Refusal::BadCommand),
+const SECOND: [(Frame, Refusal); 2] = [
+    (Frame::Uuids(OWN), Refusal::BadCommand),
+    (Frame::Sizes(16), Refusal::OtherSize),
+];
+
+const THIRD: [(Frame, Refusal); 3] = [
+    (Frame::Protocol(Protocol::C), Refusal::BadCommand),
     // A word of this connection stands in the peer's identifiers.
-    (3, Frame::Uuids(USED), Refusal::UsedIdentifier),
-    (3, Frame::Uuids(STRANGE), Refusal::Unrelated),
+    (Frame::Uuids(USED), Refusal::UsedIdentifier),
+    (Frame::Uuids(STRANGE), Refusal::Unrelated),
 ];
 
 const USED: Tuple = Tuple {
@@ -174,35 +187,78 @@ const STRANGE: Tuple = Tuple {
     second_historical: 23,
 };
 
-const HEARD: [Row; 3] = [
-    (Step::Open(5, 7), Ok(Said::Nothing)),
-    (
-        Step::Take(Frame::Protocol(Protocol::C)),
-        Ok(Said::Went(Command::Protocol, None)),
-    ),
-    (
-        Step::Take(Frame::Sizes(8)),
-        Ok(Said::Went(Command::Sizes, None)),
-    ),
+const OPEN: Row = (Step::Open(5, 7), Ok(Said::Nothing));
+
+const PROTOCOL: Row = (Step::Take(Frame::Protocol(Protocol::C)), PROTOCOL_WENT);
+
+const SIZES: Row = (Step::Take(Frame::Sizes(8)), SIZES_WENT);
+
+/// The end is closed, and all else is as before the connection.
+const UNCHANGED: [Part; 4] = [
+    Part::Rows(&CLOSED),
+    Part::Holds(&[Fact::Open(false)]),
+    Part::Marks(&[]),
+    Part::Holds(&[Fact::Tuple(OWN)]),
+];
+
+static FOREIGN_FRAMES: [Foreign; 7] = [
+    Foreign {
+        name: "foreign frames after a write",
+        start: &START,
+        before: &[CONNECTED, Part::Rows(&SENT)],
+        frames: &FOREIGN,
+        after: &LEFT_OPEN,
+    },
+    Foreign {
+        name: "an unanswered epoch is not acknowledged",
+        start: &OF_ONE,
+        before: &[CONNECTED, Part::Rows(&ENDED)],
+        frames: &EARLY,
+        after: &PARTED_END,
+    },
+    Foreign {
+        name: "an unanswered epoch is not acknowledged",
+        start: &OF_ONE,
+        before: &[CONNECTED, Part::Rows(&ENDED), Part::Rows(&[BARRIER])],
+        frames: &EARLY,
+        after: &PARTED_END,
+    },
+    Foreign {
+        name: "a strange answer to a completed write",
+        start: &START,
+        before: &[CONNECTED, Part::Rows(&COMPLETED)],
+        frames: &AGAIN,
+        after: &[
+            Part::Rows(&CLOSED),
+            Part::Holds(&CUT_OFF),
+            Part::Marks(&[2]),
+            Part::Holds(&[Fact::OpenWrites(0)]),
+        ],
+    },
+    Foreign {
+        name: "a refused hello changes no identifier",
+        start: &START,
+        before: &[Part::Rows(&[OPEN])],
+        frames: &FIRST,
+        after: &UNCHANGED,
+    },
+    Foreign {
+        name: "a refused hello changes no identifier",
+        start: &START,
+        before: &[Part::Rows(&[OPEN, PROTOCOL])],
+        frames: &SECOND,
+        after: &UNCHANGED,
+    },
+    Foreign {
+        name: "a refused hello changes no identifier",
+        start: &START,
+        before: &[Part::Rows(&[OPEN, PROTOCOL, SIZES])],
+        frames: &THIRD,
+        after: &UNCHANGED,
+    },
 ];
 
 #[test]
-fn a_refused_hello_changes_no_identifier(rt: HostRuntime) -> Result<(), Fail> {
-    for (heard, frame, refusal) in HELLOS {
-        let before = match heard {
-            1 => &HEARD[..1],
-            2 => &HEARD[..2],
-            _ => &HEARD[..],
-        };
-        let parts = [
-            Part::Rows(before),
-            Part::Row((Step::Take(frame), Err(refusal))),
-            Part::Rows(&CLOSED),
-            Part::Holds(&[Fact::Open(false)]),
-            Part::Marks(&[]),
-            Part::Holds(&[Fact::Tuple(OWN)]),
-        ];
-        passes(&rt, SETTINGS, &[], &parts)?;
-    }
-    Ok(())
+fn foreign_frames_close_the_end(rt: HostRuntime) -> Result<(), Fail> {
+    are_foreign(&rt, &FOREIGN_FRAMES)
 }

@@ -1,10 +1,11 @@
 //! What a primary refuses, and in which state: writes, connections and receipts.
-use crate::primary::{
-    CONNECTED, DONE, Fact, Frame, OWN, PARTED, Part, Row, SETTINGS, Said, Step, begins, connects,
-    passes,
+use crate::primary::passes;
+use crate::primary_tables::{
+    CONNECTED, Case, DONE, Fact, Frame, OWN, PARTED, Part, Row, SETTINGS, START, Said, Start, Step,
 };
 use blocks::{Block, Command, Decision, Refusal, Settings, Tuple, What};
 use primary_core::PrimaryCore;
+use std::alloc::Global;
 use std::test::Fail;
 
 /// Where the bitmap records no generation a write needs a stream.
@@ -23,28 +24,6 @@ const OPENED: [Row; 3] = [
     (Step::Resync(0xAA), Err(Refusal::NothingToDo)),
 ];
 
-#[test]
-fn a_connection_begins_once(rt: HostRuntime) -> Result<(), Fail> {
-    let parts = [
-        Part::Rows(&UNOPENED),
-        Part::Holds(&[Fact::Connections(0)]),
-        CONNECTED,
-        Part::Rows(&OPENED),
-        Part::Holds(&[Fact::Connections(1), Fact::Stands(true), Fact::Accepted(0)]),
-    ];
-    passes(&rt, SETTINGS, &[], &parts)
-}
-
-#[test]
-fn a_primary_has_a_mark_for_each_block(rt: HostRuntime) -> Result<(), Fail> {
-    let marks = [false, true, false, false, false, false, false, true];
-    let parts = [Part::Marks(&[1, 7]), Part::Holds(&[Fact::Open(false)])];
-    begins(&rt, (SETTINGS, OWN, &marks), &parts, &[])?;
-    let few = PrimaryCore::new(rt.alloc(), SETTINGS, OWN, &[false; 7]);
-    assert_eq!(rt; few.err(), Some(Refusal::BadSetting));
-    Ok(())
-}
-
 /// Over 2048 blocks, whose extents have 1024 each.
 const RANGES: [Row; 7] = [
     (Step::Submit(2016, 32, 0xAA), Ok(Said::Accepted(1))),
@@ -55,16 +34,6 @@ const RANGES: [Row; 7] = [
     (Step::Submit(1023, 2, 0xAA), Err(Refusal::BadRange)),
     (Step::SubmitPart, Err(Refusal::BadRange)),
 ];
-
-#[test]
-fn ranges_of_writes(rt: HostRuntime) -> Result<(), Fail> {
-    let settings = Settings {
-        blocks: 2048,
-        ..SETTINGS
-    };
-    let parts = [Part::Rows(&RANGES), Part::Holds(&[Fact::Accepted(1)])];
-    connects(&rt, settings, &parts)
-}
 
 /// One extent may be active, and stays so until its writes are released.
 const ONE_SLOT: [Row; 9] = [
@@ -96,32 +65,12 @@ const ONE_SLOT: [Row; 9] = [
     (Step::Submit(1024, 1, 0xBB), Ok(Said::Accepted(2))),
 ];
 
-#[test]
-fn an_extent_is_active_until_its_writes_are_released(rt: HostRuntime) -> Result<(), Fail> {
-    let settings = Settings {
-        blocks: 2048,
-        slots: 1,
-        ..SETTINGS
-    };
-    connects(&rt, settings, &[Part::Rows(&ONE_SLOT)])
-}
-
 /// The log is full before a conflict is told.
 const ONE_WRITE: [Row; 3] = [
     (Step::Submit(0, 1, 0xAA), Ok(Said::Accepted(1))),
     (Step::Submit(1, 1, 0xBB), Err(Refusal::LogFull)),
     (Step::Submit(0, 1, 0xBB), Err(Refusal::LogFull)),
 ];
-
-#[test]
-fn the_log_is_full_of_unreleased_writes(rt: HostRuntime) -> Result<(), Fail> {
-    let settings = Settings {
-        backlog: 1,
-        ..SETTINGS
-    };
-    let parts = [Part::Rows(&ONE_WRITE), Part::Holds(&[Fact::Unreleased(1)])];
-    connects(&rt, settings, &parts)
-}
 
 /// A write that the local disk failed holds nothing more, and is marked.
 const FAILED: [Row; 6] = [
@@ -136,27 +85,11 @@ const FAILED: [Row; 6] = [
     (Step::Receipt(1), Err(Refusal::UnknownJob)),
 ];
 
-#[test]
-fn a_failed_write_is_never_completed(rt: HostRuntime) -> Result<(), Fail> {
-    let parts = [
-        Part::Rows(&FAILED),
-        Part::Marks(&[2, 3]),
-        Part::Holds(&[Fact::OpenWrites(1)]),
-        Part::Rows(&[(Step::Next, Ok(Said::Next(Some(2))))]),
-    ];
-    connects(&rt, SETTINGS, &parts)
-}
-
 const GIVEN: [Row; 3] = [
     (Step::Submit(6, 2, 0x5A), Ok(Said::Accepted(1))),
     (Step::Given(1, 2, 0x5A), Ok(Said::Given(1, 6, 2, true))),
     (Step::Given(2, 2, 0x5A), Err(Refusal::UnknownJob)),
 ];
-
-#[test]
-fn the_local_disk_is_given_the_bytes_of_a_write(rt: HostRuntime) -> Result<(), Fail> {
-    connects(&rt, SETTINGS, &[Part::Rows(&GIVEN)])
-}
 
 /// A closed end sends nothing, and every unreleased write is marked, sent or not.
 const CUT: [Row; 8] = [
@@ -198,22 +131,115 @@ const RESUMED: [Row; 4] = [
     (Step::Resync(0x11), Err(Refusal::NothingToDo)),
 ];
 
+static REFUSALS: [Case; 8] = [
+    Case {
+        name: "a connection begins once",
+        start: &START,
+        before: &[],
+        parts: &[
+            Part::Rows(&UNOPENED),
+            Part::Holds(&[Fact::Connections(0)]),
+            CONNECTED,
+            Part::Rows(&OPENED),
+            Part::Holds(&[Fact::Connections(1), Fact::Stands(true), Fact::Accepted(0)]),
+        ],
+    },
+    Case {
+        name: "a primary has a mark for each block",
+        start: &Start {
+            marked: &[1, 7],
+            ..START
+        },
+        before: &[],
+        parts: &[Part::Marks(&[1, 7]), Part::Holds(&[Fact::Open(false)])],
+    },
+    Case {
+        name: "ranges of writes",
+        start: &Start {
+            settings: Settings {
+                blocks: 2048,
+                ..SETTINGS
+            },
+            ..START
+        },
+        before: &[CONNECTED],
+        parts: &[Part::Rows(&RANGES), Part::Holds(&[Fact::Accepted(1)])],
+    },
+    Case {
+        name: "an extent is active until its writes are released",
+        start: &Start {
+            settings: Settings {
+                blocks: 2048,
+                slots: 1,
+                ..SETTINGS
+            },
+            ..START
+        },
+        before: &[CONNECTED],
+        parts: &[Part::Rows(&ONE_SLOT)],
+    },
+    Case {
+        name: "the log is full of unreleased writes",
+        start: &Start {
+            settings: Settings {
+                backlog: 1,
+                ..SETTINGS
+            },
+            ..START
+        },
+        before: &[CONNECTED],
+        parts: &[Part::Rows(&ONE_WRITE), Part::Holds(&[Fact::Unreleased(1)])],
+    },
+    Case {
+        name: "a failed write is never completed",
+        start: &START,
+        before: &[CONNECTED],
+        parts: &[
+            Part::Rows(&FAILED),
+            Part::Marks(&[2, 3]),
+            Part::Holds(&[Fact::OpenWrites(1)]),
+            Part::Rows(&[(Step::Next, Ok(Said::Next(Some(2))))]),
+        ],
+    },
+    Case {
+        name: "the local disk is given the bytes of a write",
+        start: &START,
+        before: &[CONNECTED],
+        parts: &[Part::Rows(&GIVEN)],
+    },
+    Case {
+        name: "a lost link marks what is unreleased",
+        start: &START,
+        before: &[CONNECTED],
+        parts: &[
+            Part::Rows(&CUT),
+            Part::Marks(&[0, 1, 2, 3, 5]),
+            Part::Holds(&[
+                Fact::OpenWrites(3),
+                Fact::Unanswered(0),
+                Fact::OpenEpochs(0),
+                Fact::Unsent(0),
+                Fact::Tuple(PARTED),
+            ]),
+            Part::Greeting((9, 11), (PARTED, OWN), Decision::BitmapSync),
+            Part::Holds(&[Fact::Tuple(RESYNCING)]),
+            Part::Rows(&RESUMED),
+        ],
+    },
+];
+
 #[test]
-fn a_lost_link_marks_what_is_unreleased(rt: HostRuntime) -> Result<(), Fail> {
-    let facts = [
-        Fact::OpenWrites(3),
-        Fact::Unanswered(0),
-        Fact::OpenEpochs(0),
-        Fact::Unsent(0),
-        Fact::Tuple(PARTED),
-    ];
-    let parts = [
-        Part::Rows(&CUT),
-        Part::Marks(&[0, 1, 2, 3, 5]),
-        Part::Holds(&facts),
-        Part::Greeting((9, 11), (PARTED, OWN), Decision::BitmapSync),
-        Part::Holds(&[Fact::Tuple(RESYNCING)]),
-        Part::Rows(&RESUMED),
-    ];
-    connects(&rt, SETTINGS, &parts)
+fn steps_that_are_refused(rt: HostRuntime) -> Result<(), Fail> {
+    passes(&rt, &REFUSALS)
+}
+
+// Why there is no primary of 8 blocks with these marks.
+fn refused(alloc: Global, marks: &[bool]) -> Option<Refusal> {
+    PrimaryCore::new(alloc, SETTINGS, OWN, marks).err()
+}
+
+#[test]
+fn seven_marks_are_too_few(rt: HostRuntime) -> Result<(), Fail> {
+    assert_eq!(rt; refused(rt.alloc(), &[false; 7]), Some(Refusal::BadSetting));
+    Ok(())
 }

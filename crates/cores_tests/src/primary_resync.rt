@@ -1,6 +1,7 @@
 //! The primary's half of a resync: marked blocks are read and sent, and what the peer has is not marked.
-use crate::primary::{
-    CONNECTED, DONE, Fact, Frame, OWN, PARTED, Part, Row, SETTINGS, Said, Step, passes,
+use crate::primary::passes;
+use crate::primary_tables::{
+    CONNECTED, Case, DONE, Fact, Frame, OWN, PARTED, Part, Row, SETTINGS, START, Said, Start, Step,
 };
 use blocks::{Block, Command, Decision, Refusal, Settings, Tuple, What};
 use primary_core::Fate;
@@ -92,11 +93,9 @@ const FIRST_DONE: Row = (
     Ok(Said::More(What::Frame(Command::RsWriteAck, None), None, Some(1), false)),
 );
 
-const COPIED: [Row; 9] = [
-    SYNC_UUID,
-    FIRST_BLOCK,
-    FIRST_SENT,
-    FIRST_DONE,
+const FIRST_COPIED: [Row; 3] = [SYNC_UUID, FIRST_BLOCK, FIRST_SENT];
+
+const SECOND_COPIED: [Row; 5] = [
     (Step::Resync(0xBB), Ok(Said::Did(What::Block(Block(6), 3)))),
     (
         Step::Send(Frame::Barrier(1)),
@@ -128,22 +127,6 @@ const CLOSING: [Row; 3] = [
     (Step::Resync(0xAA), Err(Refusal::NothingToDo)),
 ];
 
-#[test]
-fn a_resync_copies_the_marked_blocks(rt: HostRuntime) -> Result<(), Fail> {
-    let parts = [
-        Part::Rows(&COPIED[..3]),
-        Part::Marks(&[3, 6]),
-        Part::Rows(&COPIED[3..4]),
-        Part::Marks(&[6]),
-        Part::Rows(&COPIED[4..]),
-        Part::Holds(&[Fact::Resync(false), Fact::Tuple(SYNCED)]),
-        Part::Rows(&CLOSING),
-        Part::Marks(&[]),
-        Part::Holds(&[Fact::Places(6)]),
-    ];
-    passes(&rt, SETTINGS, &BEGUN, &parts)
-}
-
 /// What the disk has where the peer is lost before it was told of the resync's end.
 const LOST: Tuple = Tuple {
     current: 11,
@@ -158,19 +141,6 @@ const FULL: Tuple = Tuple {
     first_historical: 7,
     second_historical: 9,
 };
-
-#[test]
-fn a_target_that_was_not_told_is_copied_whole(rt: HostRuntime) -> Result<(), Fail> {
-    let parts = [
-        Part::Rows(&COPIED),
-        Part::Rows(&[(Step::Close, Ok(Said::Closed(0)))]),
-        Part::Holds(&[Fact::Tuple(LOST)]),
-        Part::Greeting((13, 15), (LOST, TARGET), Decision::FullSync),
-        Part::Marks(&[0, 1, 2, 3, 4, 5, 6, 7]),
-        Part::Holds(&[Fact::Tuple(FULL), Fact::Connections(3)]),
-    ];
-    passes(&rt, SETTINGS, &BEGUN, &parts)
-}
 
 /// The block under way is held, and an open write holds the other.
 const SHARED: [Row; 8] = [
@@ -192,22 +162,6 @@ const PASSED: [Row; 2] = [
     (Step::Submit(3, 1, 0xCC), Ok(Said::Accepted(3))),
     (Step::Resync(0xBB), Ok(Said::Did(What::Block(Block(6), 2)))),
 ];
-
-#[test]
-fn a_resync_and_a_write_hold_no_block_both(rt: HostRuntime) -> Result<(), Fail> {
-    passes(
-        &rt,
-        SETTINGS,
-        &BEGUN,
-        &[Part::Rows(&SHARED), Part::Marks(&[6])],
-    )?;
-    passes(
-        &rt,
-        SETTINGS,
-        &BEGUN,
-        &[Part::Rows(&PASSED), Part::Marks(&[3, 6])],
-    )
-}
 
 /// A connected write of a marked block goes through.
 const WRITTEN: [Row; 7] = [
@@ -244,25 +198,12 @@ const WRITTEN: [Row; 7] = [
     ),
 ];
 
-const RELEASED: [Row; 2] = [
-    (
-        Step::Take(Frame::BarrierAck(1, 1)),
-        Ok(Said::Went(Command::BarrierAck, None)),
-    ),
-    (Step::Resync(0xBB), Ok(Said::Did(What::Block(Block(6), 3)))),
-];
+const RELEASED: Row = (
+    Step::Take(Frame::BarrierAck(1, 1)),
+    Ok(Said::Went(Command::BarrierAck, None)),
+);
 
-#[test]
-fn a_released_write_clears_its_mark(rt: HostRuntime) -> Result<(), Fail> {
-    let parts = [
-        Part::Rows(&WRITTEN),
-        Part::Marks(&[3, 6]),
-        Part::Rows(&RELEASED[..1]),
-        Part::Marks(&[6]),
-        Part::Rows(&RELEASED[1..]),
-    ];
-    passes(&rt, SETTINGS, &BEGUN, &parts)
-}
+const SECOND_BLOCK: Row = (Step::Resync(0xBB), Ok(Said::Did(What::Block(Block(6), 3))));
 
 /// Writes of both marked blocks, sent and answered.
 const BOTH: [Row; 10] = [
@@ -309,18 +250,6 @@ const SYNCED_BY_WRITES: [Row; 2] = [
     ),
 ];
 
-#[test]
-fn writes_alone_may_end_a_resync(rt: HostRuntime) -> Result<(), Fail> {
-    let parts = [
-        Part::Rows(&BOTH),
-        Part::Marks(&[3, 6]),
-        Part::Rows(&SYNCED_BY_WRITES),
-        Part::Marks(&[]),
-        Part::Holds(&[Fact::Tuple(SYNCED)]),
-    ];
-    passes(&rt, SETTINGS, &BEGUN, &parts)
-}
-
 /// An epoch of one write is acknowledged before the local disk has the write.
 const ACKNOWLEDGED: [Row; 6] = [
     (
@@ -346,21 +275,101 @@ const ACKNOWLEDGED: [Row; 6] = [
     ),
 ];
 
-#[test]
-fn a_mark_waits_for_the_local_disk(rt: HostRuntime) -> Result<(), Fail> {
-    let settings = Settings {
+const LOCAL: Row = (
+    Step::Local(3),
+    Ok(Said::More(What::Nothing, Some(3), None, false)),
+);
+
+const OF_ONE: Start = Start {
+    settings: Settings {
         max_epoch: 1,
         ..SETTINGS
-    };
-    let local = [(
-        Step::Local(3),
-        Ok(Said::More(What::Nothing, Some(3), None, false)),
-    )];
-    let parts = [
-        Part::Rows(&ACKNOWLEDGED),
-        Part::Marks(&[3, 6]),
-        Part::Rows(&local),
-        Part::Marks(&[6]),
-    ];
-    passes(&rt, settings, &BEGUN, &parts)
+    },
+    ..START
+};
+
+static RESYNCS: [Case; 7] = [
+    Case {
+        name: "a resync copies the marked blocks",
+        start: &START,
+        before: &BEGUN,
+        parts: &[
+            Part::Rows(&FIRST_COPIED),
+            Part::Marks(&[3, 6]),
+            Part::Rows(&[FIRST_DONE]),
+            Part::Marks(&[6]),
+            Part::Rows(&SECOND_COPIED),
+            Part::Holds(&[Fact::Resync(false), Fact::Tuple(SYNCED)]),
+            Part::Rows(&CLOSING),
+            Part::Marks(&[]),
+            Part::Holds(&[Fact::Places(6)]),
+        ],
+    },
+    Case {
+        name: "a target that was not told is copied whole",
+        start: &START,
+        before: &BEGUN,
+        parts: &[
+            Part::Rows(&FIRST_COPIED),
+            Part::Rows(&[FIRST_DONE]),
+            Part::Rows(&SECOND_COPIED),
+            Part::Rows(&[(Step::Close, Ok(Said::Closed(0)))]),
+            Part::Holds(&[Fact::Tuple(LOST)]),
+            Part::Greeting((13, 15), (LOST, TARGET), Decision::FullSync),
+            Part::Marks(&[0, 1, 2, 3, 4, 5, 6, 7]),
+            Part::Holds(&[Fact::Tuple(FULL), Fact::Connections(3)]),
+        ],
+    },
+    Case {
+        name: "a resync and a write hold no block both",
+        start: &START,
+        before: &BEGUN,
+        parts: &[Part::Rows(&SHARED), Part::Marks(&[6])],
+    },
+    Case {
+        name: "a resync and a write hold no block both",
+        start: &START,
+        before: &BEGUN,
+        parts: &[Part::Rows(&PASSED), Part::Marks(&[3, 6])],
+    },
+    Case {
+        name: "a released write clears its mark",
+        start: &START,
+        before: &BEGUN,
+        parts: &[
+            Part::Rows(&WRITTEN),
+            Part::Marks(&[3, 6]),
+            Part::Rows(&[RELEASED]),
+            Part::Marks(&[6]),
+            Part::Rows(&[SECOND_BLOCK]),
+        ],
+    },
+    Case {
+        name: "writes alone may end a resync",
+        start: &START,
+        before: &BEGUN,
+        parts: &[
+            Part::Rows(&BOTH),
+            Part::Marks(&[3, 6]),
+            Part::Rows(&SYNCED_BY_WRITES),
+            Part::Marks(&[]),
+            Part::Holds(&[Fact::Tuple(SYNCED)]),
+        ],
+    },
+    Case {
+        name: "a mark waits for the local disk",
+        start: &OF_ONE,
+        before: &BEGUN,
+        parts: &[
+            Part::Rows(&ACKNOWLEDGED),
+            Part::Marks(&[3, 6]),
+            Part::Rows(&[LOCAL]),
+            Part::Marks(&[6]),
+        ],
+    },
+];
+
+#[test]
+fn resyncs_and_their_marks(rt: HostRuntime) -> Result<(), Fail> {
+    passes(&rt, &RESYNCS)
 }

@@ -1,5 +1,8 @@
 //! The primary's half of the worked rows: writes, from their acceptance to their release.
-use crate::primary::{DONE, Fact, Frame, OWN, PARTED, Part, Row, SETTINGS, Said, Step, connects};
+use crate::primary::passes;
+use crate::primary_tables::{
+    CONNECTED, Case, DONE, Fact, Frame, OWN, PARTED, Part, Row, SETTINGS, START, Said, Start, Step,
+};
 use blocks::{Command, Protocol, Refusal, Settings, What};
 use primary_core::Fate;
 use std::test::Fail;
@@ -49,15 +52,16 @@ const WRITTEN: [Row; 13] = [
     (Step::Receipt(0), Err(Refusal::UnknownJob)),
 ];
 
-const RELEASED: [Row; 4] = [
+const RELEASED: [Row; 3] = [
     BARRIER,
     (Step::Send(Frame::Barrier(2)), Err(Refusal::NothingThere)),
     (
         Step::Take(Frame::BarrierAck(1, 1)),
         Ok(Said::Went(Command::BarrierAck, None)),
     ),
-    (Step::Close, Ok(Said::Closed(0))),
 ];
+
+const CLOSED: [Row; 1] = [(Step::Close, Ok(Said::Closed(0)))];
 
 const COMPLETED: [Fact; 7] = [
     Fact::Tuple(OWN),
@@ -70,20 +74,6 @@ const COMPLETED: [Fact; 7] = [
 ];
 
 const FREED: [Fact; 3] = [Fact::OpenEpochs(0), Fact::Unreleased(0), Fact::Accepted(1)];
-
-#[test]
-fn a_write_is_completed_once_both_disks_have_it(rt: HostRuntime) -> Result<(), Fail> {
-    let parts = [
-        Part::Rows(&WRITTEN),
-        Part::Holds(&COMPLETED),
-        Part::Rows(&RELEASED[..3]),
-        Part::Holds(&FREED),
-        Part::Rows(&RELEASED[3..]),
-        Part::Marks(&[]),
-        Part::Holds(&[Fact::Tuple(PARTED)]),
-    ];
-    connects(&rt, SETTINGS, &parts)
-}
 
 /// Under A a write is completed once the local disk has it and it is sent.
 const SENT_FIRST: [Row; 3] = [
@@ -104,28 +94,23 @@ const DONE_FIRST: [Row; 3] = [
     ),
 ];
 
-#[test]
-fn a_sent_write_is_completed_without_an_answer(rt: HostRuntime) -> Result<(), Fail> {
-    let settings = Settings {
+const IN_A: Start = Start {
+    settings: Settings {
         protocol: Protocol::A,
         ..SETTINGS
-    };
-    let facts = [
+    },
+    ..START
+};
+
+const COMPLETED_UNANSWERED: [Part; 3] = [
+    Part::Rows(&[BARRIER]),
+    Part::Holds(&[
         Fact::Unanswered(0),
         Fact::OpenWrites(0),
         Fact::Unreleased(1),
-    ];
-    for rows in [&SENT_FIRST, &DONE_FIRST] {
-        let parts = [
-            Part::Rows(rows),
-            Part::Rows(&[BARRIER]),
-            Part::Holds(&facts),
-            Part::Marks(&[]),
-        ];
-        connects(&rt, settings, &parts)?;
-    }
-    Ok(())
-}
+    ]),
+    Part::Marks(&[]),
+];
 
 /// Under B a write is completed once the local disk has it and the peer has received it.
 const RECEIVED: [Row; 4] = [
@@ -138,21 +123,13 @@ const RECEIVED: [Row; 4] = [
     ),
 ];
 
-#[test]
-fn a_completed_write_is_marked_where_it_was_not_acknowledged(rt: HostRuntime) -> Result<(), Fail> {
-    let settings = Settings {
+const IN_B: Start = Start {
+    settings: Settings {
         protocol: Protocol::B,
         ..SETTINGS
-    };
-    let parts = [
-        Part::Rows(&RECEIVED),
-        Part::Marks(&[]),
-        Part::Rows(&[(Step::Close, Ok(Said::Closed(0)))]),
-        Part::Marks(&[2]),
-        Part::Holds(&[Fact::Tuple(PARTED)]),
-    ];
-    connects(&rt, settings, &parts)
-}
+    },
+    ..START
+};
 
 /// The completion ends the epoch: what comes then is behind its barrier.
 const FOLLOWED: [Row; 8] = [
@@ -179,16 +156,6 @@ const FOLLOWED: [Row; 8] = [
         Ok(Said::Went(Command::Data, Some(2))),
     ),
 ];
-
-#[test]
-fn a_conflict_ends_with_the_completion(rt: HostRuntime) -> Result<(), Fail> {
-    let facts = [
-        Fact::OpenWrites(1),
-        Fact::Unanswered(1),
-        Fact::OpenEpochs(2),
-    ];
-    connects(&rt, SETTINGS, &[Part::Rows(&FOLLOWED), Part::Holds(&facts)])
-}
 
 /// Two writes of one epoch, of which the second is completed first, and one of the next epoch.
 const EPOCHS: [Row; 14] = [
@@ -240,12 +207,6 @@ const EPOCHS: [Row; 14] = [
     ),
 ];
 
-#[test]
-fn the_first_completion_ends_an_epoch(rt: HostRuntime) -> Result<(), Fail> {
-    let facts = [Fact::Unreleased(1), Fact::OpenEpochs(1)];
-    connects(&rt, SETTINGS, &[Part::Rows(&EPOCHS), Part::Holds(&facts)])
-}
-
 /// An epoch that is full has its barrier at once, and may be acknowledged before the local disk is done.
 const FULL: [Row; 6] = [
     (
@@ -265,23 +226,94 @@ const FULL: [Row; 6] = [
     (Step::Receipt(1), Err(Refusal::NotCompleted)),
 ];
 
-#[test]
-fn a_full_epoch_ends_with_a_barrier(rt: HostRuntime) -> Result<(), Fail> {
-    let settings = Settings {
+const OF_ONE: Start = Start {
+    settings: Settings {
         max_epoch: 1,
         ..SETTINGS
-    };
-    let facts = [
-        Fact::Unanswered(0),
-        Fact::OpenWrites(1),
-        Fact::OpenEpochs(0),
-    ];
-    let parts = [
-        Part::Rows(&FULL),
-        Part::Holds(&facts),
-        Part::Marks(&[]),
-        Part::Rows(&[(Step::Close, Ok(Said::Closed(0)))]),
-        Part::Marks(&[2]),
-    ];
-    connects(&rt, settings, &parts)
+    },
+    ..START
+};
+
+static WRITES: [Case; 7] = [
+    Case {
+        name: "a write is completed once both disks have it",
+        start: &START,
+        before: &[CONNECTED],
+        parts: &[
+            Part::Rows(&WRITTEN),
+            Part::Holds(&COMPLETED),
+            Part::Rows(&RELEASED),
+            Part::Holds(&FREED),
+            Part::Rows(&CLOSED),
+            Part::Marks(&[]),
+            Part::Holds(&[Fact::Tuple(PARTED)]),
+        ],
+    },
+    Case {
+        name: "a sent write is completed without an answer",
+        start: &IN_A,
+        before: &[CONNECTED, Part::Rows(&SENT_FIRST)],
+        parts: &COMPLETED_UNANSWERED,
+    },
+    Case {
+        name: "a sent write is completed without an answer",
+        start: &IN_A,
+        before: &[CONNECTED, Part::Rows(&DONE_FIRST)],
+        parts: &COMPLETED_UNANSWERED,
+    },
+    Case {
+        name: "a completed write is marked where it was not acknowledged",
+        start: &IN_B,
+        before: &[CONNECTED],
+        parts: &[
+            Part::Rows(&RECEIVED),
+            Part::Marks(&[]),
+            Part::Rows(&CLOSED),
+            Part::Marks(&[2]),
+            Part::Holds(&[Fact::Tuple(PARTED)]),
+        ],
+    },
+    Case {
+        name: "a conflict ends with the completion",
+        start: &START,
+        before: &[CONNECTED],
+        parts: &[
+            Part::Rows(&FOLLOWED),
+            Part::Holds(&[
+                Fact::OpenWrites(1),
+                Fact::Unanswered(1),
+                Fact::OpenEpochs(2),
+            ]),
+        ],
+    },
+    Case {
+        name: "the first completion ends an epoch",
+        start: &START,
+        before: &[CONNECTED],
+        parts: &[
+            Part::Rows(&EPOCHS),
+            Part::Holds(&[Fact::Unreleased(1), Fact::OpenEpochs(1)]),
+        ],
+    },
+    Case {
+        name: "a full epoch ends with a barrier",
+        start: &OF_ONE,
+        before: &[CONNECTED],
+        parts: &[
+            Part::Rows(&FULL),
+            Part::Holds(&[
+                Fact::Unanswered(0),
+                Fact::OpenWrites(1),
+                Fact::OpenEpochs(0),
+            ]),
+            Part::Marks(&[]),
+            Part::Rows(&CLOSED),
+            Part::Marks(&[2]),
+        ],
+    },
+];
+
+#[test]
+fn writes_from_acceptance_to_release(rt: HostRuntime) -> Result<(), Fail> {
+    passes(&rt, &WRITES)
 }

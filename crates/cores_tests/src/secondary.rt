@@ -55,11 +55,14 @@ pub(crate) enum Said {
     Sent(Command, u64, u32),
 }
 
-/// A step, and what it says or why it is refused.
-pub(crate) type Row = (Step, Result<Said, Refusal>);
+/// What a step says, or why it is refused.
+pub(crate) type Answer = Result<Said, Refusal>;
+
+/// A step and its answer.
+pub(crate) type Row = (Step, Answer);
 
 /// What a core holds.
-#[derive(Clone, Copy, Debug, PartialEq, Eq)]
+#[derive(Clone, Copy)]
 pub(crate) enum Fact {
     /// The number of the connection.
     Number(u32),
@@ -72,11 +75,37 @@ pub(crate) enum Fact {
     Usage(Usage),
 }
 
-/// A part of a test. The tests are tables, since one function goes through all of them and is proved once.
+/// A part of what a secondary goes through.
 #[derive(Clone, Copy)]
-pub(crate) enum Part<'a> {
-    Rows(&'a [Row]),
-    Holds(&'a [Fact]),
+pub(crate) enum Part {
+    Rows(&'static [Row]),
+    /// This frame is refused.
+    Refused(Frame, Refusal),
+    Holds(&'static [Fact]),
+}
+
+/// A secondary that was never opened, and the parts that it goes through. The tests are tables of these, since one
+/// function goes through all of them and is proved once.
+pub(crate) struct Case {
+    pub(crate) name: &'static str,
+    pub(crate) settings: Settings,
+    pub(crate) parts: &'static [Part],
+}
+
+/// Frames that are refused, each of them by a secondary of its own under the settings of the worked rows, with what
+/// comes before and after.
+pub(crate) struct Foreign {
+    pub(crate) name: &'static str,
+    pub(crate) before: &'static [Part],
+    pub(crate) frames: &'static [(Frame, Refusal)],
+    pub(crate) after: &'static [Part],
+}
+
+/// Where a part is gone through: the name of the case, and what gives memory.
+#[derive(Clone, Copy)]
+struct Scene {
+    name: &'static str,
+    alloc: Global,
 }
 
 /// What every disk begins with, where a row names nothing else.
@@ -89,6 +118,42 @@ pub(crate) const OWN: Tuple = Tuple {
 
 /// The settings of the worked rows, under protocol C.
 pub(crate) const SETTINGS: Settings = Settings::STANDARD;
+
+pub(crate) const DONE: Answer = Ok(Said::Nothing);
+
+const PROTOCOL_TOOK: Answer = Ok(Said::Took(Command::Protocol, None));
+
+/// The end is opened, and takes the protocol that the primary names.
+pub(crate) const OPENED_IN_A: Part = Part::Rows(&[
+    (Step::Open(1), DONE),
+    (Step::Take(Frame::Protocol(Protocol::A)), PROTOCOL_TOOK),
+]);
+
+pub(crate) const OPENED_IN_B: Part = Part::Rows(&[
+    (Step::Open(1), DONE),
+    (Step::Take(Frame::Protocol(Protocol::B)), PROTOCOL_TOOK),
+]);
+
+pub(crate) const OPENED: Part = Part::Rows(&[
+    (Step::Open(1), DONE),
+    (Step::Take(Frame::Protocol(Protocol::C)), PROTOCOL_TOOK),
+]);
+
+/// The rest of the hello of the first connection.
+pub(crate) const GREETED: Part = Part::Rows(&[
+    (
+        Step::Take(Frame::Sizes(8)),
+        Ok(Said::Took(Command::Sizes, None)),
+    ),
+    (
+        Step::Take(Frame::Uuids(OWN)),
+        Ok(Said::Took(Command::Uuids, None)),
+    ),
+    (Step::AckOut, Ok(Said::Sent(Command::Protocol, 0, 0))),
+    (Step::AckOut, Ok(Said::Sent(Command::Sizes, 0, 0))),
+    (Step::AckOut, Ok(Said::Sent(Command::Uuids, 0, 0))),
+    (Step::AckOut, Err(Refusal::NothingThere)),
+]);
 
 fn blocks_of(alloc: Global, first: u64, number: u64, place: u32) -> Result<Packet, Refusal>
     ensures { IfOk result IsSpellable }
@@ -143,7 +208,7 @@ fn packet_of(alloc: Global, frame: Frame) -> Result<Packet, Refusal>
     }
 }
 
-fn take(core: &mut SecondaryCore, frame: Result<Packet, Refusal>) -> Result<Said, Refusal>
+fn take(core: &mut SecondaryCore, frame: Result<Packet, Refusal>) -> Answer
     requires { IfOk frame IsSpellable }
 {
     core.may_take()?;
@@ -154,7 +219,7 @@ fn take(core: &mut SecondaryCore, frame: Result<Packet, Refusal>) -> Result<Said
     }
 }
 
-fn ack_out(core: &mut SecondaryCore) -> Result<Said, Refusal> {
+fn ack_out(core: &mut SecondaryCore) -> Answer {
     let packet = core.due()?;
     core.sent();
     let (number, place) = match packet {
@@ -167,7 +232,7 @@ fn ack_out(core: &mut SecondaryCore) -> Result<Said, Refusal> {
     Ok(Said::Sent(packet.command(), number, place))
 }
 
-fn do_step(core: &mut SecondaryCore, alloc: Global, step: Step) -> Result<Said, Refusal> {
+fn do_step(core: &mut SecondaryCore, alloc: Global, step: Step) -> Answer {
     match step {
         Step::Open(number) => core.open(number)?,
         Step::Close => core.close()?,
@@ -185,74 +250,111 @@ fn do_step(core: &mut SecondaryCore, alloc: Global, step: Step) -> Result<Said, 
     Ok(Said::Nothing)
 }
 
+fn is_answered(rt: &impl Abort, (name, step): (&str, usize), answer: Answer, wanted: Answer) {
+    assert_eq!(rt; answer, wanted, "{name}: step {step}");
+}
+
 // Each step says what its row has.
-fn run(rt: &impl Abort, core: &mut SecondaryCore, alloc: Global, rows: &[Row]) {
+fn run(rt: &impl Abort, core: &mut SecondaryCore, scene: Scene, rows: &[Row]) {
     for (i, (given, wanted)) in rows.iter().enumerate() {
-        assert_eq!(rt; do_step(core, alloc, *given), *wanted, "step {i}");
+        is_answered(
+            rt,
+            (scene.name, i),
+            do_step(core, scene.alloc, *given),
+            *wanted,
+        );
     }
 }
 
-// The fact of the same kind that is true.
-fn true_fact(core: &SecondaryCore, fact: Fact) -> Fact {
+fn is_true(core: &SecondaryCore, fact: Fact) -> bool {
     match fact {
-        Fact::Number(_) => Fact::Number(core.number()),
-        Fact::HelloDone(_) => Fact::HelloDone(core.is_hello_done()),
-        Fact::Open(_) => Fact::Open(core.is_open()),
-        Fact::Drained(_) => Fact::Drained(core.is_drained()),
-        Fact::Consistent(_) => Fact::Consistent(core.is_consistent()),
-        Fact::ItemsTaken(_) => Fact::ItemsTaken(core.items_taken()),
-        Fact::Tuple(_) => Fact::Tuple(core.tuple()),
-        Fact::Usage(_) => Fact::Usage(core.usage()),
+        Fact::Number(wanted) => core.number() == wanted,
+        Fact::HelloDone(wanted) => core.is_hello_done() == wanted,
+        Fact::Open(wanted) => core.is_open() == wanted,
+        Fact::Drained(wanted) => core.is_drained() == wanted,
+        Fact::Consistent(wanted) => core.is_consistent() == wanted,
+        Fact::ItemsTaken(wanted) => core.items_taken() == wanted,
+        Fact::Tuple(wanted) => core.tuple() == wanted,
+        Fact::Usage(wanted) => core.usage() == wanted,
     }
 }
 
-fn holds(rt: &impl Abort, core: &SecondaryCore, facts: &[Fact]) {
-    for fact in facts {
-        assert_eq!(rt; true_fact(core, *fact), *fact);
+fn holds(rt: &impl Abort, core: &SecondaryCore, name: &str, facts: &[Fact]) {
+    for (i, fact) in facts.iter().enumerate() {
+        assert!(rt; is_true(core, *fact), "{name}: fact {i}");
     }
 }
 
-/// Goes through rows and then parts with a secondary that was never opened.
-pub(crate) fn passes(
-    rt: &(impl Abort + AllocGlobal),
-    settings: Settings,
-    rows: &[Row],
-    parts: &[Part],
-) -> Result<(), Fail> {
-    let alloc = rt.alloc();
-    let mut core = SecondaryCore::new(alloc, settings, OWN)?;
-    run(rt, &mut core, alloc, rows);
-    for part in parts {
-        match part {
-            Part::Rows(rows) => run(rt, &mut core, alloc, rows),
-            Part::Holds(facts) => holds(rt, &core, facts),
+fn go(rt: &impl Abort, core: &mut SecondaryCore, scene: Scene, part: &Part) {
+    match part {
+        Part::Rows(rows) => run(rt, core, scene, rows),
+        Part::Refused(frame, refusal) => {
+            run(rt, core, scene, &[(Step::Take(*frame), Err(*refusal))])
         }
+        Part::Holds(facts) => holds(rt, core, scene.name, facts),
+    }
+}
+
+fn go_on(rt: &impl Abort, core: &mut SecondaryCore, scene: Scene, parts: &[Part]) {
+    for part in parts {
+        go(rt, core, scene, part);
+    }
+}
+
+fn go_through(
+    rt: &impl Abort,
+    core: &mut SecondaryCore,
+    scene: Scene,
+    (before, parts, after): (&[Part], &[Part], &[Part]),
+) {
+    go_on(rt, core, scene, before);
+    go_on(rt, core, scene, parts);
+    go_on(rt, core, scene, after);
+}
+
+// A secondary that was never opened goes through three lists of parts. This function alone owns one, since each exit of
+// an owner has to drop it.
+fn goes(
+    rt: &(impl Abort + AllocGlobal),
+    name: &'static str,
+    settings: Settings,
+    lists: (&[Part], &[Part], &[Part]),
+) -> Result<(), Refusal> {
+    let mut core = SecondaryCore::new(rt.alloc(), settings, OWN)?;
+    let scene = Scene {
+        name,
+        alloc: rt.alloc(),
+    };
+    go_through(rt, &mut core, scene, lists);
+    Ok(())
+}
+
+/// Each case's secondary goes through its parts.
+pub(crate) fn passes(rt: &(impl Abort + AllocGlobal), cases: &'static [Case]) -> Result<(), Fail> {
+    for case in cases {
+        goes(rt, case.name, case.settings, (&[], case.parts, &[]))?;
     }
     Ok(())
 }
 
-/// Goes through parts with a secondary on its first connection, whose hello is done.
-pub(crate) fn connects(
+fn is_foreign(
     rt: &(impl Abort + AllocGlobal),
-    settings: Settings,
-    parts: &[Part],
+    case: &'static Foreign,
+    (frame, refusal): (Frame, Refusal),
+) -> Result<(), Refusal> {
+    let refused = [Part::Refused(frame, refusal)];
+    goes(rt, case.name, SETTINGS, (case.before, &refused, case.after))
+}
+
+/// Each frame is refused, and goes with what is before and after.
+pub(crate) fn are_foreign(
+    rt: &(impl Abort + AllocGlobal),
+    cases: &'static [Foreign],
 ) -> Result<(), Fail> {
-    let hello = Frame::Protocol(settings.protocol);
-    let greeting = [
-        (Step::Open(1), Ok(Said::Nothing)),
-        (Step::Take(hello), Ok(Said::Took(Command::Protocol, None))),
-        (
-            Step::Take(Frame::Sizes(8)),
-            Ok(Said::Took(Command::Sizes, None)),
-        ),
-        (
-            Step::Take(Frame::Uuids(OWN)),
-            Ok(Said::Took(Command::Uuids, None)),
-        ),
-        (Step::AckOut, Ok(Said::Sent(Command::Protocol, 0, 0))),
-        (Step::AckOut, Ok(Said::Sent(Command::Sizes, 0, 0))),
-        (Step::AckOut, Ok(Said::Sent(Command::Uuids, 0, 0))),
-        (Step::AckOut, Err(Refusal::NothingThere)),
-    ];
-    passes(rt, settings, &greeting, parts)
+    for case in cases {
+        for row in case.frames {
+            is_foreign(rt, case, *row)?;
+        }
+    }
+    Ok(())
 }

@@ -1,7 +1,8 @@
 //! Frames that no primary sends: each is refused, and closes the end.
-use crate::secondary::{Fact, Frame, OWN, Part, Row, SETTINGS, Said, Step, connects, passes};
+use crate::secondary::{
+    DONE, Fact, Foreign, Frame, GREETED, OPENED, OWN, Part, Row, Said, Step, are_foreign,
+};
 use blocks::{Command, Protocol, Refusal, Tuple};
-use std::process::Abort;
 use std::test::Fail;
 
 /// What the primary sends after a resync.
@@ -31,26 +32,19 @@ const FOREIGN: [(Frame, Refusal); 11] = [
     (Frame::Fault(Refusal::BadLength), Refusal::BadLength),
 ];
 
-#[test]
-fn foreign_frames_after_the_hello(rt: HostRuntime) -> Result<(), Fail> {
-    for (frame, refusal) in FOREIGN {
-        let rows = [
-            (
-                Step::Take(Frame::Data(2, 1, 0)),
-                Ok(Said::Took(Command::Data, Some(0))),
-            ),
-            (Step::Take(frame), Err(refusal)),
-            // The end is closed, and the write stays pending and is applied.
-            (Step::Take(Frame::Barrier(1)), Err(Refusal::NotConnected)),
-            (Step::AckOut, Err(Refusal::NotConnected)),
-            (Step::Close, Err(Refusal::NotConnected)),
-            (Step::Peer(0), Ok(Said::Nothing)),
-            (Step::Peer(0), Err(Refusal::UnknownJob)),
-        ];
-        connects(&rt, SETTINGS, &[Part::Rows(&rows)])?;
-    }
-    Ok(())
-}
+const WRITE: Row = (
+    Step::Take(Frame::Data(2, 1, 0)),
+    Ok(Said::Took(Command::Data, Some(0))),
+);
+
+/// The end is closed, and the write stays pending and is applied.
+const APPLIED: [Row; 5] = [
+    (Step::Take(Frame::Barrier(1)), Err(Refusal::NotConnected)),
+    (Step::AckOut, Err(Refusal::NotConnected)),
+    (Step::Close, Err(Refusal::NotConnected)),
+    (Step::Peer(0), DONE),
+    (Step::Peer(0), Err(Refusal::UnknownJob)),
+];
 
 /// Each comes in place of the primary's first frame.
 const FIRST: [(Frame, Refusal); 4] = [
@@ -66,34 +60,30 @@ const SECOND: [(Frame, Refusal); 2] = [
     (Frame::Sizes(16), Refusal::OtherSize),
 ];
 
-const OPENING: [Row; 2] = [
-    (Step::Open(1), Ok(Said::Nothing)),
-    (
-        Step::Take(Frame::Protocol(Protocol::C)),
-        Ok(Said::Took(Command::Protocol, None)),
-    ),
+const CLOSED: [Part; 1] = [Part::Holds(&[Fact::Open(false)])];
+
+static FOREIGN_FRAMES: [Foreign; 3] = [
+    Foreign {
+        name: "foreign frames after the hello",
+        before: &[OPENED, GREETED, Part::Rows(&[WRITE])],
+        frames: &FOREIGN,
+        after: &[Part::Rows(&APPLIED)],
+    },
+    Foreign {
+        name: "foreign frames in the hello",
+        before: &[Part::Rows(&[(Step::Open(1), DONE)])],
+        frames: &FIRST,
+        after: &CLOSED,
+    },
+    Foreign {
+        name: "foreign frames in the hello",
+        before: &[OPENED],
+        frames: &SECOND,
+        after: &CLOSED,
+    },
 ];
 
-// After these rows the frame is refused, and the end is closed.
-fn is_foreign(
-    rt: &(impl Abort + AllocGlobal),
-    before: &[Row],
-    (frame, refusal): (Frame, Refusal),
-) -> Result<(), Fail> {
-    let parts = [
-        Part::Rows(&[(Step::Take(frame), Err(refusal))]),
-        Part::Holds(&[Fact::Open(false)]),
-    ];
-    passes(rt, SETTINGS, before, &parts)
-}
-
 #[test]
-fn foreign_frames_in_the_hello(rt: HostRuntime) -> Result<(), Fail> {
-    for row in FIRST {
-        is_foreign(&rt, &OPENING[..1], row)?;
-    }
-    for row in SECOND {
-        is_foreign(&rt, &OPENING, row)?;
-    }
-    Ok(())
+fn foreign_frames_close_the_end(rt: HostRuntime) -> Result<(), Fail> {
+    are_foreign(&rt, &FOREIGN_FRAMES)
 }

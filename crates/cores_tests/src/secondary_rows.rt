@@ -1,23 +1,18 @@
 //! The secondary's half of the worked rows.
-use crate::secondary::{Fact, Frame, Part, Row, SETTINGS, Said, Step, connects, passes};
+use crate::secondary::{
+    Case, DONE, Fact, Frame, GREETED, OPENED, OPENED_IN_A, OPENED_IN_B, Part, Row, SETTINGS, Said,
+    Step, passes,
+};
 use blocks::{Command, Protocol, Refusal, Settings, Tuple};
 use secondary_core::Usage;
 use std::test::Fail;
 
-const DONE: Result<Said, Refusal> = Ok(Said::Nothing);
-
-#[test]
-fn an_end_opens_once(rt: HostRuntime) -> Result<(), Fail> {
-    let rows = [
-        (Step::Take(Frame::Sizes(8)), Err(Refusal::NotConnected)),
-        (Step::AckOut, Err(Refusal::NotConnected)),
-        (Step::Open(1), DONE),
-        (Step::Open(2), Err(Refusal::NotDrained)),
-    ];
-    let facts = [Fact::Number(1), Fact::HelloDone(false)];
-    passes(&rt, SETTINGS, &rows, &[Part::Holds(&facts)])?;
-    connects(&rt, SETTINGS, &[Part::Holds(&[Fact::HelloDone(true)])])
-}
+const UNOPENED: [Row; 4] = [
+    (Step::Take(Frame::Sizes(8)), Err(Refusal::NotConnected)),
+    (Step::AckOut, Err(Refusal::NotConnected)),
+    (Step::Open(1), DONE),
+    (Step::Open(2), Err(Refusal::NotDrained)),
+];
 
 /// An item of the second epoch waits for both of the first.
 const EPOCHS: [Row; 14] = [
@@ -49,16 +44,11 @@ const EPOCHS: [Row; 14] = [
     (Step::AckOut, Ok(Said::Sent(Command::WriteAck, 3, 3))),
 ];
 
-#[test]
-fn epochs_are_applied_in_order(rt: HostRuntime) -> Result<(), Fail> {
-    let usage = Usage {
-        consistent: true,
-        whole: 1,
-        pending: 0,
-    };
-    let facts = [Fact::Usage(usage)];
-    connects(&rt, SETTINGS, &[Part::Rows(&EPOCHS), Part::Holds(&facts)])
-}
+const APPLIED: Usage = Usage {
+    consistent: true,
+    whole: 1,
+    pending: 0,
+};
 
 /// Under A nothing is acknowledged.
 const NEVER: [Row; 3] = [
@@ -81,19 +71,6 @@ const RECEIVED: [Row; 4] = [
     (Step::Peer(0), Err(Refusal::UnknownJob)),
 ];
 
-#[test]
-fn each_protocol_acknowledges_its_way(rt: HostRuntime) -> Result<(), Fail> {
-    for (protocol, rows) in [(Protocol::A, &NEVER[..]), (Protocol::B, &RECEIVED[..])] {
-        let settings = Settings {
-            protocol,
-            ..SETTINGS
-        };
-        let facts = [Fact::Open(protocol == Protocol::A), Fact::Drained(true)];
-        connects(&rt, settings, &[Part::Rows(rows), Part::Holds(&facts)])?;
-    }
-    Ok(())
-}
-
 /// A closed end takes nothing more, but what it took is applied, and then it opens again.
 const REOPENED: [Row; 6] = [
     (
@@ -106,16 +83,6 @@ const REOPENED: [Row; 6] = [
     (Step::Peer(0), DONE),
     (Step::Open(2), DONE),
 ];
-
-#[test]
-fn a_closed_end_keeps_its_items(rt: HostRuntime) -> Result<(), Fail> {
-    let settings = Settings {
-        pending: 1,
-        ..SETTINGS
-    };
-    let facts = [Fact::ItemsTaken(0)];
-    connects(&rt, settings, &[Part::Rows(&REOPENED), Part::Holds(&facts)])
-}
 
 const SYNCING: Tuple = Tuple {
     current: 9,
@@ -159,30 +126,106 @@ const RESYNC: [Row; 9] = [
     ),
 ];
 
+/// How far the data may be used once both blocks are copied.
+const COPIED: Usage = Usage {
+    consistent: false,
+    whole: 2,
+    pending: 0,
+};
+
+/// The same once the primary has told the end of the resync.
+const ENDED: Usage = Usage {
+    consistent: true,
+    ..COPIED
+};
+
+const END: Row = (
+    Step::Take(Frame::Uuids(SYNCED)),
+    Ok(Said::Took(Command::Uuids, Some(5))),
+);
+
+static STEPS: [Case; 7] = [
+    Case {
+        name: "an end opens once",
+        settings: SETTINGS,
+        parts: &[
+            Part::Rows(&UNOPENED),
+            Part::Holds(&[Fact::Number(1), Fact::HelloDone(false)]),
+        ],
+    },
+    Case {
+        name: "an end opens once",
+        settings: SETTINGS,
+        parts: &[OPENED, GREETED, Part::Holds(&[Fact::HelloDone(true)])],
+    },
+    Case {
+        name: "epochs are applied in order",
+        settings: SETTINGS,
+        parts: &[
+            OPENED,
+            GREETED,
+            Part::Rows(&EPOCHS),
+            Part::Holds(&[Fact::Usage(APPLIED)]),
+        ],
+    },
+    Case {
+        name: "each protocol acknowledges its way",
+        settings: Settings {
+            protocol: Protocol::A,
+            ..SETTINGS
+        },
+        parts: &[
+            OPENED_IN_A,
+            GREETED,
+            Part::Rows(&NEVER),
+            Part::Holds(&[Fact::Open(true), Fact::Drained(true)]),
+        ],
+    },
+    Case {
+        name: "each protocol acknowledges its way",
+        settings: Settings {
+            protocol: Protocol::B,
+            ..SETTINGS
+        },
+        parts: &[
+            OPENED_IN_B,
+            GREETED,
+            Part::Rows(&RECEIVED),
+            Part::Holds(&[Fact::Open(false), Fact::Drained(true)]),
+        ],
+    },
+    Case {
+        name: "a closed end keeps its items",
+        settings: Settings {
+            pending: 1,
+            ..SETTINGS
+        },
+        parts: &[
+            OPENED,
+            GREETED,
+            Part::Rows(&REOPENED),
+            Part::Holds(&[Fact::ItemsTaken(0)]),
+        ],
+    },
+    Case {
+        name: "a resync makes it consistent again",
+        settings: SETTINGS,
+        parts: &[
+            OPENED,
+            GREETED,
+            Part::Rows(&RESYNC),
+            Part::Holds(&[Fact::Tuple(SYNCING), Fact::Usage(COPIED)]),
+            Part::Rows(&[END]),
+            Part::Holds(&[
+                Fact::Tuple(SYNCED),
+                Fact::Consistent(true),
+                Fact::Usage(ENDED),
+            ]),
+        ],
+    },
+];
+
 #[test]
-fn a_resync_makes_it_consistent_again(rt: HostRuntime) -> Result<(), Fail> {
-    let usage = Usage {
-        consistent: false,
-        whole: 2,
-        pending: 0,
-    };
-    let end = [(
-        Step::Take(Frame::Uuids(SYNCED)),
-        Ok(Said::Took(Command::Uuids, Some(5))),
-    )];
-    let synced = Usage {
-        consistent: true,
-        ..usage
-    };
-    let parts = [
-        Part::Rows(&RESYNC),
-        Part::Holds(&[Fact::Tuple(SYNCING), Fact::Usage(usage)]),
-        Part::Rows(&end),
-        Part::Holds(&[
-            Fact::Tuple(SYNCED),
-            Fact::Consistent(true),
-            Fact::Usage(synced),
-        ]),
-    ];
-    connects(&rt, SETTINGS, &parts)
+fn steps_of_a_secondary(rt: HostRuntime) -> Result<(), Fail> {
+    passes(&rt, &STEPS)
 }

@@ -1,13 +1,16 @@
+//! What an end of a link makes of frames of any bytes, on one connection after another.
 ghost use Rattle.std.specs.Prelude.{◌≡◌, ◌≤◌, length};
 ghost use Rattle.frames_tests.specs.Lending.{taken_in};
 
-use crate::vectors::{BARRIER, OTHER_MAGIC, SIZES};
+use crate::links::direction;
+use crate::samples::{Sample, is_read};
+use crate::vectors::{BARRIER, OTHER_MAGIC, SHORT_BARRIER, SIZES, WRONG_BARRIER};
 use blocks::Refusal;
 use endpoint::Incoming;
-use link::{FrameOut, PlainIn, PlainLink, PlainOut};
+use link::{FrameOut, PlainIn, PlainOut};
 use packets::{Frame, Packet};
 use std::alloc::Global;
-use std::test::Fail;
+use std::process::Abort;
 
 /// A direction of a link, frames of any bytes on one side and packets on the other.
 #[derive(Drop)]
@@ -21,21 +24,20 @@ struct Frames {
 }
 
 impl Frames {
-    fn new(alloc: Global) -> Result<Frames, Fail> {
-        let PlainLink { primary, secondary } = PlainLink::new(alloc, 1)?;
+    fn new(alloc: Global) -> Result<Frames, Refusal> {
+        let (sender, taker) = direction(alloc)?;
         Ok(Frames {
-            sender: primary.outward,
-            taker: Incoming::new(secondary.inward),
+            sender,
+            taker: Incoming::new(taker),
             connection: 1,
         })
     }
 
     /// Begins the next connection at both sides.
-    fn restart(&mut self) -> Result<(), Fail> {
-        let next = self.connection.saturating_add(1);
-        if next == self.connection {
-            return Err(Fail::from("no connection is left"));
-        }
+    fn restart(&mut self) -> Result<(), Refusal> {
+        let Some(next) = self.connection.checked_add(1) else {
+            return Err(Refusal::JournalFull);
+        };
         self.sender.restart(next);
         self.taker.restart(next);
         self.connection = next;
@@ -43,54 +45,69 @@ impl Frames {
     }
 
     /// Offers a frame of these bytes, and lends the direction's queue to the taking side for one take.
-    fn receive(&mut self, bytes: &[u8]) -> Result<Result<Packet, Refusal>, Fail>
+    fn receive(&mut self, bytes: &[u8]) -> Result<Packet, Refusal>
         requires { length bytes.now ≤ 40 }
     {
         if self.sender.offer(Frame::inline(bytes)).is_err() {
-            return Err(Fail::from("the link is full"));
+            return Err(Refusal::LinkFull);
         }
         self.taker.ready()?;
         let Some(queue) = self.sender.give_queue() else {
-            return Err(Fail::from("the queue is not there"));
+            return Err(Refusal::NothingThere);
         };
         self.taker.lay_queue(queue);
         let taken = self.taker.take();
         if let Some(queue) = self.taker.give_queue() {
             self.sender.lay_queue(queue);
         }
-        Ok(taken?)
+        taken?
     }
 }
 
-/// A barrier whose second word is not zero.
-const WRONG_BARRIER: [u8; 16] = [0x83, 0x5A, 0, 3, 0, 0, 0, 8, 0, 0, 0, 1, 0, 0, 0, 1];
+/// The bytes of a frame, and what they are read as.
+type Row = (&'static [u8], Result<&'static Sample, Refusal>);
+
+// Frames of these bytes are read so, one after the other.
+fn are_read(
+    rt: &impl Abort,
+    alloc: Global,
+    frames: &mut Frames,
+    rows: &'static [Row],
+) -> Result<(), Refusal> {
+    for (row, (bytes, wanted)) in rows.iter().enumerate() {
+        assert!(rt; bytes.len() <= 40);
+        is_read(rt, alloc, row, &frames.receive(bytes), *wanted)?;
+    }
+    Ok(())
+}
+
+/// A hello has three frames.
+static HELLO: [Row; 4] = [
+    (&WRONG_BARRIER, Err(Refusal::BadCommand)),
+    (&WRONG_BARRIER, Err(Refusal::BadCommand)),
+    (&WRONG_BARRIER, Err(Refusal::BadCommand)),
+    (&WRONG_BARRIER, Err(Refusal::BadField)),
+];
 
 #[test]
-fn a_hello_refuses_another_command_first(rt: HostRuntime) -> Result<(), Fail> {
-    let mut frames = Frames::new(rt.alloc())?;
-    for _ in 0..3 {
-        let read = frames.receive(&WRONG_BARRIER)?;
-        assert_eq!(rt; read, Err(Refusal::BadCommand));
-    }
-    let read = frames.receive(&WRONG_BARRIER)?;
-    assert_eq!(rt; read, Err(Refusal::BadField));
+fn a_hello_refuses_another_command_first(rt: HostRuntime) -> Result<(), Refusal> {
+    let alloc = rt.alloc();
+    let mut frames = Frames::new(alloc)?;
+    are_read(&rt, alloc, &mut frames, &HELLO)?;
     // The next connection begins with a hello.
     frames.restart()?;
-    let read = frames.receive(&WRONG_BARRIER)?;
-    assert_eq!(rt; read, Err(Refusal::BadCommand));
-    Ok(())
+    are_read(&rt, alloc, &mut frames, &HELLO)
 }
 
+static FRAMES: [Row; 4] = [
+    (&SIZES, Ok(&Sample::Sizes(8))),
+    (&OTHER_MAGIC, Err(Refusal::BadMagic)),
+    (&SHORT_BARRIER, Err(Refusal::BadLength)),
+    (&BARRIER, Ok(&Sample::Barrier(1))),
+];
+
 #[test]
-fn frames_are_read_or_refused(rt: HostRuntime) -> Result<(), Fail> {
-    let mut frames = Frames::new(rt.alloc())?;
-    let read = frames.receive(&SIZES)?;
-    assert_eq!(rt; read, Ok(Packet::Sizes { blocks: 8 }));
-    let read = frames.receive(&OTHER_MAGIC)?;
-    assert_eq!(rt; read, Err(Refusal::BadMagic));
-    let read = frames.receive(&BARRIER[..15])?;
-    assert_eq!(rt; read, Err(Refusal::BadLength));
-    let read = frames.receive(&BARRIER)?;
-    assert_eq!(rt; read, Ok(Packet::Barrier { number: 1 }));
-    Ok(())
+fn frames_are_read_or_refused(rt: HostRuntime) -> Result<(), Refusal> {
+    let alloc = rt.alloc();
+    are_read(&rt, alloc, &mut Frames::new(alloc)?, &FRAMES)
 }

@@ -10,8 +10,12 @@ mod hellos;
 #[cfg(test)]
 mod links;
 #[cfg(test)]
+mod samples;
+#[cfg(test)]
 mod spelled;
 #[cfg(test)]
 mod stores;
+#[cfg(test)]
+mod streams;
 #[cfg(test)]
 mod vectors;

@@ -1,75 +1,148 @@
-use blocks::{Block, FaultStore, MemStore, Range, Refusal, Settings, Store, StoreFault};
-use std::test::Fail;
+//! Disks in memory, the ranges of blocks that they are written by, and the settings.
+ghost use Rattle.std.specs.Prelude.{◌≡◌};
+
+use blocks::{
+    BLOCK_BYTES, Block, FaultStore, MemStore, Range, Refusal, Settings, Store, StoreFault,
+};
+use std::alloc::Global;
+use std::process::Abort;
+
+/// The first block and how many blocks, of a device of 2,048, and the range that they make.
+static RANGES: [(u64, u64, Result<(u64, u64), Refusal>); 6] = [
+    (2016, 32, Ok((2016, 32))),
+    (0, 33, Err(Refusal::BadRange)),
+    (0, 0, Err(Refusal::BadRange)),
+    (2048, 1, Err(Refusal::BadRange)),
+    (2047, 2, Err(Refusal::BadRange)),
+    (1023, 2, Err(Refusal::BadRange)),
+];
 
 #[test]
-fn ranges_stay_inside_the_device_and_one_extent(rt: HostRuntime) -> Result<(), Fail> {
-    let last = Range::new(2016, 32, 2048)?;
-    assert_eq!(rt; last.first, Block(2016));
-    assert_eq!(rt; last.count, 32);
-    for (first, count) in [(0, 33), (0, 0), (2048, 1), (2047, 2), (1023, 2)] {
-        assert_eq!(rt;
-            Range::new(first, count, 2048),
-            Err(Refusal::BadRange),
-            "{first} {count}"
-        );
+fn ranges_stay_inside_the_device_and_one_extent(rt: HostRuntime) {
+    for (first, count, wanted) in &RANGES {
+        let range = match Range::new(*first, *count, 2048) {
+            Ok(range) => Ok((range.first.0, range.count)),
+            Err(refusal) => Err(refusal),
+        };
+        assert_eq!(rt; range, *wanted, "{first} {count}");
     }
-    Ok(())
 }
 
-#[test]
-fn a_disk_keeps_what_was_written(rt: HostRuntime) -> Result<(), Fail> {
-    let mut disk = MemStore::zeroed(rt.alloc(), 8)?;
-    let written = Vec::from_elem(rt.alloc(), 0xAAu8, 4096)?;
-    let range = Range::new(2, 1, 8)?;
-    assert_eq!(rt; disk.write(range, &written), Ok(()));
-    for (block, byte) in [(1, 0), (2, 0xAAu8), (3, 0)] {
-        assert!(rt; block < u64::from(disk.blocks()));
-        let mut read = Vec::from_elem(rt.alloc(), 1u8, 4096)?;
-        assert_eq!(rt; disk.read(Block(block), &mut read), Ok(()));
-        assert!(rt; read.iter().all(|x| *x == byte), "block {block}");
-    }
-    Ok(())
-}
+/// How many bytes an image has, and how many blocks its disk has.
+static IMAGES: [(usize, Result<u32, Refusal>); 4] = [
+    (8192, Ok(2)),
+    (0, Err(Refusal::BadSetting)),
+    (4095, Err(Refusal::BadSetting)),
+    (8193, Err(Refusal::BadSetting)),
+];
 
 #[test]
-fn an_image_is_whole_blocks(rt: HostRuntime) -> Result<(), Fail> {
-    let disk = MemStore::from_image(Vec::from_elem(rt.alloc(), 7u8, 8192)?)?;
-    assert_eq!(rt; disk.blocks(), 2);
-    for length in [0usize, 4095, 8193] {
-        let image = Vec::from_elem(rt.alloc(), 7u8, length)?;
-        let refused = MemStore::from_image(image).is_err();
-        assert!(rt; refused, "{length} bytes");
+fn an_image_is_whole_blocks(rt: HostRuntime) -> Result<(), Refusal> {
+    for (length, wanted) in &IMAGES {
+        let image = Vec::from_elem(rt.alloc(), 7u8, *length)?;
+        let blocks = match MemStore::from_image(image) {
+            Ok(disk) => Ok(disk.blocks()),
+            Err(refusal) => Err(refusal),
+        };
+        assert_eq!(rt; blocks, *wanted, "{length} bytes");
     }
     Ok(())
 }
 
 #[test]
 fn settings_have_ranges(rt: HostRuntime) {
-    assert_eq!(rt; Settings::default().check(), Ok(()));
     let none = Settings {
         blocks: 0,
         ..Settings::STANDARD
     };
-    assert_eq!(rt; none.check(), Err(Refusal::BadSetting));
+    let checked = (Settings::default().check(), none.check());
+    assert_eq!(rt; checked, (Ok(()), Err(Refusal::BadSetting)));
 }
 
+/// What is done to a disk of 8 blocks.
+enum Step {
+    /// The first block, how many, and the byte that fills them.
+    Write(u64, u64, u8),
+    /// A block, and the byte that fills it, where it can be read.
+    Read(u64, u8),
+}
+
+/// A step, and whether it works. Where a read does, it also finds the byte.
+type Row = (Step, Result<bool, StoreFault>);
+
+fn write(
+    disk: &mut impl Store,
+    alloc: Global,
+    (first, count, byte): (u64, u64, u8),
+) -> Result<Result<bool, StoreFault>, Refusal> {
+    let range = Range::new(first, count, disk.blocks())?;
+    let bytes = Vec::from_elem(alloc, byte, range.count as usize * BLOCK_BYTES)?;
+    match disk.write(range, &bytes) {
+        Ok(()) => Ok(Ok(true)),
+        Err(fault) => Ok(Err(fault)),
+    }
+}
+
+fn read(
+    disk: &mut impl Store,
+    alloc: Global,
+    (block, byte): (u64, u8),
+) -> Result<Result<bool, StoreFault>, Refusal> {
+    if block >= u64::from(disk.blocks()) {
+        return Err(Refusal::BadRange);
+    }
+    let mut bytes = Vec::from_elem(alloc, 1u8, BLOCK_BYTES)?;
+    match disk.read(Block(block), &mut bytes) {
+        Ok(()) => Ok(Ok(bytes.iter().all(|x| *x == byte))),
+        Err(fault) => Ok(Err(fault)),
+    }
+}
+
+fn goes(
+    rt: &(impl Abort + AllocGlobal),
+    disk: &mut impl Store,
+    rows: &'static [Row],
+) -> Result<(), Refusal> {
+    let alloc = rt.alloc();
+    for (i, (step, wanted)) in rows.iter().enumerate() {
+        let answer = match step {
+            Step::Write(first, count, byte) => write(disk, alloc, (*first, *count, *byte))?,
+            Step::Read(block, byte) => read(disk, alloc, (*block, *byte))?,
+        };
+        assert_eq!(rt; answer, *wanted, "step {i}");
+    }
+    Ok(())
+}
+
+static KEPT: [Row; 4] = [
+    (Step::Write(2, 1, 0xAA), Ok(true)),
+    (Step::Read(1, 0), Ok(true)),
+    (Step::Read(2, 0xAA), Ok(true)),
+    (Step::Read(3, 0), Ok(true)),
+];
+
 #[test]
-fn a_disk_fails_where_it_is_armed(rt: HostRuntime) -> Result<(), Fail> {
-    let mut disk = FaultStore::new(MemStore::zeroed(rt.alloc(), 8)?);
+fn a_disk_keeps_what_was_written(rt: HostRuntime) -> Result<(), Refusal> {
+    let mut disk = MemStore::zeroed(rt.alloc(), 8)?;
     assert_eq!(rt; disk.blocks(), 8);
-    let range = Range::new(2, 2, 8)?;
-    let written = Vec::from_elem(rt.alloc(), 0xAAu8, 8192)?;
-    let mut block = Vec::from_elem(rt.alloc(), 1u8, 4096)?;
-    let mut other = Vec::from_elem(rt.alloc(), 1u8, 4096)?;
+    goes(&rt, &mut disk, &KEPT)
+}
+
+/// The first read fails, and the second write, which keeps its first block.
+static ARMED: [Row; 6] = [
+    (Step::Read(2, 0), Err(StoreFault)),
+    (Step::Write(0, 1, 0xAA), Ok(true)),
+    (Step::Write(2, 2, 0xAA), Err(StoreFault)),
+    (Step::Read(2, 0xAA), Ok(true)),
+    (Step::Read(3, 0), Ok(true)),
+    (Step::Write(2, 2, 0xAA), Ok(true)),
+];
+
+#[test]
+fn a_disk_fails_where_it_is_armed(rt: HostRuntime) -> Result<(), Refusal> {
+    let mut disk = FaultStore::new(MemStore::zeroed(rt.alloc(), 8)?);
     disk.arm_after(1, 1);
     disk.arm_read();
-    assert_eq!(rt; disk.read(Block(2), &mut block), Err(StoreFault));
-    assert_eq!(rt; disk.write(Range::new(0, 1, 8)?, &written[..4096]), Ok(()));
-    assert_eq!(rt; disk.write(range, &written), Err(StoreFault));
-    assert_eq!(rt; disk.read(Block(2), &mut block), Ok(()));
-    assert!(rt; block.iter().all(|x| *x == 0xAA));
-    assert_eq!(rt; disk.read(Block(3), &mut other), Ok(()));
-    assert!(rt; other.iter().all(|x| *x == 0));
-    assert_eq!(rt; disk.write(range, &written), Ok(()));
-    Ok(())
+    assert_eq!(rt; disk.blocks(), 8);
+    goes(&rt, &mut disk, &ARMED)
 }

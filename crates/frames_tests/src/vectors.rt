@@ -1,13 +1,8 @@
 //! The frames of the packets, byte by byte, as the format's vectors have them.
-ghost use Rattle.std.specs.Prelude.{IfOk};
-ghost use Rattle.packets.specs.Spelling.{IsSpellable};
-
-use blocks::Block;
+use blocks::{BLOCK_BYTES, Refusal};
 use bytes::Bytes;
-use packets::{Frame, Packet};
+use packets::Frame;
 use std::alloc::Global;
-use std::process::Abort;
-use std::test::Fail;
 
 /// A header and the numbers of a DATA frame: block 2, write 1, place 0.
 pub(crate) const WRITE: [u8; 32] = [
@@ -22,6 +17,17 @@ pub(crate) const LARGEST_WRITE: [u8; 32] = [
 ];
 
 pub(crate) const BARRIER: [u8; 16] = [0x83, 0x5A, 0, 3, 0, 0, 0, 8, 0, 0, 0, 1, 0, 0, 0, 0];
+
+/// A barrier whose second word is not zero.
+pub(crate) const WRONG_BARRIER: [u8; 16] = [0x83, 0x5A, 0, 3, 0, 0, 0, 8, 0, 0, 0, 1, 0, 0, 0, 1];
+
+/// A barrier without its last byte.
+pub(crate) const SHORT_BARRIER: [u8; 15] = [0x83, 0x5A, 0, 3, 0, 0, 0, 8, 0, 0, 0, 1, 0, 0, 0];
+
+pub(crate) const RECV_ACK: [u8; 32] = [
+    0x83, 0x5A, 0, 0x15, 0, 0, 0, 0x18, 0, 0, 0, 0, 0, 0, 0, 0x10, 0, 0, 0, 0, 0, 0, 0, 1, 0, 0,
+    0x10, 0, 0, 0, 0, 0,
+];
 
 pub(crate) const WRITE_ACK: [u8; 32] = [
     0x83, 0x5A, 0, 0x16, 0, 0, 0, 0x18, 0, 0, 0, 0, 0, 0, 0, 0x10, 0, 0, 0, 0, 0, 0, 0, 1, 0, 0,
@@ -58,39 +64,18 @@ pub(crate) const RS_WRITE_ACK: [u8; 32] = [
 
 pub(crate) const OTHER_MAGIC: [u8; 8] = [0x83, 0x5B, 0, 3, 0, 0, 0, 8];
 
-/// The front of a DATA frame of one block, and then a block of bytes AA.
-pub(crate) fn with_block(alloc: Global, front: &[u8]) -> Result<Vec<u8>, Fail> {
+/// The front of a frame, and then so many blocks of one byte.
+pub(crate) fn with_blocks(
+    alloc: Global,
+    front: &[u8],
+    blocks: u8,
+    byte: u8,
+) -> Result<Vec<u8>, Refusal> {
     let mut frame = Vec::from_slice(alloc, front)?;
-    frame.extend_from_slice(&[0xAA; 4096])?;
+    frame.resize(front.len() + usize::from(blocks) * BLOCK_BYTES, byte)?;
     Ok(frame)
 }
 
-/// The write of a block of bytes AA.
-pub(crate) fn one_block(alloc: Global) -> Result<Packet, Fail>
-    ensures { IfOk result (λ p. IsSpellable p) }
-{
-    Ok(Packet::Data {
-        first: Block(2),
-        number: 1,
-        place: 0,
-        contents: Bytes::copy_from_slice(alloc, &[0xAA; 4096])?,
-    })
-}
-
-pub(crate) fn frame_of(alloc: Global, bytes: &[u8]) -> Result<Frame, Fail> {
+pub(crate) fn frame_of(alloc: Global, bytes: &[u8]) -> Result<Frame, Refusal> {
     Ok(Frame::new(Bytes::copy_from_slice(alloc, bytes)?))
-}
-
-/// The frame, with one byte in place of another.
-pub(crate) fn with_byte(
-    rt: &impl Abort,
-    alloc: Global,
-    frame: &[u8],
-    at: usize,
-    byte: u8,
-) -> Result<Vec<u8>, Fail> {
-    assert!(rt; at < frame.len());
-    let mut changed = Vec::from_slice(alloc, frame)?;
-    changed[at] = byte;
-    Ok(changed)
 }

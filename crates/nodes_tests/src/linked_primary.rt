@@ -2,7 +2,7 @@
 use crate::answers::{Answer, DONE, OWN, Spot, is_answered};
 use crate::frames::Spelled;
 use crate::other_end::{Frames, linked};
-use blocks::{Block, MemStore, Refusal, Settings, Tuple};
+use blocks::{Block, FaultStore, MemStore, Refusal, Settings, Tuple};
 use bytes::Bytes;
 use link::{PlainIn, PlainOut};
 use primary::{Kind, Primary};
@@ -11,18 +11,24 @@ use std::process::Abort;
 use std::test::Fail;
 
 /// A primary. What it sends stays in the queue of its link, and what the peer sends was laid in.
-type Linked = Primary<PlainOut, PlainIn, MemStore>;
+type Linked = Primary<PlainOut, PlainIn, FaultStore>;
 
 /// What is done to a primary.
 #[derive(Clone, Copy)]
 pub(crate) enum Step {
     /// A write of one block, this one, which AA fills.
     Submit(u64),
+    /// The same of two blocks, this one and the next.
+    SubmitTwo(u64),
     Local(u64),
+    /// The disk fails the write, after its first block.
+    LocalFault(u64),
     Send,
     AckIn,
     Resync,
     Close,
+    /// The receipt of a write is asked for.
+    Receipt(u64),
 }
 
 /// A call, and what it did or why it is refused.
@@ -82,7 +88,7 @@ pub(crate) struct Case {
 fn closed(alloc: Global, settings: Settings) -> Result<Linked, Refusal> {
     let disk = MemStore::zeroed(alloc, 8)?;
     let marks = Vec::from_elem(alloc, false, 8)?;
-    Primary::new(alloc, settings, disk, OWN, marks)
+    Primary::new(alloc, settings, FaultStore::new(disk), OWN, marks)
 }
 
 // Opens the first connection, whose words are 5 and 7. These frames of the peer wait in its link.
@@ -99,12 +105,21 @@ fn do_step(node: &mut Linked, alloc: Global, step: Step) -> Answer {
             let bytes = Bytes::copy_from_slice(alloc, &[0xAA; 4096])?;
             Ok(node.submit(first, &bytes)?.1)
         }
+        Step::SubmitTwo(first) => {
+            let bytes = Bytes::copy_from_slice(alloc, &[0xAA; 8192])?;
+            Ok(node.submit(first, &bytes)?.1)
+        }
         Step::Local(number) => node.local(number),
+        Step::LocalFault(number) => node.local_fault(number, 1),
         Step::Send => node.send(),
         Step::AckIn => node.ack_in(),
         Step::Resync => node.resync_next(),
         Step::Close => {
             node.close()?;
+            DONE
+        }
+        Step::Receipt(number) => {
+            node.take_completed(number)?;
             DONE
         }
     }

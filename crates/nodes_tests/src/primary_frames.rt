@@ -3,7 +3,7 @@ use crate::answers::{
     Answer, BARRIER_ACK_WENT, BARRIER_WENT, CLOSED, DONE, NONE, NOTHING, OWN, PROTOCOL_WENT,
     SIZES_WENT, UUIDS_WENT, WRITE_ACK_WENT, WRITE_WENT,
 };
-use crate::either_end::{FIRST, SECOND, THIRD, UNREADABLE};
+use crate::either_end::UNREADABLE;
 use crate::frames::{BARRIER_ACK_1, PROTOCOL_C, SIZES_8, Spelled, UUIDS_1, WRITE, WRITE_ACK};
 use crate::linked_primary::{After, Before, Case, Row, State, Step, passes};
 use blocks::{Command, Decision, Done, Refusal, Settings, Tuple, What};
@@ -71,32 +71,6 @@ const AGAIN: [(Spelled, Answer); 3] = [
 
 /// The acknowledgement of barrier 1, before that of its write.
 const EARLY: [(Spelled, Answer); 1] = [(BARRIER_ACK_1, Err(Refusal::BadBarrierAck))];
-
-/// The peer's identifiers are 1,0,7,0, of which 7 is a word of this connection; 9,1,0,0, of a disk that is ahead; and
-/// 20,21,22,23, of one that has nothing to do with this.
-const IDENTIFIERS: [(Spelled, Answer); 3] = [
-    (
-        Spelled::Short(&[
-            0x83, 0x5A, 0, 0x0C, 0, 0, 0, 0x20, 0, 0, 0, 0, 0, 0, 0, 1, 0, 0, 0, 0, 0, 0, 0, 0, 0,
-            0, 0, 0, 0, 0, 0, 7, 0, 0, 0, 0, 0, 0, 0, 0,
-        ]),
-        Err(Refusal::UsedIdentifier),
-    ),
-    (
-        Spelled::Short(&[
-            0x83, 0x5A, 0, 0x0C, 0, 0, 0, 0x20, 0, 0, 0, 0, 0, 0, 0, 9, 0, 0, 0, 0, 0, 0, 0, 1, 0,
-            0, 0, 0, 0, 0, 0, 0, 0, 0, 0, 0, 0, 0, 0, 0,
-        ]),
-        Err(Refusal::PrimaryStale),
-    ),
-    (
-        Spelled::Short(&[
-            0x83, 0x5A, 0, 0x0C, 0, 0, 0, 0x20, 0, 0, 0, 0, 0, 0, 0, 20, 0, 0, 0, 0, 0, 0, 0, 21,
-            0, 0, 0, 0, 0, 0, 0, 22, 0, 0, 0, 0, 0, 0, 0, 23,
-        ]),
-        Err(Refusal::Unrelated),
-    ),
-];
 
 /// The peer's identifiers are as the disk's.
 const DECIDED: Answer = Ok(Done {
@@ -169,24 +143,6 @@ const ACKNOWLEDGED: Answer = Ok(Done {
 
 const ANSWERED: [Row; 2] = [(Step::AckIn, ACKNOWLEDGED), (Step::Send, BARRIER_WENT)];
 
-const NOTHING_HEARD: Before = Before {
-    settings: Settings::STANDARD,
-    heard: &[],
-    rows: &[],
-};
-
-const ONE_HEARD: Before = Before {
-    settings: Settings::STANDARD,
-    heard: &[PROTOCOL_C],
-    rows: &[&[(Step::AckIn, PROTOCOL_WENT)]],
-};
-
-const TWO_HEARD: Before = Before {
-    settings: Settings::STANDARD,
-    heard: &[PROTOCOL_C, SIZES_8],
-    rows: &[&[(Step::AckIn, PROTOCOL_WENT), (Step::AckIn, SIZES_WENT)]],
-};
-
 const WRITE_SENT: Before = Before {
     settings: Settings::STANDARD,
     heard: &[PROTOCOL_C, SIZES_8, UUIDS_1],
@@ -215,7 +171,7 @@ const EPOCH_ANSWERED: Before = Before {
 };
 
 /// The end is closed, block 2 is marked and no other, and the disk goes on under the word for a loss.
-const PARTED: State = State {
+pub(crate) const PARTED: State = State {
     is_open: false,
     stands: false,
     is_resync: false,
@@ -253,7 +209,7 @@ const PARTED_BEFORE_IT_IS_WRITTEN: After = After {
 };
 
 /// Nothing is sent or taken over a closed end, though a frame waits that an open one would take.
-const NO_MORE: [Row; 5] = [
+pub(crate) const NO_MORE: [Row; 5] = [
     (Step::Send, CLOSED),
     (Step::AckIn, CLOSED),
     (Step::Resync, CLOSED),
@@ -277,23 +233,6 @@ const PARTED_LINKED: After = After {
     rows: &NO_MORE,
     end: PARTED,
     receipt: Ok((Kind::Linked, 2, 1, Some((1, 0)))),
-};
-
-/// The end is closed, and all else is as before the connection.
-const UNCHANGED: State = State {
-    tuple: OWN,
-    accepted: 0,
-    marks: 0,
-    is_marked: false,
-    ..PARTED
-};
-
-const HELLO_REFUSED: After = After {
-    behind: &[PROTOCOL_C, SIZES_8, UUIDS_1],
-    state: UNCHANGED,
-    rows: &NO_MORE,
-    end: UNCHANGED,
-    receipt: Err(Refusal::UnknownJob),
 };
 
 static FOREIGN_FRAMES: [Case; 5] = [
@@ -327,34 +266,6 @@ static FOREIGN_FRAMES: [Case; 5] = [
 #[test]
 fn foreign_frames_close_the_end(rt: HostRuntime) -> Result<(), Fail> {
     passes(&rt, &FOREIGN_FRAMES)
-}
-
-static HELLOS: [Case; 4] = [
-    Case {
-        before: &NOTHING_HEARD,
-        frames: &FIRST,
-        after: &HELLO_REFUSED,
-    },
-    Case {
-        before: &ONE_HEARD,
-        frames: &SECOND,
-        after: &HELLO_REFUSED,
-    },
-    Case {
-        before: &TWO_HEARD,
-        frames: &THIRD,
-        after: &HELLO_REFUSED,
-    },
-    Case {
-        before: &TWO_HEARD,
-        frames: &IDENTIFIERS,
-        after: &HELLO_REFUSED,
-    },
-];
-
-#[test]
-fn a_refused_hello_changes_no_identifier(rt: HostRuntime) -> Result<(), Fail> {
-    passes(&rt, &HELLOS)
 }
 
 /// The end is open, and its stream stands. Write 1 is completed, and its epoch is not acknowledged.

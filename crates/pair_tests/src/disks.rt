@@ -1,10 +1,11 @@
 //! Worked examples in which a disk fails one of its calls. At the end of each, every block on which the disks
 //! differ is marked.
-use crate::events::{Given, Line, Said, reply_to};
+use crate::events::{Given, Line, Said};
 use crate::resyncs::RESYNC;
 use crate::rows::{BLOCKS, EPOCHS, Part};
+use crate::seen::let_go;
 use blocks::{Block, Refusal, Reply, Settings};
-use pair::Pair;
+use pair::{Event, Pair, run};
 use std::alloc::{AllocError, Global};
 use std::process::Abort;
 use std::test::Fail;
@@ -17,7 +18,7 @@ type Trial = (Given, &'static [u64]);
 
 /// A block that the primary's disk failed to write differs once the secondary has it. After a fault of the
 /// secondary's disk that end is closed, so what comes of later epochs does not arrive.
-const EPOCH_FAULTS: [Trial; 12] = [
+static EPOCH_FAULTS: [Trial; 12] = [
     (Given::LocalFault(1, 0), &[0]),
     (Given::LocalFault(1, 1), &[]),
     (Given::LocalFault(2, 0), &[1]),
@@ -34,7 +35,7 @@ const EPOCH_FAULTS: [Trial; 12] = [
 
 /// A write that failed before the resync is copied as the primary's disk has it. A block that could not be read
 /// stays marked, and after a fault of the secondary's disk the rest of the resync does not arrive.
-const RESYNC_FAULTS: [Trial; 10] = [
+static RESYNC_FAULTS: [Trial; 10] = [
     (Given::LocalFault(1, 0), &[]),
     (Given::LocalFault(1, 1), &[]),
     (Given::LocalFault(2, 0), &[]),
@@ -48,28 +49,17 @@ const RESYNC_FAULTS: [Trial; 10] = [
 ];
 
 /// Fails each call of a disk in turn, after each number of blocks. The trials name them all, in their order.
-fn fails_each(rt: &(impl Abort + AllocGlobal), row: &[Part], trials: &[Trial]) -> Result<(), Fail> {
-    let alloc = rt.alloc();
-    let lines = lines_of(alloc, row)?;
-    let faults = faults_of(alloc, &lines)?;
+fn fails_each(
+    rt: &(impl Abort + AllocGlobal),
+    row: &'static [Part],
+    trials: &'static [Trial],
+) -> Result<(), Fail> {
+    let lines = lines_of(rt.alloc(), row)?;
+    let faults = faults_of(rt.alloc(), &lines)?;
     assert_eq!(rt; faults.len(), trials.len());
-    for ((at, fault), (named, differing)) in faults.iter().zip(trials) {
-        assert_eq!(rt; fault, named);
-        let pair = after_fault(rt, alloc, &lines, *at, *fault)?;
-        let mut pair = ended(rt, alloc, pair)?;
-        for number in 0..BLOCKS as u64 {
-            let block = Block(number);
-            let differs = pair.differs(block);
-            assert_eq!(rt;
-                differs,
-                differing.contains(&number),
-                "{fault:?}, block {number}"
-            );
-            assert!(rt;
-                !differs || pair.is_marked(block),
-                "{fault:?}, block {number}"
-            );
-        }
+    for (fault, trial) in faults.iter().zip(trials) {
+        assert_eq!(rt; fault.1, trial.0);
+        fails(rt, &lines, *fault, trial.1)?;
     }
     Ok(())
 }
@@ -107,79 +97,139 @@ fn fault_of(line: Line, kept: u64) -> Option<Given> {
     }
 }
 
-/// Takes a pair through a row with a fault at one line. Up to there the replies are the row's.
-fn after_fault(
-    rt: &impl Abort,
+/// The events of a row with a fault at one line.
+fn events_of(
     alloc: Global,
     lines: &[Line],
-    at: usize,
-    fault: Given,
-) -> Result<Pair, Fail> {
-    let mut pair = Pair::fresh(alloc, Settings::STANDARD)?;
-    for (index, (given, said)) in lines.iter().enumerate() {
-        let reply;
-        if index == at {
-            (pair, reply) = gives(rt, alloc, pair, fault)?;
-            assert!(rt; is_met(fault, reply), "{fault:?} is replied {reply:?}");
-        } else {
-            (pair, reply) = gives(rt, alloc, pair, *given)?;
-            assert!(rt;
-                at < index || reply == Some(said.reply()),
-                "{given:?} before {fault:?}"
-            );
-        }
+    (at, fault): (usize, Given),
+) -> Result<Vec<Event>, AllocError> {
+    let mut events = Vec::new(alloc);
+    for (index, (given, _)) in lines.iter().enumerate() {
+        let given = if index == at { fault } else { *given };
+        events.push(given.event(alloc)?)?;
     }
-    Ok(pair)
+    Ok(events)
 }
 
-/// Gives a pair an event.
-fn gives(
-    rt: &impl Abort,
-    alloc: Global,
+/// Fails one call of a disk, in a pair of its own.
+fn fails(
+    rt: &(impl Abort + AllocGlobal),
+    lines: &[Line],
+    fault: (usize, Given),
+    differing: &'static [u64],
+) -> Result<(), Fail> {
+    let events = events_of(rt.alloc(), lines, fault)?;
+    let replies = replies_of(rt, &events, fault.1, differing)?;
+    replies_are_due(rt, &replies, lines, fault);
+    Ok(())
+}
+
+/// The replies of a new pair that is taken through events, to its end.
+fn replies_of(
+    rt: &(impl Abort + AllocGlobal),
+    events: &[Event],
+    fault: Given,
+    differing: &'static [u64],
+) -> Result<Vec<Reply>, Refusal> {
+    let pair = Pair::fresh(rt.alloc(), Settings::STANDARD)?;
+    taken(rt, pair, events, fault, differing)
+}
+
+/// Takes the pair through the events, and looks at what is left of it.
+fn taken(
+    rt: &(impl Abort + AllocGlobal),
     pair: Pair,
-    given: Given,
-) -> Result<(Pair, Option<Reply>), AllocError> {
-    let event = [given.event(alloc)?];
-    Ok(reply_to(rt, alloc, pair, &event))
+    events: &[Event],
+    fault: Given,
+    differing: &'static [u64],
+) -> Result<Vec<Reply>, Refusal> {
+    match run(rt.alloc(), pair, events) {
+        Ok((mut pair, replies)) => {
+            ends(rt, &mut pair);
+            differs_on(rt, &mut pair, fault, differing);
+            let_go(pair);
+            Ok(replies)
+        }
+        Err((pair, refusal)) => {
+            let_go(pair);
+            Err(refusal)
+        }
+    }
+}
+
+/// Each event has a reply. Up to the fault it is the row's, and the fault is met. Nothing is said of those behind it.
+fn replies_are_due(
+    rt: &impl Abort,
+    replies: &[Reply],
+    lines: &[Line],
+    (at, fault): (usize, Given),
+) {
+    assert_eq!(rt; replies.len(), lines.len());
+    for (index, (reply, (given, said))) in replies.iter().zip(lines).enumerate() {
+        let is_due = if index == at {
+            is_met(fault, *reply)
+        } else {
+            at < index || *reply == said.reply()
+        };
+        assert!(rt; is_due, "{fault:?} at {at}: {given:?} is replied {reply:?}");
+    }
 }
 
 /// Whether the disk failed: a failed write is reported as done, and the read of a resync is refused.
-fn is_met(fault: Given, reply: Option<Reply>) -> bool {
+fn is_met(fault: Given, reply: Reply) -> bool {
     match fault {
-        Given::ResyncFault => reply == Some(Reply::Refused(Refusal::ReadFault)),
-        _ => matches!(reply, Some(Reply::Ok(_))),
+        Given::ResyncFault => reply == Reply::Refused(Refusal::ReadFault),
+        _ => matches!(reply, Reply::Ok(_)),
     }
 }
 
 /// Both ends close, if they are open, and the disks do what they have left.
-fn ended(rt: &impl Abort, alloc: Global, pair: Pair) -> Result<Pair, Fail> {
-    let (pair, _) = gives(rt, alloc, pair, Given::ClosePrimary)?;
-    let (mut pair, _) = gives(rt, alloc, pair, Given::CloseSecondary)?;
+fn ends(rt: &impl Abort, pair: &mut Pair) {
+    let _ = pair.step(&Event::ClosePrimary);
+    let _ = pair.step(&Event::CloseSecondary);
     for _ in 0..pair.primary().accepted() {
         if let Some(number) = pair.primary().next_local() {
-            pair = does(rt, alloc, pair, Given::Local(number))?;
+            does(rt, pair, &Event::Local(number));
         }
     }
     for _ in 0..pair.secondary().usage().pending {
         if let Ok(place) = pair.secondary().next() {
-            pair = does(rt, alloc, pair, Given::Peer(place))?;
+            does(rt, pair, &Event::Peer(place));
         }
     }
-    assert!(rt; !pair.primary().is_open());
-    assert!(rt; !pair.secondary().is_open());
-    assert_eq!(rt; pair.primary().next_local(), None);
-    assert!(rt; pair.secondary().is_drained());
-    Ok(pair)
+    is_ended(rt, pair);
 }
 
 /// Gives a pair an event that a disk does.
-fn does(rt: &impl Abort, alloc: Global, pair: Pair, given: Given) -> Result<Pair, AllocError> {
-    let (pair, reply) = gives(rt, alloc, pair, given)?;
+fn does(rt: &impl Abort, pair: &mut Pair, event: &Event) {
+    let reply = pair.step(event);
     assert!(rt;
-        matches!(reply, Some(Reply::Ok(_))),
-        "{given:?} is replied {reply:?}"
+        matches!(reply, Reply::Ok(_)),
+        "{event:?} is replied {reply:?}"
     );
-    Ok(pair)
+}
+
+/// Neither end is open, and no disk has anything left to do.
+fn is_ended(rt: &impl Abort, pair: &Pair) {
+    let (primary, secondary) = (pair.primary(), pair.secondary());
+    assert_eq!(rt; (primary.is_open(), primary.next_local()), (false, None));
+    assert_eq!(rt;
+        (secondary.is_open(), secondary.is_drained()),
+        (false, true)
+    );
+}
+
+/// The disks differ on these blocks alone, and each of them is marked.
+fn differs_on(rt: &impl Abort, pair: &mut Pair, fault: Given, differing: &'static [u64]) {
+    for number in 0..BLOCKS as u64 {
+        let differs = pair.differs(Block(number));
+        let is_covered = !differs || pair.is_marked(Block(number));
+        assert_eq!(rt;
+            (differs, is_covered),
+            (differing.contains(&number), true),
+            "{fault:?}, block {number}"
+        );
+    }
 }
 
 #[test]

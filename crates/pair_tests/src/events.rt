@@ -1,9 +1,8 @@
-//! Events of a pair and the replies to them, as tables have them, and how one is given.
+//! Events of a pair and the replies to them, as tables have them.
 use blocks::{BLOCK_BYTES, Block, Command, Decision, Done, Refusal, Reply, What};
 use bytes::Bytes;
-use pair::{Event, Pair, run};
+use pair::Event;
 use std::alloc::{AllocError, Global};
-use std::process::Abort;
 
 /// An event of a pair. What a write holds is named by a byte, since tables are constants.
 #[derive(Clone, Copy, Debug, PartialEq, Eq)]
@@ -27,7 +26,7 @@ pub(crate) enum Given {
 }
 
 /// The reply to an event.
-#[derive(Clone, Copy, Debug, PartialEq, Eq)]
+#[derive(Clone, Copy)]
 pub(crate) enum Said {
     /// It was done, and there is no more to say of it.
     Done,
@@ -107,23 +106,4 @@ impl Said {
 
 fn about(what: What) -> Reply {
     Reply::Ok(Done::about(what))
-}
-
-/// Gives a pair one event. There is no reply where there was no memory to reply at all.
-pub(crate) fn reply_to(
-    rt: &impl Abort,
-    alloc: Global,
-    pair: Pair,
-    event: &[Event; 1],
-) -> (Pair, Option<Reply>) {
-    match run(alloc, pair, event) {
-        Ok((pair, replies)) => {
-            assert_eq!(rt; replies.len(), 1);
-            (pair, Some(replies[0]))
-        }
-        Err((pair, refusal)) => {
-            assert_eq!(rt; refusal, Refusal::NoMemory);
-            (pair, None)
-        }
-    }
 }

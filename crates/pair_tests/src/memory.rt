@@ -1,11 +1,11 @@
 //! Worked examples in which a request for memory is refused, if any is. With ample memory none is, and they
 //! pass; the script `checks/refused_memory` refuses each request in turn.
-use crate::events::{Given, Line, reply_to};
+use crate::events::{Given, Line};
 use crate::resyncs::{BLOCK_PASSED_OVER, BLOCK_UNDER_WAY, RESYNC, UNHEARD_END};
 use crate::rows::{EPOCHS, LOCAL_FAULT, Part, WRITE};
-use crate::seen::{Seen, holds};
+use crate::seen::{Seen, holds, let_go};
 use blocks::{Refusal, Reply, Settings};
-use pair::{Event, Pair};
+use pair::{Event, Pair, run};
 use std::alloc::{AllocError, Global};
 use std::io::Print;
 use std::process::Abort;
@@ -26,20 +26,59 @@ impl Refusals {
     }
 }
 
+/// The events of a part of a row, each as a list of its own.
+type Events = Vec<[Event; 1]>;
+
 /// Takes a pair through a row, and says how many refusals it met.
-fn runs(rt: &(impl Abort + AllocGlobal + Print), row: &[Part]) -> Result<(), Fail> {
-    let alloc = rt.alloc();
+fn runs(rt: &(impl Abort + AllocGlobal + Print), row: &'static [Part]) -> Result<(), Fail> {
     let mut refusals = Refusals { met: 0 };
-    let mut pair = fresh(rt, alloc, &mut refusals)?;
-    for part in row {
-        for line in part.lines {
-            pair = answers(rt, alloc, pair, *line, &mut refusals)?;
-        }
-        holds(rt, &mut pair, &part.after);
-    }
+    let events = made(rt, rt.alloc(), row, &mut refusals)?;
+    begins(rt, row, &events, &mut refusals)?;
     let met = refusals.met;
     println!(rt; "refusals met: {met}")?;
     Ok(())
+}
+
+/// Takes a pair of its own through a row. The functions that have it by value do not return early, so that none has
+/// to drop it.
+fn begins(
+    rt: &(impl Abort + AllocGlobal),
+    row: &'static [Part],
+    events: &[Events],
+    refusals: &mut Refusals,
+) -> Result<(), Refusal> {
+    let pair = fresh(rt, rt.alloc(), refusals)?;
+    goes(rt, pair, row, events, refusals);
+    Ok(())
+}
+
+/// Takes the pair through a row.
+fn goes(
+    rt: &(impl Abort + AllocGlobal),
+    mut pair: Pair,
+    row: &'static [Part],
+    events: &[Events],
+    refusals: &mut Refusals,
+) {
+    for (part, events) in row.iter().zip(events) {
+        pair = goes_on(rt, pair, part.lines, events, refusals);
+        holds(rt, &mut pair, &part.after);
+    }
+    let_go(pair);
+}
+
+/// Takes the pair through a part.
+fn goes_on(
+    rt: &(impl Abort + AllocGlobal),
+    mut pair: Pair,
+    lines: &'static [Line],
+    events: &[[Event; 1]],
+    refusals: &mut Refusals,
+) -> Pair {
+    for (line, event) in lines.iter().zip(events) {
+        pair = answers(rt, pair, *line, event, refusals);
+    }
+    pair
 }
 
 /// A pair with nothing done.
@@ -51,42 +90,88 @@ fn fresh(rt: &impl Abort, alloc: Global, refusals: &mut Refusals) -> Result<Pair
     Pair::fresh(alloc, Settings::STANDARD)
 }
 
-/// The event with its contents.
+/// The events of a row with their contents.
 fn made(
     rt: &impl Abort,
     alloc: Global,
-    given: Given,
+    row: &'static [Part],
     refusals: &mut Refusals,
-) -> Result<Event, AllocError> {
-    if let Ok(event) = given.event(alloc) {
-        return Ok(event);
+) -> Result<Vec<Events>, AllocError> {
+    match row_events(alloc, row) {
+        Err(AllocError) => refusals.note(rt),
+        made => return made,
     }
-    refusals.note(rt);
-    given.event(alloc)
+    row_events(alloc, row)
 }
 
-/// Takes the pair through one event. Where memory is refused nothing has changed, and the event is given once
-/// more. The reply is the line's.
+fn row_events(alloc: Global, row: &'static [Part]) -> Result<Vec<Events>, AllocError> {
+    let mut events = Vec::new(alloc);
+    for part in row {
+        events.push(part_events(alloc, part.lines)?)?;
+    }
+    Ok(events)
+}
+
+fn part_events(alloc: Global, lines: &'static [Line]) -> Result<Events, AllocError> {
+    let mut events = Vec::new(alloc);
+    for (given, _) in lines {
+        events.push([given.event(alloc)?])?;
+    }
+    Ok(events)
+}
+
+/// Takes the pair through one event. The reply is the line's.
 fn answers(
-    rt: &impl Abort,
-    alloc: Global,
-    mut pair: Pair,
-    line: Line,
+    rt: &(impl Abort + AllocGlobal),
+    pair: Pair,
+    (given, said): Line,
+    event: &[Event; 1],
     refusals: &mut Refusals,
-) -> Result<Pair, Fail> {
-    let (given, said) = line;
-    let event = [made(rt, alloc, given, refusals)?];
+) -> Pair {
+    let (pair, reply) = done(rt, pair, given, event, refusals);
+    assert_eq!(rt; reply, Some(said.reply()), "{given:?}");
+    pair
+}
+
+/// Gives the pair an event. Where memory is refused nothing has changed, and the event is given once more.
+fn done(
+    rt: &(impl Abort + AllocGlobal),
+    mut pair: Pair,
+    given: Given,
+    event: &[Event; 1],
+    refusals: &mut Refusals,
+) -> (Pair, Option<Reply>) {
     let may_starve = takes_memory(&pair, given);
     let before = Seen::of(&mut pair);
-    let (mut pair, mut reply) = reply_to(rt, alloc, pair, &event);
-    if is_starved(reply) {
-        refusals.note(rt);
-        assert!(rt; reply.is_none() || may_starve, "{given:?} takes no memory");
-        assert_eq!(rt; Seen::of(&mut pair), before, "{given:?}");
-        (pair, reply) = reply_to(rt, alloc, pair, &event);
+    let (mut pair, reply) = reply_to(rt, pair, event);
+    if !is_starved(reply) {
+        return (pair, reply);
     }
-    assert_eq!(rt; reply, Some(said.reply()), "{given:?}");
-    Ok(pair)
+    refusals.note(rt);
+    assert!(rt; reply.is_none() || may_starve, "{given:?} takes no memory");
+    assert_eq!(rt; Seen::of(&mut pair), before, "{given:?}");
+    reply_to(rt, pair, event)
+}
+
+/// Gives the pair one event. There is no reply where there was no memory to reply at all.
+fn reply_to(
+    rt: &(impl Abort + AllocGlobal),
+    pair: Pair,
+    event: &[Event; 1],
+) -> (Pair, Option<Reply>) {
+    match run(rt.alloc(), pair, event) {
+        Ok((pair, replies)) => (pair, Some(only(rt, &replies))),
+        Err((pair, refusal)) => {
+            assert_eq!(rt; refusal, Refusal::NoMemory);
+            (pair, None)
+        }
+    }
+}
+
+/// The reply to one event.
+fn only(rt: &impl Abort, replies: &[Reply]) -> Reply {
+    assert_eq!(rt; replies.len(), 1);
+    replies[0]
 }
 
 fn is_starved(reply: Option<Reply>) -> bool {

@@ -105,7 +105,7 @@ const SYNCED: Part = Part {
 };
 
 /// The marked blocks are copied, and the secondary adopts the primary's identifiers.
-pub(crate) const RESYNC: [Part; 7] = [
+pub(crate) static RESYNC: [Part; 7] = [
     CONNECTED,
     PARTED,
     RESYNCING,
@@ -130,7 +130,7 @@ pub(crate) const RESYNC: [Part; 7] = [
 ];
 
 /// The connection is lost before the secondary heard of the end, so that all is copied on the next one.
-pub(crate) const UNHEARD_END: [Part; 8] = [
+pub(crate) static UNHEARD_END: [Part; 8] = [
     CONNECTED,
     PARTED,
     RESYNCING,
@@ -164,7 +164,7 @@ pub(crate) const UNHEARD_END: [Part; 8] = [
 
 /// A block is under way: a write over another block is refused by it, one beside it is accepted, and the block
 /// of that write is not copied while it is open.
-pub(crate) const BLOCK_UNDER_WAY: [Part; 4] = [
+pub(crate) static BLOCK_UNDER_WAY: [Part; 4] = [
     CONNECTED,
     PARTED,
     RESYNCING,
@@ -201,7 +201,7 @@ pub(crate) const BLOCK_UNDER_WAY: [Part; 4] = [
 ];
 
 /// A marked block under an open write is passed over by the resync.
-pub(crate) const BLOCK_PASSED_OVER: [Part; 4] = [
+pub(crate) static BLOCK_PASSED_OVER: [Part; 4] = [
     CONNECTED,
     PARTED,
     RESYNCING,

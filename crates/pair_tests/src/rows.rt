@@ -62,7 +62,7 @@ pub(crate) const CONNECTED: Part = Part {
 };
 
 /// One write goes its whole way. Its completion ends the epoch, and the barrier stands behind it.
-pub(crate) const WRITE: [Part; 2] = [
+pub(crate) static WRITE: [Part; 2] = [
     CONNECTED,
     Part {
         lines: &[
@@ -95,7 +95,7 @@ pub(crate) const WRITE: [Part; 2] = [
 
 /// Two writes of one epoch, of which the second is completed first, and one of the next epoch, which waits for
 /// the first at the peer's disk.
-pub(crate) const EPOCHS: [Part; 3] = [
+pub(crate) static EPOCHS: [Part; 3] = [
     CONNECTED,
     Part {
         lines: &[
@@ -163,7 +163,7 @@ pub(crate) const EPOCHS: [Part; 3] = [
 ];
 
 /// The primary's disk fails a write after its first block.
-pub(crate) const LOCAL_FAULT: [Part; 3] = [
+pub(crate) static LOCAL_FAULT: [Part; 3] = [
     CONNECTED,
     Part {
         lines: &[

@@ -1,4 +1,4 @@
-//! What is read off a pair.
+//! What is read off a pair, and its end.
 use crate::rows::{BLOCKS, Held};
 use blocks::{BLOCK_BYTES, Block, Refusal, Tuple};
 use pair::{Pair, Side};
@@ -18,11 +18,17 @@ pub(crate) struct Seen {
 struct Disks {
     own: Tuple,
     peer: Tuple,
-    marked: [bool; BLOCKS],
-    differing: [bool; BLOCKS],
-    /// The byte that fills each block, and none where its bytes are not alike.
-    local_filled: [Option<u8>; BLOCKS],
-    peer_filled: [Option<u8>; BLOCKS],
+    blocks: [BlockSeen; BLOCKS],
+}
+
+/// One block of both disks.
+#[derive(Clone, Copy, Debug, PartialEq, Eq)]
+struct BlockSeen {
+    is_marked: bool,
+    differs: bool,
+    /// The byte that fills it, and none where its bytes are not alike.
+    local_filled: Option<u8>,
+    peer_filled: Option<u8>,
 }
 
 /// What the primary says of itself.
@@ -64,22 +70,40 @@ impl Seen {
 impl Disks {
     fn of(pair: &mut Pair) -> Disks {
         let (own, peer) = pair.tuples();
-        let mut disks = Disks {
-            own,
-            peer,
-            marked: [false; BLOCKS],
-            differing: [false; BLOCKS],
-            local_filled: [None; BLOCKS],
-            peer_filled: [None; BLOCKS],
-        };
+        let mut blocks = [BlockSeen::UNREAD; BLOCKS];
         for index in 0..BLOCKS {
-            let block = Block(index as u64);
-            disks.marked[index] = pair.is_marked(block);
-            disks.differing[index] = pair.differs(block);
-            disks.local_filled[index] = filled(pair, Side::Primary, block);
-            disks.peer_filled[index] = filled(pair, Side::Secondary, block);
+            blocks[index] = BlockSeen::of(pair, Block(index as u64));
         }
-        disks
+        Disks { own, peer, blocks }
+    }
+}
+
+impl BlockSeen {
+    /// What stands in the place of a block until it is read.
+    const UNREAD: BlockSeen = BlockSeen {
+        is_marked: false,
+        differs: false,
+        local_filled: None,
+        peer_filled: None,
+    };
+
+    fn of(pair: &mut Pair, block: Block) -> BlockSeen {
+        BlockSeen {
+            is_marked: pair.is_marked(block),
+            differs: pair.differs(block),
+            local_filled: filled(pair, Side::Primary, block),
+            peer_filled: filled(pair, Side::Secondary, block),
+        }
+    }
+
+    /// A block that is marked or not, and that these bytes fill.
+    fn wanted(is_marked: bool, local: u8, peer: u8) -> BlockSeen {
+        BlockSeen {
+            is_marked,
+            differs: local != peer,
+            local_filled: Some(local),
+            peer_filled: Some(peer),
+        }
     }
 }
 
@@ -130,15 +154,18 @@ impl SecondarySeen {
 /// The identifiers, the marks and both disks are these.
 pub(crate) fn holds(rt: &impl Abort, pair: &mut Pair, held: &Held) {
     let disks = Disks::of(pair);
-    assert_eq!(rt; words(disks.own), held.own);
-    assert_eq!(rt; words(disks.peer), held.peer);
+    assert_eq!(rt;
+        (words(disks.own), words(disks.peer)),
+        (held.own, held.peer)
+    );
     for index in 0..BLOCKS {
         let is_marked = held.marks.contains(&(index as u64));
-        assert_eq!(rt; disks.marked[index], is_marked, "block {index}");
-        let (local, peer) = (held.local_filled[index], held.peer_filled[index]);
-        assert_eq!(rt; disks.local_filled[index], Some(local), "block {index}");
-        assert_eq!(rt; disks.peer_filled[index], Some(peer), "block {index}");
-        assert_eq!(rt; disks.differing[index], local != peer, "block {index}");
+        let wanted = BlockSeen::wanted(
+            is_marked,
+            held.local_filled[index],
+            held.peer_filled[index],
+        );
+        assert_eq!(rt; disks.blocks[index], wanted, "block {index}");
     }
 }
 
@@ -151,3 +178,7 @@ fn words(tuple: Tuple) -> [u64; 4] {
         tuple.second_historical,
     ]
 }
+
+/// Drops a pair. Each of its parts is dropped by code that stands where the pair is dropped, and is proved there:
+/// so that is here alone.
+pub(crate) fn let_go(_pair: Pair) {}

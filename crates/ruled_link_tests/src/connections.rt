@@ -1,9 +1,9 @@
 //! Frames over one connection after another.
-ghost use Rattle.std.specs.Prelude.{◌≡◌, IfOk};
+ghost use Rattle.std.specs.Prelude.{◌≡◌, ◌<◌, None, IfOk};
 ghost use Rattle.packets.specs.Cutting.{IsCut};
 ghost use Rattle.packets.specs.Spelling.{IsSpellable};
 
-use crate::pieces::{gives, gives_none};
+use crate::ends::{accepts, carries, gives, gives_none, hands_back};
 use crate::vectors::{BARRIER, write};
 use blocks::{Block, Refusal};
 use bytes::Bytes;
@@ -11,7 +11,8 @@ use link::{FrameIn, FrameOut};
 use packets::{Frame, Packet, encode};
 use ruled_link::{RuledIn, RuledOut, row};
 use std::alloc::Global;
-use std::test::Fail;
+use std::process::Abort;
+use std::sync::Wait;
 
 /// The frame of a packet is whole.
 pub(crate) fn spelled(alloc: Global, packet: &Packet) -> Result<Frame, Refusal>
@@ -22,7 +23,7 @@ pub(crate) fn spelled(alloc: Global, packet: &Packet) -> Result<Frame, Refusal>
 }
 
 /// The frame of a write of block 2.
-pub(crate) fn one_block(alloc: Global) -> Result<Frame, Refusal>
+fn one_block_in(alloc: Global) -> Result<Frame, Refusal>
     ensures { IfOk result (λ frame. IsCut frame) }
 {
     spelled(
@@ -36,89 +37,97 @@ pub(crate) fn one_block(alloc: Global) -> Result<Frame, Refusal>
     )
 }
 
-#[test]
-fn a_write_goes_in_three_pieces(rt: HostRuntime) -> Result<(), Fail> {
-    let alloc = rt.alloc();
-    let (pushed, mut popped) = row(&rt, alloc, 94)?;
-    let mut outward = RuledOut::new(pushed);
-    assert!(rt; outward.offer(one_block(alloc)?).is_ok());
-    let (mut pushed, inward) = row(&rt, alloc, 94)?;
-    let mut inward = RuledIn::new(alloc, inward)?;
-    for len in [1400, 1400, 1328] {
-        gives_none(&rt, &mut inward);
-        let Some(piece) = popped.pop() else {
-            return Err(Fail::from("a piece is missing"));
-        };
-        assert_eq!(rt; piece.bytes().len(), len);
-        assert!(rt; pushed.push(piece).is_ok());
-    }
-    gives(&rt, &mut inward, &write(alloc)?)?;
-    assert!(rt; popped.pop().is_none());
-    Ok(())
+/// The same, where there is memory for it.
+pub(crate) fn one_block(rt: &impl Abort, alloc: Global) -> Frame
+    ensures { IsCut result }
+{
+    one_block_in(alloc).expect(rt, "a write has a frame")
+}
+
+/// The frame of a barrier.
+pub(crate) fn barrier(rt: &impl Abort, alloc: Global, number: u32) -> Frame
+    ensures { IsCut result }
+{
+    spelled(alloc, &Packet::Barrier { number }).expect(rt, "a barrier has a frame")
+}
+
+/// The two ends of a link with a row for so many pieces.
+fn ends<R: Wait + Abort + Copy>(rt: R, alloc: Global, pieces: usize) -> (RuledOut<R>, RuledIn<R>)
+    requires { 0 < pieces }
+    ensures partly { result.0.partly ≡ None }
+    ensures numbers { (result.0.number ≡ 1) × (result.1.number ≡ 1) }
+{
+    let (outward, inward) = row(rt, alloc, pieces).expect(&rt, "there is a row");
+    let inward = RuledIn::new(alloc, inward).expect(&rt, "there is a taking end");
+    (RuledOut::new(outward), inward)
+}
+
+/// A row does not hold a frame at once, which goes on from where it was.
+fn goes_on<O: FrameOut, I: FrameIn>(rt: &impl Abort, alloc: Global, outward: &mut O, inward: &mut I)
+    requires { (O.state outward.old).partly ≡ None }
+{
+    let frame = hands_back(rt, outward, one_block(rt, alloc));
+    carries(rt, outward, inward, frame, &write(rt, alloc));
 }
 
 #[test]
-fn a_full_row_is_gone_on_with(rt: HostRuntime) -> Result<(), Fail> {
-    let alloc = rt.alloc();
-    let (pushed, popped) = row(&rt, alloc, 2)?;
-    let mut outward = RuledOut::new(pushed);
-    let mut inward = RuledIn::new(alloc, popped)?;
-    let offered = match outward.offer(one_block(alloc)?) {
-        Ok(()) => return Err(Fail::from("three pieces stand in a row for two")),
-        Err(offered) => offered,
-    };
-    assert_eq!(rt; offered.refusal().number(), 11);
-    gives_none(&rt, &mut inward);
-    assert!(rt; outward.offer(offered.frame).is_ok());
-    gives(&rt, &mut inward, &write(alloc)?)?;
-    gives_none(&rt, &mut inward);
-    Ok(())
+fn a_full_row_is_gone_on_with(rt: HostRuntime) {
+    let (mut outward, mut inward) = ends(&rt, rt.alloc(), 2);
+    goes_on(&rt, rt.alloc(), &mut outward, &mut inward);
 }
 
-#[test]
-fn a_connection_ends_within_a_frame(rt: HostRuntime) -> Result<(), Fail> {
-    let alloc = rt.alloc();
-    let (pushed, popped) = row(&rt, alloc, 2)?;
-    let mut outward = RuledOut::new(pushed);
-    let mut inward = RuledIn::new(alloc, popped)?;
-    assert!(rt; outward.offer(one_block(alloc)?).is_err());
-    gives_none(&rt, &mut inward);
+/// The connection of a frame in part is over, and the next one has frames of its own.
+fn begins_anew<O: FrameOut, I: FrameIn>(
+    rt: &impl Abort,
+    alloc: Global,
+    outward: &mut O,
+    inward: &mut I,
+)
+    requires partly { (O.state outward.old).partly ≡ None }
+    requires sending { (O.state outward.old).number ≡ 1 }
+    requires taking { (I.state inward.old).number ≡ 1 }
+{
+    let _ = hands_back(rt, outward, one_block(rt, alloc));
+    gives_none(rt, inward);
     outward.restart(2);
-    assert!(rt;
-        outward
-            .offer(spelled(alloc, &Packet::Barrier { number: 1 })?)
-            .is_ok()
-    );
+    accepts(rt, outward, barrier(rt, alloc, 1));
     // The piece of the second connection is in hand until that begins.
-    gives_none(&rt, &mut inward);
-    gives_none(&rt, &mut inward);
+    gives_none(rt, inward);
+    gives_none(rt, inward);
     inward.restart(2);
-    gives(&rt, &mut inward, &BARRIER)?;
-    gives_none(&rt, &mut inward);
-    Ok(())
+    gives(rt, inward, &BARRIER);
+    gives_none(rt, inward);
 }
 
 #[test]
-fn pieces_of_a_connection_that_is_over_are_dropped(rt: HostRuntime) -> Result<(), Fail> {
-    let alloc = rt.alloc();
-    let (pushed, popped) = row(&rt, alloc, 8)?;
-    let mut outward = RuledOut::new(pushed);
-    let mut inward = RuledIn::new(alloc, popped)?;
-    assert!(rt; outward.offer(one_block(alloc)?).is_ok());
+fn a_connection_ends_within_a_frame(rt: HostRuntime) {
+    let (mut outward, mut inward) = ends(&rt, rt.alloc(), 2);
+    begins_anew(&rt, rt.alloc(), &mut outward, &mut inward);
+}
+
+/// Frames of three connections stand in a row, of which the last one is taken.
+fn drops_earlier<O: FrameOut, I: FrameIn>(
+    rt: &impl Abort,
+    alloc: Global,
+    outward: &mut O,
+    inward: &mut I,
+)
+    requires partly { (O.state outward.old).partly ≡ None }
+    requires sending { (O.state outward.old).number ≡ 1 }
+    requires taking { (I.state inward.old).number ≡ 1 }
+{
+    accepts(rt, outward, one_block(rt, alloc));
     outward.restart(2);
-    assert!(rt;
-        outward
-            .offer(spelled(alloc, &Packet::Barrier { number: 2 })?)
-            .is_ok()
-    );
+    accepts(rt, outward, barrier(rt, alloc, 2));
     outward.restart(5);
-    assert!(rt;
-        outward
-            .offer(spelled(alloc, &Packet::Barrier { number: 1 })?)
-            .is_ok()
-    );
+    accepts(rt, outward, barrier(rt, alloc, 1));
     inward.restart(5);
-    gives(&rt, &mut inward, &BARRIER)?;
-    gives_none(&rt, &mut inward);
-    Ok(())
+    gives(rt, inward, &BARRIER);
+    gives_none(rt, inward);
+}
+
+#[test]
+fn pieces_of_a_connection_that_is_over_are_dropped(rt: HostRuntime) {
+    let (mut outward, mut inward) = ends(&rt, rt.alloc(), 8);
+    drops_earlier(&rt, rt.alloc(), &mut outward, &mut inward);
 }

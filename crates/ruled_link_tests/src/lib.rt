@@ -4,6 +4,8 @@
 #[cfg(test)]
 mod connections;
 #[cfg(test)]
+mod ends;
+#[cfg(test)]
 mod moments;
 #[cfg(test)]
 mod names;

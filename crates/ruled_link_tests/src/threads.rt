@@ -4,16 +4,15 @@ ghost use Rattle.packets.specs.Cutting.{IsCut};
 ghost use Rattle.packets.specs.Spelling.{IsSpellable};
 
 use crate::connections::spelled;
-use crate::pieces::next;
+use crate::ends::next;
 use blocks::{Block, Refusal};
 use bytes::Bytes;
 use link::{FrameIn, FrameOut};
 use packets::{Acknowledgement, Frame, Packet, read};
-use ruled_link::{RuledIn, RuledOut, join_ends, ruled};
+use ruled_link::ruled;
 use std::alloc::Global;
 use std::sync::Wait;
-use std::test::Fail;
-use std::thread;
+use std::thread::{self, Threads};
 
 /// Frames of a run.
 const FRAMES: u32 = 20_000;
@@ -67,13 +66,19 @@ fn send<R: Wait, O: FrameOut>(rt: &R, end: &mut O, frame: Frame)
     unreachable!()
 }
 
-/// Sends the packets of the run.
+/// The frame at a place of the run.
+fn frame_at(alloc: Global, place: u32) -> Result<Frame, Refusal>
+    ensures { IfOk result (λ frame. IsCut frame) }
+{
+    spelled(alloc, &packet_at(alloc, place)?)
+}
+
+/// Sends the frames of the run.
 fn send_all<R: Wait, O: FrameOut>(rt: &R, alloc: Global, end: &mut O) -> Result<(), Refusal>
     requires { (O.state end.old).partly ≡ None }
 {
     for place in 0..FRAMES {
-        let packet = packet_at(alloc, place)?;
-        send(rt, end, spelled(alloc, &packet)?);
+        send(rt, end, frame_at(alloc, place)?);
     }
     Ok(())
 }
@@ -89,39 +94,45 @@ fn receive<R: Wait, I: FrameIn>(rt: &R, end: &mut I) -> Result<Frame, Refusal> {
     unreachable!()
 }
 
-/// Counts the packets that are those of the run, each at its place.
+/// Whether a frame is that of the run at this place.
+fn is_at(alloc: Global, frame: Frame, place: u32) -> Result<bool, Refusal> {
+    Ok(read(frame, None)? == packet_at(alloc, place)?)
+}
+
+/// Counts the frames that are those of the run, each at its place.
 fn receive_all<R: Wait, I: FrameIn>(rt: &R, alloc: Global, end: &mut I) -> Result<u32, Refusal> {
     let mut same: u32 = 0;
     for place in 0..FRAMES {
-        let frame = receive(rt, end)?;
-        if read(frame, None)? == packet_at(alloc, place)? {
+        if is_at(alloc, receive(rt, end)?, place)? {
             same = same.saturating_add(1);
         }
     }
     Ok(same)
 }
 
-#[test]
-fn all_frames_are_taken_in_order(rt: HostRuntime) -> Result<(), Fail> {
-    let alloc = rt.alloc();
-    // A row for one of the largest frames.
-    let (mut outward, mut inward) = ruled(&rt, alloc, 1)?;
-    let handle = &rt;
-    let ((outward, sent), (inward, same)) = thread::join(
-        handle,
-        move || -> (RuledOut<&HostRuntime>, Result<(), Refusal>)
-            requires { outward.partly ≡ None }
-        {
-            let sent = send_all(handle, alloc, &mut outward);
-            (outward, sent)
-        },
-        move || {
-            let same = receive_all(handle, alloc, &mut inward);
-            (inward, same)
-        },
+/// Sends all frames in one thread and receives them in another, and says how many were those of the run.
+fn in_two_threads<R: Threads + Wait + Sync, O: FrameOut + Send, I: FrameIn>(
+    rt: &R,
+    alloc: Global,
+    outward: &mut O,
+    inward: &mut I,
+) -> Result<u32, Refusal>
+    requires { (O.state outward.old).partly ≡ None }
+{
+    let (sent, same) = thread::join(
+        rt,
+        || -> Result<(), Refusal>
+            requires { (O.state outward.now).partly ≡ None }
+        { send_all(rt, alloc, outward) },
+        || receive_all(rt, alloc, inward),
     );
-    sent?;
-    assert_eq!(rt; same?, FRAMES);
-    let _ = (outward, inward);
-    Ok(())
+    sent.and(same)
+}
+
+#[test]
+fn all_frames_are_taken_in_order(rt: HostRuntime) {
+    // A row for one of the largest frames.
+    let (mut outward, mut inward) = ruled(&rt, rt.alloc(), 1).expect(&rt, "there is a link");
+    let same = in_two_threads(&rt, rt.alloc(), &mut outward, &mut inward);
+    assert_eq!(rt; same, Ok(FRAMES));
 }

@@ -1,6 +1,7 @@
 //! Frames, byte by byte.
 
 use std::alloc::{AllocError, Global};
+use std::process::Abort;
 
 /// A header and the numbers of a DATA frame: block 2, write 1, place 0.
 const WRITE: [u8; 32] = [
@@ -45,31 +46,45 @@ const RS_WRITE_ACK: [u8; 32] = [
 /// A header of another protocol.
 pub(crate) const OTHER_MAGIC: [u8; 8] = [0x83, 0x5B, 0, 3, 0, 0, 0, 8];
 
-/// These numbers, and then a block of bytes AA.
-fn with_block(alloc: Global, front: &[u8]) -> Result<Vec<u8>, AllocError> {
+/// A frame of each kind: its bytes, or those before its block.
+const KINDS: [(&[u8], bool); 11] = [
+    (&WRITE, true),
+    (&BARRIER, false),
+    (&WRITE_ACK, false),
+    (&BARRIER_ACK, false),
+    (&TWO_WRITES_ACK, false),
+    (&PROTOCOL_C, false),
+    (&SIZES, false),
+    (&UUIDS, false),
+    (&SYNC_UUID, false),
+    (&RESYNC, true),
+    (&RS_WRITE_ACK, false),
+];
+
+/// These bytes, and then a block of bytes AA if the frame has one.
+fn frame(alloc: Global, front: &[u8], has_block: bool) -> Result<Vec<u8>, AllocError> {
     let mut frame = Vec::from_slice(alloc, front)?;
-    frame.extend_from_slice(&[0xAA; 4096])?;
+    if has_block {
+        frame.extend_from_slice(&[0xAA; 4096])?;
+    }
     Ok(frame)
 }
 
 /// The DATA frame of block 2.
-pub(crate) fn write(alloc: Global) -> Result<Vec<u8>, AllocError> {
-    with_block(alloc, &WRITE)
+pub(crate) fn write(rt: &impl Abort, alloc: Global) -> Vec<u8> {
+    frame(alloc, &WRITE, true).expect(rt, "there is memory")
 }
 
 /// A frame of each kind.
-pub(crate) fn frames(alloc: Global) -> Result<Vec<Vec<u8>>, AllocError> {
-    Ok(vec![in alloc;
-        write(alloc)?,
-        Vec::from_slice(alloc, &BARRIER)?,
-        Vec::from_slice(alloc, &WRITE_ACK)?,
-        Vec::from_slice(alloc, &BARRIER_ACK)?,
-        Vec::from_slice(alloc, &TWO_WRITES_ACK)?,
-        Vec::from_slice(alloc, &PROTOCOL_C)?,
-        Vec::from_slice(alloc, &SIZES)?,
-        Vec::from_slice(alloc, &UUIDS)?,
-        Vec::from_slice(alloc, &SYNC_UUID)?,
-        with_block(alloc, &RESYNC)?,
-        Vec::from_slice(alloc, &RS_WRITE_ACK)?,
-    ]?)
+fn frames_in(alloc: Global) -> Result<Vec<Vec<u8>>, AllocError> {
+    let mut frames = Vec::new(alloc);
+    for (front, has_block) in KINDS {
+        frames.push(frame(alloc, front, has_block)?)?;
+    }
+    Ok(frames)
+}
+
+/// The same, where there is memory for them.
+pub(crate) fn frames(rt: &impl Abort, alloc: Global) -> Vec<Vec<u8>> {
+    frames_in(alloc).expect(rt, "there is memory")
 }

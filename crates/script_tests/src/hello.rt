@@ -229,6 +229,37 @@ tuples 7,0,9,1 7,0,9,1
 }
 
 #[test]
+fn an_acknowledgement_of_identifiers_tells_the_decision(rt: HostRuntime) -> Result<(), Fail> {
+    runs(
+        &rt,
+        &[(
+            "\
+pair peer=0,0,0,0
+open 5 7
+ackout
+ackout
+ackout
+ackin
+ackin
+ackin
+marks
+",
+            "\
+pair ok
+open ok
+ackout ok PROTOCOL
+ackout ok SIZES
+ackout ok UUIDS
+ackin ok PROTOCOL
+ackin ok SIZES
+ackin ok UUIDS FullSync
+marks 0 1 2 3 4 5 6 7
+",
+        )],
+    )
+}
+
+#[test]
 fn a_peer_without_data_is_written_in_full(rt: HostRuntime) -> Result<(), Fail> {
     runs(
         &rt,

@@ -1,5 +1,5 @@
 //! The keys of a pair, and their values.
-use crate::rows::{pair_line, prints};
+use crate::rows::{pair_line, prints, runs};
 use std::process::Abort;
 use std::test::Fail;
 
@@ -92,14 +92,39 @@ fn a_key_has_a_name_and_a_value(rt: HostRuntime) -> Result<(), Fail> {
             "blocks=8 8",
             "protocol=",
             "protocol=AB",
+            "protocol=D",
+            "protocol=c",
+            "protocol=1",
             "own=1",
             "own=1,0,0",
             "own=1,0,0,0,0",
             "own=1,0,0,",
             "own=,0,0,0",
             "own=1,0,0,x",
+            "own=1,0,+0,0",
+            "own=1,0,0,-1",
             "own=1, 0,0,0",
             "peer=18446744073709551616,0,0,0",
         ],
+    )
+}
+
+#[test]
+fn a_protocol_is_named_by_its_letter(rt: HostRuntime) -> Result<(), Fail> {
+    runs(
+        &rt,
+        &[(
+            "\
+pair protocol=C
+connect 5 7
+status
+",
+            "\
+pair ok
+connect ok NoSync
+cs:Connected ro:Primary/Secondary ds:UpToDate/UpToDate pr:C pe:0 ap:0 ep:0 oos:0
+cs:Connected ro:Secondary/Primary ds:UpToDate/UpToDate pr:C pending:0 use:Yes whole:0
+",
+        )],
     )
 }

@@ -1,0 +1,173 @@
+//! What is done to a primary's core, as tables have it.
+use blocks::{Command, Decision, Protocol, Refusal, Settings, Tuple, What};
+use primary_core::Fate;
+
+/// A frame, or the fault that stands in its place.
+#[derive(Clone, Copy)]
+pub(crate) enum Frame {
+    Protocol(Protocol),
+    Sizes(u64),
+    Uuids(Tuple),
+    /// A write of one block: the block, the number, the place, and the byte that fills it.
+    Data(u64, u64, u32, u8),
+    /// A write of two blocks.
+    TwoBlocks(u64, u64, u32, u8),
+    /// A block of a resync, its place, and the byte that fills it.
+    RsDataReply(u64, u32, u8),
+    Barrier(u32),
+    SyncUuid(u64),
+    /// Of one block: the block, the number, the place.
+    RecvAck(u64, u64, u32),
+    WriteAck(u64, u64, u32),
+    /// As the one before, but of two blocks.
+    WideAck(u64, u64, u32),
+    /// Of one block and its place.
+    RsWriteAck(u64, u32),
+    /// The number of the barrier, and its epoch's size.
+    BarrierAck(u32, u32),
+    Fault(Refusal),
+}
+
+/// What is done to a core.
+#[derive(Clone, Copy)]
+pub(crate) enum Step {
+    /// The words for a resync and for a loss.
+    Open(u64, u64),
+    Close,
+    /// The first block, how many blocks, and the byte that fills them.
+    Submit(u64, u8, u8),
+    /// Of fewer bytes than a block has.
+    SubmitPart,
+    /// Which write the local disk does next.
+    Next,
+    /// The write of this number is given to the local disk, and has so many blocks, filled with this byte.
+    Given(u64, u8, u8),
+    Local(u64),
+    LocalFail(u64),
+    /// What is due is this frame, and goes out.
+    Send(Frame),
+    Take(Frame),
+    /// The next block of a resync is read, and is filled with this byte.
+    Resync(u8),
+    Receipt(u64),
+}
+
+/// What a step says.
+#[derive(Clone, Copy, Debug, PartialEq, Eq)]
+pub(crate) enum Said {
+    Nothing,
+    /// How many writes the close completed.
+    Closed(u32),
+    Next(Option<u64>),
+    /// The number of a write, its first block, how many it has, and whether its bytes are the expected ones.
+    Given(u64, u64, u64, bool),
+    /// A write was accepted under this number, and no more.
+    Accepted(u64),
+    /// A frame went over the link, with its place if an item of the stream was sent, and no more.
+    Went(Command, Option<u32>),
+    /// What else it was about, and no more.
+    Did(What),
+    /// What it was about, the write that it completed, the barrier that it appended, and whether a resync
+    /// is over.
+    More(What, Option<u64>, Option<u32>, bool),
+    /// Another packet was due.
+    Other(Command),
+    /// The first block of a write, how many it has, and its fate.
+    Receipt(u64, u64, Fate),
+}
+
+/// What a step says, or why it is refused.
+pub(crate) type Answer = Result<Said, Refusal>;
+
+/// A step and its answer.
+pub(crate) type Row = (Step, Answer);
+
+/// What a core holds.
+#[derive(Clone, Copy)]
+pub(crate) enum Fact {
+    Open(bool),
+    /// Whether the hello is done.
+    Stands(bool),
+    Resync(bool),
+    Tuple(Tuple),
+    Peer(Option<Tuple>),
+    Connections(u32),
+    Accepted(u64),
+    OpenWrites(u32),
+    Unanswered(u32),
+    OpenEpochs(u64),
+    Unreleased(u32),
+    Places(u32),
+    Unsent(usize),
+}
+
+/// A part of what a primary goes through.
+#[derive(Clone, Copy)]
+pub(crate) enum Part {
+    Rows(&'static [Row]),
+    /// The hello of a connection: the words, both disks' identifiers, and what is decided.
+    Greeting((u64, u64), (Tuple, Tuple), Decision),
+    /// The peer's identifiers are taken, and decide so.
+    Decides(Tuple, Result<Decision, Refusal>),
+    /// This frame is refused.
+    Refused(Frame, Refusal),
+    Holds(&'static [Fact]),
+    /// These blocks are marked, and no other.
+    Marks(&'static [usize]),
+}
+
+/// What a primary is made of.
+#[derive(Clone, Copy)]
+pub(crate) struct Start {
+    pub(crate) settings: Settings,
+    pub(crate) own: Tuple,
+    /// The blocks that are marked.
+    pub(crate) marked: &'static [usize],
+}
+
+/// A primary that was never opened, and the two lists of parts that it goes through. The tests are tables of these,
+/// since one function goes through all of them and is proved once.
+pub(crate) struct Case {
+    pub(crate) name: &'static str,
+    pub(crate) start: &'static Start,
+    pub(crate) before: &'static [Part],
+    pub(crate) parts: &'static [Part],
+}
+
+/// What every disk begins with, where a row names nothing else.
+pub(crate) const OWN: Tuple = Tuple {
+    current: 1,
+    bitmap: 0,
+    first_historical: 0,
+    second_historical: 0,
+};
+
+/// What a primary has whose first connection was lost.
+pub(crate) const PARTED: Tuple = Tuple {
+    current: 7,
+    bitmap: 1,
+    first_historical: 0,
+    second_historical: 0,
+};
+
+/// The settings of the worked rows, under protocol C.
+pub(crate) const SETTINGS: Settings = Settings::STANDARD;
+
+/// A primary of the worked rows.
+pub(crate) const START: Start = Start {
+    settings: SETTINGS,
+    own: OWN,
+    marked: &[],
+};
+
+/// The step did what has no name, and no more.
+pub(crate) const DONE: Answer = Ok(Said::Did(What::Nothing));
+
+pub(crate) const PROTOCOL_WENT: Answer = Ok(Said::Went(Command::Protocol, None));
+
+pub(crate) const SIZES_WENT: Answer = Ok(Said::Went(Command::Sizes, None));
+
+pub(crate) const UUIDS_WENT: Answer = Ok(Said::Went(Command::Uuids, None));
+
+/// The first connection, whose words are 5 and 7.
+pub(crate) const CONNECTED: Part = Part::Greeting((5, 7), (OWN, OWN), Decision::NoSync);
