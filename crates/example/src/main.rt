@@ -30,35 +30,44 @@ const ALIKE: Tuple = Tuple {
 };
 
 fn main(rt: HostRuntime) -> anyhow::Result<()> {
-    mirrored(&rt, &rt, rt.alloc())
+    run(&rt, &rt, rt.alloc())
+}
+
+fn run<R: Wait + Copy + Drop>(out: &impl Print, rt: R, alloc: Global) -> anyhow::Result<()> {
+    let mut local = primary(alloc)?;
+    let mut peer = secondary(alloc)?;
+    mirrored(out, rt, alloc, &mut local, &mut peer)
 }
 
 /// Ten writes, of which the peer gets four before the link is lost, and the others by a resync.
-fn mirrored<R: Wait + Copy + Drop>(out: &impl Print, rt: R, alloc: Global) -> anyhow::Result<()> {
-    let mut local = primary(alloc)?;
-    let mut peer = secondary(alloc)?;
-
+fn mirrored<R: Wait + Copy + Drop>(
+    out: &impl Print,
+    rt: R,
+    alloc: Global,
+    local: &mut Local<R, MemStore>,
+    peer: &mut Peer<R, LooseDisk>,
+) -> anyhow::Result<()> {
     // The peer's disk fails the fifth write, and with that its end of the link closes.
-    connect(rt, alloc, &mut local, &mut peer, 2, 3)?;
-    fill(alloc, &mut local, 0, 6)?;
-    work(&mut local, &mut peer)?;
+    connect(rt, alloc, local, peer, 2, 3)?;
+    fill(alloc, local, 0, 6)?;
+    work(local, peer)?;
     println!(out; "peer open: {}", peer.is_open())?;
 
     // The primary's end closes too, which completes what waited for the peer; it goes on alone.
     println!(out; "completed by the close: {}", local.close()?)?;
-    fill(alloc, &mut local, 4, 4)?;
-    work(&mut local, &mut peer)?;
+    fill(alloc, local, 4, 4)?;
+    work(local, peer)?;
     println!(out; "marked: {}", local.marks())?;
 
     // A new link, and fresh words: the marked blocks are copied.
-    connect(rt, alloc, &mut local, &mut peer, 4, 5)?;
+    connect(rt, alloc, local, peer, 4, 5)?;
     println!(out;
         "marked: {}, {} and {}",
         local.marks(),
         local.tuple(),
         peer.tuple()
     )?;
-    confirmed(out, &mut local)?;
+    confirmed(out, local)?;
     Ok(())
 }
 

@@ -79,14 +79,15 @@ fn copy(rt: &HostRuntime, workload: &Workload, plan: Plan) -> anyhow::Result<(Du
 }
 
 /// Takes the plan's writes through the mirror. Answers how long that took, up to the last receipt.
-fn mirror(rt: &HostRuntime, workload: &Workload, plan: Plan) -> anyhow::Result<(Duration, Rounds)>
-    requires some { 0 < plan.blocks }
-    requires flying { 0 < plan.in_flight }
-{
-    let mut rounds = Rounds::new(rt.alloc(), plan.protocol, plan.blocks, plan.in_flight)?;
+fn mirror(
+    rt: &HostRuntime,
+    workload: &Workload,
+    plan: Plan,
+    rounds: &mut Rounds,
+) -> anyhow::Result<Duration> {
     let start = Instant::now(rt)?;
     rounds.write(workload, plan.writes)?;
-    Ok((start.elapsed(rt)?, rounds))
+    Ok(start.elapsed(rt)?)
 }
 
 /// Prints what became of the writes.
@@ -126,13 +127,26 @@ fn finish(
     print_counts(rt, plan, rounds.counts(), differ)
 }
 
-/// Takes the plan's writes through the mirror, and copies their bytes in a loop, and prints what that took.
+/// Takes the plan's writes through the mirror, and prints what that took beside the loop.
+fn compare(
+    rt: &HostRuntime,
+    workload: &Workload,
+    plan: Plan,
+    (copied, copies): (Duration, &Copies),
+    rounds: &mut Rounds,
+) -> anyhow::Result<()> {
+    rounds.greet()?;
+    let mirrored = mirror(rt, workload, plan, rounds)?;
+    finish(rt, plan, rounds, copies)?;
+    print_rates(rt, plan, copied, mirrored)
+}
+
+/// Copies the bytes of the plan's writes in a loop, takes the writes through the mirror, and prints what that took.
 pub(crate) fn measure(rt: &HostRuntime, workload: &Workload, plan: Plan) -> anyhow::Result<()>
     requires some { 0 < plan.blocks }
     requires flying { 0 < plan.in_flight }
 {
     let (copied, copies) = copy(rt, workload, plan)?;
-    let (mirrored, mut rounds) = mirror(rt, workload, plan)?;
-    finish(rt, plan, &mut rounds, &copies)?;
-    print_rates(rt, plan, copied, mirrored)
+    let mut rounds = Rounds::new(rt.alloc(), plan.protocol, plan.blocks, plan.in_flight)?;
+    compare(rt, workload, plan, (copied, &copies), &mut rounds)
 }

@@ -1,5 +1,6 @@
 //! Both nodes of a mirror, and the link between them, in one thread.
-ghost use Rattle.std.specs.Prelude.{◌≡◌, length, IfOk};
+ghost use Rattle.std.specs.Prelude.{◌≡◌, length, IfOk, OnOk};
+ghost use Rattle.pair_bench.specs.State.{IsMirror};
 ghost use Rattle.pair_steps.specs.Carried.{IsTold};
 
 use crate::image::blank;
@@ -82,15 +83,28 @@ fn told_back(primary: &LocalNode, secondary: &PeerNode)
     }
 }
 
+/// Opens both nodes over a new link, which holds so many frames in each direction.
+fn connect(
+    alloc: Global,
+    capacity: u32,
+    primary: &mut LocalNode,
+    secondary: &mut PeerNode,
+) -> Result<(), Refusal>
+    requires { secondary.old.core.number ≡ 0 }
+    ensures { OnOk result (IsMirror (record { link = capacity; primary = primary.new; secondary = secondary.new })) }
+{
+    let link = PlainLink::new(alloc, capacity)?;
+    let (ours, theirs) = (link.primary, link.secondary);
+    primary.open(ours.outward, ours.inward, WORDS.0, WORDS.1)?;
+    secondary.open(theirs.outward, theirs.inward)
+}
+
 impl Mirror {
     /// Both nodes, with a link that is open, over disks that hold the same.
     pub(crate) fn open(alloc: Global, settings: Settings) -> Result<Mirror, Refusal> {
         let mut primary = primary(alloc, settings)?;
         let mut secondary = secondary(alloc, settings)?;
-        let link = PlainLink::new(alloc, settings.link)?;
-        let (ours, theirs) = (link.primary, link.secondary);
-        primary.open(ours.outward, ours.inward, WORDS.0, WORDS.1)?;
-        secondary.open(theirs.outward, theirs.inward)?;
+        connect(alloc, settings.link, &mut primary, &mut secondary)?;
         Ok(Mirror {
             link: settings.link,
             primary,

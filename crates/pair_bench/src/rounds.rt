@@ -56,7 +56,7 @@ fn settings(protocol: Protocol, blocks: u32, in_flight: u32) -> Settings {
 }
 
 impl Rounds {
-    /// Two nodes that have greeted one another.
+    /// Two nodes that have not greeted one another yet.
     pub(crate) fn new(
         alloc: Global,
         protocol: Protocol,
@@ -67,7 +67,7 @@ impl Rounds {
         requires flying { 0 < in_flight }
     {
         let settings = settings(protocol, blocks, in_flight);
-        let mut rounds = Rounds {
+        Ok(Rounds {
             blocks,
             in_flight,
             frames: settings.link,
@@ -79,9 +79,7 @@ impl Rounds {
                 released: 0,
                 applied: 0,
             },
-        };
-        rounds.greet()?;
-        Ok(rounds)
+        })
     }
 
     /// What became of the writes so far.
@@ -104,8 +102,8 @@ impl Rounds {
         self.mirror.read(block, local, peer)
     }
 
-    // The three frames of each node's hello.
-    fn greet(&mut self) -> Result<(), Refusal> {
+    /// The three frames of each node's hello.
+    pub(crate) fn greet(&mut self) -> Result<(), Refusal> {
         for _ in 0..3 {
             self.mirror.ack_out()?;
             self.mirror.ack_in()?;
