@@ -8,7 +8,7 @@ use thiserror::Error;
 /// Why a call did nothing, or why an end of a link closed (this project's table).
 #[derive(Clone, Copy, Debug, PartialEq, Eq, Error)]
 pub enum Refusal {
-    #[error("not 1 to 32 whole blocks inside the device and inside one extent")]
+    #[error("not 1 to 32 whole blocks inside the device and one extent, or a fault that keeps too many blocks")]
     BadRange,
     #[error("overlaps write {0}, which is not completed (0: the block that the resync has under way)")]
     Conflict(u64),
@@ -36,7 +36,7 @@ pub enum Refusal {
     NothingThere,
     #[error("the disk failed to read a block")]
     ReadFault,
-    #[error("a setting is out of its range, or a disk or mark list has another size")]
+    #[error("a setting is out of its range, a disk or mark list has another size, or the current identifier is zero")]
     BadSetting,
     #[error("there is no such unfinished write or item")]
     UnknownJob,
@@ -64,7 +64,7 @@ pub enum Refusal {
     SplitBrain,
     #[error("the two nodes' data have nothing in common")]
     Unrelated,
-    #[error("a generation identifier is zero or has been used before")]
+    #[error("a generation identifier is zero, stands twice, or has been used before")]
     UsedIdentifier,
     #[error("the peer uses another replication protocol")]
     OtherProtocol,

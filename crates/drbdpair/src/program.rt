@@ -11,7 +11,8 @@ use std::fs;
 use std::io::{Read, Write};
 use std::rt::Files;
 
-const ABOUT: &str = "Runs a pair of mirrored disks, after DRBD 8.4, from a script.";
+const ABOUT: &str =
+    "Runs a pair of mirrored disks, after DRBD 8.4, from a script: without words, from standard input.";
 
 /// The whole program over its words, the first of which is its name: `script FILE`, where `-` stands for `input`;
 /// no words at all mean `script -`. It answers the exit status.
