@@ -1,0 +1,5 @@
+use Rattle.std.proofs.Common.{rules}
+use Rattle.epochs.proofs.epochs.Epochs.restart.Goals as goal
+
+pub returns : goal.returns
+returns c = search rules
