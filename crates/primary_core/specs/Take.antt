@@ -1,11 +1,10 @@
 -- What a taken packet does, as its call tells it.
-use Rattle.std.specs.Prelude.{ℕ, true, false, set, None, Some, [], ◌∷◌, Result, Ok, Err}
+use Rattle.std.specs.Prelude.{ℕ, true, Some, [], ◌∷◌, Result, Ok, Err}
 use Rattle.blocks.specs.declared.outcome.Done.{Done}
 use Rattle.blocks.specs.declared.refusal.Refusal.{Refusal}
 use Rattle.blocks.specs.Identifiers.{sync_start}
 use Rattle.model.specs.Stream.{SyncUuidItem}
 use Rattle.transferlog.specs.Log as log
-use Rattle.overlap.specs.Holdings as overlap
 use Rattle.primary_steps.specs.Core.{EndState, PrimaryState}
 use Rattle.primary_steps.specs.Taking.{Taken}
 
@@ -20,12 +19,4 @@ resyncing e s = record s {
   tuple = sync_start e.sync s.tuple;
   log = (log.uuids_placed s.log).1;
   end = Some (record e { unsent = SyncUuidItem e.sync ∷ []; resync = true });
-}
-
--- the block under way has no mark and holds nothing, and none is under way
-abbrev pub without_block : ℕ → EndState → PrimaryState → PrimaryState
-without_block block e s = record s {
-  marks = set s.marks block false;
-  held = overlap.without 0 s.held;
-  end = Some (record e { under_way = None });
 }

@@ -3,9 +3,9 @@ ghost use Rattle.std.specs.Prelude.{◌≡◌, ◌||◌, false, set, Some, None}
 ghost use Rattle.endpoint.specs.Meaning.{meaning, named};
 ghost use Rattle.packets.specs.declared.packet.Packet.TheVariants as packet;
 ghost use Rattle.primary_steps.specs.Transitions.{next_place};
-ghost use Rattle.primary_core.specs.Take.{taken_as, without_block};
+ghost use Rattle.primary_core.specs.Take.{taken_as};
 ghost use Rattle.primary_steps.specs.Core.{EndState};
-ghost use Rattle.primary_steps.specs.Taking.{answered, confirmed, is_in_epoch, is_unsent, names_block, taking_ack};
+ghost use Rattle.primary_steps.specs.Taking.{answered, confirmed, is_in_epoch, is_unsent, names_block, taking_ack, without_block};
 ghost use Rattle.primary_steps.specs.Taking.{named as asked};
 ghost use Rattle.blocks.specs.declared.outcome.What.TheVariants as what;
 

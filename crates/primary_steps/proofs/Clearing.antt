@@ -31,6 +31,7 @@ use Rattle.laws.proofs.Primary.Moves.{with_frame}
 use Rattle.laws.proofs.Streams.Places.{placed-back}
 use Rattle.primary_steps.specs.Core.{EndState, PrimaryState, unmarking}
 use Rattle.primary_steps.specs.Leaves.{is_sent, logged_of, holding_item, holding_write, held_of, marks_in, LeavesEpochs, LeavesEnd, LeavesStream, Leaves}
+use Rattle.primary_steps.specs.Taking.{without_block}
 use Rattle.primary_steps.proofs.Answering.{any-frame}
 use Rattle.primary_steps.proofs.Connections.{SeesSame, look}
 use Rattle.primary_steps.proofs.Epochs.{epochs-same, epochs-barrier}
@@ -277,7 +278,7 @@ module _ (settings : Settings) (bound : 0 < settings.max_epoch) (s : PrimaryStat
               omega arith
 
   -- The block is no more under way, before what follows.
-  pub cleared-due : IsDue (record s { log = (log.resync_acked s.log).1; marks = set s.marks ack.first false; held = without 0 s.held; end = Some (record e { under_way = None }) }) (log.resync_acked s.log).0 later
+  pub cleared-due : IsDue (without_block ack.first e (record s { log = (log.resync_acked s.log).1 })) (log.resync_acked s.log).0 later
   cleared-due = record {
     homes = after.1.1.0.0;
     done = λ i a at completed. sym (quiet-same s h left (with_frame frame) h.tuple h.peer (clearing ack.first h.marks) unseen i a at) ∙ completed;

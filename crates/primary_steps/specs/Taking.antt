@@ -92,16 +92,19 @@ abbrev pub names_block : Acknowledged → ℕ → Option UnderWay → Bool
 names_block ack sent None = false
 names_block ack sent (Some way) = (((ack.first == way.block) && (ack.number == 0)) && ((ack.count == 1) && (ack.place == way.place))) && nat_lt way.place sent
 
--- the peer has the block under way: its mark goes
+-- the block under way has no mark and holds nothing, and none is under way
+abbrev pub without_block : ℕ → EndState → PrimaryState → PrimaryState
+without_block block e s = record s {
+  marks = set s.marks block false;
+  held = overlap.without 0 s.held;
+  end = Some (record e { under_way = None });
+}
+
+-- the peer has the block under way
 abbrev pub resynced : ℕ → EndState → PrimaryState → Done × PrimaryState
 resynced block e s =
     let after = log.resync_acked s.log in
-    following (what.Frame command.RsWriteAck None) after.0 (record s {
-      log = after.1;
-      marks = set s.marks block false;
-      held = overlap.without 0 s.held;
-      end = Some (record e { under_way = None });
-    })
+    following (what.Frame command.RsWriteAck None) after.0 (without_block block e (record s { log = after.1 }))
 
 -- this barrier waits to be sent
 abbrev pub is_unsent : ℕ → List Item → Bool
