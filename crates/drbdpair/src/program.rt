@@ -4,7 +4,8 @@ ghost use Rattle.std.specs.Prelude.{◌≤◌};
 use crate::help::Help;
 use clap::error::ErrorKind;
 use clap::{Arg, ArgMatches, Command, Error};
-use script::{DONE, FAILED, MISUSED, script_on};
+use numbers::Status;
+use script::script_on;
 use std::alloc::Global;
 use std::convert::AsStr;
 use std::fs;
@@ -33,7 +34,7 @@ pub fn run_on<S: AsStr, H: Files + AllocGlobal, I: Read, W: Write, E: Write>(
         Ok(help) => help,
         Err(error) => {
             let _ = writeln!(err, "{error}");
-            return FAILED;
+            return Status::Failed.code();
         }
     };
     match matches_of(alloc, help.as_str(), words) {
@@ -84,7 +85,7 @@ fn run_matches<H: Files + AllocGlobal, I: Read, W: Write, E: Write>(
         Ok(mut script) => script_on(rt.alloc(), &mut script, out, err),
         Err(error) => {
             let _ = writeln!(err, "{file} could not be opened: {error}");
-            FAILED
+            Status::Failed.code()
         }
     }
 }
@@ -95,13 +96,13 @@ fn explain<W: Write, E: Write>(error: &Error, out: &mut W, err: &mut E) -> u8
 {
     if !error.use_stderr() {
         return match write!(out, "{error}") {
-            Ok(()) => DONE,
-            Err(_) => FAILED,
+            Ok(()) => Status::Done.code(),
+            Err(_) => Status::Failed.code(),
         };
     }
     let _ = write!(err, "{error}");
     match error.kind() {
-        ErrorKind::OutOfMemory => FAILED,
-        _ => MISUSED,
+        ErrorKind::OutOfMemory => Status::Failed.code(),
+        _ => Status::Misused.code(),
     }
 }

@@ -1,6 +1,8 @@
-//! The numbers of a script: decimal ones, and bytes in hexadecimal.
+//! The numbers of a script: decimal ones, bytes in hexadecimal, and the statuses with which its run ends.
 #![tactic(auto)]
 
 mod number;
+mod status;
 
 pub use number::{byte, decimal};
+pub use status::Status;

@@ -8,4 +8,4 @@ mod print;
 mod reading;
 mod script;
 
-pub use script::{DONE, FAILED, MISUSED, script_on};
+pub use script::script_on;

@@ -6,19 +6,11 @@ use crate::interpreter::perform;
 use crate::keys::Keys;
 use crate::print;
 use blocks::{MemStore, Refusal};
+use numbers::Status;
 use pair::Pair;
 use std::alloc::Global;
 use std::fmt;
 use std::io::{self, Read, Write};
-
-/// The status of a run that ended well.
-pub const DONE: u8 = 0;
-
-/// The status where a file or memory failed, or a script is not UTF-8.
-pub const FAILED: u8 = 1;
-
-/// The status of wrong usage, and of a line that stops a script.
-pub const MISUSED: u8 = 2;
 
 /// Why a script stopped. A line is named by its number, from 1.
 #[derive(Debug, Drop)]
@@ -30,12 +22,10 @@ enum Stop {
 }
 
 impl Stop {
-    fn status(&self) -> u8
-        ensures { result ≤ 2 }
-    {
+    fn status(&self) -> Status {
         match self {
-            Stop::Unwritten(_) => FAILED,
-            _ => MISUSED,
+            Stop::Unwritten(_) => Status::Failed,
+            _ => Status::Misused,
         }
     }
 }
@@ -71,17 +61,17 @@ pub fn script_on<R: Read, W: Write, E: Write>(
     let mut bytes = Vec::new(alloc);
     if let Err(error) = input.read_to_end(&mut bytes) {
         let _ = writeln!(err, "the script could not be read: {error}");
-        return FAILED;
+        return Status::Failed.code();
     }
     let Ok(text) = std::str::from_utf8(&bytes) else {
         let _ = writeln!(err, "the script is not UTF-8");
-        return FAILED;
+        return Status::Failed.code();
     };
     match run_lines(alloc, text, out) {
-        Ok(()) => DONE,
+        Ok(()) => Status::Done.code(),
         Err(stop) => {
             let _ = writeln!(err, "{stop}");
-            stop.status()
+            stop.status().code()
         }
     }
 }
