@@ -1,5 +1,6 @@
 -- Each frame takes at least its header.
 use Rattle.std.proofs.Common.{◌≡◌, ℕ, ◌+◌, ◌<◌, List, ◌++◌, length, ap, subst, arith, Ok}
+use Rattle.std.proofs.lemmas.Grind.{common_steps}
 use Rattle.std.proofs.lemmas.List.{length-append}
 use Rattle.packets.specs.declared.decoder.Next.{Next}
 use Rattle.packets.specs.declared.decoder.Next.TheVariants.{Whole}
@@ -17,3 +18,6 @@ loop-packet-smaller c =
     let bytes = c.loop-packet.front.now ++ c.loop-packet.piece.now in
     let goes : Advances (Ok (Whole c.in-Whole.packet c.in-Whole.after)) bytes = subst (λ (n : Next). Advances (Ok n) bytes) c.in-Whole.is c.in_ok-packet.ensures in
     omega (arith, smaller c.loop-packet.front.now c.loop-packet.piece.now c.in-Whole.after.now c.in-Whole.packet goes.1)
+
+pub loop-packet-preserved : goal.loop-packet-preserved
+loop-packet-preserved c = grind (arith, common_steps)

@@ -1,4 +1,4 @@
-use Rattle.std.proofs.Common.{◌≡◌, ◌+◌, ◌∙◌, ap, sym, subst, arith, length, Ok}
+use Rattle.std.proofs.Common.{◌≡◌, ◌+◌, ◌∙◌, ap, sym, subst, arith, length, Ok, rules}
 use Rattle.packets.specs.Reading.{header_at}
 use Rattle.packets.proofs.Digits.{IsBytes}
 use Rattle.packets.proofs.Rows.{header_length}
@@ -20,3 +20,6 @@ returns-clause-answers c =
     let fits : IsBytes frame = subst IsBytes seen c.judge.ensures.bytes in
     let long : length frame ≡ 8 + header.len = omega (arith, ap length seen) in
     answers_payload frame header c.packet_of.result fits long judged (sym c.packet_of.ensures)
+
+pub returns-then-bytes-header-clause-answers : goal.returns-then-bytes-header-clause-answers
+returns-then-bytes-header-clause-answers c = search rules

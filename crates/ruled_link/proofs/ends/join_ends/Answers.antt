@@ -1,5 +1,5 @@
 -- The pieces taken begin the pieces pushed, and so do the frames of each connection.
-use Rattle.std.proofs.Common.{subst}
+use Rattle.std.proofs.Common.{subst, rules}
 use Rattle.ruled_link.specs.Outward.{OutwardState, outward_state}
 use Rattle.ruled_link.specs.Inward.{InwardState, inward_state}
 use Rattle.ruled_link.specs.Joined.{IsJoined}
@@ -15,3 +15,6 @@ returns-clause-begins g c =
     let begins = c.join_pieces-pushed_pieces.ensures.begins in
     subst (λ (s : OutwardState). IsJoined s c.args.inward) c.outward.view_is
     (subst (λ (s : InwardState). IsJoined outward s) c.inward.view_is (is_joined outward o.pushed inward begins.0 c.outward.invariant c.inward.invariant begins.1))
+
+pub join_pieces-pushed_pieces-requires : goal.join_pieces-pushed_pieces-requires
+join_pieces-pushed_pieces-requires g c = search rules

@@ -1,5 +1,5 @@
 -- The pushing end is the one that may push.
-use Rattle.std.proofs.Common.{ap}
+use Rattle.std.proofs.Common.{ap, rules}
 use Rattle.ruled_link.specs.declared.pieces.Log.{Log}
 use Rattle.ruled_link.proofs.Rows.{full_at, sends}
 use Rattle.ruled_link.proofs.pieces.PieceOut.push.Goals as goal
@@ -9,3 +9,9 @@ push_as-requires-clause-rule g c = (
   sends _ g.M.Moment.push_keeps _ _ _ _ (ap (λ (v : Log). v.pushes) c.self.invariant.1),
   full_at _ _ _ (ap (λ (v : Log). v.pushes) c.self.invariant.1),
 )
+
+pub returns-clause-pushed : goal.returns-clause-pushed
+returns-clause-pushed g c = search rules
+
+pub returns-clause-handed_back : goal.returns-clause-handed_back
+returns-clause-handed_back g c = search rules
