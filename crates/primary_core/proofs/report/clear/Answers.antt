@@ -1,4 +1,4 @@
-use Rattle.std.proofs.Common.{sym, ◌∙◌, arith}
+use Rattle.std.proofs.Common.{sym, ◌∙◌, arith, rules}
 use Rattle.primary_core.proofs.Unmarked.{cleared-next, cleared-not}
 use Rattle.primary_core.proofs.report.clear.Goals.{then-clears, else-clears}
 use Rattle.primary_core.proofs.report.clear.Goals as goal
@@ -12,3 +12,6 @@ loop-block-preserved c =
       | then-clears w ↦ rw (w.marks-is, w.clear.ensures) (cleared-next c.args.write.now latest c.args.marks.now new block (omega (arith, c.requires.inside)) (sym c.clears.ensures ∙ w.if-clears.true) c.loop-block.invariant)
       | else-clears w ↦ rw w.marks-is (cleared-not c.args.write.now latest c.args.marks.now new block (sym c.clears.ensures ∙ w.if-clears.false) c.loop-block.invariant)
     ]
+
+pub loop-block-init : goal.loop-block-init
+loop-block-init c = search rules

@@ -1,4 +1,4 @@
-use Rattle.std.proofs.Common.{arith, sym}
+use Rattle.std.proofs.Common.{arith, sym, rules}
 use Rattle.primary_core.specs.Kept.{IsInside}
 use Rattle.primary_core.proofs.Found.{found-is}
 use Rattle.primary_core.proofs.state.PrimaryCore.local_write.Goals as goal
@@ -18,3 +18,6 @@ returns-in-Some-clause-numbered c =
     let s = c.self.inside in
     let found = found-is (IsInside s.settings.blocks) c.args.number s.log.state.writes c.in-Some.write.now c.self.invariant.sound.log.writes (sym c.in-Some.ensures) in
     omega (arith, found.0.numbered, found.1)
+
+pub returns-in-Some-clause-write : goal.returns-in-Some-clause-write
+returns-in-Some-clause-write c = search rules
