@@ -13,7 +13,7 @@ use std::fmt;
 use std::io::{self, Read, Write};
 
 /// Why a script stopped. A line is named by its number, from 1.
-#[derive(Debug, Drop)]
+#[derive(Drop)]
 enum Stop {
     NotACommand(usize),
     NoPair(usize),

@@ -3,31 +3,31 @@ ghost use Rattle.std.specs.Prelude.{◌≡◌, Some};
 ghost use Rattle.status.specs.Text.{counts_text, primary_text, protocol_text, secondary_text, usable_text, usage_text};
 ghost use Rattle.status.specs.Lines.{primary_line_of, secondary_line_of};
 
-use crate::Words;
+use crate::words::Words;
 use blocks::Protocol;
 use std::fmt;
 
 /// The primary's line: `pe` writes wait for the peer's answer, `ap` are neither completed nor failed, `ep`
 /// epochs are not acknowledged, and `oos` KiB are out of sync (DRBD User's Guide, "Performance indicators").
-#[derive(Clone, Copy, Debug, PartialEq, Eq)]
-pub struct PrimaryLine {
-    pub words: Words,
-    pub protocol: Protocol,
-    pub pe: u64,
-    pub ap: u64,
-    pub ep: u64,
-    pub oos: u64,
+#[derive(Clone, Copy)]
+pub(crate) struct PrimaryLine {
+    pub(crate) words: Words,
+    pub(crate) protocol: Protocol,
+    pub(crate) pe: u64,
+    pub(crate) ap: u64,
+    pub(crate) ep: u64,
+    pub(crate) oos: u64,
 }
 
 /// The secondary's line: how many items are pending, whether the data may be used as they are, and up to which
 /// epoch of the connection they are whole.
-#[derive(Clone, Copy, Debug, PartialEq, Eq)]
-pub struct SecondaryLine {
-    pub words: Words,
-    pub protocol: Protocol,
-    pub pending: u64,
-    pub usable: bool,
-    pub whole: u64,
+#[derive(Clone, Copy)]
+pub(crate) struct SecondaryLine {
+    pub(crate) words: Words,
+    pub(crate) protocol: Protocol,
+    pub(crate) pending: u64,
+    pub(crate) usable: bool,
+    pub(crate) whole: u64,
 }
 
 impl fmt::Display for PrimaryLine {

@@ -17,7 +17,8 @@ ghost use Rattle.status.specs.Text.{primary_text, secondary_text};
 ghost use Rattle.status.specs.Told.{primary_words_by, secondary_words_by};
 ghost use Rattle.status.specs.Words.{words_of};
 
-use crate::{DiskState, LinkState, PrimaryLine, Role, SecondaryLine, Words};
+use crate::lines::{PrimaryLine, SecondaryLine};
+use crate::words::{DiskState, LinkState, Role, Words};
 use blocks::{Refusal, Store};
 use link::{FrameIn, FrameOut};
 use pair::Pair;

@@ -7,8 +7,8 @@ ghost use Rattle.status.specs.Text.{link_text, role_text, disk_text};
 use std::fmt;
 
 /// The state of an end.
-#[derive(Clone, Copy, Debug, PartialEq, Eq)]
-pub enum LinkState {
+#[derive(Clone, Copy)]
+pub(crate) enum LinkState {
     /// The end is closed.
     StandAlone,
     /// It is open, and its hello goes on.
@@ -22,16 +22,16 @@ pub enum LinkState {
 }
 
 /// A node's role.
-#[derive(Clone, Copy, Debug, PartialEq, Eq)]
-pub enum Role {
+#[derive(Clone, Copy)]
+pub(crate) enum Role {
     Primary,
     Secondary,
     Unknown,
 }
 
 /// The state of a node's data.
-#[derive(Clone, Copy, Debug, PartialEq, Eq)]
-pub enum DiskState {
+#[derive(Clone, Copy)]
+pub(crate) enum DiskState {
     UpToDate,
     Consistent,
     Inconsistent,
@@ -39,13 +39,13 @@ pub enum DiskState {
 }
 
 /// The words of a line: the end, this node's role and the other's, this node's disk and the other's.
-#[derive(Clone, Copy, Debug, PartialEq, Eq)]
-pub struct Words {
-    pub link: LinkState,
-    pub own_role: Role,
-    pub other_role: Role,
-    pub own_disk: DiskState,
-    pub other_disk: DiskState,
+#[derive(Clone, Copy)]
+pub(crate) struct Words {
+    pub(crate) link: LinkState,
+    pub(crate) own_role: Role,
+    pub(crate) other_role: Role,
+    pub(crate) own_disk: DiskState,
+    pub(crate) other_disk: DiskState,
 }
 
 impl fmt::Display for LinkState {
