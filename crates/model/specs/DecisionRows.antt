@@ -1,11 +1,12 @@
--- Worked examples of the decision over the identifiers.
-use Rattle.std.specs.Prelude.{◌≡◌, [], ◌∷◌, Ok, Err}
+-- Worked examples of the identifiers: of the decision over them, of how a tuple is turned, and of which words are fresh.
+use Rattle.std.specs.Prelude.{◌≡◌, List, [], ◌∷◌, true, false, Ok, Err}
 use Rattle.blocks.specs.declared.refusal.Refusal.TheVariants as refusal
 use Rattle.blocks.specs.declared.outcome.Decision.TheVariants.{NoSync, BitmapSync, FullSync}
 use Rattle.blocks.specs.SettingsRange.{standard}
+use Rattle.blocks.specs.declared.tuple.Tuple.{Tuple}
 use Rattle.model.specs.Pair.{ClosePrimaryEvent, PairHistory, tuples}
 use Rattle.model.specs.Rows.{words, fresh_with, connect, connecting, replies, after, refused}
-use Rattle.model.specs.Identifiers.{decision}
+use Rattle.model.specs.Identifiers.{decision, is_fresh, lost, sync_start, sync_end}
 
 -- one case each, in the order in which they are tried
 pub record Decisions : Type 0 where
@@ -18,6 +19,28 @@ pub record Decisions : Type 0 where
   pub same_bitmap : decision (words 7 1 0 0) (words 8 1 0 0) ≡ Err refusal.SplitBrain
   pub shared_history : decision (words 7 0 5 0) (words 8 5 0 0) ≡ Err refusal.SplitBrain
   pub nothing_shared : decision (words 7 1 0 0) (words 20 21 22 23) ≡ Err refusal.Unrelated
+
+-- a lost connection, another one, and a resync from its start to its end
+pub record Turns : Type 0 where
+  pub lost_once : lost 7 (words 1 0 0 0) ≡ words 7 1 0 0
+  pub lost_again : lost 8 (words 7 1 0 0) ≡ words 7 1 0 0
+  pub resync_starts : sync_start 9 (words 7 1 0 0) ≡ words 7 9 1 0
+  pub resync_ends : sync_end (words 7 9 1 0) ≡ words 7 0 9 1
+
+-- the tuples that words are tested against
+abbrev pub known : List Tuple
+known = words 1 0 9 4 ∷ words 7 3 0 0 ∷ []
+
+-- zero is not fresh, nor is any place of any tuple
+pub record Freshness : Type 0 where
+  pub new_word : is_fresh 5 known ≡ true
+  pub first_word : is_fresh 5 [] ≡ true
+  pub zero : is_fresh 0 known ≡ false
+  pub current : is_fresh 1 known ≡ false
+  pub first_historical : is_fresh 9 known ≡ false
+  pub second_historical : is_fresh 4 known ≡ false
+  pub current_of_another : is_fresh 7 known ≡ false
+  pub bitmap_of_another : is_fresh 3 known ≡ false
 
 -- A hello that is refused closes the primary and leaves both tuples.
 abbrev pub split : PairHistory

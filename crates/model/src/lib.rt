@@ -7,7 +7,7 @@
 
 ghost use Rattle.model.specs.ClearingRows.{Cleared, ClearedToTheEnd, ClearedUnderWay, ClearedByTheLocalWrite, UnderALaterWrite, FailedClearsNothing};
 ghost use Rattle.model.specs.CloseRows.{LostLink, Reconnected, AcknowledgedFirst};
-ghost use Rattle.model.specs.DecisionRows.{Decisions, RefusedHello};
+ghost use Rattle.model.specs.DecisionRows.{Decisions, Turns, Freshness, RefusedHello};
 ghost use Rattle.model.specs.DiskRows.{Ranges, OneSlot, LocalFault, LateFault, PeerFault};
 ghost use Rattle.model.specs.ForeignRows.{ToSecondary, ToPrimary, AfterOneWrite};
 ghost use Rattle.model.specs.ResyncRows.{NothingMarked, EmptyPeer, OneBlock, WrittenAlone, Resynced, BrokenEnd, AmongWrites};
@@ -42,9 +42,11 @@ pub fn closes()
     ensures acknowledged_first { AcknowledgedFirst }
 {}
 
-/// The decision over the identifiers, and a hello that it refuses.
+/// The decision over the identifiers, how they are turned, which words are fresh, and a hello that is refused.
 pub fn decisions()
     ensures decisions { Decisions }
+    ensures turns { Turns }
+    ensures freshness { Freshness }
     ensures refused_hello { RefusedHello }
 {}
 

@@ -1,11 +1,9 @@
-//! Tests of the nodes' parts, by calls.
+//! Tests by calls of what the nodes stand on: their parts, frames and their links.
 #![tactic(auto)]
 
 #[cfg(test)]
-mod activity;
+mod frames;
 #[cfg(test)]
-mod device;
+mod parts;
 #[cfg(test)]
-mod identifiers;
-#[cfg(test)]
-mod pending;
+mod ruled;

@@ -1,0 +1,50 @@
+//! How fast writes go through the parts and through both nodes, and frames through the packets and a link, each
+//! beside a plain copy of the same bytes. What became of them goes to standard output, the rates go to standard error.
+//!
+//! `bench [parts|frames|links|writes [COUNT]]`: without words, a little of each.
+#![tactic(auto)]
+
+mod frames;
+mod links;
+mod parts;
+mod writes;
+
+use std::env;
+use std::sync::Wait;
+use std::thread::Threads;
+
+/// Writes through the parts, where it is not told how many.
+const PART_WRITES: u32 = 20_000;
+
+/// Acknowledgements that are encoded and decoded.
+const ACKNOWLEDGEMENTS: u32 = 1_000_000;
+
+/// Frames through a link.
+const FRAMES: u32 = 500;
+
+/// Writes through both nodes.
+const WRITES: u32 = 200;
+
+fn main(rt: HostRuntime) -> anyhow::Result<()> {
+    let words = env::args(&rt)?.collect::<Vec<String>>(rt.alloc())?;
+    let count = match words.get(2) {
+        Some(word) => Some(word.as_str().parse::<u32>()?),
+        None => None,
+    };
+    match words.get(1).map(|word| word.as_str()) {
+        Some("parts") => parts::measure_all(&rt, count.unwrap_or(PART_WRITES)),
+        Some("frames") => frames::measure_all(&rt, count.unwrap_or(ACKNOWLEDGEMENTS)),
+        Some("links") => links::measure_all(&rt, &rt, count.unwrap_or(FRAMES)),
+        Some("writes") => writes::measure_all(&rt, count.unwrap_or(WRITES)),
+        Some(word) => anyhow::bail!("{word} is not measured: name parts, frames, links or writes"),
+        None => measure_each(&rt, &rt),
+    }
+}
+
+/// Measures a little of each.
+fn measure_each(rt: &HostRuntime, threads: &(impl Threads + Wait + Sync)) -> anyhow::Result<()> {
+    parts::measure_all(rt, PART_WRITES)?;
+    frames::measure_all(rt, ACKNOWLEDGEMENTS)?;
+    links::measure_all(rt, threads, FRAMES)?;
+    writes::measure_all(rt, WRITES)
+}

@@ -1,0 +1,84 @@
+//! What one write's way through the parts of a primary costs, beside a plain copy of one block that is not
+//! in the cache.
+ghost use Rattle.std.specs.Prelude.{◌≡◌, ◌<◌, ◌≤◌, ◌*◌, length};
+
+mod way;
+
+use std::time::{Duration, Instant};
+use way::Way;
+
+/// Bytes of a block.
+const BLOCK_BYTES: usize = 4096;
+
+/// Blocks of the buffer that copies are taken from: 256 MiB, several times what a processor's cache holds.
+const SOURCE_BLOCKS: usize = 65_536;
+
+/// From one copied block to the next: odd, so that each block has its turn, and far, so that none is
+/// fetched ahead.
+const STRIDE: usize = 20_011;
+
+/// Copies so many blocks, each from another part of the buffer, and answers the sum of a byte of each.
+fn copy_blocks(source: &[u8], block: &mut [u8], count: u32) -> u64
+    requires source { length source.now ≡ 65536 * 4096 }
+    requires block { length block.old ≡ 4096 }
+{
+    let mut sum: u64 = 0;
+    for turn in 0..count as usize {
+        let at = turn * STRIDE % SOURCE_BLOCKS * BLOCK_BYTES;
+        block.copy_from_slice(&source[at..at + BLOCK_BYTES]);
+        sum = sum.wrapping_add(u64::from(block[turn % BLOCK_BYTES]));
+    }
+    sum
+}
+
+/// Nanoseconds of each of so many; 0 where there is none.
+fn each(time: Duration, count: u32) -> u128 {
+    match count {
+        0 => 0,
+        count => time.as_nanos() / u128::from(count),
+    }
+}
+
+/// Takes so many writes through the parts, with so many of them in flight, and prints what that cost.
+fn measure(
+    rt: &HostRuntime,
+    source: &[u8],
+    writes: u32,
+    in_flight: u32,
+    blocks: u32,
+) -> anyhow::Result<()>
+    requires source { length source.now ≡ 65536 * 4096 }
+    requires some_in_flight { 0 < in_flight }
+    requires few_blocks { blocks ≤ 262144 }
+{
+    let mut block = Vec::from_elem(rt.alloc(), 0u8, BLOCK_BYTES)?;
+    let mut way = Way::new(rt.alloc(), in_flight, blocks)?;
+    let start = Instant::now(rt)?;
+    let sum = copy_blocks(source, &mut block, writes);
+    let copied = start.elapsed(rt)?;
+    let start = Instant::now(rt)?;
+    for _ in 0..writes {
+        way.write()?;
+    }
+    let written = start.elapsed(rt)?;
+    let counts = way.counts();
+    println!(rt;
+        "in flight: {in_flight}, blocks: {blocks}, completed: {}, epochs: {}, released: {}, cleared: {}, sum: {sum}",
+        counts.completed, counts.epochs, counts.released, counts.cleared
+    )?;
+    eprintln!(rt;
+        "in flight: {in_flight}, blocks: {blocks}, a write: {} ns, a copy: {} ns",
+        each(written, writes),
+        each(copied, writes)
+    )?;
+    Ok(())
+}
+
+/// Takes so many writes through the parts of a small device and of the largest, with few in flight and with many.
+pub(crate) fn measure_all(rt: &HostRuntime, writes: u32) -> anyhow::Result<()> {
+    let source = Vec::from_elem(rt.alloc(), 0x5Au8, SOURCE_BLOCKS * BLOCK_BYTES)?;
+    measure(rt, &source, writes, 16, 1024)?;
+    measure(rt, &source, writes, 16, 262_144)?;
+    measure(rt, &source, writes, 4096, 1024)?;
+    measure(rt, &source, writes, 4096, 262_144)
+}

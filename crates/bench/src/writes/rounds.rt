@@ -1,0 +1,248 @@
+//! Writes go through the mirror, as many at a time as are in flight.
+ghost use Rattle.std.specs.Prelude.{◌≡◌, ◌<◌, length};
+
+use crate::writes::mirror::Mirror;
+use crate::writes::workload::{Workload, block_of};
+use blocks::{Command, Done, Protocol, Refusal, Settings, What};
+use primary::Kind;
+use std::alloc::Global;
+use std::collections::VecDeque;
+
+/// How often the link is filled and emptied in a round at most: one more time than its frames need, of which
+/// a round has a barrier or two more than writes.
+const PASSES: u32 = 3;
+
+/// What became of the writes.
+#[derive(Clone, Copy)]
+pub(crate) struct Counts {
+    /// How many were accepted.
+    pub(crate) accepted: u64,
+    /// How many were completed over the link.
+    pub(crate) completed: u64,
+    /// How many are in an epoch that the peer has acknowledged.
+    pub(crate) released: u64,
+    /// How many items the peer's disk has done.
+    pub(crate) applied: u64,
+}
+
+/// A mirror, and the writes that go through it. A round takes as many as may be in flight from their
+/// acceptance to their receipts.
+#[derive(Drop)]
+pub(crate) struct Rounds {
+    blocks: u32,
+    in_flight: u32,
+    // The most frames that go over the link at a time.
+    frames: u32,
+    mirror: Mirror,
+    // How many writes were accepted before each barrier that is not acknowledged.
+    barriers: VecDeque<u64>,
+    counts: Counts,
+    ghost some: { 0 < blocks },
+    ghost flying: { 0 < in_flight },
+}
+
+/// Settings under which nothing is refused while so many writes are in flight: the next round's are accepted
+/// before the last round's are released, and every extent of the largest device may be active.
+fn settings(protocol: Protocol, blocks: u32, in_flight: u32) -> Settings {
+    Settings {
+        protocol,
+        blocks,
+        max_epoch: 2_048,
+        slots: 64,
+        backlog: in_flight.saturating_mul(2).min(4_096),
+        link: in_flight.saturating_mul(2).min(1_024),
+        pending: in_flight.saturating_mul(2).min(4_096),
+    }
+}
+
+impl Rounds {
+    /// Two nodes that have not greeted one another yet.
+    pub(crate) fn new(
+        alloc: Global,
+        protocol: Protocol,
+        blocks: u32,
+        in_flight: u32,
+    ) -> Result<Rounds, Refusal>
+        requires some { 0 < blocks }
+        requires flying { 0 < in_flight }
+    {
+        let settings = settings(protocol, blocks, in_flight);
+        Ok(Rounds {
+            blocks,
+            in_flight,
+            frames: settings.link,
+            mirror: Mirror::open(alloc, settings)?,
+            barriers: VecDeque::new(alloc),
+            counts: Counts {
+                accepted: 0,
+                completed: 0,
+                released: 0,
+                applied: 0,
+            },
+        })
+    }
+
+    /// What became of the writes so far.
+    pub(crate) fn counts(&self) -> Counts {
+        self.counts
+    }
+
+    /// Reads a block of the primary's disk, and that of the secondary's.
+    pub(crate) fn read(
+        &mut self,
+        block: u32,
+        local: &mut [u8],
+        peer: &mut [u8],
+    ) -> Result<(), Refusal>
+        requires local { length local.old ≡ 4096 }
+        requires peer { length peer.old ≡ 4096 }
+        ensures local { length local.new ≡ 4096 }
+        ensures peer { length peer.new ≡ 4096 }
+    {
+        self.mirror.read(block, local, peer)
+    }
+
+    /// The three frames of each node's hello.
+    pub(crate) fn greet(&mut self) -> Result<(), Refusal> {
+        for _ in 0..3 {
+            self.mirror.ack_out()?;
+            self.mirror.ack_in()?;
+            self.mirror.send()?;
+            self.mirror.receive()?;
+        }
+        if self.mirror.stands() {
+            Ok(())
+        } else {
+            Err(Refusal::NotConnected)
+        }
+    }
+
+    /// Takes so many writes through both nodes, as many at a time as may be in flight.
+    pub(crate) fn write(&mut self, workload: &Workload, writes: u32) -> Result<(), Refusal> {
+        for first in (0..writes).step_by(self.in_flight as usize) {
+            let end = first.saturating_add(self.in_flight).min(writes);
+            self.round(workload, first, end)?;
+        }
+        Ok(())
+    }
+
+    // One round. The numbers of writes are counted from 1.
+    fn round(&mut self, workload: &Workload, from: u32, to: u32) -> Result<(), Refusal> {
+        for turn in from..to {
+            self.submit(workload, turn)?;
+        }
+        for turn in from..to {
+            let done = self.mirror.local(number_of(turn))?;
+            self.note(done)?;
+        }
+        self.exchange()?;
+        for turn in from..to {
+            let receipt = self.mirror.take_completed(number_of(turn))?;
+            if receipt.kind() == Kind::Linked {
+                self.counts.completed = self.counts.completed.saturating_add(1);
+            }
+        }
+        Ok(())
+    }
+
+    fn submit(&mut self, workload: &Workload, turn: u32) -> Result<(), Refusal> {
+        let contents = workload.contents(turn)?;
+        let block = u64::from(block_of(turn, self.blocks));
+        let (_, done) = self.mirror.submit(block, &contents)?;
+        self.counts.accepted = self.counts.accepted.saturating_add(1);
+        self.note(done)
+    }
+
+    /// What is due goes over the link and back. `LinkFull` (11) where more was due than a round can want.
+    pub(crate) fn exchange(&mut self) -> Result<(), Refusal> {
+        for _ in 0..PASSES {
+            let sent = self.send()?;
+            let items = self.receive(sent)?;
+            self.apply(items)?;
+            let answers = self.answer()?;
+            self.take_answers(answers)?;
+            if sent < self.frames {
+                return Ok(());
+            }
+        }
+        Err(Refusal::LinkFull)
+    }
+
+    // Sends as many frames as are due, and the link holds. Answers how many.
+    fn send(&mut self) -> Result<u32, Refusal> {
+        for sent in 0..self.frames {
+            match self.mirror.send() {
+                Ok(done) => self.note(done)?,
+                Err(Refusal::NothingThere) => return Ok(sent),
+                Err(refusal) => return Err(refusal),
+            }
+        }
+        Ok(self.frames)
+    }
+
+    // The secondary takes so many frames. Answers how many writes they carry.
+    fn receive(&mut self, frames: u32) -> Result<u32, Refusal> {
+        let mut items: u32 = 0;
+        for _ in 0..frames {
+            if let What::Frame(Command::Data, _) = self.mirror.receive()?.what {
+                items = items.saturating_add(1);
+            }
+        }
+        Ok(items)
+    }
+
+    // The secondary's disk does so many items.
+    fn apply(&mut self, items: u32) -> Result<(), Refusal> {
+        for _ in 0..items {
+            self.mirror.peer()?;
+            self.counts.applied = self.counts.applied.saturating_add(1);
+        }
+        Ok(())
+    }
+
+    // The secondary sends the acknowledgements that are due, of which the link holds all. Answers how many.
+    fn answer(&mut self) -> Result<u32, Refusal> {
+        for sent in 0..self.frames {
+            match self.mirror.ack_out() {
+                Ok(_) => {}
+                Err(Refusal::NothingThere) => return Ok(sent),
+                Err(refusal) => return Err(refusal),
+            }
+        }
+        Ok(self.frames)
+    }
+
+    // The primary takes so many acknowledgements.
+    fn take_answers(&mut self, answers: u32) -> Result<(), Refusal> {
+        for _ in 0..answers {
+            let done = self.mirror.ack_in()?;
+            if done.what == What::Frame(Command::BarrierAck, None) {
+                self.release()?;
+            }
+            self.note(done)?;
+        }
+        Ok(())
+    }
+
+    // A barrier comes after all writes that are accepted so far.
+    fn note(&mut self, done: Done) -> Result<(), Refusal> {
+        if done.barrier.is_some() {
+            self.barriers.push_back(self.counts.accepted)?;
+        }
+        Ok(())
+    }
+
+    // The oldest barrier is acknowledged. `NothingThere` (13) where there is none.
+    fn release(&mut self) -> Result<(), Refusal> {
+        let Some(accepted) = self.barriers.pop_front() else {
+            return Err(Refusal::NothingThere);
+        };
+        self.counts.released = accepted;
+        Ok(())
+    }
+}
+
+// The number of a write, of which the first is 1.
+fn number_of(turn: u32) -> u64 {
+    u64::from(turn).saturating_add(1)
+}

@@ -1,5 +1,0 @@
-use Rattle.std.proofs.Common.{◌≡◌, None}
-use Rattle.link_bench.proofs.measure.both.Given as goal
-
-abbrev pub invariant-loop : goal.invariant-loop
-invariant-loop g l = (g.O.FrameOut.state l.outward).partly ≡ None

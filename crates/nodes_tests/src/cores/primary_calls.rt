@@ -1,0 +1,305 @@
+//! Takes a primary's core through tables.
+use crate::cores::primary_tables::{
+    Answer, Case, Fact, Frame, PROTOCOL_WENT, Part, Row, SIZES_WENT, Said, Start, Step, UUIDS_WENT,
+};
+use blocks::{Block, Decision, Done, Refusal, Tuple, What};
+use bytes::Bytes;
+use packets::{Acknowledgement, Packet};
+use primary_core::PrimaryCore;
+use std::alloc::Global;
+use std::process::Abort;
+use std::test::Fail;
+
+/// Where a part is gone through: the name of the case, and what gives memory.
+#[derive(Clone, Copy)]
+struct Scene {
+    name: &'static str,
+    alloc: Global,
+}
+
+fn ack(first: u64, number: u64, place: u32, count: u32) -> Acknowledgement {
+    Acknowledgement {
+        first: Block(first),
+        number,
+        count,
+        place,
+    }
+}
+
+fn filled(alloc: Global, blocks: u8, byte: u8) -> Result<Bytes, Refusal> {
+    let bytes = Vec::from_elem(alloc, byte, usize::from(blocks) * 4096)?;
+    Ok(Bytes::from_vec(bytes)?)
+}
+
+fn data(alloc: Global, first: u64, name: (u64, u32), fill: (u8, u8)) -> Result<Packet, Refusal> {
+    Ok(Packet::Data {
+        first: Block(first),
+        number: name.0,
+        place: name.1,
+        contents: filled(alloc, fill.0, fill.1)?,
+    })
+}
+
+fn packet_of(alloc: Global, frame: Frame) -> Result<Packet, Refusal> {
+    match frame {
+        Frame::Protocol(protocol) => Ok(Packet::Protocol(protocol)),
+        Frame::Sizes(blocks) => Ok(Packet::Sizes { blocks }),
+        Frame::Uuids(tuple) => Ok(Packet::Uuids(tuple)),
+        Frame::Data(first, number, place, byte) => data(alloc, first, (number, place), (1, byte)),
+        Frame::TwoBlocks(first, number, place, byte) => {
+            data(alloc, first, (number, place), (2, byte))
+        }
+        Frame::RsDataReply(first, place, byte) => Ok(Packet::RsDataReply {
+            first: Block(first),
+            place,
+            contents: filled(alloc, 1, byte)?,
+        }),
+        Frame::Barrier(number) => Ok(Packet::Barrier { number }),
+        Frame::SyncUuid(word) => Ok(Packet::SyncUuid { word }),
+        Frame::RecvAck(first, number, place) => Ok(Packet::RecvAck(ack(first, number, place, 1))),
+        Frame::WriteAck(first, number, place) => Ok(Packet::WriteAck(ack(first, number, place, 1))),
+        Frame::WideAck(first, number, place) => Ok(Packet::WriteAck(ack(first, number, place, 2))),
+        Frame::RsWriteAck(first, place) => Ok(Packet::RsWriteAck(ack(first, 0, place, 1))),
+        Frame::BarrierAck(number, size) => Ok(Packet::BarrierAck { number, size }),
+        Frame::Fault(fault) => Err(fault),
+    }
+}
+
+fn told_of(done: Done) -> Said {
+    if done.completed.is_none() && done.barrier.is_none() && !done.synced {
+        return match done.what {
+            What::Write(number) => Said::Accepted(number),
+            What::Frame(command, place) => Said::Went(command, place),
+            what => Said::Did(what),
+        };
+    }
+    Said::More(done.what, done.completed, done.barrier, done.synced)
+}
+
+fn send(core: &mut PrimaryCore, alloc: Global, frame: Frame) -> Answer {
+    let wanted = packet_of(alloc, frame)?;
+    let packet = core.due()?;
+    let done = core.sent();
+    if packet != wanted {
+        return Ok(Said::Other(packet.command()));
+    }
+    Ok(told_of(done))
+}
+
+fn resync(core: &mut PrimaryCore, alloc: Global, byte: u8) -> Answer {
+    let contents = Bytes::copy_from_slice(alloc, &[byte; 4096])?;
+    let block = core.resync_block()?;
+    Ok(told_of(core.resync_read(block, contents)))
+}
+
+fn receipt(core: &mut PrimaryCore, number: u64) -> Answer {
+    let entry = core.take_completed(number)?;
+    Ok(Said::Receipt(entry.first(), entry.count(), entry.fate()))
+}
+
+fn given(core: &PrimaryCore, alloc: Global, number: u64, fill: (u8, u8)) -> Answer {
+    let wanted = filled(alloc, fill.0, fill.1)?;
+    let write = core.local_write(number)?;
+    let range = write.range();
+    let is_same = *write.contents() == wanted;
+    Ok(Said::Given(write.number(), range.first.0, range.count, is_same))
+}
+
+fn do_step(core: &mut PrimaryCore, alloc: Global, step: Step) -> Answer {
+    match step {
+        Step::Open(sync, loss) => {
+            core.open(sync, loss)?;
+            Ok(Said::Nothing)
+        }
+        Step::Close => Ok(Said::Closed(core.close()?)),
+        Step::Submit(first, blocks, byte) => {
+            let bytes = filled(alloc, blocks, byte)?;
+            Ok(told_of(core.submit(first, &bytes)?))
+        }
+        Step::SubmitPart => {
+            let bytes = Bytes::copy_from_slice(alloc, &[0xAA; 100])?;
+            Ok(told_of(core.submit(0, &bytes)?))
+        }
+        Step::Given(number, blocks, byte) => given(core, alloc, number, (blocks, byte)),
+        Step::Next => Ok(Said::Next(core.next_local())),
+        Step::Local(number) => Ok(told_of(core.local_done(number)?)),
+        Step::LocalFail(number) => Ok(told_of(core.local_failed(number)?)),
+        Step::Send(frame) => send(core, alloc, frame),
+        Step::Take(frame) => Ok(told_of(core.take(packet_of(alloc, frame))?)),
+        Step::Resync(byte) => resync(core, alloc, byte),
+        Step::Receipt(number) => receipt(core, number),
+    }
+}
+
+fn is_answered(rt: &impl Abort, (name, step): (&str, usize), answer: Answer, wanted: Answer) {
+    assert_eq!(rt; answer, wanted, "{name}: step {step}");
+}
+
+// Each step says what its row has.
+fn run(rt: &impl Abort, core: &mut PrimaryCore, scene: Scene, rows: &[Row]) {
+    for (i, (given, wanted)) in rows.iter().enumerate() {
+        is_answered(
+            rt,
+            (scene.name, i),
+            do_step(core, scene.alloc, *given),
+            *wanted,
+        );
+    }
+}
+
+fn is_true(core: &PrimaryCore, fact: Fact) -> bool {
+    match fact {
+        Fact::Open(wanted) => core.is_open() == wanted,
+        Fact::Stands(wanted) => core.stands() == wanted,
+        Fact::Resync(wanted) => core.is_resync() == wanted,
+        Fact::Tuple(wanted) => core.tuple() == wanted,
+        Fact::Peer(wanted) => core.peer() == wanted,
+        Fact::Connections(wanted) => core.connections() == wanted,
+        Fact::Accepted(wanted) => core.accepted() == wanted,
+        Fact::OpenWrites(wanted) => core.open_writes() == wanted,
+        Fact::Unanswered(wanted) => core.unanswered_writes() == wanted,
+        Fact::OpenEpochs(wanted) => core.open_epochs() == wanted,
+        Fact::Unreleased(wanted) => core.unreleased() == wanted,
+        Fact::Places(wanted) => core.places() == wanted,
+        Fact::Unsent(wanted) => core.unsent() == wanted,
+    }
+}
+
+fn holds(rt: &impl Abort, core: &PrimaryCore, name: &str, facts: &[Fact]) {
+    for (i, fact) in facts.iter().enumerate() {
+        assert!(rt; is_true(core, *fact), "{name}: fact {i}");
+    }
+}
+
+fn has_marks(rt: &impl Abort, core: &PrimaryCore, name: &str, blocks: &[usize]) {
+    assert_eq!(rt; core.marks() as usize, blocks.len(), "{name}");
+    for block in blocks {
+        assert!(rt;
+            core.is_marked(Block(*block as u64)),
+            "{name}: block {block}"
+        );
+    }
+}
+
+fn decides(
+    rt: &impl Abort,
+    core: &mut PrimaryCore,
+    scene: Scene,
+    peer: Tuple,
+    decided: Result<Decision, Refusal>,
+) {
+    let said = match decided {
+        Ok(decision) => Ok(Said::Did(What::Decided(decision))),
+        Err(refusal) => Err(refusal),
+    };
+    run(rt, core, scene, &[(Step::Take(Frame::Uuids(peer)), said)]);
+    holds(
+        rt,
+        core,
+        scene.name,
+        &[Fact::Open(decided.is_ok()), Fact::Peer(Some(peer))],
+    );
+}
+
+// Both ends send their protocol, their size and their identifiers.
+fn greet(
+    rt: &impl Abort,
+    core: &mut PrimaryCore,
+    scene: Scene,
+    words: (u64, u64),
+    (own, peer): (Tuple, Tuple),
+    decided: Decision,
+) {
+    let settings = core.settings();
+    let protocol = Frame::Protocol(settings.protocol);
+    let sizes = Frame::Sizes(u64::from(settings.blocks));
+    let rows = [
+        (Step::Open(words.0, words.1), Ok(Said::Nothing)),
+        (Step::Send(protocol), PROTOCOL_WENT),
+        (Step::Send(sizes), SIZES_WENT),
+        (Step::Send(Frame::Uuids(own)), UUIDS_WENT),
+        (Step::Send(Frame::Uuids(own)), Err(Refusal::NothingThere)),
+        (Step::Take(protocol), PROTOCOL_WENT),
+        (Step::Take(sizes), SIZES_WENT),
+    ];
+    run(rt, core, scene, &rows);
+    decides(rt, core, scene, peer, Ok(decided));
+}
+
+fn go(rt: &impl Abort, core: &mut PrimaryCore, scene: Scene, part: &Part) {
+    match part {
+        Part::Rows(rows) => run(rt, core, scene, rows),
+        Part::Greeting(words, tuples, decided) => {
+            greet(rt, core, scene, *words, *tuples, *decided)
+        }
+        Part::Decides(peer, decided) => decides(rt, core, scene, *peer, *decided),
+        Part::Refused(frame, refusal) => {
+            run(rt, core, scene, &[(Step::Take(*frame), Err(*refusal))])
+        }
+        Part::Holds(facts) => holds(rt, core, scene.name, facts),
+        Part::Marks(blocks) => has_marks(rt, core, scene.name, blocks),
+    }
+}
+
+fn marks_of(alloc: Global, start: &Start) -> Result<Vec<bool>, Refusal> {
+    let mut marks = Vec::from_elem(alloc, false, start.settings.blocks as usize)?;
+    for block in start.marked {
+        if let Some(mark) = marks.get_mut(*block) {
+            *mark = true;
+        }
+    }
+    Ok(marks)
+}
+
+fn go_on(rt: &impl Abort, core: &mut PrimaryCore, scene: Scene, parts: &[Part]) {
+    for part in parts {
+        go(rt, core, scene, part);
+    }
+}
+
+fn go_through(
+    rt: &impl Abort,
+    core: &mut PrimaryCore,
+    scene: Scene,
+    (before, parts, after): &(&[Part], &[Part], &[Part]),
+) {
+    go_on(rt, core, scene, before);
+    go_on(rt, core, scene, parts);
+    go_on(rt, core, scene, after);
+}
+
+// This function alone owns a primary, since each exit of an owner has to drop it.
+fn lives(
+    rt: &(impl Abort + AllocGlobal),
+    name: &'static str,
+    start: &Start,
+    marks: &[bool],
+    lists: &(&[Part], &[Part], &[Part]),
+) -> Result<(), Refusal> {
+    let mut core = PrimaryCore::new(rt.alloc(), start.settings, start.own, marks)?;
+    let scene = Scene {
+        name,
+        alloc: rt.alloc(),
+    };
+    go_through(rt, &mut core, scene, lists);
+    Ok(())
+}
+
+/// A primary that was never opened goes through three lists of parts.
+pub(crate) fn goes(
+    rt: &(impl Abort + AllocGlobal),
+    name: &'static str,
+    start: &Start,
+    lists: (&[Part], &[Part], &[Part]),
+) -> Result<(), Refusal> {
+    let marks = marks_of(rt.alloc(), start)?;
+    lives(rt, name, start, &marks, &lists)
+}
+
+/// Each case's primary goes through its parts.
+pub(crate) fn passes(rt: &(impl Abort + AllocGlobal), cases: &'static [Case]) -> Result<(), Fail> {
+    for case in cases {
+        goes(rt, case.name, case.start, (case.before, case.parts, &[]))?;
+    }
+    Ok(())
+}

@@ -1,0 +1,364 @@
+//! Frames that no secondary sends: each is refused, and closes the end with all that a close does.
+use crate::nodes::answers::{
+    Answer, BARRIER_ACK_WENT, BARRIER_WENT, CLOSED, DONE, NONE, NOTHING, OWN, PROTOCOL_WENT,
+    SIZES_WENT, UUIDS_WENT, WRITE_ACK_WENT, WRITE_WENT,
+};
+use crate::nodes::either_end::UNREADABLE;
+use crate::nodes::frames::{
+    BARRIER_ACK_1, PROTOCOL_C, SIZES_8, Spelled, UUIDS_1, WRITE, WRITE_ACK,
+};
+use crate::nodes::linked_primary::{After, Before, Case, Row, State, Step, passes};
+use blocks::{Command, Decision, Done, Refusal, Settings, Tuple, What};
+use primary::Kind;
+use std::test::Fail;
+
+/// Each comes once write 1 was sent.
+const FOREIGN: [(Spelled, Answer); 7] = [
+    // The acknowledgement of write 2 in the place of write 1, of write 1 at place 1, and of 8192 bytes.
+    (
+        Spelled::Short(&[
+            0x83, 0x5A, 0, 0x16, 0, 0, 0, 0x18, 0, 0, 0, 0, 0, 0, 0, 0x10, 0, 0, 0, 0, 0, 0, 0, 2,
+            0, 0, 0x10, 0, 0, 0, 0, 0,
+        ]),
+        Err(Refusal::UnknownAck),
+    ),
+    (
+        Spelled::Short(&[
+            0x83, 0x5A, 0, 0x16, 0, 0, 0, 0x18, 0, 0, 0, 0, 0, 0, 0, 0x10, 0, 0, 0, 0, 0, 0, 0, 1,
+            0, 0, 0x10, 0, 0, 0, 0, 1,
+        ]),
+        Err(Refusal::UnknownAck),
+    ),
+    (
+        Spelled::Short(&[
+            0x83, 0x5A, 0, 0x16, 0, 0, 0, 0x18, 0, 0, 0, 0, 0, 0, 0, 0x10, 0, 0, 0, 0, 0, 0, 0, 1,
+            0, 0, 0x20, 0, 0, 0, 0, 0,
+        ]),
+        Err(Refusal::UnknownAck),
+    ),
+    // The answer of another protocol, and that to block 3 of a resync, at place 1, where none goes on.
+    (
+        Spelled::Short(&[
+            0x83, 0x5A, 0, 0x15, 0, 0, 0, 0x18, 0, 0, 0, 0, 0, 0, 0, 0x10, 0, 0, 0, 0, 0, 0, 0, 1,
+            0, 0, 0x10, 0, 0, 0, 0, 0,
+        ]),
+        Err(Refusal::UnknownAck),
+    ),
+    (
+        Spelled::Short(&[
+            0x83, 0x5A, 0, 0x17, 0, 0, 0, 0x18, 0, 0, 0, 0, 0, 0, 0, 0x18, 0, 0, 0, 0, 0, 0, 0, 0,
+            0, 0, 0x10, 0, 0, 0, 0, 1,
+        ]),
+        Err(Refusal::UnknownAck),
+    ),
+    // The acknowledgement of a barrier that was not sent.
+    (BARRIER_ACK_1, Err(Refusal::BadBarrierAck)),
+    // No acknowledgement.
+    (WRITE, Err(Refusal::BadCommand)),
+];
+
+/// The acknowledgements of barrier 1 with an epoch of two writes, and of barrier 2, and a second one of write 1. Each comes
+/// once barrier 1 was sent, and write 1 was answered.
+const AGAIN: [(Spelled, Answer); 3] = [
+    (
+        Spelled::Short(&[0x83, 0x5A, 0, 0x1C, 0, 0, 0, 8, 0, 0, 0, 1, 0, 0, 0, 2]),
+        Err(Refusal::BadBarrierAck),
+    ),
+    (
+        Spelled::Short(&[0x83, 0x5A, 0, 0x1C, 0, 0, 0, 8, 0, 0, 0, 2, 0, 0, 0, 1]),
+        Err(Refusal::BadBarrierAck),
+    ),
+    (WRITE_ACK, Err(Refusal::UnknownAck)),
+];
+
+/// The acknowledgement of barrier 1, before that of its write.
+const EARLY: [(Spelled, Answer); 1] = [(BARRIER_ACK_1, Err(Refusal::BadBarrierAck))];
+
+/// The peer's identifiers are as the disk's.
+const DECIDED: Answer = Ok(Done {
+    what: What::Decided(Decision::NoSync),
+    ..NOTHING
+});
+
+/// A hello.
+const GREETED: [Row; 6] = [
+    (Step::Send, PROTOCOL_WENT),
+    (Step::Send, SIZES_WENT),
+    (Step::Send, UUIDS_WENT),
+    (Step::AckIn, PROTOCOL_WENT),
+    (Step::AckIn, SIZES_WENT),
+    (Step::AckIn, DECIDED),
+];
+
+/// Write 1 of block 2 is sent, at place 0.
+const SENT: [Row; 2] = [
+    (
+        Step::Submit(2),
+        Ok(Done {
+            what: What::Write(1),
+            ..NOTHING
+        }),
+    ),
+    (Step::Send, WRITE_WENT),
+];
+
+/// The same where an epoch has one write.
+const SENT_AS_EPOCH: [Row; 3] = [
+    (
+        Step::Submit(2),
+        Ok(Done {
+            what: What::Write(1),
+            completed: None,
+            barrier: Some(1),
+            synced: false,
+        }),
+    ),
+    (Step::Send, WRITE_WENT),
+    (Step::Send, BARRIER_WENT),
+];
+
+/// The local disk has write 1.
+const WRITTEN: [Row; 1] = [(Step::Local(1), DONE)];
+
+/// That completes it.
+const COMPLETED: Answer = Ok(Done {
+    what: What::Nothing,
+    completed: Some(1),
+    ..NOTHING
+});
+
+/// That completes it, and ends its epoch.
+const COMPLETED_AND_ENDED: Answer = Ok(Done {
+    what: What::Nothing,
+    completed: Some(1),
+    barrier: Some(1),
+    synced: false,
+});
+
+/// The peer's disk has it too, which does the same.
+const ACKNOWLEDGED: Answer = Ok(Done {
+    what: What::Frame(Command::WriteAck, None),
+    completed: Some(1),
+    barrier: Some(1),
+    synced: false,
+});
+
+const ANSWERED: [Row; 2] = [(Step::AckIn, ACKNOWLEDGED), (Step::Send, BARRIER_WENT)];
+
+const WRITE_SENT: Before = Before {
+    settings: Settings::STANDARD,
+    heard: &[PROTOCOL_C, SIZES_8, UUIDS_1],
+    rows: &[&GREETED, &SENT],
+};
+
+const WRITE_SENT_AND_WRITTEN: Before = Before {
+    settings: Settings::STANDARD,
+    heard: &[PROTOCOL_C, SIZES_8, UUIDS_1],
+    rows: &[&GREETED, &SENT, &WRITTEN],
+};
+
+const EPOCH_SENT: Before = Before {
+    settings: Settings {
+        max_epoch: 1,
+        ..Settings::STANDARD
+    },
+    heard: &[PROTOCOL_C, SIZES_8, UUIDS_1],
+    rows: &[&GREETED, &SENT_AS_EPOCH],
+};
+
+const EPOCH_ANSWERED: Before = Before {
+    settings: Settings::STANDARD,
+    heard: &[PROTOCOL_C, SIZES_8, UUIDS_1, WRITE_ACK],
+    rows: &[&GREETED, &SENT, &WRITTEN, &ANSWERED],
+};
+
+/// The end is closed, block 2 is marked and no other, and the disk goes on under the word for a loss.
+pub(crate) const PARTED: State = State {
+    is_open: false,
+    stands: false,
+    is_resync: false,
+    tuple: Tuple {
+        current: 7,
+        bitmap: 1,
+        first_historical: 0,
+        second_historical: 0,
+    },
+    connections: 1,
+    accepted: 1,
+    incomplete: 0,
+    unanswered: 0,
+    open_epochs: 0,
+    marks: 1,
+    is_marked: true,
+};
+
+/// Write 1 is still open. The local disk has it then, and that completes it without the peer.
+const PARTED_BEFORE_IT_IS_WRITTEN: After = After {
+    behind: &[WRITE_ACK],
+    state: State {
+        incomplete: 1,
+        ..PARTED
+    },
+    rows: &[
+        (Step::Send, CLOSED),
+        (Step::AckIn, CLOSED),
+        (Step::Resync, CLOSED),
+        (Step::Close, CLOSED),
+        (Step::Local(1), COMPLETED),
+    ],
+    end: PARTED,
+    receipt: Ok((Kind::Alone, 2, 1, Some((1, 0)))),
+};
+
+/// Nothing is sent or taken over a closed end, though a frame waits that an open one would take.
+pub(crate) const NO_MORE: [Row; 5] = [
+    (Step::Send, CLOSED),
+    (Step::AckIn, CLOSED),
+    (Step::Resync, CLOSED),
+    (Step::Close, CLOSED),
+    (Step::Local(1), Err(Refusal::UnknownJob)),
+];
+
+/// The close completed write 1, which the local disk has, without the peer.
+const PARTED_ALONE: After = After {
+    behind: &[WRITE_ACK],
+    state: PARTED,
+    rows: &NO_MORE,
+    end: PARTED,
+    receipt: Ok((Kind::Alone, 2, 1, Some((1, 0)))),
+};
+
+/// Write 1 was completed by the peer's answer before.
+const PARTED_LINKED: After = After {
+    behind: &[BARRIER_ACK_1],
+    state: PARTED,
+    rows: &NO_MORE,
+    end: PARTED,
+    receipt: Ok((Kind::Linked, 2, 1, Some((1, 0)))),
+};
+
+static FOREIGN_FRAMES: [Case; 5] = [
+    Case {
+        before: &WRITE_SENT,
+        frames: &FOREIGN,
+        after: &PARTED_BEFORE_IT_IS_WRITTEN,
+    },
+    Case {
+        before: &WRITE_SENT_AND_WRITTEN,
+        frames: &FOREIGN,
+        after: &PARTED_ALONE,
+    },
+    Case {
+        before: &EPOCH_SENT,
+        frames: &EARLY,
+        after: &PARTED_BEFORE_IT_IS_WRITTEN,
+    },
+    Case {
+        before: &EPOCH_ANSWERED,
+        frames: &AGAIN,
+        after: &PARTED_LINKED,
+    },
+    Case {
+        before: &WRITE_SENT,
+        frames: &UNREADABLE,
+        after: &PARTED_BEFORE_IT_IS_WRITTEN,
+    },
+];
+
+#[test]
+fn foreign_frames_close_the_end(rt: HostRuntime) -> Result<(), Fail> {
+    passes(&rt, &FOREIGN_FRAMES)
+}
+
+/// The end is open, and its stream stands. Write 1 is completed, and its epoch is not acknowledged.
+const STANDING: State = State {
+    is_open: true,
+    stands: true,
+    open_epochs: 1,
+    tuple: OWN,
+    marks: 0,
+    is_marked: false,
+    ..PARTED
+};
+
+/// The peer's disk has write 1, and the local disk has it then.
+const ANSWERED_BEFORE_IT_IS_WRITTEN: After = After {
+    behind: &[],
+    state: State {
+        incomplete: 1,
+        ..STANDING
+    },
+    rows: &[
+        (Step::AckIn, NONE),
+        (Step::Local(1), COMPLETED_AND_ENDED),
+        (Step::Send, BARRIER_WENT),
+        (Step::Send, NONE),
+    ],
+    end: STANDING,
+    receipt: Ok((Kind::Linked, 2, 1, Some((1, 0)))),
+};
+
+const ANSWERED_LAST: After = After {
+    behind: &[],
+    state: STANDING,
+    rows: &[(Step::Send, BARRIER_WENT), (Step::Send, NONE)],
+    end: STANDING,
+    receipt: Ok((Kind::Linked, 2, 1, Some((1, 0)))),
+};
+
+/// The peer acknowledges the epoch of write 1, which the local disk has last.
+const EPOCH_ENDS: After = After {
+    behind: &[BARRIER_ACK_1],
+    state: State {
+        incomplete: 1,
+        ..STANDING
+    },
+    rows: &[(Step::AckIn, BARRIER_ACK_WENT), (Step::Local(1), COMPLETED)],
+    end: State {
+        open_epochs: 0,
+        ..STANDING
+    },
+    receipt: Ok((Kind::Linked, 2, 1, Some((1, 0)))),
+};
+
+const EPOCH_ENDED: After = After {
+    behind: &[],
+    state: State {
+        open_epochs: 0,
+        ..STANDING
+    },
+    rows: &[(Step::AckIn, NONE), (Step::Send, NONE)],
+    end: State {
+        open_epochs: 0,
+        ..STANDING
+    },
+    receipt: Ok((Kind::Linked, 2, 1, Some((1, 0)))),
+};
+
+static RIGHT_FRAMES: [Case; 4] = [
+    Case {
+        before: &WRITE_SENT,
+        frames: &[(WRITE_ACK, WRITE_ACK_WENT)],
+        after: &ANSWERED_BEFORE_IT_IS_WRITTEN,
+    },
+    Case {
+        before: &WRITE_SENT_AND_WRITTEN,
+        frames: &[(WRITE_ACK, ACKNOWLEDGED)],
+        after: &ANSWERED_LAST,
+    },
+    Case {
+        before: &EPOCH_SENT,
+        frames: &[(WRITE_ACK, WRITE_ACK_WENT)],
+        after: &EPOCH_ENDS,
+    },
+    Case {
+        before: &EPOCH_ANSWERED,
+        frames: &[(BARRIER_ACK_1, BARRIER_ACK_WENT)],
+        after: &EPOCH_ENDED,
+    },
+];
+
+#[test]
+fn frames_in_their_turn_are_taken(rt: HostRuntime) -> Result<(), Fail> {
+    passes(&rt, &RIGHT_FRAMES)
+}

@@ -1,0 +1,97 @@
+//! Hellos that no secondary sends: each is refused, and no identifier changes.
+use crate::nodes::answers::{Answer, OWN, PROTOCOL_WENT, SIZES_WENT};
+use crate::nodes::either_end::{FIRST, SECOND, THIRD};
+use crate::nodes::frames::{PROTOCOL_C, SIZES_8, Spelled, UUIDS_1};
+use crate::nodes::linked_primary::{After, Before, Case, State, Step, passes};
+use crate::nodes::primary_frames::{NO_MORE, PARTED};
+use blocks::{Refusal, Settings};
+use std::test::Fail;
+
+/// The peer's identifiers are 1,0,7,0, of which 7 is a word of this connection; 9,1,0,0, of a disk that is ahead; and
+/// 20,21,22,23, of one that has nothing to do with this.
+const IDENTIFIERS: [(Spelled, Answer); 3] = [
+    (
+        Spelled::Short(&[
+            0x83, 0x5A, 0, 0x0C, 0, 0, 0, 0x20, 0, 0, 0, 0, 0, 0, 0, 1, 0, 0, 0, 0, 0, 0, 0, 0, 0,
+            0, 0, 0, 0, 0, 0, 7, 0, 0, 0, 0, 0, 0, 0, 0,
+        ]),
+        Err(Refusal::UsedIdentifier),
+    ),
+    (
+        Spelled::Short(&[
+            0x83, 0x5A, 0, 0x0C, 0, 0, 0, 0x20, 0, 0, 0, 0, 0, 0, 0, 9, 0, 0, 0, 0, 0, 0, 0, 1, 0,
+            0, 0, 0, 0, 0, 0, 0, 0, 0, 0, 0, 0, 0, 0, 0,
+        ]),
+        Err(Refusal::PrimaryStale),
+    ),
+    (
+        Spelled::Short(&[
+            0x83, 0x5A, 0, 0x0C, 0, 0, 0, 0x20, 0, 0, 0, 0, 0, 0, 0, 20, 0, 0, 0, 0, 0, 0, 0, 21,
+            0, 0, 0, 0, 0, 0, 0, 22, 0, 0, 0, 0, 0, 0, 0, 23,
+        ]),
+        Err(Refusal::Unrelated),
+    ),
+];
+
+const NOTHING_HEARD: Before = Before {
+    settings: Settings::STANDARD,
+    heard: &[],
+    rows: &[],
+};
+
+const ONE_HEARD: Before = Before {
+    settings: Settings::STANDARD,
+    heard: &[PROTOCOL_C],
+    rows: &[&[(Step::AckIn, PROTOCOL_WENT)]],
+};
+
+const TWO_HEARD: Before = Before {
+    settings: Settings::STANDARD,
+    heard: &[PROTOCOL_C, SIZES_8],
+    rows: &[&[(Step::AckIn, PROTOCOL_WENT), (Step::AckIn, SIZES_WENT)]],
+};
+
+/// The end is closed, and all else is as before the connection.
+const UNCHANGED: State = State {
+    tuple: OWN,
+    accepted: 0,
+    marks: 0,
+    is_marked: false,
+    ..PARTED
+};
+
+const HELLO_REFUSED: After = After {
+    behind: &[PROTOCOL_C, SIZES_8, UUIDS_1],
+    state: UNCHANGED,
+    rows: &NO_MORE,
+    end: UNCHANGED,
+    receipt: Err(Refusal::UnknownJob),
+};
+
+static HELLOS: [Case; 4] = [
+    Case {
+        before: &NOTHING_HEARD,
+        frames: &FIRST,
+        after: &HELLO_REFUSED,
+    },
+    Case {
+        before: &ONE_HEARD,
+        frames: &SECOND,
+        after: &HELLO_REFUSED,
+    },
+    Case {
+        before: &TWO_HEARD,
+        frames: &THIRD,
+        after: &HELLO_REFUSED,
+    },
+    Case {
+        before: &TWO_HEARD,
+        frames: &IDENTIFIERS,
+        after: &HELLO_REFUSED,
+    },
+];
+
+#[test]
+fn a_refused_hello_changes_no_identifier(rt: HostRuntime) -> Result<(), Fail> {
+    passes(&rt, &HELLOS)
+}

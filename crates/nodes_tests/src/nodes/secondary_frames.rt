@@ -1,0 +1,305 @@
+//! Frames that no primary sends: each is refused, and closes the end; what was taken before stays, and is applied.
+use crate::nodes::answers::{
+    Answer, BARRIER_ACK_WENT, BARRIER_WENT, CLOSED, DONE, NONE, NOTHING, OWN, PROTOCOL_WENT,
+    SIZES_WENT, UUIDS_WENT, WRITE_ACK_WENT, WRITE_WENT,
+};
+use crate::nodes::either_end::{FIRST, SECOND, THIRD, UNREADABLE};
+use crate::nodes::frames::{
+    BARRIER_1, PROTOCOL_C, RESYNC, SIZES_8, Spelled, UUIDS_1, UUIDS_7_0_9_1, WRITE, WRITE_ACK,
+};
+use crate::nodes::linked_secondary::{After, Before, Case, State, Step, passes};
+use blocks::{Command, Done, Refusal, What};
+use secondary_core::Usage;
+use std::test::Fail;
+
+/// Each comes after write 1 of block 2, at place 0.
+const FOREIGN: [(Spelled, Answer); 10] = [
+    // Write 2 of block 3 at place 2, write 2 of block 2, again write 1, and write 2 of blocks 7 and 8, at place 1.
+    (
+        Spelled::Long(
+            &[
+                0x83, 0x5A, 0, 0, 0, 0, 0x10, 0x18, 0, 0, 0, 0, 0, 0, 0, 0x18, 0, 0, 0, 0, 0, 0, 0,
+                2, 0, 0, 0, 2, 0, 0, 0, 0,
+            ],
+            1,
+        ),
+        Err(Refusal::BadField),
+    ),
+    (
+        Spelled::Long(
+            &[
+                0x83, 0x5A, 0, 0, 0, 0, 0x10, 0x18, 0, 0, 0, 0, 0, 0, 0, 0x10, 0, 0, 0, 0, 0, 0, 0,
+                2, 0, 0, 0, 1, 0, 0, 0, 0,
+            ],
+            1,
+        ),
+        Err(Refusal::BadField),
+    ),
+    (
+        Spelled::Long(
+            &[
+                0x83, 0x5A, 0, 0, 0, 0, 0x10, 0x18, 0, 0, 0, 0, 0, 0, 0, 0x18, 0, 0, 0, 0, 0, 0, 0,
+                1, 0, 0, 0, 1, 0, 0, 0, 0,
+            ],
+            1,
+        ),
+        Err(Refusal::BadField),
+    ),
+    (
+        Spelled::Long(
+            &[
+                0x83, 0x5A, 0, 0, 0, 0, 0x20, 0x18, 0, 0, 0, 0, 0, 0, 0, 0x38, 0, 0, 0, 0, 0, 0, 0,
+                2, 0, 0, 0, 1, 0, 0, 0, 0,
+            ],
+            2,
+        ),
+        Err(Refusal::BadField),
+    ),
+    // The barrier after the next, and what belongs to a resync where none goes on.
+    (
+        Spelled::Short(&[0x83, 0x5A, 0, 3, 0, 0, 0, 8, 0, 0, 0, 2, 0, 0, 0, 0]),
+        Err(Refusal::BadField),
+    ),
+    (
+        Spelled::Short(&[0x83, 0x5A, 0, 0x0F, 0, 0, 0, 8, 0, 0, 0, 0, 0, 0, 0, 9]),
+        Err(Refusal::BadField),
+    ),
+    (UUIDS_7_0_9_1, Err(Refusal::BadField)),
+    (RESYNC, Err(Refusal::BadField)),
+    // No items.
+    (PROTOCOL_C, Err(Refusal::BadCommand)),
+    (WRITE_ACK, Err(Refusal::BadCommand)),
+];
+
+const NOTHING_HEARD: Before = Before {
+    heard: &[],
+    rows: &[],
+};
+
+const ONE_HEARD: Before = Before {
+    heard: &[PROTOCOL_C],
+    rows: &[(Step::Receive, PROTOCOL_WENT)],
+};
+
+const TWO_HEARD: Before = Before {
+    heard: &[PROTOCOL_C, SIZES_8],
+    rows: &[(Step::Receive, PROTOCOL_WENT), (Step::Receive, SIZES_WENT)],
+};
+
+/// The hello is done, and write 1 was taken.
+const WRITE_HEARD: Before = Before {
+    heard: &[PROTOCOL_C, SIZES_8, UUIDS_1, WRITE],
+    rows: &[
+        (Step::Receive, PROTOCOL_WENT),
+        (Step::Receive, SIZES_WENT),
+        (Step::Receive, UUIDS_WENT),
+        (Step::AckOut, PROTOCOL_WENT),
+        (Step::AckOut, SIZES_WENT),
+        (Step::AckOut, UUIDS_WENT),
+        (Step::Receive, WRITE_WENT),
+    ],
+};
+
+/// The data may be used, and no epoch is whole.
+const IDLE: Usage = Usage {
+    consistent: true,
+    whole: 0,
+    pending: 0,
+};
+
+/// The end is closed, and nothing is pending.
+const DRAINED: State = State {
+    is_open: false,
+    is_hello_done: false,
+    is_drained: true,
+    is_consistent: true,
+    tuple: OWN,
+    number: 1,
+    usage: IDLE,
+    next: Err(Refusal::NothingThere),
+};
+
+/// Write 1 is pending. It is applied, once, and is not acknowledged. Nothing is taken or sent over a closed end, though
+/// a barrier waits that an open one would take.
+const WRITE_STAYS: After = After {
+    behind: &[BARRIER_1],
+    state: State {
+        is_drained: false,
+        usage: Usage { pending: 1, ..IDLE },
+        next: Ok(0),
+        ..DRAINED
+    },
+    rows: &[
+        (Step::Receive, CLOSED),
+        (Step::AckOut, CLOSED),
+        (Step::Close, CLOSED),
+        (Step::Peer(0), DONE),
+        (Step::Peer(0), Err(Refusal::UnknownJob)),
+        (Step::AckOut, CLOSED),
+        (Step::Receive, CLOSED),
+    ],
+    end: DRAINED,
+    disk: &[(1, 0), (2, 0xAA), (3, 0), (7, 0)],
+};
+
+/// The same with nothing taken.
+const HELLO_REFUSED: After = After {
+    behind: &[PROTOCOL_C, SIZES_8, UUIDS_1],
+    state: DRAINED,
+    rows: &[
+        (Step::Receive, CLOSED),
+        (Step::AckOut, CLOSED),
+        (Step::Close, CLOSED),
+        (Step::Peer(0), Err(Refusal::UnknownJob)),
+    ],
+    end: DRAINED,
+    disk: &[(2, 0)],
+};
+
+static FOREIGN_FRAMES: [Case; 2] = [
+    Case {
+        before: &WRITE_HEARD,
+        frames: &FOREIGN,
+        after: &WRITE_STAYS,
+    },
+    Case {
+        before: &WRITE_HEARD,
+        frames: &UNREADABLE,
+        after: &WRITE_STAYS,
+    },
+];
+
+#[test]
+fn foreign_frames_close_the_end(rt: HostRuntime) -> Result<(), Fail> {
+    passes(&rt, &FOREIGN_FRAMES)
+}
+
+static HELLOS: [Case; 3] = [
+    Case {
+        before: &NOTHING_HEARD,
+        frames: &FIRST,
+        after: &HELLO_REFUSED,
+    },
+    Case {
+        before: &ONE_HEARD,
+        frames: &SECOND,
+        after: &HELLO_REFUSED,
+    },
+    Case {
+        before: &TWO_HEARD,
+        frames: &THIRD,
+        after: &HELLO_REFUSED,
+    },
+];
+
+#[test]
+fn a_refused_hello_closes_the_end(rt: HostRuntime) -> Result<(), Fail> {
+    passes(&rt, &HELLOS)
+}
+
+/// The end is open, its hello is done, and nothing is pending.
+const STANDING: State = State {
+    is_open: true,
+    is_hello_done: true,
+    ..DRAINED
+};
+
+/// The hello is done once three frames were sent too.
+const GREETS: After = After {
+    behind: &[],
+    state: State {
+        is_hello_done: false,
+        ..STANDING
+    },
+    rows: &[
+        (Step::AckOut, PROTOCOL_WENT),
+        (Step::AckOut, SIZES_WENT),
+        (Step::AckOut, UUIDS_WENT),
+        (Step::AckOut, NONE),
+        (Step::Receive, NONE),
+    ],
+    end: STANDING,
+    disk: &[(2, 0)],
+};
+
+/// Both writes are applied, the second one first.
+const TWO_APPLIED: After = After {
+    behind: &[],
+    state: State {
+        is_drained: false,
+        usage: Usage { pending: 2, ..IDLE },
+        next: Ok(0),
+        ..STANDING
+    },
+    rows: &[
+        (Step::Receive, NONE),
+        (Step::Peer(1), DONE),
+        (Step::Peer(0), DONE),
+        (Step::AckOut, WRITE_ACK_WENT),
+        (Step::AckOut, WRITE_ACK_WENT),
+        (Step::AckOut, NONE),
+    ],
+    end: STANDING,
+    disk: &[(1, 0), (2, 0xAA), (3, 0xAA), (7, 0)],
+};
+
+/// Write 1 is applied, and its epoch is whole.
+const EPOCH_APPLIED: After = After {
+    behind: &[],
+    state: State {
+        is_drained: false,
+        usage: Usage { pending: 1, ..IDLE },
+        next: Ok(0),
+        ..STANDING
+    },
+    rows: &[
+        (Step::AckOut, NONE),
+        (Step::Peer(0), DONE),
+        (Step::AckOut, WRITE_ACK_WENT),
+        (Step::AckOut, BARRIER_ACK_WENT),
+        (Step::AckOut, NONE),
+    ],
+    end: State {
+        usage: Usage { whole: 1, ..IDLE },
+        ..STANDING
+    },
+    disk: &[(1, 0), (2, 0xAA), (3, 0), (7, 0)],
+};
+
+/// Write 2 went over the link.
+const WRITE_2_WENT: Answer = Ok(Done {
+    what: What::Frame(Command::Data, Some(1)),
+    ..NOTHING
+});
+
+/// Write 2 of block 3, at place 1.
+const WRITE_2: Spelled = Spelled::Long(
+    &[
+        0x83, 0x5A, 0, 0, 0, 0, 0x10, 0x18, 0, 0, 0, 0, 0, 0, 0, 0x18, 0, 0, 0, 0, 0, 0, 0, 2, 0,
+        0, 0, 1, 0, 0, 0, 0,
+    ],
+    1,
+);
+
+static RIGHT_FRAMES: [Case; 3] = [
+    Case {
+        before: &TWO_HEARD,
+        frames: &[(UUIDS_1, UUIDS_WENT)],
+        after: &GREETS,
+    },
+    Case {
+        before: &WRITE_HEARD,
+        frames: &[(WRITE_2, WRITE_2_WENT)],
+        after: &TWO_APPLIED,
+    },
+    Case {
+        before: &WRITE_HEARD,
+        frames: &[(BARRIER_1, BARRIER_WENT)],
+        after: &EPOCH_APPLIED,
+    },
+];
+
+#[test]
+fn frames_in_their_turn_are_taken(rt: HostRuntime) -> Result<(), Fail> {
+    passes(&rt, &RIGHT_FRAMES)
+}

@@ -1,0 +1,8 @@
+//! A pair by its events: worked examples in which a request for memory is refused, and in which a disk fails a call.
+
+mod disks;
+mod events;
+mod memory;
+mod resyncs;
+mod rows;
+mod seen;

@@ -1,0 +1,221 @@
+//! Worked examples of resyncs: two blocks are written while no connection stands, and the next connection copies
+//! them.
+use crate::pairs::events::{Given, Said};
+use crate::pairs::rows::{BLOCKS, CONNECTED, Held, Part, hello};
+use blocks::{Command, Decision, Refusal, What};
+
+/// The connection is lost, and two blocks are written without one.
+const PARTED: Part = Part {
+    lines: &[
+        (Given::ClosePrimary, Said::Closed(0)),
+        (Given::CloseSecondary, Said::Done),
+        (Given::Submit(3, 1, 0xAA), Said::Accepted(1)),
+        (Given::Submit(6, 1, 0xBB), Said::Accepted(2)),
+        (
+            Given::Local(1),
+            Said::More(What::Nothing, Some(1), None, false),
+        ),
+        (
+            Given::Local(2),
+            Said::More(What::Nothing, Some(2), None, false),
+        ),
+    ],
+    after: Held {
+        own: [7, 1, 0, 0],
+        peer: [1, 0, 0, 0],
+        marks: &[3, 6],
+        local_filled: [0, 0, 0, 0xAA, 0, 0, 0xBB, 0],
+        peer_filled: [0; BLOCKS],
+    },
+};
+
+/// The second connection begins a resync of them.
+const RESYNCING: Part = Part {
+    lines: &hello!(9, 11, Decision::BitmapSync),
+    after: Held {
+        own: [7, 9, 1, 0],
+        peer: [1, 0, 0, 0],
+        marks: &[3, 6],
+        local_filled: [0, 0, 0, 0xAA, 0, 0, 0xBB, 0],
+        peer_filled: [0; BLOCKS],
+    },
+};
+
+/// The secondary hears that it is the target.
+const TARGET_TOLD: Part = Part {
+    lines: &[
+        (Given::Send, Said::Item(Command::SyncUuid, 0)),
+        (Given::Receive, Said::Item(Command::SyncUuid, 0)),
+    ],
+    after: Held {
+        own: [7, 9, 1, 0],
+        peer: [9, 0, 0, 0],
+        marks: &[3, 6],
+        local_filled: [0, 0, 0, 0xAA, 0, 0, 0xBB, 0],
+        peer_filled: [0; BLOCKS],
+    },
+};
+
+/// The first block is copied.
+const COPIED: Part = Part {
+    lines: &[
+        (Given::Resync, Said::Copied(3, 1)),
+        (Given::Send, Said::Item(Command::RsDataReply, 1)),
+        (Given::Receive, Said::Item(Command::RsDataReply, 1)),
+        (Given::Peer(1), Said::Done),
+        (Given::AckOut, Said::Went(Command::RsWriteAck)),
+        (
+            Given::AckIn,
+            Said::More(What::Frame(Command::RsWriteAck, None), None, Some(1), false),
+        ),
+    ],
+    after: Held {
+        own: [7, 9, 1, 0],
+        peer: [9, 0, 0, 0],
+        marks: &[6],
+        local_filled: [0, 0, 0, 0xAA, 0, 0, 0xBB, 0],
+        peer_filled: [0, 0, 0, 0xAA, 0, 0, 0, 0],
+    },
+};
+
+/// The second block is copied, which ends the resync at the primary.
+const SYNCED: Part = Part {
+    lines: &[
+        (Given::Resync, Said::Copied(6, 3)),
+        (Given::Send, Said::Item(Command::Barrier, 2)),
+        (Given::Send, Said::Item(Command::RsDataReply, 3)),
+        (Given::Receive, Said::Item(Command::Barrier, 2)),
+        (Given::Receive, Said::Item(Command::RsDataReply, 3)),
+        (Given::Peer(3), Said::Done),
+        (Given::AckOut, Said::Went(Command::BarrierAck)),
+        (Given::AckOut, Said::Went(Command::RsWriteAck)),
+        (Given::AckIn, Said::Went(Command::BarrierAck)),
+        (
+            Given::AckIn,
+            Said::More(What::Frame(Command::RsWriteAck, None), None, Some(2), true),
+        ),
+    ],
+    after: Held {
+        own: [7, 0, 9, 1],
+        peer: [9, 0, 0, 0],
+        marks: &[],
+        local_filled: [0, 0, 0, 0xAA, 0, 0, 0xBB, 0],
+        peer_filled: [0, 0, 0, 0xAA, 0, 0, 0xBB, 0],
+    },
+};
+
+/// The marked blocks are copied, and the secondary adopts the primary's identifiers.
+pub(crate) static RESYNC: [Part; 7] = [
+    CONNECTED,
+    PARTED,
+    RESYNCING,
+    TARGET_TOLD,
+    COPIED,
+    SYNCED,
+    Part {
+        lines: &[
+            (Given::Send, Said::Item(Command::Barrier, 4)),
+            (Given::Send, Said::Item(Command::Uuids, 5)),
+            (Given::Receive, Said::Item(Command::Barrier, 4)),
+            (Given::Receive, Said::Item(Command::Uuids, 5)),
+        ],
+        after: Held {
+            own: [7, 0, 9, 1],
+            peer: [7, 0, 9, 1],
+            marks: &[],
+            local_filled: [0, 0, 0, 0xAA, 0, 0, 0xBB, 0],
+            peer_filled: [0, 0, 0, 0xAA, 0, 0, 0xBB, 0],
+        },
+    },
+];
+
+/// The connection is lost before the secondary heard of the end, so that all is copied on the next one.
+pub(crate) static UNHEARD_END: [Part; 8] = [
+    CONNECTED,
+    PARTED,
+    RESYNCING,
+    TARGET_TOLD,
+    COPIED,
+    SYNCED,
+    Part {
+        lines: &[
+            (Given::ClosePrimary, Said::Closed(0)),
+            (Given::CloseSecondary, Said::Done),
+        ],
+        after: Held {
+            own: [11, 7, 9, 1],
+            peer: [9, 0, 0, 0],
+            marks: &[],
+            local_filled: [0, 0, 0, 0xAA, 0, 0, 0xBB, 0],
+            peer_filled: [0, 0, 0, 0xAA, 0, 0, 0xBB, 0],
+        },
+    },
+    Part {
+        lines: &hello!(13, 15, Decision::FullSync),
+        after: Held {
+            own: [11, 13, 7, 9],
+            peer: [9, 0, 0, 0],
+            marks: &[0, 1, 2, 3, 4, 5, 6, 7],
+            local_filled: [0, 0, 0, 0xAA, 0, 0, 0xBB, 0],
+            peer_filled: [0, 0, 0, 0xAA, 0, 0, 0xBB, 0],
+        },
+    },
+];
+
+/// A block is under way: a write over another block is refused by it, one beside it is accepted, and the block
+/// of that write is not copied while it is open.
+pub(crate) static BLOCK_UNDER_WAY: [Part; 4] = [
+    CONNECTED,
+    PARTED,
+    RESYNCING,
+    Part {
+        lines: &[
+            (Given::Resync, Said::Copied(3, 1)),
+            (
+                Given::Submit(2, 2, 0xCC),
+                Said::Refused(Refusal::Conflict(0)),
+            ),
+            (Given::Submit(6, 1, 0xDD), Said::Accepted(3)),
+            (Given::Send, Said::Item(Command::SyncUuid, 0)),
+            (Given::Send, Said::Item(Command::RsDataReply, 1)),
+            (Given::Send, Said::Item(Command::Data, 2)),
+            (Given::Receive, Said::Item(Command::SyncUuid, 0)),
+            (Given::Receive, Said::Item(Command::RsDataReply, 1)),
+            (Given::Receive, Said::Item(Command::Data, 2)),
+            (Given::Peer(1), Said::Done),
+            (Given::AckOut, Said::Went(Command::RsWriteAck)),
+            (
+                Given::AckIn,
+                Said::More(What::Frame(Command::RsWriteAck, None), None, Some(1), false),
+            ),
+            (Given::Resync, Said::Refused(Refusal::NothingToDo)),
+        ],
+        after: Held {
+            own: [7, 9, 1, 0],
+            peer: [9, 0, 0, 0],
+            marks: &[6],
+            local_filled: [0, 0, 0, 0xAA, 0, 0, 0xBB, 0],
+            peer_filled: [0, 0, 0, 0xAA, 0, 0, 0, 0],
+        },
+    },
+];
+
+/// A marked block under an open write is passed over by the resync.
+pub(crate) static BLOCK_PASSED_OVER: [Part; 4] = [
+    CONNECTED,
+    PARTED,
+    RESYNCING,
+    Part {
+        lines: &[
+            (Given::Submit(3, 1, 0xCC), Said::Accepted(3)),
+            (Given::Resync, Said::Copied(6, 2)),
+        ],
+        after: Held {
+            own: [7, 9, 1, 0],
+            peer: [1, 0, 0, 0],
+            marks: &[3, 6],
+            local_filled: [0, 0, 0, 0xAA, 0, 0, 0xBB, 0],
+            peer_filled: [0; BLOCKS],
+        },
+    },
+];

@@ -1,0 +1,194 @@
+//! Worked examples of writes: the events of a pair, the reply to each, and what the pair holds in between. All
+//! begin with two zero-filled disks of eight blocks, both with the tuple 1,0,0,0, and run under protocol C.
+use crate::pairs::events::{Given, Line, Said};
+use blocks::{Command, Decision, Refusal, What};
+
+/// How many blocks each disk has.
+pub(crate) const BLOCKS: usize = 8;
+
+/// A stretch of events, and what the pair holds after them.
+pub(crate) struct Part {
+    pub(crate) lines: &'static [Line],
+    pub(crate) after: Held,
+}
+
+/// What a pair holds.
+pub(crate) struct Held {
+    /// The primary's identifiers.
+    pub(crate) own: [u64; 4],
+    /// The secondary's.
+    pub(crate) peer: [u64; 4],
+    /// The marked blocks.
+    pub(crate) marks: &'static [u64],
+    /// The byte that fills each block of the primary's disk.
+    pub(crate) local_filled: [u8; BLOCKS],
+    /// The same of the secondary's.
+    pub(crate) peer_filled: [u8; BLOCKS],
+}
+
+/// A connection is opened with two words, each end's three frames go over, and the primary decides.
+macro_rules! hello {
+    ($sync:literal, $loss:literal, $decision:expr) => {
+        [
+            (Given::Open($sync, $loss), Said::Done),
+            (Given::Send, Said::Went(Command::Protocol)),
+            (Given::Receive, Said::Went(Command::Protocol)),
+            (Given::AckOut, Said::Went(Command::Protocol)),
+            (Given::AckIn, Said::Went(Command::Protocol)),
+            (Given::Send, Said::Went(Command::Sizes)),
+            (Given::Receive, Said::Went(Command::Sizes)),
+            (Given::AckOut, Said::Went(Command::Sizes)),
+            (Given::AckIn, Said::Went(Command::Sizes)),
+            (Given::Send, Said::Went(Command::Uuids)),
+            (Given::Receive, Said::Went(Command::Uuids)),
+            (Given::AckOut, Said::Went(Command::Uuids)),
+            (Given::AckIn, Said::Decided($decision)),
+        ]
+    };
+}
+
+pub(crate) use hello;
+
+/// The first connection. The disks are equal, so nothing is resynced.
+pub(crate) const CONNECTED: Part = Part {
+    lines: &hello!(5, 7, Decision::NoSync),
+    after: Held {
+        own: [1, 0, 0, 0],
+        peer: [1, 0, 0, 0],
+        marks: &[],
+        local_filled: [0; BLOCKS],
+        peer_filled: [0; BLOCKS],
+    },
+};
+
+/// One write goes its whole way. Its completion ends the epoch, and the barrier stands behind it.
+pub(crate) static WRITE: [Part; 2] = [
+    CONNECTED,
+    Part {
+        lines: &[
+            (Given::Submit(2, 1, 0xAA), Said::Accepted(1)),
+            (Given::Local(1), Said::Done),
+            (Given::Send, Said::Item(Command::Data, 0)),
+            (Given::Receive, Said::Item(Command::Data, 0)),
+            (Given::Peer(0), Said::Done),
+            (Given::AckOut, Said::Went(Command::WriteAck)),
+            (
+                Given::AckIn,
+                Said::More(
+                    What::Frame(Command::WriteAck, None),
+                    Some(1),
+                    Some(1),
+                    false,
+                ),
+            ),
+            (Given::Send, Said::Item(Command::Barrier, 1)),
+        ],
+        after: Held {
+            own: [1, 0, 0, 0],
+            peer: [1, 0, 0, 0],
+            marks: &[],
+            local_filled: [0, 0, 0xAA, 0, 0, 0, 0, 0],
+            peer_filled: [0, 0, 0xAA, 0, 0, 0, 0, 0],
+        },
+    },
+];
+
+/// Two writes of one epoch, of which the second is completed first, and one of the next epoch, which waits for
+/// the first at the peer's disk.
+pub(crate) static EPOCHS: [Part; 3] = [
+    CONNECTED,
+    Part {
+        lines: &[
+            (Given::Submit(0, 1, 0x01), Said::Accepted(1)),
+            (Given::Submit(1, 1, 0x02), Said::Accepted(2)),
+            (Given::Local(1), Said::Done),
+            (Given::Local(2), Said::Done),
+            (Given::Send, Said::Item(Command::Data, 0)),
+            (Given::Send, Said::Item(Command::Data, 1)),
+            (Given::Receive, Said::Item(Command::Data, 0)),
+            (Given::Receive, Said::Item(Command::Data, 1)),
+            (Given::Peer(1), Said::Done),
+            (Given::AckOut, Said::Went(Command::WriteAck)),
+            (
+                Given::AckIn,
+                Said::More(
+                    What::Frame(Command::WriteAck, None),
+                    Some(2),
+                    Some(1),
+                    false,
+                ),
+            ),
+        ],
+        after: Held {
+            own: [1, 0, 0, 0],
+            peer: [1, 0, 0, 0],
+            marks: &[],
+            local_filled: [1, 2, 0, 0, 0, 0, 0, 0],
+            peer_filled: [0, 2, 0, 0, 0, 0, 0, 0],
+        },
+    },
+    Part {
+        lines: &[
+            (Given::Submit(2, 1, 0x03), Said::Accepted(3)),
+            (Given::Send, Said::Item(Command::Barrier, 2)),
+            (Given::Send, Said::Item(Command::Data, 3)),
+            (Given::Receive, Said::Item(Command::Barrier, 2)),
+            (Given::Receive, Said::Item(Command::Data, 3)),
+            (Given::Peer(3), Said::Refused(Refusal::EpochOpen)),
+            (Given::Peer(0), Said::Done),
+            (Given::Peer(3), Said::Done),
+            (Given::Peer(3), Said::Refused(Refusal::UnknownJob)),
+            (Given::AckOut, Said::Went(Command::WriteAck)),
+            (
+                Given::AckIn,
+                Said::More(What::Frame(Command::WriteAck, None), Some(1), None, false),
+            ),
+            (Given::AckOut, Said::Went(Command::BarrierAck)),
+            (Given::AckIn, Said::Went(Command::BarrierAck)),
+            (Given::AckOut, Said::Went(Command::WriteAck)),
+            (Given::AckIn, Said::Went(Command::WriteAck)),
+            (
+                Given::Local(3),
+                Said::More(What::Nothing, Some(3), Some(2), false),
+            ),
+        ],
+        after: Held {
+            own: [1, 0, 0, 0],
+            peer: [1, 0, 0, 0],
+            marks: &[],
+            local_filled: [1, 2, 3, 0, 0, 0, 0, 0],
+            peer_filled: [1, 2, 3, 0, 0, 0, 0, 0],
+        },
+    },
+];
+
+/// The primary's disk fails a write after its first block.
+pub(crate) static LOCAL_FAULT: [Part; 3] = [
+    CONNECTED,
+    Part {
+        lines: &[
+            (Given::Submit(2, 2, 0xAA), Said::Accepted(1)),
+            (
+                Given::LocalFault(1, 1),
+                Said::More(What::Nothing, None, Some(1), false),
+            ),
+        ],
+        after: TORN,
+    },
+    Part {
+        lines: &[
+            (Given::Submit(3, 1, 0xBB), Said::Accepted(2)),
+            (Given::Local(1), Said::Refused(Refusal::UnknownJob)),
+        ],
+        after: TORN,
+    },
+];
+
+/// What the failed write left.
+const TORN: Held = Held {
+    own: [1, 0, 0, 0],
+    peer: [1, 0, 0, 0],
+    marks: &[2, 3],
+    local_filled: [0, 0, 0xAA, 0, 0, 0, 0, 0],
+    peer_filled: [0; BLOCKS],
+};

@@ -1,0 +1,184 @@
+//! What is read off a pair, and its end.
+use crate::pairs::rows::{BLOCKS, Held};
+use blocks::{BLOCK_BYTES, Block, Refusal, Tuple};
+use pair::{Pair, Side};
+use secondary_core::Usage;
+use std::process::Abort;
+
+/// All that can be read off a pair of eight blocks. It is taken without memory.
+#[derive(Clone, Copy, Debug, PartialEq, Eq)]
+pub(crate) struct Seen {
+    disks: Disks,
+    primary: PrimarySeen,
+    secondary: SecondarySeen,
+}
+
+/// Both disks with their identifiers, and the marks.
+#[derive(Clone, Copy, Debug, PartialEq, Eq)]
+struct Disks {
+    own: Tuple,
+    peer: Tuple,
+    blocks: [BlockSeen; BLOCKS],
+}
+
+/// One block of both disks.
+#[derive(Clone, Copy, Debug, PartialEq, Eq)]
+struct BlockSeen {
+    is_marked: bool,
+    differs: bool,
+    /// The byte that fills it, and none where its bytes are not alike.
+    local_filled: Option<u8>,
+    peer_filled: Option<u8>,
+}
+
+/// What the primary says of itself.
+#[derive(Clone, Copy, Debug, PartialEq, Eq)]
+struct PrimarySeen {
+    peer: Option<Tuple>,
+    connections: u32,
+    is_open: bool,
+    stands: bool,
+    is_resync: bool,
+    accepted: u64,
+    marks: u32,
+    incomplete: u32,
+    unanswered: u32,
+    open_epochs: u64,
+    next_local: Option<u64>,
+}
+
+/// What the secondary says of itself.
+#[derive(Clone, Copy, Debug, PartialEq, Eq)]
+struct SecondarySeen {
+    next: Result<u32, Refusal>,
+    is_drained: bool,
+    is_open: bool,
+    is_hello_done: bool,
+    usage: Usage,
+}
+
+impl Seen {
+    pub(crate) fn of(pair: &mut Pair) -> Seen {
+        Seen {
+            disks: Disks::of(pair),
+            primary: PrimarySeen::of(pair),
+            secondary: SecondarySeen::of(pair),
+        }
+    }
+}
+
+impl Disks {
+    fn of(pair: &mut Pair) -> Disks {
+        let (own, peer) = pair.tuples();
+        let mut blocks = [BlockSeen::UNREAD; BLOCKS];
+        for index in 0..BLOCKS {
+            blocks[index] = BlockSeen::of(pair, Block(index as u64));
+        }
+        Disks { own, peer, blocks }
+    }
+}
+
+impl BlockSeen {
+    /// What stands in the place of a block until it is read.
+    const UNREAD: BlockSeen = BlockSeen {
+        is_marked: false,
+        differs: false,
+        local_filled: None,
+        peer_filled: None,
+    };
+
+    fn of(pair: &mut Pair, block: Block) -> BlockSeen {
+        BlockSeen {
+            is_marked: pair.is_marked(block),
+            differs: pair.differs(block),
+            local_filled: filled(pair, Side::Primary, block),
+            peer_filled: filled(pair, Side::Secondary, block),
+        }
+    }
+
+    /// A block that is marked or not, and that these bytes fill.
+    fn wanted(is_marked: bool, local: u8, peer: u8) -> BlockSeen {
+        BlockSeen {
+            is_marked,
+            differs: local != peer,
+            local_filled: Some(local),
+            peer_filled: Some(peer),
+        }
+    }
+}
+
+/// The byte that fills a block of a node's disk.
+fn filled(pair: &mut Pair, side: Side, block: Block) -> Option<u8> {
+    let mut buffer = [0u8; BLOCK_BYTES];
+    pair.read(side, block, &mut buffer).ok()?;
+    let first = buffer[0];
+    if buffer.iter().all(|byte| *byte == first) {
+        Some(first)
+    } else {
+        None
+    }
+}
+
+impl PrimarySeen {
+    fn of(pair: &Pair) -> PrimarySeen {
+        let primary = pair.primary();
+        PrimarySeen {
+            peer: primary.peer(),
+            connections: primary.connections(),
+            is_open: primary.is_open(),
+            stands: primary.stands(),
+            is_resync: primary.is_resync(),
+            accepted: primary.accepted(),
+            marks: primary.marks(),
+            incomplete: primary.incomplete(),
+            unanswered: primary.unanswered(),
+            open_epochs: primary.open_epochs(),
+            next_local: primary.next_local(),
+        }
+    }
+}
+
+impl SecondarySeen {
+    fn of(pair: &Pair) -> SecondarySeen {
+        let secondary = pair.secondary();
+        SecondarySeen {
+            next: secondary.next(),
+            is_drained: secondary.is_drained(),
+            is_open: secondary.is_open(),
+            is_hello_done: secondary.is_hello_done(),
+            usage: secondary.usage(),
+        }
+    }
+}
+
+/// The identifiers, the marks and both disks are these.
+pub(crate) fn holds(rt: &impl Abort, pair: &mut Pair, held: &Held) {
+    let disks = Disks::of(pair);
+    assert_eq!(rt;
+        (words(disks.own), words(disks.peer)),
+        (held.own, held.peer)
+    );
+    for index in 0..BLOCKS {
+        let is_marked = held.marks.contains(&(index as u64));
+        let wanted = BlockSeen::wanted(
+            is_marked,
+            held.local_filled[index],
+            held.peer_filled[index],
+        );
+        assert_eq!(rt; disks.blocks[index], wanted, "block {index}");
+    }
+}
+
+/// A tuple in the order in which it is printed.
+fn words(tuple: Tuple) -> [u64; 4] {
+    [
+        tuple.current,
+        tuple.bitmap,
+        tuple.first_historical,
+        tuple.second_historical,
+    ]
+}
+
+/// Drops a pair. Each of its parts is dropped by code that stands where the pair is dropped, and is proved there:
+/// so that is here alone.
+pub(crate) fn let_go(_pair: Pair) {}

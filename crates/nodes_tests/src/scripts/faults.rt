@@ -1,0 +1,54 @@
+//! A script that cannot be read, and an output that cannot be written.
+use crate::scripts::rows::is_one_line;
+use script::script_on;
+use std::io;
+use std::io::Read;
+use std::test::Fail;
+
+/// An input that fails after its bytes.
+#[derive(Drop)]
+struct Broken {
+    bytes: &'static [u8],
+}
+
+impl Read for Broken {
+    fn read(&mut self, buf: &mut [u8]) -> io::Result<usize> {
+        match (self.bytes.split_first(), buf.first_mut()) {
+            (Some((byte, rest)), Some(place)) => {
+                *place = *byte;
+                self.bytes = rest;
+                Ok(1)
+            }
+            _ => Err(io::Error::from(io::ErrorKind::BrokenPipe)),
+        }
+    }
+}
+
+#[test]
+fn an_input_that_fails_runs_nothing(rt: HostRuntime) -> Result<(), Fail> {
+    let alloc = rt.alloc();
+    for bytes in [b"".as_slice(), b"pair\nsent\n".as_slice()] {
+        let mut written = Vec::new(alloc);
+        let mut said = Vec::new(alloc);
+        let mut input = Broken { bytes };
+        let status = script_on(alloc, &mut input, &mut written, &mut said);
+        assert_eq!(rt; status, 1);
+        assert!(rt; written.is_empty());
+        is_one_line(&rt, &said);
+    }
+    Ok(())
+}
+
+#[test]
+fn an_output_that_fails_stops_a_script(rt: HostRuntime) -> Result<(), Fail> {
+    let alloc = rt.alloc();
+    let mut room = [0u8; 8];
+    let mut written = room.as_mut_slice();
+    let mut said = Vec::new(alloc);
+    let mut input = b"pair\nmarks\nsent\n".as_slice();
+    let status = script_on(alloc, &mut input, &mut written, &mut said);
+    assert_eq!(rt; status, 1);
+    assert_eq!(rt; room.as_slice(), b"pair ok\n".as_slice());
+    is_one_line(&rt, &said);
+    Ok(())
+}

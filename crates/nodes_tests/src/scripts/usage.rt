@@ -1,0 +1,300 @@
+//! What is a script, and which lines stop one.
+use crate::scripts::rows::{is_one_line, prints};
+use script::script_on;
+use std::process::Abort;
+use std::test::Fail;
+
+/// After a pair, none of these lines is a command.
+fn are_no_commands(rt: &(impl Abort + AllocGlobal), lines: &[&str]) -> Result<(), Fail> {
+    for line in lines {
+        let mut script = String::from_str(rt.alloc(), "pair\n")?;
+        script.push_str(line)?;
+        script.push_str("\nmarks\n")?;
+        prints(
+            rt,
+            script.as_str(),
+            "pair ok\n",
+            "line 2: not a command\n",
+            2,
+        )?;
+    }
+    Ok(())
+}
+
+/// The bytes are no text: nothing is printed, and one line on standard error says so.
+fn are_no_text(rt: &(impl Abort + AllocGlobal), script: &[u8]) -> Result<(), Fail> {
+    let alloc = rt.alloc();
+    let mut written = Vec::new(alloc);
+    let mut said = Vec::new(alloc);
+    let mut input = script;
+    let status = script_on(alloc, &mut input, &mut written, &mut said);
+    assert_eq!(rt; status, 1);
+    assert!(rt; written.is_empty());
+    is_one_line(rt, &said);
+    Ok(())
+}
+
+/// Scripts: what each prints, what it says on standard error, and its status.
+const SCRIPTS: &[(&str, &str, &str, u8)] = &[
+    ("", "", "", 0),
+    ("\n", "", "", 0),
+    ("#", "", "", 0),
+    ("\n# pair\n\n#pair\n", "", "", 0),
+    ("pair", "pair ok\n", "", 0),
+    ("pair\nmarks", "pair ok\nmarks none\n", "", 0),
+    ("pair\n# marks", "pair ok\n", "", 0),
+    (
+        "# größer\n\npair\n\n#\nsent\nmarks\n",
+        "pair ok\n",
+        "line 6: not a command\n",
+        2,
+    ),
+    ("sent\npair\n", "", "line 1: not a command\n", 2),
+    ("pair\npair", "pair ok\n", "line 2: second pair\n", 2),
+    (
+        "pair\nsend\n\npair blocks=0\nsend\n",
+        "pair ok\nsend refused 12\n",
+        "line 4: second pair\n",
+        2,
+    ),
+    (
+        "pair\npair blocks\n",
+        "pair ok\n",
+        "line 2: not a command\n",
+        2,
+    ),
+    (
+        "pair slots=0\npair\n",
+        "pair refused 15\n",
+        "line 2: no pair\n",
+        2,
+    ),
+    (
+        "pair slots=0\n#\n\nsent\n",
+        "pair refused 15\n",
+        "line 4: not a command\n",
+        2,
+    ),
+];
+
+#[test]
+fn scripts_are_run_or_stopped(rt: HostRuntime) -> Result<(), Fail> {
+    for (script, out, err, status) in SCRIPTS {
+        prints(&rt, script, out, err, *status)?;
+    }
+    Ok(())
+}
+
+#[test]
+fn a_thousand_empty_lines_are_counted(rt: HostRuntime) -> Result<(), Fail> {
+    let mut script = String::new(rt.alloc());
+    for _ in 0..1000 {
+        script.push_str("\n")?;
+    }
+    script.push_str("marks")?;
+    prints(&rt, script.as_str(), "", "line 1001: no pair\n", 2)
+}
+
+/// Each command but `pair`.
+const COMMANDS: [&str; 20] = [
+    "open 5 7",
+    "connect 5 7",
+    "submit 0 1 AA",
+    "local 1",
+    "localfail 1 0",
+    "send",
+    "receive",
+    "ackout",
+    "ackin",
+    "peer 0",
+    "peerfail 0 0",
+    "resync",
+    "resyncfail",
+    "close primary",
+    "close secondary",
+    "marks",
+    "diff",
+    "tuples",
+    "read primary 0",
+    "status",
+];
+
+/// No command can stand here: after these lines, each stops the script, which goes on with a pair.
+fn have_no_pair(
+    rt: &(impl Abort + AllocGlobal),
+    before: &str,
+    out: &str,
+    err: &str,
+) -> Result<(), Fail> {
+    for command in COMMANDS {
+        let mut script = String::from_str(rt.alloc(), before)?;
+        script.push_str(command)?;
+        script.push_str("\npair\n")?;
+        prints(rt, script.as_str(), out, err, 2)?;
+    }
+    Ok(())
+}
+
+#[test]
+fn a_pair_comes_first(rt: HostRuntime) -> Result<(), Fail> {
+    have_no_pair(&rt, "#\n", "", "line 2: no pair\n")?;
+    have_no_pair(
+        &rt,
+        "pair slots=0\n\n",
+        "pair refused 15\n",
+        "line 3: no pair\n",
+    )
+}
+
+/// Words are parted by one space.
+const PARTED_OTHERWISE: &[&str] = &[
+    " ",
+    " # note",
+    "sent",
+    "Send",
+    "SEND",
+    "send ",
+    " send",
+    "send\t",
+    "send\r",
+    "send send",
+    "send 1",
+    "local  1",
+    "local 1 ",
+    "local\t1",
+    "submit 0  1 AA",
+    "submit 0 1  AA",
+    "\0",
+    "größe",
+    "send\u{a0}",
+];
+
+/// Commands have their words.
+const OTHER_WORDS: &[&str] = &[
+    "open",
+    "open 5",
+    "open 5 7 9",
+    "connect",
+    "connect 5",
+    "connect 5 7 9",
+    "submit",
+    "submit 0",
+    "submit 0 1",
+    "submit 0 1 AA 0",
+    "local",
+    "local 1 1",
+    "localfail",
+    "localfail 1",
+    "localfail 1 1 1",
+    "peer",
+    "peer 0 0",
+    "peerfail",
+    "peerfail 0",
+    "peerfail 0 0 0",
+    "receive 0",
+    "ackout 0",
+    "ackin 0",
+    "resync 0",
+    "resyncfail 0",
+    "close",
+    "close both",
+    "close primary secondary",
+    "close Primary",
+    "marks 0",
+    "diff 0",
+    "tuples 0",
+    "read",
+    "read 0",
+    "read primary",
+    "read both 0",
+    "read primary 0 0",
+    "status primary",
+];
+
+/// Numbers are decimal, without a sign, and have 64 bits.
+const OTHER_NUMBERS: &[&str] = &[
+    "local x",
+    "local +1",
+    "local -1",
+    "local 1.0",
+    "local 0x1",
+    "local 1a",
+    "local 1_000",
+    "local 18446744073709551616",
+    "local 18446744073709551617",
+    "local 99999999999999999999",
+    "local 100000000000000000000000000000000000000001",
+    "localfail 18446744073709551616 0",
+    "localfail 1 18446744073709551616",
+    "peer 18446744073709551616",
+    "peerfail 0 -1",
+    "peerfail 0 18446744073709551616",
+    "peerfail 18446744073709551616 0",
+    "open 18446744073709551616 1",
+    "open 5 18446744073709551616",
+    "connect 18446744073709551616 7",
+    "connect 5 18446744073709551616",
+    "submit 18446744073709551616 1 AA",
+    "submit 0 18446744073709551616 AA",
+    "submit 0 18446744073709551617 AA",
+    "submit -1 1 AA",
+    "read primary 18446744073709551616",
+    "read secondary -1",
+];
+
+/// A command submits at most 64 blocks.
+const TOO_MANY_BLOCKS: &[&str] = &[
+    "submit 0 65 AA",
+    "submit 0 256 AA",
+    "submit 0 257 AA",
+    "submit 0 4294967297 AA",
+    "submit 0 18446744073709551615 AA",
+];
+
+/// A byte is two hexadecimal digits.
+const OTHER_BYTES: &[&str] = &[
+    "submit 0 1 ",
+    "submit 0 1 A",
+    "submit 0 1 AAA",
+    "submit 0 1 0xA",
+    "submit 0 1 G0",
+    "submit 0 1 0g",
+    "submit 0 1 +1",
+    "submit 0 1 @0",
+    "submit 0 1 0`",
+    "submit 0 1 :0",
+    "submit 0 1 0/",
+    "submit 0 1 é",
+];
+
+#[test]
+fn these_are_no_commands(rt: HostRuntime) -> Result<(), Fail> {
+    for lines in [
+        PARTED_OTHERWISE,
+        OTHER_WORDS,
+        OTHER_NUMBERS,
+        TOO_MANY_BLOCKS,
+        OTHER_BYTES,
+    ] {
+        are_no_commands(&rt, lines)?;
+    }
+    Ok(())
+}
+
+/// Bytes that are no text.
+const NO_TEXTS: &[&[u8]] = &[
+    b"\xFF",
+    b"pair\nmarks\n\xFF\n",
+    b"pair\nsent\n# \x80\n",
+    b"# \xC0\x80\n",
+    b"# \xED\xA0\x80\n",
+    b"pair\n# \xC3",
+];
+
+#[test]
+fn a_script_is_text(rt: HostRuntime) -> Result<(), Fail> {
+    for script in NO_TEXTS {
+        are_no_text(&rt, script)?;
+    }
+    Ok(())
+}

@@ -1,0 +1,133 @@
+//! Packets go through a link from one side to the other, and are refused where they have no way.
+ghost use Rattle.std.specs.Prelude.{◌≡◌, ◌-◌, [], length, take, unwrap_or, None, Some, IfOk};
+
+use crate::frames::links::direction;
+use crate::frames::samples::{Sample, is_read, packet_of};
+use blocks::{Protocol, Refusal};
+use endpoint::{Incoming, Outgoing, joined};
+use link::{PlainIn, PlainOut};
+use packets::Packet;
+use std::alloc::Global;
+use std::process::Abort;
+
+/// A direction of a link that holds one packet.
+#[derive(Drop)]
+struct Direction {
+    sender: Outgoing<PlainOut>,
+    taker: Incoming<PlainIn>,
+    // What was taken is what was pushed but for what waits in the queue.
+    ghost lends: { taker.frames ≡ take (length sender.frames - unwrap_or sender.waiting 0) sender.frames },
+}
+
+impl Direction {
+    fn new(alloc: Global) -> Result<Direction, Refusal>
+        ensures first { IfOk result (λ d. (d.sender.number ≡ 1) × (d.taker.number ≡ 1)) }
+        ensures unused { IfOk result (λ d. (d.sender.frames ≡ []) × (d.taker.frames ≡ [])) }
+        ensures empty { IfOk result (λ d. (d.sender.waiting ≡ Some 0) × (d.sender.partly ≡ None)) }
+    {
+        let (sender, taker) = direction(alloc)?;
+        Ok(Direction {
+            sender: Outgoing::new(sender),
+            taker: Incoming::new(taker),
+        })
+    }
+
+    /// Lends the direction's queue to the taking side for one take.
+    fn carry(&mut self) -> Result<Packet, Refusal> {
+        self.taker.ready()?;
+        let Some(queue) = self.sender.give_queue() else {
+            return Err(Refusal::NothingThere);
+        };
+        self.taker.lay_queue(queue);
+        let taken = self.taker.take();
+        if let Some(queue) = self.taker.give_queue() {
+            self.sender.lay_queue(queue);
+        }
+        taken?
+    }
+}
+
+// A direction with this packet in it.
+fn pushed(alloc: Global, sample: &'static Sample) -> Result<Direction, Refusal>
+    ensures first { IfOk result (λ d. (d.sender.number ≡ 1) × (d.taker.number ≡ 1)) }
+    ensures whole { IfOk result (λ d. d.sender.partly ≡ None) }
+{
+    let mut direction = Direction::new(alloc)?;
+    direction.sender.push(alloc, packet_of(alloc, sample)?)?;
+    Ok(direction)
+}
+
+fn goes_through(rt: &(impl Abort + AllocGlobal), sample: &'static Sample) -> Result<(), Refusal> {
+    let alloc = rt.alloc();
+    let mut direction = pushed(alloc, sample)?;
+    let read = direction.carry();
+    joined(&direction.sender, &direction.taker);
+    is_read(rt, alloc, 0, &read, Ok(sample))
+}
+
+// Run with each request for memory refused in turn, this fails only where the link is made.
+#[test]
+fn a_short_frame_takes_no_memory(rt: HostRuntime) -> Result<(), Refusal> {
+    goes_through(&rt, &Sample::Protocol(Protocol::C))
+}
+
+#[test]
+fn a_block_goes_through_a_link(rt: HostRuntime) -> Result<(), Refusal> {
+    goes_through(&rt, &Sample::Write)
+}
+
+#[test]
+fn a_connection_drops_the_packets_of_the_one_before(rt: HostRuntime) -> Result<(), Refusal> {
+    let alloc = rt.alloc();
+    let mut direction = pushed(alloc, &Sample::Sizes(8))?;
+    direction.sender.restart(2);
+    direction.taker.restart(2);
+    is_read(
+        &rt,
+        alloc,
+        0,
+        &direction.carry(),
+        Err(Refusal::NothingThere),
+    )?;
+    Ok(())
+}
+
+// The sender is full, and refuses a packet.
+fn is_full(rt: &impl Abort, alloc: Global, sender: &mut Outgoing<PlainOut>, blocks: u64)
+    requires { sender.old.partly ≡ None }
+{
+    let refused = sender.push(alloc, Packet::Sizes { blocks });
+    assert_eq!(rt; refused, Err(Refusal::LinkFull));
+}
+
+#[test]
+fn a_full_link_refuses_a_packet(rt: HostRuntime) -> Result<(), Refusal> {
+    let alloc = rt.alloc();
+    let Direction { mut sender, taker } = pushed(alloc, &Sample::Sizes(8))?;
+    is_full(&rt, alloc, &mut sender, 16);
+    joined(&sender, &taker);
+    Ok(())
+}
+
+// The taker has no queue, and finds nothing.
+fn is_empty(rt: &impl Abort, taker: &mut Incoming<PlainIn>) -> Result<(), Refusal> {
+    taker.ready()?;
+    let taken = taker.take().err();
+    let is_there = taker.give_queue().is_some();
+    assert_eq!(rt; (taken, is_there), (Some(Refusal::NothingThere), false));
+    Ok(())
+}
+
+#[test]
+fn a_side_without_its_queue_is_full_or_empty(rt: HostRuntime) -> Result<(), Refusal> {
+    let alloc = rt.alloc();
+    let Direction {
+        mut sender,
+        mut taker,
+    } = Direction::new(alloc)?;
+    is_empty(&rt, &mut taker)?;
+    let is_there = (sender.give_queue().is_some(), sender.give_queue().is_some());
+    assert_eq!(rt; is_there, (true, false));
+    is_full(&rt, alloc, &mut sender, 8);
+    Ok(())
+}

@@ -1,0 +1,149 @@
+//! What a decoder makes of a stream: pieces that end inside a frame, pieces of several frames, and a fault.
+use crate::frames::samples::{Sample, packet_of};
+use crate::frames::vectors::{BARRIER, BARRIER_ACK, OTHER_MAGIC, WRITE, with_blocks};
+use blocks::Refusal;
+use packets::{Decoder, Packet, decode_all};
+use std::alloc::Global;
+use std::process::Abort;
+
+/// A piece of a stream, what the decoder answers to it, and how many packets it has given by then.
+type Piece<'a> = (&'a [u8], Result<(), Refusal>, usize);
+
+// The decoder answers the piece so, and has then given so many packets.
+fn feed(
+    rt: &impl Abort,
+    row: usize,
+    decoder: &mut Decoder,
+    packets: &mut Vec<Packet>,
+    piece: &[u8],
+    (answer, count): (Result<(), Refusal>, usize),
+) {
+    let is_right = decoder.feed(piece, packets) == answer && packets.len() == count;
+    assert!(rt; is_right, "row {row}");
+}
+
+// A new decoder answers each piece so, and gives these packets. Byte by byte, a piece changes nothing before
+// its last byte.
+fn is_decoded(
+    rt: &impl Abort,
+    alloc: Global,
+    row: usize,
+    is_byte_by_byte: bool,
+    pieces: &[Piece],
+    wanted: &[Packet],
+) {
+    let mut decoder = Decoder::new(alloc);
+    let mut packets = Vec::new(alloc);
+    let mut before = (Ok(()), 0);
+    for (bytes, answer, count) in pieces {
+        let whole = if is_byte_by_byte {
+            bytes.len().saturating_sub(1)
+        } else {
+            0
+        };
+        let (front, end) = bytes.split_at(whole);
+        for byte in front {
+            feed(rt, row, &mut decoder, &mut packets, &[*byte], before);
+        }
+        before = (*answer, *count);
+        feed(rt, row, &mut decoder, &mut packets, end, before);
+    }
+    assert!(rt; packets.as_slice() == wanted, "row {row}");
+}
+
+/// The stream of a table's row is answered so, and gives these packets, in one piece, and byte by byte with
+/// its last byte.
+pub(crate) fn is_one_frame(
+    rt: &impl Abort,
+    alloc: Global,
+    row: usize,
+    bytes: &[u8],
+    answer: Result<(), Refusal>,
+    wanted: &[Packet],
+) {
+    let pieces = [(bytes, answer, wanted.len())];
+    is_decoded(rt, alloc, row, false, &pieces, wanted);
+    is_decoded(rt, alloc, row, true, &pieces, wanted);
+}
+
+/// A barrier and its acknowledgement.
+const BOTH: [u8; 32] = [
+    0x83, 0x5A, 0, 3, 0, 0, 0, 8, 0, 0, 0, 1, 0, 0, 0, 0, 0x83, 0x5A, 0, 0x1C, 0, 0, 0, 8, 0, 0, 0,
+    1, 0, 0, 0, 1,
+];
+
+/// A barrier, and then another magic number.
+const FAULTY: [u8; 24] = [
+    0x83, 0x5A, 0, 3, 0, 0, 0, 8, 0, 0, 0, 1, 0, 0, 0, 0, 0x83, 0x5B, 0, 3, 0, 0, 0, 8,
+];
+
+const FAULT: Result<(), Refusal> = Err(Refusal::BadMagic);
+
+/// Whether the pieces are fed byte by byte, the pieces, and the packets.
+type Stream = (bool, &'static [Piece<'static>], &'static [Sample]);
+
+static STREAMS: [Stream; 5] = [
+    // A frame in two pieces, after an empty one.
+    (
+        false,
+        &[
+            (&[], Ok(()), 0),
+            (&[0x83, 0x5A, 0, 3, 0, 0, 0], Ok(()), 0),
+            (&[8, 0, 0, 0, 1, 0, 0, 0, 0], Ok(()), 1),
+        ],
+        &[Sample::Barrier(1)],
+    ),
+    // Several frames.
+    (
+        false,
+        &[(&BOTH, Ok(()), 2)],
+        &[Sample::Barrier(1), Sample::BarrierAck(1, 1)],
+    ),
+    (
+        true,
+        &[(&BARRIER, Ok(()), 1), (&BARRIER_ACK, Ok(()), 2)],
+        &[Sample::Barrier(1), Sample::BarrierAck(1, 1)],
+    ),
+    // A fault is answered again.
+    (
+        false,
+        &[(&FAULTY, FAULT, 1), (&BARRIER, FAULT, 1)],
+        &[Sample::Barrier(1)],
+    ),
+    (
+        true,
+        &[
+            (&BARRIER, Ok(()), 1),
+            (&OTHER_MAGIC, FAULT, 1),
+            (&BARRIER, FAULT, 1),
+        ],
+        &[Sample::Barrier(1)],
+    ),
+];
+
+#[test]
+fn a_stream_comes_in_any_pieces(rt: HostRuntime) -> Result<(), Refusal> {
+    let alloc = rt.alloc();
+    for (row, (is_byte_by_byte, pieces, samples)) in STREAMS.iter().enumerate() {
+        let mut wanted = Vec::new(alloc);
+        for sample in *samples {
+            wanted.push(packet_of(alloc, sample)?)?;
+        }
+        is_decoded(&rt, alloc, row, *is_byte_by_byte, pieces, &wanted);
+    }
+    Ok(())
+}
+
+#[test]
+fn a_write_comes_in_two_pieces(rt: HostRuntime) -> Result<(), Refusal> {
+    let alloc = rt.alloc();
+    let write = with_blocks(alloc, &WRITE, 1, 0xAA)?;
+    let wanted = vec![in alloc; packet_of(alloc, &Sample::Write)?]?;
+    for cut in 0..=write.len() {
+        let (front, end) = write.split_at(cut);
+        let transcript = decode_all(alloc, &[front, end])?;
+        let is_read = transcript.packets == wanted && transcript.fault.is_none();
+        assert!(rt; is_read, "cut at {cut}");
+    }
+    Ok(())
+}

@@ -1,0 +1,5 @@
+//! The nodes' parts.
+
+mod activity;
+mod device;
+mod pending;

@@ -1,0 +1,133 @@
+//! Frames over one connection after another.
+ghost use Rattle.std.specs.Prelude.{◌≡◌, ◌<◌, None, IfOk};
+ghost use Rattle.packets.specs.Cutting.{IsCut};
+ghost use Rattle.packets.specs.Spelling.{IsSpellable};
+
+use crate::ruled::ends::{accepts, carries, gives, gives_none, hands_back};
+use crate::ruled::vectors::{BARRIER, write};
+use blocks::{Block, Refusal};
+use bytes::Bytes;
+use link::{FrameIn, FrameOut};
+use packets::{Frame, Packet, encode};
+use ruled_link::{RuledIn, RuledOut, row};
+use std::alloc::Global;
+use std::process::Abort;
+use std::sync::Wait;
+
+/// The frame of a packet is whole.
+pub(crate) fn spelled(alloc: Global, packet: &Packet) -> Result<Frame, Refusal>
+    requires { IsSpellable packet.now }
+    ensures { IfOk result (λ frame. IsCut frame) }
+{
+    encode(alloc, packet)
+}
+
+/// The frame of a write of block 2.
+fn one_block_in(alloc: Global) -> Result<Frame, Refusal>
+    ensures { IfOk result (λ frame. IsCut frame) }
+{
+    spelled(
+        alloc,
+        &Packet::Data {
+            first: Block(2),
+            number: 1,
+            place: 0,
+            contents: Bytes::copy_from_slice(alloc, &[0xAA; 4096])?,
+        },
+    )
+}
+
+/// The same, where there is memory for it.
+pub(crate) fn one_block(rt: &impl Abort, alloc: Global) -> Frame
+    ensures { IsCut result }
+{
+    one_block_in(alloc).expect(rt, "a write has a frame")
+}
+
+/// The frame of a barrier.
+pub(crate) fn barrier(rt: &impl Abort, alloc: Global, number: u32) -> Frame
+    ensures { IsCut result }
+{
+    spelled(alloc, &Packet::Barrier { number }).expect(rt, "a barrier has a frame")
+}
+
+/// The two ends of a link with a row for so many pieces.
+fn ends<R: Wait + Abort + Copy>(rt: R, alloc: Global, pieces: usize) -> (RuledOut<R>, RuledIn<R>)
+    requires { 0 < pieces }
+    ensures partly { result.0.partly ≡ None }
+    ensures numbers { (result.0.number ≡ 1) × (result.1.number ≡ 1) }
+{
+    let (outward, inward) = row(rt, alloc, pieces).expect(&rt, "there is a row");
+    let inward = RuledIn::new(alloc, inward).expect(&rt, "there is a taking end");
+    (RuledOut::new(outward), inward)
+}
+
+/// A row does not hold a frame at once, which goes on from where it was.
+fn goes_on<O: FrameOut, I: FrameIn>(rt: &impl Abort, alloc: Global, outward: &mut O, inward: &mut I)
+    requires { (O.state outward.old).partly ≡ None }
+{
+    let frame = hands_back(rt, outward, one_block(rt, alloc));
+    carries(rt, outward, inward, frame, &write(rt, alloc));
+}
+
+#[test]
+fn a_full_row_is_gone_on_with(rt: HostRuntime) {
+    let (mut outward, mut inward) = ends(&rt, rt.alloc(), 2);
+    goes_on(&rt, rt.alloc(), &mut outward, &mut inward);
+}
+
+/// The connection of a frame in part is over, and the next one has frames of its own.
+fn begins_anew<O: FrameOut, I: FrameIn>(
+    rt: &impl Abort,
+    alloc: Global,
+    outward: &mut O,
+    inward: &mut I,
+)
+    requires partly { (O.state outward.old).partly ≡ None }
+    requires sending { (O.state outward.old).number ≡ 1 }
+    requires taking { (I.state inward.old).number ≡ 1 }
+{
+    let _ = hands_back(rt, outward, one_block(rt, alloc));
+    gives_none(rt, inward);
+    outward.restart(2);
+    accepts(rt, outward, barrier(rt, alloc, 1));
+    // The piece of the second connection is in hand until that begins.
+    gives_none(rt, inward);
+    gives_none(rt, inward);
+    inward.restart(2);
+    gives(rt, inward, &BARRIER);
+    gives_none(rt, inward);
+}
+
+#[test]
+fn a_connection_ends_within_a_frame(rt: HostRuntime) {
+    let (mut outward, mut inward) = ends(&rt, rt.alloc(), 2);
+    begins_anew(&rt, rt.alloc(), &mut outward, &mut inward);
+}
+
+/// Frames of three connections stand in a row, of which the last one is taken.
+fn drops_earlier<O: FrameOut, I: FrameIn>(
+    rt: &impl Abort,
+    alloc: Global,
+    outward: &mut O,
+    inward: &mut I,
+)
+    requires partly { (O.state outward.old).partly ≡ None }
+    requires sending { (O.state outward.old).number ≡ 1 }
+    requires taking { (I.state inward.old).number ≡ 1 }
+{
+    accepts(rt, outward, one_block(rt, alloc));
+    outward.restart(2);
+    accepts(rt, outward, barrier(rt, alloc, 2));
+    outward.restart(5);
+    accepts(rt, outward, barrier(rt, alloc, 1));
+    inward.restart(5);
+    gives(rt, inward, &BARRIER);
+    gives_none(rt, inward);
+}
+
+#[test]
+fn pieces_of_a_connection_that_is_over_are_dropped(rt: HostRuntime) {
+    let (mut outward, mut inward) = ends(&rt, rt.alloc(), 8);
+    drops_earlier(&rt, rt.alloc(), &mut outward, &mut inward);
+}

@@ -1,0 +1,61 @@
+//! A row of whose moments a fact is kept.
+ghost use Rattle.std.specs.Prelude.{[]};
+
+use crate::ruled::connections::one_block;
+use crate::ruled::ends::carries;
+use crate::ruled::vectors::write;
+use ruled_link::{Moment, Piece, PieceIn, PieceOut, watched, watched_row};
+use std::alloc::Global;
+use std::marker::Brand;
+use std::process::Abort;
+use std::sync::Wait;
+
+/// The first piece of the row has these bytes.
+fn pops<R: Wait, M: Moment>(abort: &impl Abort, row: &mut PieceIn<R, M>, bytes: &[u8]) {
+    let piece = row.pop().expect(abort, "there is a piece");
+    assert_eq!(abort; piece.bytes(), bytes);
+}
+
+/// A row for one piece is empty and then full.
+fn holds_one_piece<R: Wait, M: Moment>(
+    abort: &impl Abort,
+    outward: &mut PieceOut<R, M>,
+    inward: &mut PieceIn<R, M>,
+) {
+    assert!(abort; inward.pop().is_none());
+    assert!(abort; outward.push(Piece::new(b"first")).is_ok());
+    let Err(second) = outward.push(Piece::new(b"second")) else {
+        panic!(abort; "two pieces stand in a row for one");
+    };
+    assert_eq!(abort; second.bytes(), b"second".as_slice());
+    pops(abort, inward, b"first");
+    assert!(abort; inward.pop().is_none());
+    assert!(abort; outward.push(second).is_ok());
+}
+
+/// So is one of whose moments this is kept.
+fn is_empty_and_then_full<M: Moment, R: Wait + Abort + Copy>(rt: R, alloc: Global)
+    requires { M.holds [] [] }
+{
+    let (mut outward, mut inward) = watched_row::<R, M>(rt, alloc, 1).expect(&rt, "there is a row");
+    holds_one_piece(&rt, &mut outward, &mut inward);
+}
+
+#[test]
+fn a_watched_row_is_empty_and_then_full(rt: HostRuntime) {
+    is_empty_and_then_full::<Brand, &HostRuntime>(&rt, rt.alloc());
+}
+
+/// A frame goes through a link, which then has none.
+fn one_frame_goes_through<M: Moment, R: Wait + Abort + Copy>(rt: R, alloc: Global)
+    requires { M.holds [] [] }
+{
+    let (mut outward, mut inward) = watched::<R, M>(rt, alloc, 1).expect(&rt, "there is a link");
+    let (frame, bytes) = (one_block(&rt, alloc), write(&rt, alloc));
+    carries(&rt, &mut outward, &mut inward, frame, &bytes);
+}
+
+#[test]
+fn a_watched_link_gives_all_and_then_none(rt: HostRuntime) {
+    one_frame_goes_through::<Brand, &HostRuntime>(&rt, rt.alloc());
+}
