@@ -7,13 +7,13 @@ use Rattle.link.specs.Past.{Past, Went}
 use Rattle.ruled_link.specs.Carried.{BeginsNoCut, IsCarried, IsRising, past_on, whole_length}
 use Rattle.ruled_link.specs.Pieces.{EndState, PieceState, bytes_if, bytes_on}
 
--- the bytes of a frame that came so far, and whether there is a buffer for the longest one
+-- the bytes of a frame that came so far, and whether there is room for the longest one
 pub record GatheredState : Type 0 where
   pub bytes : List ℕ
   pub is_ready : Bool
 
--- The bytes are no more than the frame has that begins so, whose length is noted. Where there is a buffer, it has room
--- for the longest frame, of 131,104 bytes; where there is none, no bytes came.
+-- The bytes are no more than the frame has that begins so, whose length is noted. Where the chunk is ready, it has room
+-- for the longest frame, of 131,104 bytes; where it is not, no bytes came.
 pub record IsGathered (bytes : List ℕ) (spare : ℕ) (is_ready : Bool) (whole : ℕ) : Type 0 where
   pub noted : whole ≡ whole_length bytes
   pub within : length bytes ≤ whole

@@ -9,11 +9,13 @@ use bytes::{Bytes, BytesMut};
 use packets::{Frame, cut_length};
 use std::alloc::Global;
 use std::marker::Model;
-use std::mem;
 use std::sync::Wait;
 
 /// Bytes of the longest frame, a write of 32 blocks.
 const LONGEST_FRAME: usize = 131_104;
+
+/// Bytes of a chunk: 1 MiB, and then the longest frame, so that each frame that begins in the first MiB has room.
+const CHUNK_BYTES: usize = 1_048_576 + LONGEST_FRAME;
 
 /// Bytes of a header.
 const HEADER_BYTES: usize = 8;
@@ -21,12 +23,12 @@ const HEADER_BYTES: usize = 8;
 /// The most bytes of a frame that stands inline.
 const SHORT_FRAME: usize = 40;
 
-/// The bytes of a frame that came so far, in a buffer for the longest one.
+/// The bytes of a frame that came so far, in a chunk that frames are cut off.
 #[derive(Drop)]
 pub(crate) struct Gathered {
     alloc: Global,
     buffer: BytesMut,
-    // Whether there is a buffer: it goes out with a long frame.
+    // Whether the chunk has room for the longest frame: a long frame keeps its part of it.
     is_ready: bool,
     // How many bytes the frame has, once its header is there; before, those of a header.
     whole: usize,
@@ -43,27 +45,27 @@ impl Model for Gathered {
 }
 
 impl Gathered {
-    /// No bytes, and a buffer. `NoMemory` (7) where it cannot be had.
+    /// No bytes, and a chunk. `NoMemory` (7) where it cannot be had.
     pub(crate) fn new(alloc: Global) -> Result<Gathered, Refusal>
         ensures empty { IfOk result (λ g. g ≡ record { bytes = []; is_ready = true }) }
         ensures refused { IfErr result (λ e. e ≡ NoMemory) }
     {
         Ok(Gathered {
             alloc,
-            buffer: new_buffer(alloc)?,
+            buffer: new_chunk(alloc)?,
             is_ready: true,
             whole: HEADER_BYTES,
         })
     }
 
-    /// Makes a buffer where there is none. `NoMemory` (7) where it cannot be had.
+    /// Makes a new chunk where the last one has no room for the longest frame. `NoMemory` (7) where it cannot be had.
     pub(crate) fn ready(&mut self) -> Result<(), Refusal>
         ensures ready { OnOk result (self.new ≡ record self.old { is_ready = true }) }
         ensures unchanged { OnErr result (self.new ≡ self.old) }
         ensures refused { IfErr result (λ e. e ≡ NoMemory) }
     {
         if !self.is_ready {
-            self.buffer = new_buffer(self.alloc)?;
+            self.buffer = new_chunk(self.alloc)?;
             self.is_ready = true;
         }
         Ok(())
@@ -124,7 +126,7 @@ impl Gathered {
         taken
     }
 
-    /// The frame, where it is whole. A long one goes out in the buffer. It takes no memory.
+    /// The frame, where it is whole. A long one shares the chunk. It takes no memory.
     pub(crate) fn cut<R: Wait>(&mut self, rt: &R) -> Option<Frame>
         ensures { MatchOption result ((self.new ≡ self.old) × BeginsNoCut self.old.bytes)
             (λ frame. IsCut frame × (frame ≡ self.old.bytes) × (self.new.bytes ≡ [])
@@ -139,34 +141,33 @@ impl Gathered {
             self.buffer.clear();
             return Some(frame);
         }
-        self.is_ready = false;
-        let buffer = mem::replace(&mut self.buffer, BytesMut::new(self.alloc));
-        Some(Frame::new(frozen(rt, buffer)))
+        let bytes = frozen(rt, &mut self.buffer);
+        self.is_ready = LONGEST_FRAME <= self.buffer.capacity();
+        Some(Frame::new(bytes))
     }
 }
 
-/// A buffer for the longest frame. The split has its block counted by owners already, so that it can be
-/// frozen later without memory.
-fn new_buffer(alloc: Global) -> Result<BytesMut, Refusal>
+/// A chunk with room for the longest frame. The split has its block counted by owners already, so that frames
+/// can be cut off it later without memory.
+fn new_chunk(alloc: Global) -> Result<BytesMut, Refusal>
     ensures empty { IfOk result (λ b. (b.items ≡ []) × (131104 ≤ b.spare)) }
     ensures refused { IfErr result (λ e. e ≡ NoMemory) }
 {
-    let mut buffer = BytesMut::with_capacity(alloc, LONGEST_FRAME + 1)?;
-    buffer.advance_mut(1);
-    let _ = buffer.split_to(1)?;
-    Ok(buffer)
+    let mut chunk = BytesMut::with_capacity(alloc, CHUNK_BYTES + 1)?;
+    chunk.advance_mut(1);
+    let _ = chunk.split_to(1)?;
+    Ok(chunk)
 }
 
-/// The bytes of a buffer whose block is counted by owners. No memory is asked for there, but no contract of
-/// the buffer says so: hence it asks again where it is refused.
-fn frozen<R: Wait>(rt: &R, buffer: BytesMut) -> Bytes
-    ensures { result ≡ buffer.items }
+/// All bytes of a chunk whose block is counted by owners, cut off it. No memory is asked for there, but no
+/// contract of the chunk says so: hence it asks again where it is refused.
+fn frozen<R: Wait>(rt: &R, chunk: &mut BytesMut) -> Bytes
+    ensures bytes { result ≡ chunk.old.items }
+    ensures rest { chunk.new.items ≡ [] }
 {
-    let mut buffer = buffer;
     for _ in rt.forever() {
-        match buffer.freeze() {
-            Ok(bytes) => return bytes,
-            Err(failed) => buffer = failed.value,
+        if let Ok(bytes) = chunk.freeze_to(chunk.len()) {
+            return bytes;
         }
     }
     unreachable!()

@@ -37,6 +37,7 @@ impl Piece {
     }
 
     /// A piece of the connection of this number.
+    #[inline]
     pub(crate) fn of(number: u32, bytes: &[u8]) -> Piece
         requires some { 0 < length bytes.now }
         requires few { length bytes.now ≤ 1400 }
@@ -52,6 +53,7 @@ impl Piece {
     }
 
     /// Its bytes.
+    #[inline]
     pub fn bytes(&self) -> &[u8]
         ensures value { result.now ≡ self.now.bytes }
         ensures some { 0 < length self.now.bytes }
@@ -61,6 +63,7 @@ impl Piece {
     }
 
     /// The number of its connection.
+    #[inline]
     pub fn number(&self) -> u32
         ensures { result ≡ self.now.number }
     {

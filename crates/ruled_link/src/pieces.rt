@@ -185,6 +185,7 @@ pub fn watched_row<R: Wait + Copy, M: Moment>(
 impl<R: Wait, M: Moment> PieceOut<R, M> {
     /// Pushes a piece at the end of the row, or hands it back where the row was full at some moment of the
     /// call. It takes no memory.
+    #[inline]
     pub fn push(&mut self, piece: Piece) -> Result<(), Piece>
         ensures pushed { OnOk result (self.new ≡ record self.old { pieces = self.old.pieces ++ piece ∷ [] }) }
         ensures handed_back { IfErr result (λ back. back ≡ piece) }
@@ -199,6 +200,7 @@ impl<R: Wait, M: Moment> PieceOut<R, M> {
 impl<R: Wait, M: Moment> PieceIn<R, M> {
     /// Takes the first piece of the row, or nothing where the row was empty at some moment of the call. It
     /// takes no memory.
+    #[inline]
     pub fn pop(&mut self) -> Option<Piece>
         ensures first { MatchOption result (self.new ≡ self.old) (λ piece.
             self.new ≡ record self.old { pieces = self.old.pieces ++ piece ∷ [] }) }
@@ -208,6 +210,7 @@ impl<R: Wait, M: Moment> PieceIn<R, M> {
     }
 
     /// Takes the first piece of this connection or a later one. Pieces of earlier ones before it are dropped.
+    #[inline]
     pub(crate) fn pop_from(&mut self, number: u32) -> Option<Piece>
         ensures next { MatchOption result (IsDropped number self.old self.new [])
             (λ piece. (number ≤ piece.number) × IsDropped number self.old self.new (piece ∷ [])) }

@@ -24,6 +24,7 @@ impl Model for Rest {
 
 impl Rest {
     /// All of a piece.
+    #[inline]
     pub(crate) fn new(piece: Piece) -> Rest
         ensures whole { result ≡ piece }
         ensures some { 0 < length result.bytes }
@@ -34,6 +35,7 @@ impl Rest {
     }
 
     /// The number of its connection.
+    #[inline]
     pub(crate) fn number(&self) -> u32
         ensures { result ≡ self.now.number }
     {
@@ -41,6 +43,7 @@ impl Rest {
     }
 
     /// The bytes that are left.
+    #[inline]
     pub(crate) fn bytes(&self) -> &[u8]
         ensures { result.now ≡ self.now.bytes }
     {
@@ -48,6 +51,7 @@ impl Rest {
     }
 
     /// Takes so many bytes from the front.
+    #[inline]
     pub(crate) fn advance(&mut self, count: usize)
         requires { count ≤ length self.old.bytes }
         ensures { self.new ≡ record self.old { bytes = drop count self.old.bytes } }

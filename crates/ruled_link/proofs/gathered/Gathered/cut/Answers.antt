@@ -1,5 +1,6 @@
 -- The bytes are a whole frame where there are as many as it has.
-use Rattle.std.proofs.Common.{false, true≢false, length, sym, ap, ◌∙◌, subst, arith, refl}
+use Rattle.std.proofs.Common.{length, sym, ap, ◌∙◌, subst, arith, refl}
+use Rattle.std.proofs.lemmas.Bool.{leb-true}
 use Rattle.packets.specs.Cutting.{IsCut}
 use Rattle.ruled_link.specs.Carried.{BeginsNoCut}
 use Rattle.ruled_link.specs.Inward.{GatheredState}
@@ -32,15 +33,17 @@ returns-then-len-le-SHORT_FRAME g c =
 
 pub invariant_of-self-2 : goal.invariant_of-self-2
 invariant_of-self-2 g c =
-    gathered_none c.replace-buffer.new.dest.items c.replace-buffer.new.dest.spare false (ap (λ b. b.items) c.replace-buffer.ensures.after ∙ c.new.ensures.items) (λ r. absurd (true≢false (sym r)))
+    let e = c.self.inside in
+    gathered_none c.frozen-bytes.new.chunk.items c.frozen-bytes.new.chunk.spare _ c.frozen-bytes.ensures.rest
+    (λ room. omega (arith, ap length c.frozen-bytes.ensures.rest, c.capacity.ensures, leb-true _ _ room))
 
 pub returns : goal.returns
 returns g c =
     let e = c.self.inside in
-    let frame = c.new-2.ensures ∙ c.frozen.ensures ∙ ap (λ b. b.items) c.replace-buffer.ensures.value in
+    let frame = c.new.ensures ∙ c.frozen-bytes.ensures.bytes in
     let cut = gathered_cut e.buffer.items e.buffer.spare e.is_ready e.whole c.self.invariant (omega (arith, c.len.ensures.value, c.if-len-self.false)) in (
       subst IsCut (sym frame) cut,
       frame ∙ ap (λ (s : GatheredState). s.bytes) c.self.view_is,
-      ap (λ b. b.items) c.replace-buffer.ensures.after ∙ c.new.ensures.items,
+      c.frozen-bytes.ensures.rest,
       λ short. absurd (omega (arith, ap length frame, short, c.len-2.ensures.value, c.if-len-le-SHORT_FRAME.false)),
     )
