@@ -1,6 +1,6 @@
 -- Frames that begin the frames sent are received as packets that begin the packets pushed.
-use Rattle.std.proofs.Common.{◌≡◌, ℕ, zero, suc, List, [], ◌∷◌, ◌++◌, length, map, Some, Ok, refl, sym, ap, ◌∙◌, subst}
-use Rattle.std.specs.Prelude.{slice_get}
+use Rattle.std.proofs.Common.{◌≡◌, ℕ, zero, suc, ◌==◌, Bool, true, false, List, [], ◌∷◌, ◌++◌, length, map, Some, Ok, refl, sym, ap, ◌∙◌, subst}
+use Rattle.std.specs.Prelude.{if◌then◌else◌, slice_get}
 use Rattle.std.specs.List.{AllByRecursion}
 use Rattle.std.proofs.lemmas.Grind.{flat_map-append}
 use Rattle.std.proofs.lemmas.List.Concat.{flat_map-cons}
@@ -15,7 +15,7 @@ use Rattle.endpoint.specs.Meaning.{meaning, received, meant, meant_in, IsSpelled
 use Rattle.link.specs.Ends.{InEnd, OutEnd}
 use Rattle.endpoint.specs.Incoming.{TakenBefore, incoming, hello_after, received_after, received_from, taken_before}
 use Rattle.endpoint.specs.Outgoing.{PushedBefore, outgoing, pushed_before}
-use Rattle.endpoint.specs.Joined.{AreTold, BeginsPushed}
+use Rattle.endpoint.specs.Joined.{AreTold, AreToldEverywhere, BeginsPushed, pushed_past, sent_past, taken_past, came_past}
 use Rattle.endpoint.proofs.Meanings.{meant_spelled}
 
 all_front : {X : Type 0} (P : X → Type 0) (xs ys : List X) → AllByRecursion P (xs ++ ys) → AllByRecursion P xs
@@ -92,3 +92,74 @@ past_cuts went spelled j pushed at_j =
     let p = item_of_map pushed_before went j pushed at_j in
     let all : AllByRecursion IsSpelled p.0.frames = item_of_all (λ (before : Past). AllByRecursion IsSpelled before.frames) went j p.0 spelled p.1 in
     subst (λ (x : PushedBefore). AllByRecursion IsCut x.frames) (sym p.2) (spelled_cuts p.0.frames all)
+
+-- The packets of an earlier connection by its number: those of the frames that went on it.
+
+abbrev frames_past : ℕ → List Past → List (List ℕ)
+frames_past number [] = []
+frames_past number (before ∷ past) = if before.number == number then before.frames else frames_past number past
+
+spelled_past : (number : ℕ) (went : List Past) → AllByRecursion (λ before. AllByRecursion IsSpelled before.frames) went → AllByRecursion IsSpelled (frames_past number went)
+spelled_past number [] h = tt
+spelled_past number (before ∷ went) h = go (before.number == number) (spelled_past number went h.1)
+  where
+    go : (b : Bool) → AllByRecursion IsSpelled (frames_past number went) → AllByRecursion IsSpelled (if b then before.frames else frames_past number went)
+    go true rest = h.0
+    go false rest = rest
+
+pushed_meant : (number : ℕ) (went : List Past) → pushed_past number (map pushed_before went) ≡ meant_in (frames_past number went)
+pushed_meant number [] = refl
+pushed_meant number (before ∷ went) = go (before.number == number) (pushed_meant number went)
+  where
+    go : (b : Bool) → pushed_past number (map pushed_before went) ≡ meant_in (frames_past number went) → (if b then meant_in before.frames else pushed_past number (map pushed_before went)) ≡ meant_in (if b then before.frames else frames_past number went)
+    go true rest = refl
+    go false rest = rest
+
+pub sent_frames : (number : ℕ) (went : List Past) → sent_past number (map pushed_before went) ≡ frames_past number went
+sent_frames number [] = refl
+sent_frames number (before ∷ went) = ap (λ (rest : List (List ℕ)). if before.number == number then before.frames else rest) (sent_frames number went)
+
+taken_received : (number : ℕ) (came : List Past) → taken_past number (map taken_before came) ≡ received_from 0 (frames_past number came)
+taken_received number [] = refl
+taken_received number (before ∷ came) = go (before.number == number) (taken_received number came)
+  where
+    go : (b : Bool) → taken_past number (map taken_before came) ≡ received_from 0 (frames_past number came) → (if b then received_from 0 before.frames else taken_past number (map taken_before came)) ≡ received_from 0 (if b then before.frames else frames_past number came)
+    go true rest = refl
+    go false rest = rest
+
+pub came_frames : (number : ℕ) (came : List Past) → came_past number (map taken_before came) ≡ frames_past number came
+came_frames number [] = refl
+came_frames number (before ∷ came) = ap (λ (rest : List (List ℕ)). if before.number == number then before.frames else rest) (came_frames number came)
+
+-- On each connection, whichever of them the two ends had.
+pub everywhere : (o : OutEnd) (i : InEnd) → AllByRecursion IsSpelled o.sent → AllByRecursion (λ before. AllByRecursion IsSpelled before.frames) o.past → AreToldEverywhere (outgoing o) (incoming i)
+everywhere o i spelled past number = go (o.number == number) (i.number == number)
+  where
+    out : (b : Bool) → (if b then meant_in o.sent else pushed_past number (map pushed_before o.past)) ≡ meant_in (if b then o.sent else frames_past number o.past)
+    out true = refl
+    out false = pushed_meant number o.past
+
+    inn : (b : Bool) → (if b then received_from 0 i.taken else taken_past number (map taken_before i.past)) ≡ received_from 0 (if b then i.taken else frames_past number i.past)
+    inn true = refl
+    inn false = taken_received number i.past
+
+    all : (b : Bool) → AllByRecursion IsSpelled (if b then o.sent else frames_past number o.past)
+    all true = spelled
+    all false = spelled_past number o.past past
+
+    sent : (b : Bool) → (if b then o.sent else sent_past number (map pushed_before o.past)) ≡ (if b then o.sent else frames_past number o.past)
+    sent true = refl
+    sent false = sent_frames number o.past
+
+    came : (b : Bool) → (if b then i.taken else came_past number (map taken_before i.past)) ≡ (if b then i.taken else frames_past number i.past)
+    came true = refl
+    came false = came_frames number i.past
+
+    go : (b c : Bool) → IsBeginning (if c then i.taken else came_past number (map taken_before i.past)) (if b then o.sent else sent_past number (map pushed_before o.past))
+        → BeginsPushed (if c then received_from 0 i.taken else taken_past number (map taken_before i.past)) (if b then meant_in o.sent else pushed_past number (map pushed_before o.past))
+    go b c beginning =
+        let came_begins : IsBeginning (if c then i.taken else frames_past number i.past) (if b then o.sent else frames_past number o.past) =
+        subst (λ (x : List (List ℕ)). IsBeginning x (if b then o.sent else frames_past number o.past)) (came c) (subst (λ (x : List (List ℕ)). IsBeginning (if c then i.taken else came_past number (map taken_before i.past)) x) (sent b) beginning) in
+        let packets = begins (if c then i.taken else frames_past number i.past) (if b then o.sent else frames_past number o.past) (all b) came_begins in
+        subst (λ (x : List Received). BeginsPushed x (if b then meant_in o.sent else pushed_past number (map pushed_before o.past))) (sym (inn c))
+        (subst (λ (x : List frames.Packet). BeginsPushed (received_from 0 (if c then i.taken else frames_past number i.past)) x) (sym (out b)) packets)

@@ -1,7 +1,7 @@
 -- A spelling means one packet.
 use Rattle.std.proofs.Common.{◌≡◌, ℕ, zero, suc, ◌+◌, ◌*◌, ◌/◌, min, List, [], ◌∷◌, ◌++◌, length, take, drop, Bool, false, Option, Some, None, Result, Ok, Err, refl, sym, ap, ◌∙◌, append_assoc, arith}
 use Rattle.std.specs.Prelude.{◌==◌, IfSome}
-use Rattle.std.specs.List.{flat_map}
+use Rattle.std.specs.List.{flat_map, AllByRecursion}
 use Rattle.std.specs.Option.{option_map}
 use Rattle.std.proofs.lemmas.Bool.Decides.{nat_tests}
 use Rattle.std.proofs.lemmas.List.{append-nil, length-append, length-drop, take-append-drop}
@@ -162,3 +162,9 @@ same_row taken after_taken frame (Some (x ∷ rest)) (Some y) added first =
     let same : frame ≡ x = found_is frame x first.0 in
     let left : y ≡ rest = some_is y rest first.1 in
     rw (added, same, left) (append_assoc taken (x ∷ []) rest)
+
+-- of frames that spell packets there are as many as packets
+pub meant_many : (sent : List (List ℕ)) → AllByRecursion IsSpelled sent → length (meant_in sent) ≡ length sent
+meant_many [] all = refl
+meant_many (frame ∷ sent) ((p, rules, spells), rest) =
+    ap length (flat_map-cons meant frame sent ∙ ap (λ (l : List frames.Packet). l ++ meant_in sent) (meant_spelled frame p rules spells)) ∙ ap suc (meant_many sent rest)

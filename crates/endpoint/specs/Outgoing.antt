@@ -1,5 +1,5 @@
 -- What went out, as packets.
-use Rattle.std.specs.Prelude.{ℕ, ◌+◌, ◌-◌, length, List, [], ◌∷◌, ◌++◌, map, Option, None, IfSome}
+use Rattle.std.specs.Prelude.{ℕ, ◌≡◌, min, ◌+◌, ◌-◌, length, List, [], ◌∷◌, ◌++◌, map, Option, None, IfSome}
 use Rattle.std.specs.List.{AllByRecursion}
 use Rattle.std.specs.Option.{option_map}
 use Rattle.link.specs.Ends.{OutEnd}
@@ -61,8 +61,9 @@ pushing_anew number s = record s {
   frames = [];
 }
 
--- whatever went out, or went in part, is the spelling of a packet
-pub record IsSpelledOut (s : OutEnd) : Type 0 where
+-- Whatever went out, or went in part, is the spelling of a packet; and the count is of the frames sent, as far as 64 bits count.
+pub record IsOutgoing (count : ℕ) (s : OutEnd) : Type 0 where
   pub sent : AllByRecursion IsSpelled s.sent
   pub past : AllByRecursion (λ before. AllByRecursion IsSpelled before.frames) s.past
   pub partly : IfSome s.partly IsSpelled
+  pub counted : count ≡ min (length s.sent) 18446744073709551615

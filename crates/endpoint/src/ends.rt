@@ -3,7 +3,7 @@ ghost use Rattle.std.specs.Prelude.{ℕ, ◌≡◌, Some, slice_get};
 ghost use Rattle.std.specs.List.{AllByRecursion};
 ghost use Rattle.packets.specs.Cutting.{IsCut};
 ghost use Rattle.model.specs.Stream.{IsBeginning};
-ghost use Rattle.endpoint.specs.Joined.{AreTold, BeginsPushed};
+ghost use Rattle.endpoint.specs.Joined.{AreTold, AreToldEverywhere, BeginsPushed};
 ghost use Rattle.endpoint.specs.Incoming.{TakenBefore};
 ghost use Rattle.endpoint.specs.Outgoing.{PushedBefore};
 
@@ -18,6 +18,8 @@ pub fn joined<O: FrameOut, I: FrameIn>(outgoing: &Outgoing<O>, incoming: &Incomi
     ensures past { (i j : ℕ) (taken : TakenBefore) (pushed : PushedBefore)
         → slice_get incoming.now.past i ≡ Some taken → slice_get outgoing.now.past j ≡ Some pushed
         → IsBeginning taken.frames pushed.frames → BeginsPushed taken.taken pushed.pushed }
+    // The same by the numbers of the connections, whichever of them the two ends had.
+    ensures everywhere { AreToldEverywhere outgoing.now incoming.now }
     ensures whole { AllByRecursion IsCut outgoing.now.frames }
     ensures whole_before { (j : ℕ) (pushed : PushedBefore)
         → slice_get outgoing.now.past j ≡ Some pushed → AllByRecursion IsCut pushed.frames }

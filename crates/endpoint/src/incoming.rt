@@ -1,5 +1,5 @@
 //! The taking side.
-ghost use Rattle.std.specs.Prelude.{◌≡◌, ◌<◌, ◌≤◌, ◌↔◌, [], true, false, IsErr, OnOk, OnErr, IfOk, IfErr, IfSome};
+ghost use Rattle.std.specs.Prelude.{◌≡◌, ◌<◌, ◌≤◌, ◌↔◌, [], true, false, min, length, IsErr, OnOk, OnErr, IfOk, IfErr, IfSome};
 ghost use Rattle.packets.specs.Frames.{is_fault};
 ghost use Rattle.packets.specs.Spelling.{IsSpellable};
 ghost use Rattle.packets.specs.Table.{has_blocks};
@@ -41,6 +41,23 @@ impl<I: FrameIn> Incoming<I> {
         ensures { result ≡ incoming (I.state end) }
     {
         Incoming { end, hello: 0 }
+    }
+
+    /// The end of the link by itself, and how many frames of the hello were taken on the present connection, 3
+    /// at most.
+    pub fn into_end(self) -> (I, u8)
+        ensures same { self ≡ incoming (I.state result.0) }
+        ensures hello { result.1 ≡ min (length (I.state result.0).taken) 3 }
+    {
+        (self.end, self.hello)
+    }
+
+    /// Over an end through which frames came, as `into_end` gives it.
+    pub fn over(end: I, hello: u8) -> Incoming<I>
+        requires hello { hello ≡ min (length (I.state end).taken) 3 }
+        ensures { result ≡ incoming (I.state end) }
+    {
+        Incoming { end, hello }
     }
 
     /// Makes room for the longest frame. `NoMemory` (7) where it cannot be had.

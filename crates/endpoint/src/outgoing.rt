@@ -1,9 +1,9 @@
 //! The sending side.
-ghost use Rattle.std.specs.Prelude.{◌≡◌, ◌≢◌, ◌<◌, ◌∷◌, [], true, None, OnOk, OnErr, IfErr, IfSome, IsErr};
+ghost use Rattle.std.specs.Prelude.{length, min, ◌≡◌, ◌≢◌, ◌<◌, ◌∷◌, [], true, None, OnOk, OnErr, IfErr, IfSome, IsErr};
 ghost use Rattle.packets.specs.Spelling.{IsSpellable, spelling};
 ghost use Rattle.packets.specs.Table.{has_blocks};
 ghost use Rattle.endpoint.specs.Meaning.{meaning};
-ghost use Rattle.endpoint.specs.Outgoing.{outgoing, with_pushed, pushing_anew};
+ghost use Rattle.endpoint.specs.Outgoing.{IsOutgoing, outgoing, with_pushed, pushing_anew};
 ghost use Rattle.blocks.specs.declared.refusal.Refusal.TheVariants.{NoMemory, LinkFull};
 
 use blocks::Refusal;
@@ -16,16 +16,18 @@ use std::marker::Model;
 #[derive(Drop)]
 pub struct Outgoing<O: FrameOut> {
     pub(crate) end: O,
+    // How many packets were pushed on the present connection, as far as 64 bits count.
+    pub(crate) count: u64,
 }
 
 impl<O: FrameOut> Model for Outgoing<O> {
-    ghost use Rattle.endpoint.specs.Outgoing.{OutgoingState, IsSpelledOut, outgoing};
+    ghost use Rattle.endpoint.specs.Outgoing.{OutgoingState, IsOutgoing, outgoing};
 
     ghost Value = { OutgoingState };
 
     ghost view = { λ e. outgoing (O.state e.end) };
 
-    ghost invariant = { λ e. IsSpelledOut (O.state e.end) };
+    ghost invariant = { λ e. IsOutgoing e.count (O.state e.end) };
 }
 
 impl<O: FrameOut> Outgoing<O> {
@@ -36,7 +38,24 @@ impl<O: FrameOut> Outgoing<O> {
         requires whole { (O.state end).partly ≡ None }
         ensures { result ≡ outgoing (O.state end) }
     {
-        Outgoing { end }
+        Outgoing { end, count: 0 }
+    }
+
+    /// The end of the link by itself, and how many packets were pushed on the present connection, as far as 64
+    /// bits count.
+    pub fn into_end(self) -> (O, u64)
+        ensures same { self ≡ outgoing (O.state result.0) }
+        ensures spelled { IsOutgoing result.1 (O.state result.0) }
+    {
+        (self.end, self.count)
+    }
+
+    /// Over an end through which spellings of packets went, as `into_end` gives it.
+    pub fn over(end: O, count: u64) -> Outgoing<O>
+        requires spelled { IsOutgoing count (O.state end) }
+        ensures { result ≡ outgoing (O.state end) }
+    {
+        Outgoing { end, count }
     }
 
     /// Sends a packet. `NoMemory` (7) where a packet with blocks finds no memory for its frame, and then
@@ -54,10 +73,11 @@ impl<O: FrameOut> Outgoing<O> {
         ensures in_part { OnErr result (IfSome self.new.partly (λ begun. begun ≡ meaning packet ∷ [])) }
     {
         let frame = encode(alloc, &packet)?;
-        match self.end.offer(frame) {
-            Ok(()) => Ok(()),
-            Err(offered) => Err(offered.refusal()),
+        if let Err(offered) = self.end.offer(frame) {
+            return Err(offered.refusal());
         }
+        self.count = self.count.saturating_add(1);
+        Ok(())
     }
 
     /// Begins the connection of this number. A packet that went in part is given up. It takes no memory.
@@ -69,5 +89,13 @@ impl<O: FrameOut> Outgoing<O> {
         } }
     {
         self.end.restart(number);
+        self.count = 0;
+    }
+
+    /// How many packets were pushed on the present connection: 18,446,744,073,709,551,615 where they are more.
+    pub fn pushed(&self) -> u64
+        ensures { result ≡ min (length self.now.pushed) 18446744073709551615 }
+    {
+        self.count
     }
 }

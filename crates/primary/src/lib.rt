@@ -6,6 +6,7 @@ mod close;
 mod ends;
 mod local;
 mod open;
+mod parts;
 mod queue;
 mod read;
 mod receipts;
@@ -15,5 +16,6 @@ mod state;
 mod submit;
 mod usage;
 
+pub use parts::Unlinked;
 pub use receipts::{Kind, Receipt};
 pub use state::Primary;

@@ -35,6 +35,7 @@ steps-changing s number f l m barrier keeps is sound =
 pub core-logged : (c : Inside) (m : LogValue) (barrier : Option ℕ) → IsCore c → Steps c.settings c.log.state m.state barrier → IsCore (record c { log = m })
 core-logged c m barrier is steps = record {
   sound = sound-logged (state_of c) m.state barrier is.sound steps.sound steps.accepted steps.connection steps.appends;
+  flagged = is.flagged;
   writers = rw steps.accepted is.writers;
   room =
       let less = owing-less (state_of c).end m.state barrier in

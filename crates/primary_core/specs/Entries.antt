@@ -1,4 +1,5 @@
 -- What the fields of an accepted write stand for.
+use Rattle.std.specs.Prelude.{ℕ, zero, suc, Bool, true, false, not, List, unwrap_or, slice_get}
 use Rattle.primary_steps.specs.Core as core
 use Rattle.primary_core.specs.declared.entry.Fate.{Fate}
 use Rattle.primary_core.specs.declared.entry.Fate.TheVariants as fate
@@ -13,3 +14,8 @@ fate_as (fate.Completed linked home) = core.Completed linked home
 -- the fields as a plain value
 abbrev pub entry_of : Inside → core.Entry
 entry_of e = record { first = e.first; count = e.count; fate = fate_as e.fate; taken = e.is_taken }
+
+-- there is an entry of this number, and it is not confirmed
+abbrev pub is_unconfirmed : ℕ → List Bool → Bool
+is_unconfirmed zero confirmed = false
+is_unconfirmed (suc n) confirmed = not (unwrap_or (slice_get confirmed n) true)

@@ -14,9 +14,11 @@ use Rattle.primary_core.specs.declared.state.End.{End}
 use Rattle.primary_core.specs.declared.state.UnderWay.{UnderWay}
 use Rattle.primary_core.specs.declared.state.PrimaryCore.TheInside.{Inside}
 
--- A primary; how many more items may come to its stream without memory, and how many to the log.
+-- A primary; which entries are confirmed, by number; how many more items may come to its stream without memory, and how many
+-- to the log.
 pub record CoreState : Type 0 where
   pub state : PrimaryState
+  pub confirmed : List Bool
   pub stream_room : ℕ
   pub log_room : ℕ
 
@@ -79,13 +81,14 @@ state_of c = record {
 
 -- the fields, with the room for more
 abbrev pub core_of : Inside → CoreState
-core_of c = record { state = state_of c; stream_room = deque_capacity c.unsent - deque_len c.unsent; log_room = c.log.spare }
+core_of c = record { state = state_of c; confirmed = c.confirmed.items; stream_room = deque_capacity c.unsent - deque_len c.unsent; log_room = c.log.spare }
 
--- The state is sound, only accepted writes hold something beside the block under way, and there is room for what may come to the
--- stream without memory.
+-- The state is sound, only accepted writes hold something beside the block under way, each entry is confirmed or not, and there
+-- is room for what may come to the stream without memory.
 pub record IsCore (c : Inside) : Type 0 where
   pub sound : IsSound (state_of c)
   pub writers : AllByRecursion (IsWriter c.log.state.accepted) c.held
+  pub flagged : c.confirmed.len ≡ c.entries.len
   pub room : owing None (state_of c).end c.log.state ≤ deque_capacity c.unsent - deque_len c.unsent
 
 -- a primary may begin with these: the settings are in their ranges, each block has its mark or none, and the data have a

@@ -1,6 +1,7 @@
 //! A caller takes the receipt of a write.
-ghost use Rattle.std.specs.Prelude.{◌≡◌};
+ghost use Rattle.std.specs.Prelude.{◌≡◌, ◌-◌, false, true, if◌then◌else◌, length, replicate, slice_set};
 ghost use Rattle.std.specs.Option.{option_copied};
+ghost use Rattle.primary_core.specs.Entries.{is_unconfirmed};
 ghost use Rattle.primary_steps.specs.Transitions.{entry_at, is_given, take_completed, told};
 
 use crate::entry::{Entry, Fate, set_taken};
@@ -23,8 +24,35 @@ impl PrimaryCore {
         told
     }
 
-    // The entry of a number, the first being 1.
-    fn entry(&self, number: u64) -> Option<&Entry>
+    /// Counts no entry as confirmed. It takes time for each of them.
+    pub fn clear_confirmed(&mut self)
+        ensures cleared { self.new ≡ record self.old { confirmed = replicate (length self.old.confirmed) false } }
+        ensures each { length self.old.confirmed ≡ length self.old.state.entries }
+    {
+        // There are as many flags as entries.
+        let _entries: &[Entry] = &self.entries;
+        self.confirmed.fill(false);
+    }
+
+    /// Counts the entry of a number as confirmed, and tells whether there is one that was not. It takes no
+    /// memory, and constant time.
+    pub fn confirm_entry(&mut self, number: u64) -> bool
+        ensures found { result ≡ is_unconfirmed number self.old.confirmed }
+        ensures set { self.new ≡ record self.old { confirmed = if result then slice_set self.old.confirmed (number - 1) true else self.old.confirmed } }
+    {
+        let Some(index) = number.checked_sub(1) else {
+            return false;
+        };
+        let index = index as usize;
+        if index >= self.confirmed.len() || self.confirmed[index] {
+            return false;
+        }
+        self.confirmed[index] = true;
+        true
+    }
+
+    /// The entry of a number, the first being 1.
+    pub fn entry(&self, number: u64) -> Option<&Entry>
         ensures { option_copied result ≡ entry_at number self.now.state }
     {
         let index = number.checked_sub(1)?;

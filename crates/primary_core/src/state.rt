@@ -56,6 +56,8 @@ pub struct PrimaryCore {
     pub(crate) connections: u32,
     pub(crate) log: TransferLog,
     pub(crate) entries: Vec<Entry>,
+    // For each entry whether its receipt was confirmed by the settlement under way. No history sees it.
+    pub(crate) confirmed: Vec<bool>,
     pub(crate) marks: Bitmap,
     // What the open writes hold. What the block under way holds stands at the end.
     pub(crate) held: Held,
@@ -106,6 +108,7 @@ impl PrimaryCore {
                 settings.backlog,
             )?,
             entries: Vec::new(alloc),
+            confirmed: Vec::new(alloc),
             marks: Bitmap::from_marks(alloc, marks)?,
             held: Held::new(alloc),
             activity: ActivityLog::new(alloc, settings.slots)?,

@@ -118,6 +118,7 @@ impl PrimaryCore {
         self.entries.reserve(1)?;
         self.unsent.reserve(3)?;
         self.log.reserve()?;
+        self.confirmed.reserve(1)?;
         let number = self.log.accepted() + 1;
         begin(&mut self.held, &mut self.activity, number, range)?;
         let accepted = self.log.accept(range, contents)?;
@@ -127,6 +128,7 @@ impl PrimaryCore {
             fate: Fate::Open,
             is_taken: false,
         });
+        self.confirmed.push_reserved(false);
         Ok(accepted)
     }
 

@@ -8,6 +8,7 @@ pub mod Due
 pub mod Faults
 pub mod Housed
 pub mod Keeps
+pub mod Pushed
 pub mod Receipts
 pub mod Runs
 pub mod Says

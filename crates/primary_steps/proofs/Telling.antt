@@ -38,7 +38,7 @@ pub record IsNumbered (h : PrimaryHistory) : Type 0 where
 -- Receipts.
 
 -- a failed write is not completed
-failed-open : (h : PrimaryHistory) → IsNumbered h → (i : ℕ) (a : Accepted) → slice_get h.writes i ≡ Some a → is_failed a.outcome ≡ true → is_completed h a.write.number ≡ false
+pub failed-open : (h : PrimaryHistory) → IsNumbered h → (i : ℕ) (a : Accepted) → slice_get h.writes i ≡ Some a → is_failed a.outcome ≡ true → is_completed h a.write.number ≡ false
 failed-open h known i a at failed = false_from_ne_true (is_completed h a.write.number) (λ completed. both a.outcome failed (known.on_disk i a at completed))
   where
     both : (o : LocalOutcome) → is_failed o ≡ true → is_on_disk o ≡ true → ⊥
@@ -63,11 +63,11 @@ module _ (h : PrimaryHistory) (known : IsNumbered h) (n : ℕ) (a : Accepted) (a
       ap (λ (m : ℕ). list_any (λ (x : Accepted). (x.write.number == m) && is_open h x) h.writes) (sym index)
       ∙ (any-number 1 n (is_open h) h.writes from-one ∙ ap (λ (v : Option Accepted). elim v as (λ _. Bool) [ None ↦ false | Some x ↦ is_open h x ]) at)
 
-  entry-is : entry_at (suc n) s ≡ Some (entry_of h a)
+  pub entry-is : entry_at (suc n) s ≡ Some (entry_of h a)
   entry-is = ap (λ (l : List Entry). slice_get l n) left.entries ∙ (get-map (entry_of h) h.writes n ∙ ap (option_map (entry_of h)) at)
 
   -- the entry that the journal has of it is of this write
-  write-is : (c : Completion) → find (λ (entry : Completion). entry.write.number == a.write.number) h.journal ≡ Some c → c.write ≡ a.write
+  pub write-is : (c : Completion) → find (λ (entry : Completion). entry.write.number == a.write.number) h.journal ≡ Some c → c.write ≡ a.write
   write-is c found =
       let place = pick-found (λ (entry : Completion). entry.write.number == a.write.number) h.journal c found in
       let of = known.journal place.0 c place.1 in

@@ -8,6 +8,7 @@ use Rattle.blocks.specs.declared.tuple.Tuple.{Tuple}
 use Rattle.blocks.specs.declared.settings.Settings.{Settings}
 use Rattle.blocks.specs.declared.refusal.Refusal.{Refusal}
 use Rattle.model.specs.Frames.{Packet}
+use Rattle.model.specs.Settlement.{applied_items}
 use Rattle.model.specs.Secondary.{SecondaryHistory, secondary_opening, inward, items_taken, pending}
 use Rattle.model.specs.LocalRuns.{ClosesToo}
 use Rattle.endpoint.specs.Outgoing.{OutgoingState}
@@ -102,3 +103,9 @@ node-usage v w is h has =
     let left = (subst (λ (x : SecondaryView). NodeHas (node x) h) (sym is) has).leaves.core in
     let size : length v.core.pending ≡ length (pending (inward h)) = ap length left.last.pending ∙ length-map (pending_in (items_taken (inward h))) (pending (inward h)) in
     λ k. record { consistent = left.consistent k; whole = (states-say v.core h left).whole k; pending = size k }
+
+-- how many items were taken, and how many of them are applied
+pub node-counts : (v w : SecondaryView) → v ≡ w → (h : SecondaryHistory) → NodeHas (node w) h → (v.core.intake.places ≡ length (items_taken (inward h))) × (v.core.items_applied ≡ applied_items (inward h))
+node-counts v w is h has =
+    let left = (subst (λ (x : SecondaryView). NodeHas (node x) h) (sym is) has).leaves.core in
+    (ap (λ i. i.places) left.last.intake, left.last.applied)

@@ -5,6 +5,7 @@ mod acknowledge;
 mod close;
 mod ends;
 mod open;
+mod parts;
 mod peer;
 mod queue;
 mod read;
@@ -12,4 +13,5 @@ mod receive;
 mod state;
 mod usage;
 
+pub use parts::Unlinked;
 pub use state::Secondary;

@@ -1,7 +1,8 @@
 //! What is read off.
-ghost use Rattle.std.specs.Prelude.{◌≡◌, ◌&&◌, not, ok_or};
+ghost use Rattle.std.specs.Prelude.{◌≡◌, ◌&&◌, length, not, ok_or};
 ghost use Rattle.blocks.specs.declared.refusal.Refusal.TheVariants.{NothingThere};
-ghost use Rattle.model.specs.Secondary.{SecondaryHistory, inward, is_drained, next_pending};
+ghost use Rattle.model.specs.Secondary.{SecondaryHistory, inward, is_drained, items_taken, next_pending};
+ghost use Rattle.model.specs.Settlement.{applied_items};
 ghost use Rattle.model.specs.Status.{hello_is_done};
 ghost use Rattle.secondary_steps.specs.Node.{NodeHas};
 ghost use Rattle.secondary.specs.State.{node};
@@ -55,6 +56,21 @@ impl<O: FrameOut + Drop, I: FrameIn + Drop, S: Store + Drop> Secondary<O, I, S> 
         ensures history { (h : SecondaryHistory) → NodeHas (node self.now) h → result ≡ (inward h).number }
     {
         self.core.number()
+    }
+
+    /// How many items were taken on the last connection.
+    pub fn items_taken(&self) -> u32
+        ensures { (h : SecondaryHistory) → NodeHas (node self.now) h → result ≡ length (items_taken (inward h)) }
+    {
+        self.core.items_taken()
+    }
+
+    /// How many writes and resync items of the last connection are applied. One that the disk failed is not, and
+    /// neither is one that was dropped then.
+    pub fn items_applied(&self) -> u32
+        ensures { (h : SecondaryHistory) → NodeHas (node self.now) h → result ≡ applied_items (inward h) }
+    {
+        self.core.items_applied()
     }
 
     /// Whether the end is open.

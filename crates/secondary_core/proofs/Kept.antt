@@ -30,6 +30,7 @@ answered c e is same =
       size = is.size;
       few = is.few;
       pending = is.pending;
+      counted = is.counted;
       ended = count.epochs ∙ is.ended;
       room = omega (arith, count.due, is.room);
       ready = λ (ready : c.is_ready ≡ true). let r = is.ready ready in record {
@@ -41,7 +42,7 @@ answered c e is same =
 
 -- An item is applied, and at most one acknowledgement is due for it.
 pub applied : (c : Inside) (place : ℕ) (new : List Packet) (d : PeerDiskState Item) (e : EndRoom) → IsCore c → is_pending place c.disk.pending ≡ true → length new ≤ 1
-    → d ≡ record c.disk { pending = without place c.disk.pending; reach = d.reach } → c.disk.reach ≤ d.reach → e ≡ record c.end { state = owing new c.end.state } → IsCore (record c { disk = d; end = e })
+    → d ≡ record c.disk { pending = without place c.disk.pending; reach = d.reach } → c.disk.reach ≤ d.reach → e ≡ record c.end { state = owing new c.end.state } → IsCore (record c { disk = d; items_applied = c.items_applied + 1; end = e })
 applied c place new d e is there one same reach owed =
     let left : d.pending ≡ without place c.disk.pending = ap (λ (d : PeerDiskState Item). d.pending) same in
     let less : length d.pending + 1 ≡ length c.disk.pending = ap (λ (ps : List (Pending Item)). length ps + 1) left ∙ one-less place c.disk.pending there in
@@ -56,6 +57,7 @@ applied c place new d e is there one same reach owed =
       size = is.size;
       few = omega (arith, less, is.few);
       pending = subst (AllByRecursion (IsOf c.settings.blocks c.taken)) (sym left) (all-without (IsOf c.settings.blocks c.taken) place c.disk.pending is.pending);
+      counted = omega (arith, less, is.counted);
       ended = omega (arith, answered_same, sizes, is.ended);
       room = omega (arith, due, sizes, answers, less, one, is.room);
       ready = λ (ready : c.is_ready ≡ true). let r = is.ready ready in record {
@@ -100,6 +102,7 @@ admitted c item new t d e is r few some inside one taken same owed =
       size = m.blocks ∙ is.size;
       few = omega (arith, longer, few);
       pending = subst (AllByRecursion (IsOf c.settings.blocks t)) (sym left) (all-push (IsOf c.settings.blocks t) last c.disk.pending old here);
+      counted = omega (arith, longer, m.places, is.counted);
       ended = omega (arith, answered_same, sizes, m.barriers, is.ended);
       room = omega (arith, due, sizes, answers, longer, one, r.answers);
       ready = λ (ready : false ≡ true). absurd (cc);
@@ -122,6 +125,7 @@ ended c epoch writes t e is r taken same =
       size = blocks ∙ is.size;
       few = is.few;
       pending = of-more c.settings.blocks c.taken t c.disk.pending (omega (arith, places)) (omega (arith, barriers)) is.pending;
+      counted = omega (arith, places, is.counted);
       ended = omega (arith, answered_same, sizes, barriers, is.ended);
       room = omega (arith, due, sizes, answers, r.answers);
       ready = λ (ready : false ≡ true). absurd (cc);

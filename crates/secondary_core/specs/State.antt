@@ -27,6 +27,7 @@ core_of c = record {
     number = c.number;
     intake = c.taken;
     pending = c.disk.pending;
+    items_applied = c.items_applied;
     failed = c.failed;
     end = standing c.is_open c.end.state;
   };
@@ -46,7 +47,7 @@ pub record HasRoom (c : Inside) : Type 0 where
   pub place : c.taken.places < c.disk.reach
 
 -- The settings are in their ranges; the disk keeps as many items as they say, and has no more; the blocks are the device's;
--- what is pending was taken; each barrier is acknowledged or waits for that; and there is room for an acknowledgement of each
+-- what is pending was taken, and so was what is applied; each barrier is acknowledged or waits for that; and there is room for an acknowledgement of each
 -- pending item and each such barrier, and for what one frame may want where that was made.
 pub record IsCore (c : Inside) : Type 0 where
   pub in_range : IsInRange c.settings
@@ -54,6 +55,7 @@ pub record IsCore (c : Inside) : Type 0 where
   pub size : length c.taken.blocks ≡ c.settings.blocks
   pub few : length c.disk.pending ≤ c.settings.pending
   pub pending : AllByRecursion (IsOf c.settings.blocks c.taken) c.disk.pending
+  pub counted : c.items_applied + length c.disk.pending ≤ c.taken.places
   pub ended : c.end.state.answered + length c.end.state.sizes ≡ c.taken.barriers
   pub room : length c.end.state.due + length c.end.state.sizes + length c.disk.pending ≤ c.end.answers
   pub ready : c.is_ready ≡ true → HasRoom c

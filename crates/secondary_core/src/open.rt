@@ -16,6 +16,7 @@ impl SecondaryCore {
         }
         self.number = number;
         self.taken.begin();
+        self.items_applied = 0;
         self.failed = None;
         self.end.restart(self.tuple);
         self.is_open = true;

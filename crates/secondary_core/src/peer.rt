@@ -32,7 +32,10 @@ impl SecondaryCore {
         requires { IsOk (start place self.old.state) }
         ensures { self.new.state ≡ applied place self.old.state }
     {
+        // No more are applied than were taken, so the count fits.
+        let _taken = self.taken.places();
         let item = self.disk.done(place);
+        self.items_applied += 1;
         if self.is_open {
             self.end.owe(item.answer(self.settings.protocol, place));
             self.end.answer(&self.disk);

@@ -31,6 +31,8 @@ pub struct SecondaryCore {
     pub(crate) number: u32,
     pub(crate) taken: Taken,
     pub(crate) disk: PeerDisk<Item>,
+    // How many items of the last connection are applied.
+    pub(crate) items_applied: u32,
     pub(crate) failed: Option<u32>,
     pub(crate) is_open: bool,
     pub(crate) end: End,
@@ -64,6 +66,7 @@ impl SecondaryCore {
             number: 0,
             taken: Taken::new(alloc, settings.blocks)?,
             disk: PeerDisk::new(alloc, settings.pending),
+            items_applied: 0,
             failed: None,
             is_open: false,
             end: End::new(alloc, tuple),

@@ -81,6 +81,14 @@ impl SecondaryCore {
         self.taken.places()
     }
 
+    /// How many writes and resync items of the last connection's stream are applied. One that the disk failed
+    /// is not, and neither is one that was dropped then.
+    pub fn items_applied(&self) -> u32
+        ensures { result ≡ self.now.state.items_applied }
+    {
+        self.items_applied
+    }
+
     /// The settings.
     pub fn settings(&self) -> Settings
         ensures { result ≡ self.now.state.settings }

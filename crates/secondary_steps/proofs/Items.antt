@@ -12,6 +12,7 @@ use Rattle.model.specs.SecondarySteps.{Checked, has_place, is_barrier_answer}
 use Rattle.model.specs.SecondarySteps as step
 use Rattle.secondary_steps.specs.Core.{EndState, SecondaryState, judged_if, receipt}
 use Rattle.secondary_steps.specs.Leaves.{Leaves, LeavesLast, LeavesEnd, EndLeft, FailedLeft, intake_of, pending_in}
+use Rattle.secondary_steps.proofs.Counted.{count-more}
 use Rattle.secondary_steps.proofs.Judged.{SameJudged}
 use Rattle.secondary_steps.proofs.Tested.{inward-with, open-whole}
 use Rattle.secondary_steps.proofs.Waiting.{waiting-more, new-waits, bare-waits-not}
@@ -26,8 +27,8 @@ same-if false true same name other names t h left = absurd (cc)
 -- What an item leaves that was taken: `c` is the connection with its frame, and `waits` says whether it has blocks.
 pub last-item : (size : ℕ) (s t : SecondaryState) (e : EndState) (d c : Inward) (item : Item) (waits : Bool) → LeavesLast size s d → d.closed ≡ false → items_taken c ≡ items_taken d ++ item ∷ [] → c.applied ≡ d.applied → c.gone ≡ d.gone → c.number ≡ d.number
     → LeavesEnd e c → has_blocks item ≡ waits → t.number ≡ s.number → t.intake ≡ intake_of size (items_taken d ++ item ∷ []) → t.pending ≡ s.pending ++ cond waits (record { place = length (items_taken d); epoch = last_epoch (items_taken d); item = item } ∷ []) []
-    → t.failed ≡ s.failed → t.end ≡ Some e → LeavesLast size t c
-last-item size s t e d c item waits left stands items applied gone number there blocks is_number is_intake is_waiting is_failed is_end =
+    → t.items_applied ≡ s.items_applied → t.failed ≡ s.failed → t.end ≡ Some e → LeavesLast size t c
+last-item size s t e d c item waits left stands items applied gone number there blocks is_number is_intake is_waiting is_count is_failed is_end =
     let whole = open-whole s.failed d left.failed stands in
     record {
       number = is_number ∙ (left.number ∙ sym number);
@@ -42,6 +43,7 @@ last-item size s t e d c item waits left stands items applied gone number there 
           ∙ (sym (waiting-more (is_pending d) (items_taken d) item waits (by-blocks whole.1 waits blocks))
           ∙ (ap (λ (l : List Item). map (pending_in l) (filter (is_pending d) (placed l))) (sym items)
           ∙ ap (λ (p : ℕ × Item → Bool). map (pending_in (items_taken c)) (filter p (placed (items_taken c)))) (λ i entry. alike entry i))));
+      applied = is_count ∙ (left.applied ∙ sym (count-more c d item waits blocks (by-blocks whole.1 waits blocks) items applied gone));
       failed = subst (λ (v : Option ℕ). FailedLeft v c) (sym (is_failed ∙ whole.0)) (gone ∙ whole.1);
       end = subst (λ (v : Option EndState). EndLeft v c) (sym is_end) there;
     }

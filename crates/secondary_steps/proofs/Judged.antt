@@ -18,6 +18,7 @@ use Rattle.model.specs.SecondarySteps as step
 use Rattle.laws.proofs.Secondary.Moves.{framed}
 use Rattle.secondary_steps.specs.Core.{EndState, SecondaryState, Judged, judging_hello}
 use Rattle.secondary_steps.specs.Leaves.{Leaves, LeavesLast, LeavesEnd, EndLeft, FailedLeft, intake_of, pending_in}
+use Rattle.secondary_steps.proofs.Counted.{same-count}
 
 -- Both accept, under one name, and what they leave belongs together; or both refuse, for the same.
 abbrev pub SameJudged : Judged → Checked → Type 0
@@ -86,8 +87,8 @@ early-items frame d plain early =
 
 -- what is left where the items stay
 pub last-same : (size : ℕ) (s t : SecondaryState) (e : EndState) (d c : Inward) → LeavesLast size s d → items_taken c ≡ items_taken d → c.applied ≡ d.applied → c.gone ≡ [] → d.gone ≡ [] → c.number ≡ d.number → LeavesEnd e c
-    → t.number ≡ s.number → t.intake ≡ s.intake → t.pending ≡ s.pending → t.failed ≡ None → t.end ≡ Some e → LeavesLast size t c
-last-same size s t e d c left items applied none was_none number there is_number is_intake is_pending_same is_failed is_end = record {
+    → t.number ≡ s.number → t.intake ≡ s.intake → t.pending ≡ s.pending → t.items_applied ≡ s.items_applied → t.failed ≡ None → t.end ≡ Some e → LeavesLast size t c
+last-same size s t e d c left items applied none was_none number there is_number is_intake is_pending_same is_count is_failed is_end = record {
   number = is_number ∙ (left.number ∙ sym number);
   intake = is_intake ∙ (left.intake ∙ ap (intake_of size) (sym items));
   named = λ place offset inside. subst (λ (l : List Item). place < length l) (sym items) (left.named place offset (ap (λ part. is_in part place offset) (sym applied) ∙ inside));
@@ -96,6 +97,7 @@ last-same size s t e d c left items applied none was_none number there is_number
       ∙ (left.pending
       ∙ (ap (λ (l : List Item). map (pending_in l) (filter (is_pending d) (placed l))) (sym items)
       ∙ ap (λ (p : ℕ × Item → Bool). map (pending_in (items_taken c)) (filter p (placed (items_taken c)))) (λ i entry. alike entry i)));
+  applied = is_count ∙ (left.applied ∙ sym (same-count c d items applied (none ∙ sym was_none)));
   failed = subst (λ (v : Option ℕ). FailedLeft v c) (sym is_failed) none;
   end = subst (λ (v : Option EndState). EndLeft v c) (sym is_end) there;
 }

@@ -1,5 +1,6 @@
 pub mod Answering
 pub mod Apart
+pub mod Counted
 pub mod Ends
 pub mod Failing
 pub mod Intakes

@@ -41,8 +41,8 @@ pub record EndState : Type 0 where
   pub answered : ℕ
   pub sizes : List ℕ
 
--- A secondary: the number of its last connection, what it keeps of that one's stream, what is taken and not applied, the
--- epoch of an item that the disk failed, and its end where that is open.
+-- A secondary: the number of its last connection, what it keeps of that one's stream, what is taken and not applied, how many
+-- items of it are applied (one that failed is not), the epoch of an item that the disk failed, and its end where that is open.
 pub record SecondaryState : Type 0 where
   pub settings : Settings
   pub tuple : Tuple
@@ -50,6 +50,7 @@ pub record SecondaryState : Type 0 where
   pub number : ℕ
   pub intake : Intake
   pub pending : List (Pending Item)
+  pub items_applied : ℕ
   pub failed : Option ℕ
   pub end : Option EndState
 
@@ -66,6 +67,7 @@ fresh settings tuple = record {
   number = 0;
   intake = nothing_taken settings.blocks;
   pending = [];
+  items_applied = 0;
   failed = None;
   end = None;
 }
@@ -82,7 +84,7 @@ opened_end tuple = record { hello = tuple; heard = 0; said = 0; due = []; answer
 
 -- a connection of this number begins
 abbrev pub opened : ℕ → SecondaryState → SecondaryState
-opened number s = record s { number = number; intake = nothing_taken s.settings.blocks; failed = None; end = Some (opened_end s.tuple) }
+opened number s = record s { number = number; intake = nothing_taken s.settings.blocks; items_applied = 0; failed = None; end = Some (opened_end s.tuple) }
 
 -- when an opening is refused: the end is open, or items are pending
 abbrev pub open_tests : SecondaryState → List Test
@@ -246,7 +248,11 @@ answers_of asked place (Some item) = applied_answer asked place item
 -- the disk has the item of this place
 abbrev pub applied : ℕ → SecondaryState → SecondaryState
 applied place s =
-    follows (record s { pending = without place s.pending; end = option_map (owing (answers_of s.settings.protocol place (item_at place s.pending))) s.end })
+    follows (record s {
+      pending = without place s.pending;
+      items_applied = suc s.items_applied;
+      end = option_map (owing (answers_of s.settings.protocol place (item_at place s.pending))) s.end;
+    })
 
 -- the disk failed the item of this place: the end closes, and the pending items of later epochs are dropped
 abbrev pub failing : ℕ → SecondaryState → SecondaryState

@@ -5,6 +5,7 @@ use Rattle.model.specs.Stream.{Item, has_blocks, epoch_of, last_epoch, epoch_siz
 use Rattle.model.specs.Primary.{in_resync}
 use Rattle.model.specs.Secondary.{Inward, SecondaryHistory, inward, items_taken, is_pending, pending}
 use Rattle.model.specs.SecondarySteps.{is_barrier_answer}
+use Rattle.model.specs.Settlement.{applied_items}
 use Rattle.laws.specs.Reflections.{touches}
 use Rattle.peerdisk.specs.Pending.{Pending}
 use Rattle.peerdisk.specs.Blocks.{flags}
@@ -77,6 +78,7 @@ pub record LeavesLast (size : ℕ) (s : SecondaryState) (c : Inward) : Type 0 wh
   pub intake : s.intake ≡ intake_of size (items_taken c)
   pub named : (place offset : ℕ) → is_in c.applied place offset ≡ true → place < length (items_taken c)
   pub pending : s.pending ≡ map (pending_in (items_taken c)) (pending c)
+  pub applied : s.items_applied ≡ applied_items c
   pub failed : FailedLeft s.failed c
   pub end : EndLeft s.end c
 

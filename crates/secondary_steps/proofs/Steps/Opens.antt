@@ -24,7 +24,7 @@ fresh-is settings disk tuple = record {
   settings = refl;
   tuple = refl;
   consistent = refl;
-  last = record { number = refl; intake = intake-none settings.blocks; named = λ place offset inside. absurd (cc); pending = refl; failed = refl; end = refl };
+  last = record { number = refl; intake = intake-none settings.blocks; named = λ place offset inside. absurd (cc); pending = refl; applied = refl; failed = refl; end = refl };
 }
 
 -- the tests of an opening are the same
@@ -53,6 +53,7 @@ opens-agree unseen s h left = tested-agrees plainly s h (open_tests s) (step.ope
           intake = ap (λ (x : Settings). nothing_taken x.blocks) left.settings ∙ intake-none h.settings.blocks;
           named = λ place offset inside. absurd (cc);
           pending = empty none;
+          applied = refl;
           failed = refl;
           end = record { stands = refl; plain = refl; hello = left.tuple; heard = refl; said = refl; owed = omega arith; due = refl; answered = λ epoch from. sym (none-below epoch from); within = omega arith; sizes = refl };
         });
@@ -100,6 +101,7 @@ closes-agree s h left = tested-agrees plainly s h ((is_none s.end, NotConnected)
           intake = left.last.intake;
           named = left.last.named;
           pending = left.last.pending;
+          applied = left.last.applied;
           failed = shut s.failed (inward h) left.last.failed;
           end = refl;
         });

@@ -1,5 +1,5 @@
 -- The disk does an item, or fails it.
-use Rattle.std.proofs.Common.{ℕ, ◌≡◌, ◌+◌, ◌<◌, ◌≤◌, inl, inr, Bool, true, false, not, ◌&&◌, ◌||◌, List, [], ◌∷◌, ◌++◌, length, map, filter, Option, Some, None, Result, Ok, Err, slice_get, refl, sym, ◌∙◌, ap, subst, arith, ◌==◌, nat_lt, nat_le}
+use Rattle.std.proofs.Common.{ℕ, suc, ◌≡◌, ◌+◌, ◌<◌, ◌≤◌, inl, inr, Bool, true, false, not, ◌&&◌, ◌||◌, List, [], ◌∷◌, ◌++◌, length, map, filter, Option, Some, None, Result, Ok, Err, slice_get, refl, sym, ◌∙◌, ap, subst, arith, ◌==◌, nat_lt, nat_le}
 use Rattle.std.specs.Prelude.{option_map}
 use Rattle.std.specs.List.{list_any}
 use Rattle.std.proofs.lemmas.Bool.{both_ways, or_cases, or_left, or_right, eqb-true, eq-eqb, leb-true, cases_lt, lt-ltb, ltb-true, and_parts}
@@ -28,11 +28,12 @@ use Rattle.secondary_steps.specs.Core.{EndState, SecondaryState, applied, follow
 use Rattle.secondary_steps.specs.Leaves.{Leaves, LeavesLast, LeavesEnd, LeavesFailed, EndLeft, FailedLeft, pending_in}
 use Rattle.secondary_steps.specs.Steps.{AppliesAgree, FaultsAgree, Agrees, plainly}
 use Rattle.peerdisk.specs.Pending.{Pending, start, without, item_at, epoch_at, after_fault}
+use Rattle.secondary_steps.proofs.Counted.{count-applied, count-failed, fewer-without}
 use Rattle.secondary_steps.proofs.Ends.{end-owes}
 use Rattle.secondary_steps.proofs.Failing.{failing-pending, waiting-failed}
 use Rattle.secondary_steps.proofs.Starting.{MayStart, MayNot, starting}
 use Rattle.secondary_steps.proofs.Steps.Receives.{leaves-follows}
-use Rattle.secondary_steps.proofs.Tested.{inward-with}
+use Rattle.secondary_steps.proofs.Tested.{inward-with, length-map}
 use Rattle.secondary_steps.proofs.Waiting.{waiting-applied}
 
 -- an item that was taken is on some connection
@@ -87,7 +88,7 @@ named-more d place item offsets at named other offset inside = elim (or_cases (i
 
 -- The state after an item was applied, before what follows.
 abbrev applied_first : ℕ → SecondaryState → SecondaryState
-applied_first place s = record s { pending = without place s.pending; end = option_map (owing (answers_of s.settings.protocol place (item_at place s.pending))) s.end }
+applied_first place s = record s { pending = without place s.pending; items_applied = suc s.items_applied; end = option_map (owing (answers_of s.settings.protocol place (item_at place s.pending))) s.end }
 
 applied-left : (s : SecondaryState) (h : SecondaryHistory) (place : ℕ) → Leaves s h → MayStart (inward h) place (map (pending_in (items_taken (inward h))) (pending (inward h)))
     → Leaves (applied_first place s) (with_inward (applying h.settings.protocol place) h)
@@ -110,12 +111,21 @@ applied-left s h place left may = record {
     item_is : item_at place s.pending ≡ Some may.item
     item_is = ap (item_at place) left.last.pending ∙ may.item_is
 
+    -- one waits less
+    shorter : (due : List Packet) → length (pending (after due)) + 1 ≡ length (pending (inward h))
+    shorter due =
+        let items : List Item = items_taken (inward h) in
+        let many : length (pending (after due)) ≡ length (without place (map (pending_in items) (pending (inward h)))) = sym (length-map (pending_in items) (pending (after due))) ∙ ap length (waiting-applied (inward h) items place may.item due may.there) in
+        let less = fewer-without items place (pending (inward h)) may.listed in
+        omega (arith, many, less)
+
     last-of : (due : List Packet) → EndLeft (applied_first place s).end (after due) → FailedLeft s.failed (after due) → LeavesLast h.settings.blocks (applied_first place s) (after due)
     last-of due end failed = record {
       number = left.last.number;
       intake = left.last.intake;
       named = named-more (inward h) place may.item (below (length (contents_of may.item))) may.there left.last.named;
       pending = ap (without place) left.last.pending ∙ sym (waiting-applied (inward h) (items_taken (inward h)) place may.item due may.there);
+      applied = ap suc left.last.applied ∙ sym (count-applied (after due) (inward h) refl refl (shorter due));
       failed = failed;
       end = end;
     }
@@ -244,6 +254,7 @@ faults-agree place offsets s h left = elim (starting (inward h) place) [
             number = left.last.number;
             intake = left.last.intake;
             named = named-more (inward h) place may.item (within (blocks_at (items_taken (inward h)) place) offsets) may.there left.last.named;
+            applied = left.last.applied ∙ sym (count-failed (inward h) place may.item offsets may.there may.waits);
             pending = ap (after_fault place) left.last.pending ∙ sym (waiting-failed (inward h) place offsets may.epoch_is);
             failed = subst (λ (n : ℕ). LeavesFailed n (failing place offsets (inward h))) (sym epoch) (failed-left s h place offsets left may);
             end = refl;

@@ -125,6 +125,7 @@ pushes-agree room starved s h left = go s.end refl left.last.end
               intake = left.last.intake;
               named = left.last.named;
               pending = left.last.pending;
+              applied = left.last.applied;
               failed = pushed-failed s.failed (inward h) left.last.failed;
               end = subst (λ (v : Option EndState). EndLeft (option_map pushing v) (pushed_one (inward h))) (sym is) (end-pushes e (inward h) there (omega arith));
             });

@@ -31,6 +31,7 @@ use Rattle.secondary_steps.specs.Core.{Intake, EndState, SecondaryState, Judged,
 use Rattle.secondary_steps.specs.Leaves.{Leaves, LeavesLast, LeavesEnd, EndLeft, FailedLeft, intake_of, pending_in}
 use Rattle.secondary_steps.specs.Steps.{ReceivesAgree, Agrees}
 use Rattle.secondary_steps.proofs.Answering.{answering-open, left-answering}
+use Rattle.secondary_steps.proofs.Counted.{same-count}
 use Rattle.secondary_steps.proofs.Ends.{end-takes, end-barrier, hello-goes-on}
 use Rattle.secondary_steps.proofs.Intakes.{apart-by-blocks, above-highest, intake-write, intake-resync, intake-barrier, intake-start, intake-end}
 use Rattle.secondary_steps.proofs.Items.{same-if, last-item, receipt-other, receiving-is, receiving-rest}
@@ -65,6 +66,7 @@ leaves-follows s h left = record {
       intake = left.last.intake;
       named = left.last.named;
       pending = left.last.pending;
+      applied = left.last.applied;
       failed = left.last.failed;
       end = subst (λ (v : Option EndState). EndLeft (option_map (answering s.pending) v) (inward h)) (sym is) shut;
     })
@@ -78,6 +80,7 @@ leaves-follows s h left = record {
           intake = left.last.intake;
           named = left.last.named;
           pending = left.last.pending;
+          applied = left.last.applied;
           failed = subst (λ (v : Option ℕ). FailedLeft v (record d { due = d.due ++ map (step.barrier_answer d) (step.barriers_to_answer d) })) (sym whole.0) whole.1;
           end = subst (λ (v : Option EndState). EndLeft (option_map (answering s.pending) v) (record d { due = d.due ++ map (step.barrier_answer d) (step.barriers_to_answer d) })) (sym is) after;
         })
@@ -118,7 +121,7 @@ module _ (frame : Received) (s : SecondaryState) (h : SecondaryHistory) (e : End
         settings = left.settings;
         tuple = left.tuple;
         consistent = left.consistent;
-        last = subst (LeavesLast h.settings.blocks (record s { end = Some (hearing e) })) (sym framed-is) (last-same h.settings.blocks s heard (hearing e) d (framed frame d) left.last items refl whole.1 whole.1 refl end refl refl refl whole.0 refl);
+        last = subst (LeavesLast h.settings.blocks (record s { end = Some (hearing e) })) (sym framed-is) (last-same h.settings.blocks s heard (hearing e) d (framed frame d) left.last items refl whole.1 whole.1 refl end refl refl refl refl whole.0 refl);
       }
 
   -- An item of the stream, whose frame brings it, and these acknowledgements due.
@@ -139,12 +142,12 @@ module _ (frame : Received) (s : SecondaryState) (h : SecondaryHistory) (e : End
     -- what an item leaves
     item-left : (waits : Bool) (t : SecondaryState) (later : SecondaryHistory) (due : List Packet) (end : EndState) → later.settings ≡ h.settings → has_blocks item ≡ waits → inward later ≡ with_due due → LeavesEnd end (with_due due)
         → t.settings ≡ later.settings → t.tuple ≡ later.tuple → t.consistent ≡ later.consistent → t.number ≡ s.number → t.intake ≡ intake_of h.settings.blocks (items_taken (inward h) ++ item ∷ [])
-        → t.pending ≡ s.pending ++ cond waits (place_of ∷ []) [] → t.failed ≡ s.failed → t.end ≡ Some end → Leaves t later
-    item-left waits t later due end same_settings blocks form left_end settings tuple consistent number intake waiting_is failed end_is = record {
+        → t.pending ≡ s.pending ++ cond waits (place_of ∷ []) [] → t.items_applied ≡ s.items_applied → t.failed ≡ s.failed → t.end ≡ Some end → Leaves t later
+    item-left waits t later due end same_settings blocks form left_end settings tuple consistent number intake waiting_is count failed end_is = record {
       settings = settings;
       tuple = tuple;
       consistent = consistent;
-      last = subst (λ (x : Settings). LeavesLast x.blocks t (inward later)) (sym same_settings) (subst (LeavesLast h.settings.blocks t) (sym form) (last-item h.settings.blocks s t end d (with_due due) item waits left.last there.stands item-there refl refl refl left_end blocks number intake waiting_is failed end_is));
+      last = subst (λ (x : Settings). LeavesLast x.blocks t (inward later)) (sym same_settings) (subst (LeavesLast h.settings.blocks t) (sym form) (last-item h.settings.blocks s t end d (with_due due) item waits left.last there.stands item-there refl refl refl left_end blocks number intake waiting_is count failed end_is));
     }
 
     -- what is kept, by what the items are
@@ -196,7 +199,7 @@ module _ (frame : Received) (s : SecondaryState) (h : SecondaryHistory) (e : End
       λ k. Some (record (hearing e) { due = e.due ++ receipt (left.settings k).protocol (left.last.intake k).places item }) in
       item-left late item brings true _ (step.receiving (length all) item taken) ((inward h).due ++ packets) (record (hearing e) { due = e.due ++ packets }) rest.0 (blocks-of good) form
       (end-there-with late item brings packets refl (receipt-other asked (length all) item)) (left.settings ∙ sym rest.0) (left.tuple ∙ sym rest.1) (left.consistent ∙ sym rest.2) refl
-      (kept late item brings ∙ sym (intake-write h.settings.blocks all write above)) (waits-there late item brings) refl end_is)
+      (kept late item brings ∙ sym (intake-write h.settings.blocks all write above)) (waits-there late item brings) refl refl end_is)
     where
       unchanged : (l : List Inward) → change_last (framed frame) l ≡ [] → l ≡ []
       unchanged [] none = refl
@@ -215,13 +218,13 @@ module _ (frame : Received) (s : SecondaryState) (h : SecondaryHistory) (e : End
   plain-left : (item : Item) (waits : Bool) (t : SecondaryState) (later : SecondaryHistory) → nat_lt (length (inward h).taken) 3 ≡ false → received_item frame ≡ Some item → has_blocks item ≡ waits → barriers_in (item ∷ []) ≡ 0
       → later.connections ≡ change_last (framed frame) h.connections → later.settings ≡ h.settings → t.settings ≡ later.settings → t.tuple ≡ later.tuple → t.consistent ≡ later.consistent → t.number ≡ s.number
       → t.intake ≡ intake_of h.settings.blocks (items_taken (inward h) ++ item ∷ []) → t.pending ≡ s.pending ++ cond waits (record { place = length (items_taken (inward h)); epoch = last_epoch (items_taken (inward h)); item = item } ∷ []) []
-      → t.failed ≡ s.failed → t.end ≡ Some (hearing e) → Leaves t later
-  plain-left item waits t later late brings blocks plain connections same_settings settings tuple consistent number intake waiting_is failed end_is =
+      → t.items_applied ≡ s.items_applied → t.failed ≡ s.failed → t.end ≡ Some (hearing e) → Leaves t later
+  plain-left item waits t later late brings blocks plain connections same_settings settings tuple consistent number intake waiting_is count failed end_is =
       let none : (inward h).due ++ [] ≡ (inward h).due = append-nil (inward h).due in
       let none_e : e.due ++ [] ≡ e.due = append-nil e.due in
       let end : LeavesEnd (hearing e) (framed frame (inward h)) =
       end-takes e (inward h) frame (item ∷ []) [] e.due (inward h).due there (taken-item frame item (inward h) there.plain late brings) plain (sym none_e) (sym none) (λ epoch. refl) in
-      item-left late item brings waits t later (inward h).due (hearing e) same_settings blocks (inward-of (framed frame) h later connections some) end settings tuple consistent number intake waiting_is failed end_is
+      item-left late item brings waits t later (inward h).due (hearing e) same_settings blocks (inward-of (framed frame) h later connections some) end settings tuple consistent number intake waiting_is count failed end_is
 
   -- A block of a resync.
   resync-same : (block : ℕ) (contents : List ℕ) (at : ℕ) → nat_lt (length (inward h).taken) 3 ≡ false → received_item frame ≡ Some (ResyncItem block contents)
@@ -235,7 +238,7 @@ module _ (frame : Received) (s : SecondaryState) (h : SecondaryHistory) (e : End
       let front : Bool = ((at == length all) && has_place (length all)) && is_range h.settings block 1 in
       let two = if-front front _ _ (λ holds. ap (λ b. i.resync && b) (sym (apart-by-blocks h.settings.blocks all item (inside ((at == length all) && has_place (length all)) block 1 holds)))) in
       same-if _ _ (one ∙ two) _ _ (λ k. what.Frame command.RsDataReply (Some (left.last.intake k).places)) _ taken (λ good.
-      plain-left item true _ taken late brings refl refl refl refl left.settings left.tuple left.consistent refl (kept late item brings ∙ sym (intake-resync h.settings.blocks all block contents)) (waits-there late item brings) refl refl)
+      plain-left item true _ taken late brings refl refl refl refl left.settings left.tuple left.consistent refl (kept late item brings ∙ sym (intake-resync h.settings.blocks all block contents)) (waits-there late item brings) refl refl refl)
 
   -- The end of an epoch.
   barrier-same : (number : ℕ) → nat_lt (length (inward h).taken) 3 ≡ false → received_item frame ≡ Some (BarrierItem number)
@@ -249,7 +252,7 @@ module _ (frame : Received) (s : SecondaryState) (h : SecondaryHistory) (e : End
       let end_is : Some (record (hearing e) { sizes = e.sizes ++ s.intake.writes ∷ [] }) ≡ Some (record (hearing e) { sizes = e.sizes ++ i.writes ∷ [] }) = λ k. Some (record (hearing e) { sizes = e.sizes ++ (left.last.intake k).writes ∷ [] }) in
       same-if _ _ (λ k. tests (left.last.intake k)) _ _ (λ k. what.Frame command.Barrier (Some (left.last.intake k).places)) _ taken (λ good.
       item-left late item brings false _ taken (inward h).due (record (hearing e) { sizes = e.sizes ++ i.writes ∷ [] }) refl refl framed-is end left.settings left.tuple left.consistent refl (kept late item brings ∙ sym (intake-barrier h.settings.blocks all number))
-      (sym (append-nil s.pending)) refl end_is)
+      (sym (append-nil s.pending)) refl refl end_is)
 
   -- A resync begins.
   start-same : (word : ℕ) → nat_lt (length (inward h).taken) 3 ≡ false → received_item frame ≡ Some (SyncUuidItem word)
@@ -262,7 +265,7 @@ module _ (frame : Received) (s : SecondaryState) (h : SecondaryHistory) (e : End
       same-if _ _ (λ k. tests (left.last.intake k)) _ _ (λ k. what.Frame command.SyncUuid (Some (left.last.intake k).places)) _ (step.adopting (record h.tuple { current = word }) false taken) (λ good.
       let first = (and_parts (has_place (length all)) (length all == 0) (and_parts (has_place (length all) && (length all == 0)) (nat_lt 0 word) good).0).1 in
       plain-left item false _ (step.adopting (record h.tuple { current = word }) false taken) late brings refl refl refl refl left.settings (ap (λ (x : Tuple). record x { current = word }) left.tuple) refl refl
-      (kept late item brings ∙ sym (intake-start h.settings.blocks all word first)) (sym (append-nil s.pending)) refl refl)
+      (kept late item brings ∙ sym (intake-start h.settings.blocks all word first)) (sym (append-nil s.pending)) refl refl refl)
 
   -- It ends.
   end-same-too : (tuple : Tuple) → nat_lt (length (inward h).taken) 3 ≡ false → received_item frame ≡ Some (UuidsItem tuple)
@@ -272,7 +275,7 @@ module _ (frame : Received) (s : SecondaryState) (h : SecondaryHistory) (e : End
       let all : List Item = items_taken (inward h) in
       let tests : Intake → Bool = λ j. has_place j.places && j.resync in
       same-if _ _ (λ k. tests (left.last.intake k)) _ _ (λ k. what.Frame command.Uuids (Some (left.last.intake k).places)) _ (step.adopting tuple true taken) (λ good.
-      plain-left item false _ (step.adopting tuple true taken) late brings refl refl refl refl left.settings refl refl refl (kept late item brings ∙ sym (intake-end h.settings.blocks all tuple)) (sym (append-nil s.pending)) refl refl)
+      plain-left item false _ (step.adopting tuple true taken) late brings refl refl refl refl left.settings refl refl refl (kept late item brings ∙ sym (intake-end h.settings.blocks all tuple)) (sym (append-nil s.pending)) refl refl refl)
 
   -- The hello is over, and a packet is judged as an item; one that is none is refused.
   late-same : (packet : Packet) → frame ≡ Ok packet → nat_lt (length (inward h).taken) 3 ≡ false
@@ -323,6 +326,7 @@ module _ (frame : Received) (s : SecondaryState) (h : SecondaryHistory) (e : End
           intake = left.last.intake ∙ ap (intake_of h.settings.blocks) (sym items);
           named = λ place offset inside. subst (λ (l : List Item). place < length l) (sym items) (left.last.named place offset inside);
           pending = left.last.pending ∙ ap (λ (l : List Item). map (pending_in l) (filter (is_pending (inward h)) (placed l))) (sym items);
+          applied = left.last.applied ∙ sym (same-count (refused_end (framed frame (inward h))) (inward h) items refl refl);
           failed = subst (λ (v : Option ℕ). FailedLeft v (refused_end (framed frame (inward h)))) (sym whole.0) whole.1;
           end = refl;
         });

@@ -17,13 +17,13 @@ offer-requires-clause-again g c =
     (subst (λ (s : OutgoingState). IfSome s.partly (λ begun. begun ≡ meaning c.args.packet ∷ [])) (sym c.self.view_is) c.requires.again)
     c.requires.spellable c.in_ok-frame.ensures.spelled
 
-pub returns-in-Ok-clause-pushed : goal.returns-in-Ok-clause-pushed
-returns-in-Ok-clause-pushed g c =
+pub returns-clause-pushed : goal.returns-clause-pushed
+returns-clause-pushed g c =
     let p = c.args.packet in
-    ap outgoing c.in-Ok.ensures.accepted
+    ap outgoing c.in_default.ensures.accepted
     ∙ pushed_out (g.O.FrameOut.state c.self.inside.end) c.in_ok-frame.frame p c.requires.spellable c.in_ok-frame.ensures.spelled
     ∙ ap (with_pushed (meaning p) (spelling p)) c.self.view_is
 
-pub returns-clause-in_part : goal.returns-clause-in_part
-returns-clause-in_part g c =
+pub returns-in-Err-clause-in_part : goal.returns-in-Err-clause-in_part
+returns-in-Err-clause-in_part g c =
     part_meant (g.O.FrameOut.state c.offer.new.self).partly c.args.packet c.in_ok-frame.frame c.in-Err.ensures.in_part c.requires.spellable c.in_ok-frame.ensures.spelled

@@ -22,6 +22,7 @@ invariant_of-self c =
         standing = λ e none resync. absurd (cc);
         places = rw log (omega arith);
       };
+      flagged = is.flagged;
       writers = rw log is.writers;
       room = omega arith;
     }

@@ -25,6 +25,7 @@ invariant_of-self c =
         standing = is.sound.standing;
         places = is.sound.places;
       };
+      flagged = is.flagged;
       writers = rw c.release.ensures (writers-without s.log.state.accepted c.args.number s.held is.writers);
       room = is.room;
     }

@@ -24,6 +24,7 @@ invariant_of-self-in-Some-write c =
     let left = c.pop_front.new.self in
     let popped : IsCore (record s { unsent = left }) = record {
       sound = sound-unsent s left.items is.sound;
+      flagged = is.flagged;
       writers = is.writers;
       room = rw (owing-unsent s.end s.unsent.items left.items s.log.state) (omega (arith, is.room, c.pop_front.ensures.len, c.pop_front.ensures.capacity));
     } in

@@ -28,6 +28,7 @@ invariant_of-self c =
         standing = is.sound.standing;
         places = is.sound.places;
       };
+      flagged = is.flagged;
       writers = rw free (writers-freeing s.log.state.accepted completed s.held is.writers);
       room = is.room;
     }

@@ -16,6 +16,7 @@ invariant_of-self c =
         standing = is.sound.standing;
         places = is.sound.places;
       };
+      flagged = is.flagged;
       writers = is.writers;
       room = is.room;
     }

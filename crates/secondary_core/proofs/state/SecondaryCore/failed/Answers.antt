@@ -18,6 +18,7 @@ invariant_of-self c =
       size = c.self.invariant.size;
       few = omega (arith, less, c.self.invariant.few);
       pending = rw left (all-after _ c.args.place s.disk.pending c.self.invariant.pending);
+      counted = omega (arith, less, c.self.invariant.counted);
       ended = c.self.invariant.ended;
       room = omega (arith, less, c.self.invariant.room);
       ready = λ is. let r = c.self.invariant.ready is in record {

@@ -16,6 +16,7 @@ invariant_of-result c =
       size = ap (λ t. length t.blocks) c.in_ok-new.ensures.nothing ∙ length-flags c.args.settings.blocks (λ block. false);
       few = omega (arith, none);
       pending = of-none _ _ none;
+      counted = omega (arith, none);
       ended = omega (arith, answered, sizes, barriers);
       room = omega (arith, due, sizes, none);
       ready = λ is. absurd (cc);

@@ -19,6 +19,7 @@ invariant_of-self c =
       size = ap (λ t. length t.blocks) c.begin.ensures ∙ length-flags (length s.taken.blocks) (λ block. false) ∙ c.self.invariant.size;
       few = c.self.invariant.few;
       pending = of-none _ _ none;
+      counted = omega (arith, none);
       ended = omega (arith, answered, sizes, barriers);
       room = omega (arith, due, sizes, none);
       ready = λ is. absurd (cc);

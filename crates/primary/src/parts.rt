@@ -1,0 +1,80 @@
+//! A primary apart from its link.
+ghost use Rattle.std.specs.Prelude.{◌≡◌, None};
+ghost use Rattle.primary.specs.State.{IsNode};
+
+use crate::Primary;
+use blocks::Store;
+use endpoint::{Incoming, Outgoing};
+use link::{FrameIn, FrameOut};
+use primary_core::PrimaryCore;
+use std::alloc::Global;
+use std::marker::Model;
+
+/// A primary whose link was taken from it: its core and its disk.
+#[derive(Drop)]
+pub struct Unlinked<S: Store + Drop> {
+    alloc: Global,
+    core: PrimaryCore,
+    store: S,
+}
+
+impl<S: Store + Drop> Model for Unlinked<S> {
+    ghost use Rattle.std.specs.Prelude.{None};
+    ghost use Rattle.primary.specs.State.{PrimaryView};
+
+    ghost Value = { PrimaryView };
+
+    ghost view = { λ n. record {
+      core = n.core.state;
+      disk = S.contents n.store;
+      outgoing = None;
+      incoming = None;
+      faults = S.faults n.store;
+      steady = S.steady n.store;
+    } };
+}
+
+impl<O: FrameOut + Drop, I: FrameIn + Drop, S: Store + Drop> Primary<O, I, S> {
+    /// The node without its link, and both sides of that, where it was opened.
+    pub fn into_parts(self) -> (Unlinked<S>, Option<Outgoing<O>>, Option<Incoming<I>>)
+        ensures node { result.0 ≡ record self { outgoing = None; incoming = None } }
+        ensures outgoing { result.1 ≡ self.outgoing }
+        ensures incoming { result.2 ≡ self.incoming }
+    {
+        let Primary {
+            alloc,
+            core,
+            store,
+            outgoing,
+            incoming,
+        } = self;
+        (Unlinked { alloc, core, store }, outgoing, incoming)
+    }
+
+    /// The disk of the node, which ends with it.
+    pub fn into_store(self) -> S
+        ensures { S.contents result ≡ self.disk }
+    {
+        self.store
+    }
+}
+
+impl<S: Store + Drop> Unlinked<S> {
+    /// The node over both sides of a link. Together they have to be a node, as they are if `into_parts` gave them.
+    pub fn linked<O: FrameOut + Drop, I: FrameIn + Drop>(
+        self,
+        outgoing: Option<Outgoing<O>>,
+        incoming: Option<Incoming<I>>,
+    ) -> Primary<O, I, S>
+        requires node { IsNode (record self { outgoing = outgoing; incoming = incoming }) }
+        ensures { result ≡ record self { outgoing = outgoing; incoming = incoming } }
+    {
+        Primary {
+            alloc: self.alloc,
+            core: self.core,
+            store: self.store,
+            outgoing,
+            incoming,
+        }
+    }
+}
