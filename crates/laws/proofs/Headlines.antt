@@ -9,7 +9,7 @@ use Rattle.model.specs.Primary.{PrimaryHistory, local_map, active_extents}
 use Rattle.model.specs.Secondary.{SecondaryHistory, secondary_map}
 use Rattle.model.specs.Pair.{PairHistory, run, same_block}
 use Rattle.model.specs.Headline.{IsJoined, TakesABeginning, StaysClosed, StaysClosedToo, HoldsEarlierEpochs, KeepsPromises, MarksDifferences, CoversDifferences, Headline, is_covered}
-use Rattle.model.specs.Theorems.{Opening, primary_at, secondary_at, pair_at, AnyOpening, HasRanges, IsSoundOpening, EveryRun, JoinedRuns, JoinedRunsHaveTheHeadline, JoinedRunsCoverDifferences, JoinedRunsSettle, EveryRunHasTheHeadline, EveryRunCoversDifferences}
+use Rattle.model.specs.Theorems.{Opening, primary_at, secondary_at, pair_at, AnyOpening, HasRanges, IsSoundOpening, EveryRun, JoinedRuns, JoinedRunsHaveTheHeadline, JoinedRunsCoverDifferences, JoinedRunsSettle, JoinedRunsSettleAnyhow, EveryRunHasTheHeadline, EveryRunCoversDifferences}
 use Rattle.laws.specs.Statements.{PrimaryStreamsAreLawful, PrimaryExtentsAreFew, PrimaryStaysClosed, PrimaryReflects, PrimaryMarksAtRest, SecondaryStaysClosed, EveryRunIsJoined, EveryRunTakesABeginning, EveryRunStaysClosed, EveryRunHoldsEarlierEpochs, EveryRunKeepsPromises, EveryRunMarksDifferences, PrimaryReleasesInOrder}
 use Rattle.laws.proofs.Primary.HomesMoves.{homes-opening}
 use Rattle.laws.proofs.Secondary.Runs.{holds_earlier_epochs}
@@ -20,6 +20,7 @@ use Rattle.laws.proofs.Primary.StaysClosed.{primary_stays_closed}
 use Rattle.laws.proofs.Secondary.Stays.{secondary_stays_closed}
 use Rattle.laws.proofs.Primary.InOrderMoves.{Ordered}
 use Rattle.laws.proofs.Primary.Releases.{released-in-order}
+use Rattle.laws.proofs.Tracked.Numbers.{numbered-run}
 use Rattle.laws.proofs.Tracked.Released.{ordered-run}
 use Rattle.laws.proofs.Accounted.{IsAccounted}
 use Rattle.laws.proofs.Accounted.Reflected.{reflected, rest-marked}
@@ -28,7 +29,7 @@ use Rattle.laws.proofs.Joining.Openings.{kept-opening-primary}
 use Rattle.laws.proofs.Joining.Agreeing.{joined-agrees}
 use Rattle.laws.proofs.Pair.Runs.{pair_runs_are_joined, leads-run}
 use Rattle.laws.proofs.Joining.Taking.{takes_a_beginning}
-use Rattle.laws.proofs.Settling.{settles}
+use Rattle.laws.proofs.Settling.{settles, settles-anyhow}
 
 -- The primary by itself.
 
@@ -110,6 +111,11 @@ joined_headline o here there sound joined = record {
 pub joined_settles : JoinedRunsSettle
 joined_settles o here there sound joined =
     settles (primary_run here (primary_at o)) (secondary_run there (secondary_at o)) joined (joined_headline o here there sound joined) (accounted o here sound.ranges sound.local).1.known.numbers.1
+
+-- the same whatever the identifiers say
+pub joined_settles_anyhow : JoinedRunsSettleAnyhow
+joined_settles_anyhow o here there ranges joined =
+    settles-anyhow (primary_run here (primary_at o)) (secondary_run there (secondary_at o)) joined (joined-beginning o here there ranges joined) (holds_earlier_epochs o there) (keeps_promises o here there tt joined) (numbered-run o.settings o.local o.own o.marks here).numbers.1
 
 -- The pair.
 

@@ -10,9 +10,9 @@ use Rattle.model.specs.Refusals.{first_refusal}
 use Rattle.model.specs.Primary.{Kind, Linked, Alone, Completion, PrimaryHistory, no_outward, outward, outward_at, items_sent, local_map, next_local, Outward}
 use Rattle.model.specs.Secondary.{SecondaryHistory, inward, inward_at, items_taken, secondary_map, is_drained}
 use Rattle.model.specs.Pair.{same_block}
-use Rattle.model.specs.Headline.{IsJoined, Headline, is_marked}
+use Rattle.model.specs.Headline.{IsJoined, TakesABeginning, HoldsEarlierEpochs, KeepsPromises, Headline, is_marked}
 use Rattle.model.specs.Settlement.{Receipt, receipt_of, same_kind, same_home, same_receipt, has_strange, is_at_rest, Settlement, settlement, settle_tests, settle}
-use Rattle.model.specs.Theorems.{Settles}
+use Rattle.model.specs.Theorems.{Settles, SettlesAnyhow}
 use Rattle.laws.proofs.Lists.Beginnings.{length-begins}
 use Rattle.laws.proofs.Lists.Last.{last-at}
 use Rattle.laws.proofs.Lists.Once.{Once}
@@ -128,31 +128,58 @@ no-difference p s marks block = elim (cases_Bool (same_block (local_map p block)
   | inr differs ↦ ap (λ b. not b && not (is_marked p block)) differs ∙ ap not (marks block differs)
 ]
 
--- What a settlement that is not refused says of two nodes that are joined, where their marks have the differences at rest.
-pub settles : (p : PrimaryHistory) (s : SecondaryHistory) → IsJoined p s → Headline p s → Once (λ (entry : Completion). entry.write.number) p.journal
-    → (receipts : List Receipt) (faulty : Bool) (numbers : Settlement) → settle p s receipts faulty ≡ Ok numbers → Settles p s receipts numbers
-settles p s joined headline once receipts faulty numbers is = go (first_refusal (settle_tests p s receipts faulty)) refl is
+-- Where a settlement is not refused, its tests passed, and its numbers are those of both histories.
+record IsSettled (p : PrimaryHistory) (s : SecondaryHistory) (receipts : List Receipt) (numbers : Settlement) : Type 0 where
+  closed : (outward p).closed ≡ true
+  strange : has_strange p.journal [] receipts ≡ false
+  exact : numbers ≡ settlement p s receipts
+
+settled : (p : PrimaryHistory) (s : SecondaryHistory) (receipts : List Receipt) (faulty : Bool) (numbers : Settlement) → settle p s receipts faulty ≡ Ok numbers → IsSettled p s receipts numbers
+settled p s receipts faulty numbers is = go (first_refusal (settle_tests p s receipts faulty)) refl is
   where
-    passed : first_refusal (settle_tests p s receipts faulty) ≡ None → numbers ≡ settlement p s receipts → Settles p s receipts numbers
+    passed : first_refusal (settle_tests p s receipts faulty) ≡ None → numbers ≡ settlement p s receipts → IsSettled p s receipts numbers
     passed none exact =
         let rest = test-passed (not (is_at_rest p s)) NotDrained ((has_strange p.journal [] receipts, StrangeReceipt) ∷ (faulty, ReadFault) ∷ []) none in
         let strange = test-passed (has_strange p.journal [] receipts) StrangeReceipt ((faulty, ReadFault) ∷ []) rest.1 in
         let at_rest = and_parts ((outward p).closed && (inward s).closed) (is_drained s && is_none (next_local p)) (not-false (is_at_rest p s) rest.0) in
-        let closed = (and_parts (outward p).closed (inward s).closed at_rest.0).0 in
-        record {
-          headline = headline;
-          exact = exact;
-          taken = subst (λ (n : Settlement). n.taken ≤ n.sent) (sym exact) (no-more-taken p s joined);
-          unmarked = λ grounded. ap (λ (n : Settlement). n.unmarked) exact ∙ none-passes (λ block. not (same_block (local_map p block) (secondary_map s block)) && not (is_marked p block)) (below (max p.settings.blocks s.settings.blocks))
-              (no-difference p s (headline.marks grounded (ap (λ b. not b && (outward p).begun) closed)));
-          confirmed = λ i receipt at.
-              let given = known p.journal [] receipts strange.0 i receipt at in
-              let entry = pick-any (λ entry. same_receipt (receipt_of entry) receipt) p.journal given.0 in
-              (entry.0, entry.1, entry.2, sym (receipts-same (receipt_of entry.1) receipt entry.3));
-          once = given-once p.journal [] receipts strange.0;
-          distinct = once;
-        }
+        record { closed = (and_parts (outward p).closed (inward s).closed at_rest.0).0; strange = strange.0; exact = exact }
 
-    go : (v : Option Refusal) → first_refusal (settle_tests p s receipts faulty) ≡ v → elim v as (λ _. Result Settlement Refusal) [ Some refusal ↦ Err refusal | None ↦ Ok (settlement p s receipts) ] ≡ Ok numbers → Settles p s receipts numbers
+    go : (v : Option Refusal) → first_refusal (settle_tests p s receipts faulty) ≡ v → elim v as (λ _. Result Settlement Refusal) [ Some refusal ↦ Err refusal | None ↦ Ok (settlement p s receipts) ] ≡ Ok numbers → IsSettled p s receipts numbers
     go (Some refusal) none e = absurd (cc)
     go None none e = let same : settlement p s receipts ≡ numbers = cc in passed none (sym same)
+
+-- What a settlement that is not refused says of two nodes that are joined, whatever their identifiers say.
+pub settles-anyhow : (p : PrimaryHistory) (s : SecondaryHistory) → IsJoined p s → TakesABeginning p s → HoldsEarlierEpochs s → KeepsPromises p s → Once (λ (entry : Completion). entry.write.number) p.journal
+    → (receipts : List Receipt) (faulty : Bool) (numbers : Settlement) → settle p s receipts faulty ≡ Ok numbers → SettlesAnyhow p s receipts numbers
+settles-anyhow p s joined beginning epochs promises once receipts faulty numbers is =
+    let done = settled p s receipts faulty numbers is in
+    record {
+      beginning = beginning;
+      epochs = epochs;
+      promises = promises;
+      exact = done.exact;
+      taken = subst (λ (n : Settlement). n.taken ≤ n.sent) (sym done.exact) (no-more-taken p s joined);
+      confirmed = λ i receipt at.
+          let given = known p.journal [] receipts done.strange i receipt at in
+          let entry = pick-any (λ entry. same_receipt (receipt_of entry) receipt) p.journal given.0 in
+          (entry.0, entry.1, entry.2, sym (receipts-same (receipt_of entry.1) receipt entry.3));
+      once = given-once p.journal [] receipts done.strange;
+      distinct = once;
+    }
+
+-- The same where their marks have the differences at rest.
+pub settles : (p : PrimaryHistory) (s : SecondaryHistory) → IsJoined p s → Headline p s → Once (λ (entry : Completion). entry.write.number) p.journal
+    → (receipts : List Receipt) (faulty : Bool) (numbers : Settlement) → settle p s receipts faulty ≡ Ok numbers → Settles p s receipts numbers
+settles p s joined headline once receipts faulty numbers is =
+    let done = settled p s receipts faulty numbers is in
+    let anyhow = settles-anyhow p s joined headline.beginning headline.epochs headline.promises once receipts faulty numbers is in
+    record {
+      headline = headline;
+      exact = anyhow.exact;
+      taken = anyhow.taken;
+      unmarked = λ grounded. ap (λ (n : Settlement). n.unmarked) done.exact ∙ none-passes (λ block. not (same_block (local_map p block) (secondary_map s block)) && not (is_marked p block)) (below (max p.settings.blocks s.settings.blocks))
+          (no-difference p s (headline.marks grounded (ap (λ b. not b && (outward p).begun) done.closed)));
+      confirmed = anyhow.confirmed;
+      once = anyhow.once;
+      distinct = anyhow.distinct;
+    }

@@ -3,6 +3,7 @@
 pub mod Added
 pub mod Kept
 pub mod Moves
+pub mod Numbers
 pub mod Outcomes
 pub mod Quiet
 pub mod Released

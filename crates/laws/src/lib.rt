@@ -6,7 +6,7 @@
 
 ghost use Rattle.laws.specs.Statements.{PrimaryWritesOnce, PrimaryStreamsAreLawful, PrimaryExtentsAreFew, PrimaryReleasesInOrder, PrimaryStaysClosed, PrimaryReflects, PrimaryMarksAtRest, SecondaryHoldsEarlierEpochs, SecondaryDrainsFirst, SecondaryStaysClosed, JoinedTakesABeginning, JoinedRunsKeepPromises, EveryRunIsJoined, EveryRunTakesABeginning, EveryRunStaysClosed, EveryRunHoldsEarlierEpochs, EveryRunKeepsPromises, EveryRunMarksDifferences, EveryStepIsHonest, RefusedStepsChangeNothing, RefusedFramesClose};
 ghost use Rattle.laws.specs.Examples.{OpeningsAreMet, OneWriteIsMet, CoverIsMet, ReflectionIsMet, RestIsMet, OrderIsMet};
-ghost use Rattle.model.specs.Theorems.{JoinedRunsHaveTheHeadline, JoinedRunsCoverDifferences, JoinedRunsSettle, JoinedRunsKeepWriteOrder, EveryRunHasTheHeadline, EveryRunCoversDifferences, EveryRunKeepsWriteOrder};
+ghost use Rattle.model.specs.Theorems.{JoinedRunsHaveTheHeadline, JoinedRunsCoverDifferences, JoinedRunsSettle, JoinedRunsSettleAnyhow, JoinedRunsKeepWriteOrder, EveryRunHasTheHeadline, EveryRunCoversDifferences, EveryRunKeepsWriteOrder};
 
 /// A primary by itself, for any frames taken. Each write has one place, on one connection; streams are lawful; a closed
 /// end stays as it is; the extents of unreleased writes are no more than the activity log has slots; and of two writes that
@@ -37,13 +37,14 @@ pub fn secondary_alone()
 /// The two, where what each took begins what the other pushed, and no order between the steps of the one and of the
 /// other is known: what the secondary took on each connection begins what the primary sent on it; every write completed
 /// over the link has what its protocol promises; the whole headline holds, and the cover beside it; and once both are at
-/// rest, a settlement says so.
+/// rest, a settlement says so. If the identifiers of the opening are not honest, the settlement says all the rest: `anyhow`.
 pub fn joined()
     ensures beginning { JoinedTakesABeginning }
     ensures promises { JoinedRunsKeepPromises }
     ensures headline { JoinedRunsHaveTheHeadline }
     ensures cover { JoinedRunsCoverDifferences }
     ensures settlement { JoinedRunsSettle }
+    ensures anyhow { JoinedRunsSettleAnyhow }
 {}
 
 /// The pair: every list of events leads to two nodes that ran by themselves and are joined.

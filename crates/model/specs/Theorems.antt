@@ -8,7 +8,7 @@ use Rattle.model.specs.Primary.{Completion, PrimaryHistory, primary_opening}
 use Rattle.model.specs.Secondary.{SecondaryHistory, secondary_opening}
 use Rattle.model.specs.Pair.{Event, PairHistory, run}
 use Rattle.model.specs.LocalRuns.{PrimaryEvent, primary_run, SecondaryEvent, secondary_run}
-use Rattle.model.specs.Headline.{IsJoined, IsGrounded, Headline, CoversDifferences, IsHonest}
+use Rattle.model.specs.Headline.{IsJoined, IsGrounded, TakesABeginning, HoldsEarlierEpochs, KeepsPromises, Headline, CoversDifferences, IsHonest}
 use Rattle.model.specs.Settlement.{Receipt, receipt_of, Settlement, settlement, settle}
 use Rattle.model.specs.WriteOrder.{KeepsWriteOrder, IsUnharmed}
 
@@ -108,7 +108,24 @@ pub record Settles (p : PrimaryHistory) (s : SecondaryHistory) (receipts : List 
   pub once : (i j : ℕ) (receipt : Receipt) → slice_get receipts i ≡ Some receipt → slice_get receipts j ≡ Some receipt → i ≡ j
   pub distinct : (m n : ℕ) (a b : Completion) → slice_get p.journal m ≡ Some a → slice_get p.journal n ≡ Some b → a.write.number ≡ b.write.number → m ≡ n
 
+-- What a settlement says of two joined nodes whatever their identifiers say: all but the fourth clause, and that no differing
+-- block is unmarked.
+pub record SettlesAnyhow (p : PrimaryHistory) (s : SecondaryHistory) (receipts : List Receipt) (numbers : Settlement) : Type 0 where
+  pub beginning : TakesABeginning p s
+  pub epochs : HoldsEarlierEpochs s
+  pub promises : KeepsPromises p s
+  pub exact : numbers ≡ settlement p s receipts
+  pub taken : numbers.taken ≤ numbers.sent
+  pub confirmed : (i : ℕ) (receipt : Receipt) → slice_get receipts i ≡ Some receipt → (n : ℕ) × (entry : Completion) × (slice_get p.journal n ≡ Some entry) × (receipt ≡ receipt_of entry)
+  pub once : (i j : ℕ) (receipt : Receipt) → slice_get receipts i ≡ Some receipt → slice_get receipts j ≡ Some receipt → i ≡ j
+  pub distinct : (m n : ℕ) (a b : Completion) → slice_get p.journal m ≡ Some a → slice_get p.journal n ≡ Some b → a.write.number ≡ b.write.number → m ≡ n
+
 -- The joining lemma of two nodes at rest: what a settlement that is not refused says.
 abbrev pub JoinedRunsSettle : Type 0
 JoinedRunsSettle =
     JoinedRuns IsSoundOpening (λ p s. (receipts : List Receipt) (faulty : Bool) (numbers : Settlement) → settle p s receipts faulty ≡ Ok numbers → Settles p s receipts numbers)
+
+-- The same for any disks and identifiers.
+abbrev pub JoinedRunsSettleAnyhow : Type 0
+JoinedRunsSettleAnyhow =
+    JoinedRuns HasRanges (λ p s. (receipts : List Receipt) (faulty : Bool) (numbers : Settlement) → settle p s receipts faulty ≡ Ok numbers → SettlesAnyhow p s receipts numbers)

@@ -12,6 +12,7 @@ use Rattle.blocks.specs.declared.refusal.Refusal.TheVariants.{BadSetting, NoMemo
 use Rattle.primary_core.specs.State.{CanBegin}
 use Rattle.pair.specs.Openings.{CanPair}
 use Rattle.model.specs.Contents.{BlockMap, IsDisk, filled}
+use Rattle.model.specs.Headline.{IsGrounded}
 use Rattle.model.specs.Pair.{pair_opening, same_block}
 use Rattle.model.specs.Primary.{primary_opening}
 use Rattle.model.specs.Rows.{words}
@@ -104,13 +105,18 @@ zero-filled (Ok p) v settings bytes here there marks own peer_tuple a b c has =
     (subst (λ (m : BlockMap). PairHas (v p) (pair_opening settings (filled settings.blocks bytes) m own peer_tuple (λ block. unwrap_or (slice_get marks block) false))) (ap slice_get b ∙ filled-is settings.blocks bytes)
     (subst (λ (m : BlockMap). PairHas (v p) (pair_opening settings m (slice_get there) own peer_tuple (λ block. unwrap_or (slice_get marks block) false))) (ap slice_get a ∙ filled-is settings.blocks bytes) has))
 
--- Equal disks have honest identifiers, whatever is marked.
+-- Equal disks differ on no block, so that no mark is wanting.
+zero-equal : (settings : Settings) (bytes : List ℕ) (block : ℕ) → same_block (filled settings.blocks bytes block) (filled settings.blocks bytes block) ≡ false → (nat_lt block settings.blocks && false) ≡ true
+zero-equal settings bytes block differs = absurd (both_ways (same_block (filled settings.blocks bytes block) (filled settings.blocks bytes block)) differs (equal-same (filled settings.blocks bytes block) (filled settings.blocks bytes block) refl))
+
+-- They have honest identifiers, whatever is marked.
 pub zero-honest : (settings : Settings) (bytes : List ℕ) → WasHonest (pair_opening settings (filled settings.blocks bytes) (filled settings.blocks bytes) (words 1 0 0 0) (words 1 0 0 0) (λ _. false))
 zero-honest settings bytes = record {
   own_data = omega (arith);
-  same_current = λ _. equal;
-  from_bitmap = λ _ _. equal;
+  same_current = λ _. zero-equal settings bytes;
+  from_bitmap = λ _ _. zero-equal settings bytes;
 }
-  where
-    equal : (block : ℕ) → same_block (filled settings.blocks bytes block) (filled settings.blocks bytes block) ≡ false → (nat_lt block settings.blocks && false) ≡ true
-    equal block differs = absurd (both_ways (same_block (filled settings.blocks bytes block) (filled settings.blocks bytes block)) differs (equal-same (filled settings.blocks bytes block) (filled settings.blocks bytes block) refl))
+
+-- They are grounded.
+pub zero-grounded : (settings : Settings) (bytes : List ℕ) → let h = pair_opening settings (filled settings.blocks bytes) (filled settings.blocks bytes) (words 1 0 0 0) (words 1 0 0 0) (λ _. false) in IsGrounded h.primary h.secondary
+zero-grounded settings bytes = inr (zero-equal settings bytes)

@@ -2,6 +2,7 @@
 ghost use Rattle.std.specs.Prelude.{◌≡◌, ◌⊎◌, false, slice_get, unwrap_or, IfOk, IfErr};
 ghost use Rattle.blocks.specs.SettingsRange.{IsInRange};
 ghost use Rattle.blocks.specs.declared.refusal.Refusal.TheVariants.{BadSetting, NoMemory};
+ghost use Rattle.model.specs.Headline.{IsGrounded};
 ghost use Rattle.model.specs.Pair.{pair_opening};
 ghost use Rattle.pair.specs.Openings.{CanPair, zero_filled};
 ghost use Rattle.pair.specs.State.{state};
@@ -48,6 +49,8 @@ impl Pair {
         ensures history { IfOk result (λ p. PairHas (state p) (zero_filled settings)) }
         // Its identifiers say that the disks agree, and they do.
         ensures honest { WasHonest (zero_filled settings) }
+        // Its marks cover the differences of its disks: there are none.
+        ensures grounded { IsGrounded (zero_filled settings).primary (zero_filled settings).secondary }
         ensures refused { IfErr result (λ e. ((e ≡ BadSetting) × (IsInRange settings → ⊥)) ⊎ ((e ≡ NoMemory) × IsInRange settings)) }
     {
         settings.check()?;

@@ -1,7 +1,7 @@
 //! Events, one after another.
 ghost use Rattle.std.specs.Prelude.{◌≡◌, length, map, IfOk, IfErr};
 ghost use Rattle.blocks.specs.declared.refusal.Refusal.TheVariants.{NoMemory};
-ghost use Rattle.model.specs.Headline.{CoversDifferences, HoldsEarlierEpochs, KeepsPromises, MarksDifferences, StaysClosed, StaysClosedToo, TakesABeginning};
+ghost use Rattle.model.specs.Headline.{CoversDifferences, HoldsEarlierEpochs, IsGrounded, KeepsPromises, MarksDifferences, StaysClosed, StaysClosedToo, TakesABeginning};
 ghost use Rattle.model.specs.Pair.{PairHistory, run};
 ghost use Rattle.model.specs.WriteOrder.{IsUnharmed, KeepsWriteOrder};
 ghost use Rattle.pair.specs.Events.{event_of};
@@ -21,6 +21,8 @@ pub fn run(
     pair: Pair,
     events: &[Event],
 ) -> Result<(Pair, Vec<Reply>), (Pair, Refusal)>
+    // Each event has its reply.
+    ensures each { IfOk result (λ r. length r.1.items ≡ length events.now) }
     // Each event's reply is the history's, on whichever history the pair had.
     ensures replies { IfOk result (λ r. (h : PairHistory) → PairHas (state pair) h
         → r.1.items ≡ (run (answered (map event_of events.now) r.1.items) h).0) }
@@ -30,6 +32,9 @@ pub fn run(
     // Where the identifiers of its opening were honest, they still were: nothing changes how it began.
     ensures honest { IfOk result (λ r. (h : PairHistory) → PairHas (state pair) h → WasHonest h
         → WasHonest (run (answered (map event_of events.now) r.1.items) h).1) }
+    // Where the history was grounded, it still is.
+    ensures grounded { IfOk result (λ r. (h : PairHistory) → PairHas (state pair) h → IsGrounded h.primary h.secondary
+        → IsGrounded (run (answered (map event_of events.now) r.1.items) h).1.primary (run (answered (map event_of events.now) r.1.items) h).1.secondary) }
     // What the secondary took on each connection is a beginning of the lawful stream that the primary sent, each
     // write once.
     ensures beginning { IfOk result (λ r. (h : PairHistory) → PairHas (state r.0) h

@@ -2,10 +2,12 @@
 ghost use Rattle.std.specs.Prelude.{◌≡◌};
 ghost use Rattle.blocks.specs.declared.outcome.Reply.TheVariants as reply;
 ghost use Rattle.endpoint.specs.Calls as link;
-ghost use Rattle.model.specs.Pair.{AckOutEvent, ClosePrimaryEvent, CloseSecondaryEvent, LocalEvent, LocalFaultEvent, PeerEvent, PeerFaultEvent, ResyncEvent, ResyncFaultEvent, SendEvent, SubmitEvent};
+ghost use Rattle.model.specs.Headline.{CoversDifferences, HoldsEarlierEpochs, IsGrounded, KeepsPromises, MarksDifferences, StaysClosed, StaysClosedToo, TakesABeginning};
+ghost use Rattle.model.specs.Pair.{AckOutEvent, ClosePrimaryEvent, CloseSecondaryEvent, LocalEvent, LocalFaultEvent, PairHistory, PeerEvent, PeerFaultEvent, ResyncEvent, ResyncFaultEvent, SendEvent, SubmitEvent, step};
+ghost use Rattle.model.specs.WriteOrder.{IsUnharmed, KeepsWriteOrder};
 ghost use Rattle.pair.specs.Events.{event_of};
 ghost use Rattle.pair.specs.State.{state};
-ghost use Rattle.pair_steps.specs.State.{IsPairStep, is_starved};
+ghost use Rattle.pair_steps.specs.State.{IsPairStep, PairHas, WasHonest, is_starved};
 ghost use Rattle.primary_steps.specs.Steps.{replied};
 ghost use Rattle.secondary_steps.specs.Steps as from_secondary;
 ghost use Rattle.secondary_steps.specs.Steps.{plainly};
@@ -102,6 +104,31 @@ impl Pair {
     /// refused where the reply is 7.
     pub fn step(&mut self, event: &Event) -> Reply
         ensures step { IsPairStep (event_of event.now) (is_starved result) (state self.old) result (state self.new) }
+        // Where the identifiers of its opening were honest, they still were.
+        ensures honest { (h : PairHistory) → PairHas (state self.old) h → WasHonest h
+            → WasHonest (step (event_of event.now) (is_starved result) h).1 }
+        // Where the history was grounded, it still is.
+        ensures grounded { (h : PairHistory) → PairHas (state self.old) h → IsGrounded h.primary h.secondary
+            → IsGrounded (step (event_of event.now) (is_starved result) h).1.primary (step (event_of event.now) (is_starved result) h).1.secondary }
+        // Nothing is sent or taken after an end's close.
+        ensures closed { (h : PairHistory) → PairHas (state self.old) h
+            → StaysClosed h.primary (step (event_of event.now) (is_starved result) h).1.primary
+            × StaysClosedToo h.secondary (step (event_of event.now) (is_starved result) h).1.secondary }
+        // What the secondary took on each connection is a beginning of the lawful stream that the primary sent.
+        ensures beginning { (h : PairHistory) → PairHas (state self.new) h → TakesABeginning h.primary h.secondary }
+        // The secondary's disk holds every write of earlier epochs and part of one.
+        ensures epochs { (h : PairHistory) → PairHas (state self.new) h → HoldsEarlierEpochs h.secondary }
+        // Every write that was completed over the link has what its protocol promises.
+        ensures promises { (h : PairHistory) → PairHas (state self.new) h → KeepsPromises h.primary h.secondary }
+        // While no stream stands, every block on which the disks differ is marked.
+        ensures marks { (h : PairHistory) → PairHas (state self.new) h → WasHonest h
+            → MarksDifferences h.primary h.secondary }
+        // At every moment it is marked or under an unreleased write, and those lie in as many extents as there are slots.
+        ensures cover { (h : PairHistory) → PairHas (state self.new) h → WasHonest h
+            → CoversDifferences h.primary h.secondary }
+        // A secondary that calls itself consistent holds an ordered set of the writes, with all whole epochs.
+        ensures order { (h : PairHistory) → PairHas (state self.new) h → WasHonest h
+            → IsUnharmed h.primary h.secondary → KeepsWriteOrder h.primary h.secondary }
     {
         let outcome = match event {
             Event::Open { sync, loss } => self.open(*sync, *loss),

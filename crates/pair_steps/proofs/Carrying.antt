@@ -1,18 +1,18 @@
 -- A frame goes over a direction of the link: what the side that sends and the side that takes are afterwards.
-use Rattle.std.proofs.Common.{ℕ, zero, suc, ◌≡◌, ◌≤◌, ◌<◌, ◌-◌, ◌+◌, Bool, true, false, List, [], ◌∷◌, ◌++◌, length, drop, Option, Some, None, Result, Ok, Err, refl, sym, ◌∙◌, ap, subst, arith}
-use Rattle.std.specs.Prelude.{option_map, is_some, IfSome, OnOk, OnErr}
+use Rattle.std.proofs.Common.{ℕ, ◌≡◌, ◌≤◌, List, [], ◌∷◌, ◌++◌, length, drop, Option, Some, None, Result, Ok, Err, refl, sym, ◌∙◌, ap, subst, arith}
+use Rattle.std.specs.Prelude.{option_map, IfSome, OnOk, OnErr}
 use Rattle.std.proofs.lemmas.List.{length-drop}
 use Rattle.blocks.specs.declared.refusal.Refusal.{Refusal}
-use Rattle.blocks.specs.declared.refusal.Refusal.TheVariants.{LinkFull, NothingThere}
+use Rattle.blocks.specs.declared.refusal.Refusal.TheVariants.{NothingThere}
 use Rattle.model.specs.Frames.{Packet, Received}
 use Rattle.link.specs.Directions.{QueueState}
-use Rattle.endpoint.specs.Calls.{PushedOne, Sends, TookOne, Takes}
+use Rattle.endpoint.specs.Calls.{PushedOne, Sends, Takes}
 use Rattle.endpoint.specs.Incoming.{IncomingState, with_received, SameRow}
 use Rattle.endpoint.specs.Outgoing.{OutgoingState, with_pushed}
 use Rattle.endpoint.specs.Joined.{AreTold, BeginsPushed}
 use Rattle.endpoint.specs.Lending.{IsQueueOf, GivenBack, without_queue, with_queue, taking_from, empty_handed}
 use Rattle.pair_steps.specs.State.{Direction, AreEnds, IsDirection}
-use Rattle.pair_steps.specs.Carried.{GivesNext, Gave, IsTold, next_of}
+use Rattle.pair_steps.specs.Carried.{Gave, IsTold}
 use Rattle.pair_steps.proofs.Rows.{IsLent, lent, ends-back, ends-kept, ends-pushed, took-next, none-next}
 
 some-is : {X : Type 0} (x y : X) → Some x ≡ Some y → x ≡ y

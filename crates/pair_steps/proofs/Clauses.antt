@@ -1,19 +1,19 @@
 -- What every history that a pair has says, clause by clause.
-use Rattle.std.proofs.Common.{ℕ, ◌≡◌, ◌<◌, nat_lt, Bool, true, false, ◌&&◌, List, [], ◌∷◌, ◌++◌, length, Some, slice_get, refl, sym, ◌∙◌, ap, subst, arith}
+use Rattle.std.proofs.Common.{ℕ, ◌≡◌, ◌<◌, nat_lt, Bool, ◌&&◌, List, sym, ◌∙◌, ap, subst}
 use Rattle.blocks.specs.declared.settings.Settings.{Settings}
 use Rattle.blocks.specs.declared.tuple.Tuple.{Tuple}
 use Rattle.model.specs.Contents.{BlockMap}
-use Rattle.model.specs.LocalRuns.{primary_run, secondary_run}
-use Rattle.model.specs.Pair.{Event, PairHistory, same_block, step, run}
+use Rattle.model.specs.Pair.{Event, PairHistory, same_block, run}
 use Rattle.model.specs.Primary.{PrimaryHistory}
 use Rattle.model.specs.Secondary.{SecondaryHistory}
-use Rattle.model.specs.Theorems.{Opening, pair_at, primary_at, secondary_at, marks_at, IsSoundOpening}
-use Rattle.model.specs.Headline.{TakesABeginning, StaysClosed, StaysClosedToo, HoldsEarlierEpochs, KeepsPromises, MarksDifferences, CoversDifferences, Cover, IsHonest, opening_marked}
+use Rattle.model.specs.Theorems.{pair_at, marks_at, IsSoundOpening}
+use Rattle.model.specs.Headline.{TakesABeginning, StaysClosed, StaysClosedToo, HoldsEarlierEpochs, KeepsPromises, MarksDifferences, CoversDifferences, Cover, opening_marked}
 use Rattle.model.specs.WriteOrder.{KeepsWriteOrder, IsUnharmed}
 use Rattle.laws.proofs.Headlines.{every_beginning, every_epochs, every_promises, every_marks, every_cover, every_close}
 use Rattle.laws.proofs.WriteOrder.Theorem.{every_write_order}
 use Rattle.pair_steps.specs.State.{IsRun, WasHonest}
-use Rattle.pair_steps.proofs.Honest.{opens-here, opens-there}
+use Rattle.pair_steps.proofs.Honest.{opens-here, opens-there, honest-kept}
+use Rattle.pair_steps.proofs.Grounded.{grounded-kept}
 use Rattle.pair_steps.specs.Steps.{HasClauses}
 
 -- the history of a run
@@ -70,4 +70,4 @@ closed h is more = subst (λ (x : PairHistory). StaysClosed x.primary (run more 
 
 -- all of them
 pub has-clauses : (h : PairHistory) → IsRun h → HasClauses h
-has-clauses h is = record { beginning = beginning h is; closed = closed h is; epochs = epochs h is; promises = promises h is; marks = marks h is; cover = cover h is; order = order h is }
+has-clauses h is = record { beginning = beginning h is; closed = closed h is; epochs = epochs h is; promises = promises h is; marks = marks h is; cover = cover h is; order = order h is; honest = λ more. honest-kept more h is; grounded = λ more. grounded-kept more h is }

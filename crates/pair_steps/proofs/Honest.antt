@@ -1,5 +1,5 @@
 -- What every run keeps of its opening: the settings, the disks, the marks and the identifiers, and so that these were honest.
-use Rattle.std.proofs.Common.{ℕ, ◌≡◌, nat_lt, Bool, ◌&&◌, List, [], ◌∷◌, refl, sym, ◌∙◌, subst}
+use Rattle.std.proofs.Common.{ℕ, nat_lt, Bool, ◌&&◌, List, [], ◌∷◌, sym, ◌∙◌, subst}
 use Rattle.blocks.specs.declared.settings.Settings.{Settings}
 use Rattle.blocks.specs.declared.tuple.Tuple.{Tuple}
 use Rattle.model.specs.Contents.{BlockMap}

@@ -1,10 +1,10 @@
 -- What a step keeps of a pair: the settings, and so how much the link holds.
-use Rattle.std.proofs.Common.{ℕ, ◌≡◌, Bool, refl, sym, ◌∙◌, ap, subst}
+use Rattle.std.proofs.Common.{◌≡◌, Bool, sym, ◌∙◌, ap, subst}
 use Rattle.blocks.specs.declared.outcome.Reply.{Reply}
 use Rattle.blocks.specs.declared.settings.Settings.{Settings}
-use Rattle.model.specs.Pair.{Event, PairHistory, step, run}
+use Rattle.model.specs.Pair.{Event, PairHistory, step}
 use Rattle.model.specs.Theorems.{Opening}
-use Rattle.pair_steps.specs.State.{Direction, IsDirection, IsPair, IsPairStep, IsRun, PairHas, PairState}
+use Rattle.pair_steps.specs.State.{IsDirection, IsPair, IsPairStep, IsRun, PairHas, PairState}
 use Rattle.pair_steps.proofs.Honest.{opens-here, opens-there}
 use Rattle.pair_steps.proofs.Stepping.{is-run-more, same-opening}
 

@@ -1,8 +1,8 @@
 -- The queue of a direction is lent for one call: what that gave, and that it is back.
-use Rattle.std.proofs.Common.{ℕ, ◌≡◌, Bool, true, false, List, [], ◌∷◌, ◌++◌, Option, Some, None, Result, Ok, Err, refl, sym, ◌∙◌, ap, subst}
+use Rattle.std.proofs.Common.{ℕ, ◌≡◌, true, false, ◌++◌, Option, Some, None, Result, refl, sym, ◌∙◌, ap, subst}
 use Rattle.std.specs.Prelude.{option_map, is_some, IfSome}
 use Rattle.blocks.specs.declared.refusal.Refusal.{Refusal}
-use Rattle.model.specs.Frames.{Packet, Received}
+use Rattle.model.specs.Frames.{Received}
 use Rattle.link.specs.Directions.{QueueState}
 use Rattle.endpoint.specs.Calls.{Takes, pushed_of, taken_of}
 use Rattle.endpoint.specs.Incoming.{IncomingState, with_received}

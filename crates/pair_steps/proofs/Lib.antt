@@ -1,5 +1,7 @@
+pub mod Begun
 pub mod Carrying
 pub mod Clauses
+pub mod Grounded
 pub mod Honest
 pub mod Keeping
 pub mod Lending

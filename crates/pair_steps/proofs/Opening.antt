@@ -1,10 +1,6 @@
 -- Both ends open, or none.
-use Rattle.std.proofs.Common.{ℕ, zero, suc, ◌≡◌, ◌<◌, ◌≤◌, nat_le, Bool, true, false, not, ◌&&◌, List, [], ◌∷◌, length, Option, Some, None, Result, Ok, Err, slice_get, refl, sym, ◌∙◌, ap, subst, arith}
-use Rattle.std.specs.Prelude.{◌-◌}
-use Rattle.std.proofs.lemmas.Bool.{both_ways}
-use Rattle.std.proofs.lemmas.Bool.Decides.{nat_tests}
+use Rattle.std.proofs.Common.{ℕ, ◌≡◌, Bool, [], Option, Some, None, refl, sym, ◌∙◌, ap, subst}
 use Rattle.blocks.specs.declared.refusal.Refusal.{Refusal}
-use Rattle.blocks.specs.declared.refusal.Refusal.TheVariants.{NotDrained}
 use Rattle.blocks.specs.declared.outcome.Reply.{Reply}
 use Rattle.blocks.specs.declared.outcome.Reply.TheVariants as reply
 use Rattle.model.specs.LocalRuns.{Opens, OpensToo}
@@ -12,11 +8,11 @@ use Rattle.blocks.specs.SettingsRange.{IsInRange}
 use Rattle.blocks.specs.declared.settings.Settings.{Settings}
 use Rattle.blocks.specs.declared.tuple.Tuple.{Tuple}
 use Rattle.model.specs.Contents.{BlockMap, IsDisk}
-use Rattle.model.specs.Pair.{OpenEvent, PairHistory, open_pair, open_pair_tests, pair_opening, step}
-use Rattle.model.specs.Primary.{PrimaryHistory, primary_opening}
-use Rattle.model.specs.PrimarySteps.{open_primary, open_tests}
+use Rattle.model.specs.Pair.{OpenEvent, PairHistory, open_pair, open_pair_tests, pair_opening}
+use Rattle.model.specs.Primary.{primary_opening}
+use Rattle.model.specs.PrimarySteps.{open_primary}
 use Rattle.model.specs.Refusals.{first_refusal}
-use Rattle.model.specs.Secondary.{SecondaryHistory, secondary_opening}
+use Rattle.model.specs.Secondary.{secondary_opening}
 use Rattle.model.specs.SecondarySteps.{open_secondary}
 use Rattle.primary_steps.specs.Node as primary
 use Rattle.secondary_steps.specs.Node as secondary

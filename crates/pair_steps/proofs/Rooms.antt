@@ -1,12 +1,12 @@
 -- Whether the link has room, and what it gives next, as the history counts them.
-use Rattle.std.proofs.Common.{ℕ, suc, ◌≡◌, ◌≤◌, ◌<◌, ◌-◌, ◌+◌, ◌⊎◌, inl, inr, nat_lt, Bool, true, false, List, [], ◌∷◌, ◌++◌, length, take, map, Option, Some, None, Ok, slice_get, refl, sym, ◌∙◌, ap, subst, arith}
+use Rattle.std.proofs.Common.{ℕ, ◌≡◌, ◌-◌, ◌⊎◌, inl, inr, nat_lt, List, [], ◌∷◌, length, Some, Ok, slice_get, refl, sym, ◌∙◌, ap, subst, arith}
 use Rattle.std.specs.Prelude.{option_map}
 use Rattle.std.proofs.lemmas.List.{length-append, length-take-le}
 use Rattle.std.proofs.lemmas.Option.{slice_get_within}
 use Rattle.model.specs.Frames.{Packet, Received}
-use Rattle.model.specs.Primary.{PrimaryHistory, Outward, outward, no_outward, frames_due}
-use Rattle.model.specs.Secondary.{SecondaryHistory, Inward, inward, no_inward, answers_due}
-use Rattle.model.specs.Pair.{PairHistory, has_room, answers_have_room, next_frame, next_answer, pushed_frames, pushed_answers, run}
+use Rattle.model.specs.Primary.{outward, no_outward, frames_due}
+use Rattle.model.specs.Secondary.{Inward, inward, no_inward, answers_due}
+use Rattle.model.specs.Pair.{PairHistory, has_room, answers_have_room, next_frame, next_answer, pushed_frames, pushed_answers}
 use Rattle.model.specs.Theorems.{pair_at}
 use Rattle.laws.proofs.Lists.Last.{last-at}
 use Rattle.laws.proofs.Lists.Pairs.{Pairs, pairs-length}
@@ -17,9 +17,8 @@ use Rattle.model.specs.Primary.{last_of}
 use Rattle.endpoint.specs.Calls.{pushed_of, taken_of}
 use Rattle.endpoint.specs.Incoming.{IncomingState}
 use Rattle.endpoint.specs.Outgoing.{OutgoingState}
-use Rattle.endpoint.specs.Joined.{BeginsPushed}
 use Rattle.pair_steps.specs.Carried.{next_of}
-use Rattle.pair_steps.specs.State.{AreEnds, IsRun, PairHas, PairState, primary_of, secondary_of}
+use Rattle.pair_steps.specs.State.{AreEnds, IsRun, PairHas, PairState}
 
 -- the ends of every connection of a run are linked
 linked : (h : PairHistory) → IsRun h → IsLinkedPair h

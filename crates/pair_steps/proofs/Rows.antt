@@ -1,17 +1,16 @@
 -- A direction of the link: its queue goes over to the side that takes, for one frame, and comes back.
-use Rattle.std.proofs.Common.{ℕ, zero, suc, ◌≡◌, ◌≤◌, ◌<◌, ◌-◌, ◌+◌, true, false, List, [], ◌∷◌, ◌++◌, length, drop, map, Option, Some, None, Result, Ok, Err, slice_get, refl, sym, ◌∙◌, ap, subst, arith}
-use Rattle.std.specs.Prelude.{option_map, is_some, IfSome}
-use Rattle.std.proofs.lemmas.List.{append_assoc, append_cancel_left, length-append}
+use Rattle.std.proofs.Common.{ℕ, zero, suc, ◌≡◌, ◌≤◌, ◌<◌, ◌-◌, ◌+◌, List, [], ◌∷◌, ◌++◌, length, map, Option, Some, None, Ok, slice_get, refl, sym, ◌∙◌, ap, subst, arith}
+use Rattle.std.specs.Prelude.{option_map, IfSome}
+use Rattle.std.proofs.lemmas.List.{append_assoc, length-append}
 use Rattle.std.proofs.lemmas.Option.{slice_get-map, slice_get_past}
 use Rattle.model.specs.Frames.{Packet, Received}
 use Rattle.laws.proofs.Lists.Beginnings.{get-beginning}
 use Rattle.laws.proofs.Lists.Elements.{get-end}
 use Rattle.link.specs.Directions.{QueueState}
-use Rattle.endpoint.specs.Calls.{PushedOne, TookOne}
-use Rattle.endpoint.specs.Incoming.{IncomingState, with_received}
+use Rattle.endpoint.specs.Incoming.{IncomingState}
 use Rattle.endpoint.specs.Outgoing.{OutgoingState, with_pushed}
 use Rattle.endpoint.specs.Joined.{AreTold, BeginsPushed}
-use Rattle.endpoint.specs.Lending.{IsQueueOf, without_queue, with_queue, taking_from, empty_handed}
+use Rattle.endpoint.specs.Lending.{IsQueueOf, without_queue, with_queue, empty_handed}
 use Rattle.pair_steps.specs.Carried.{next_of}
 use Rattle.pair_steps.specs.State.{AreEnds}
 

@@ -4,7 +4,7 @@ use Rattle.blocks.specs.declared.refusal.Refusal.{Refusal}
 use Rattle.blocks.specs.declared.outcome.Done.{Done}
 use Rattle.blocks.specs.declared.outcome.Reply.TheVariants as reply
 use Rattle.model.specs.Frames.{Received}
-use Rattle.model.specs.Headline.{TakesABeginning, StaysClosed, StaysClosedToo, HoldsEarlierEpochs, KeepsPromises, MarksDifferences, CoversDifferences}
+use Rattle.model.specs.Headline.{TakesABeginning, StaysClosed, StaysClosedToo, HoldsEarlierEpochs, KeepsPromises, MarksDifferences, CoversDifferences, IsGrounded}
 use Rattle.model.specs.LocalRuns.{Sends, Takes, Receives, Acknowledges}
 use Rattle.model.specs.Pair.{Event, SendEvent, ReceiveEvent, AckOutEvent, AckInEvent, PairHistory, run}
 use Rattle.model.specs.WriteOrder.{KeepsWriteOrder, IsUnharmed}
@@ -47,7 +47,8 @@ AcknowledgesAreSteps =
     → ((one : Received) → frame ≡ Some one → (primary_of q).taken ≡ (primary_of p).taken ++ one ∷ []) → secondary_of p ≡ secondary_of q
     → IsPairStep AckInEvent (is_starved result) p (from_primary.replied reply.Ok result) q
 
--- What every history says that a list of events leads to: the headline clause by clause, the cover and the write order.
+-- What every history says that a list of events leads to: the headline clause by clause, the cover and the write order, and
+-- that their premises are kept.
 pub record HasClauses (h : PairHistory) : Type 0 where
   pub beginning : TakesABeginning h.primary h.secondary
   pub closed : (more : List (Event × Bool)) → StaysClosed h.primary (run more h).1.primary × StaysClosedToo h.secondary (run more h).1.secondary
@@ -56,6 +57,9 @@ pub record HasClauses (h : PairHistory) : Type 0 where
   pub marks : WasHonest h → MarksDifferences h.primary h.secondary
   pub cover : WasHonest h → CoversDifferences h.primary h.secondary
   pub order : WasHonest h → IsUnharmed h.primary h.secondary → KeepsWriteOrder h.primary h.secondary
+  -- nothing changes how it began, and what is grounded stays so
+  pub honest : (more : List (Event × Bool)) → WasHonest h → WasHonest (run more h).1
+  pub grounded : (more : List (Event × Bool)) → IsGrounded h.primary h.secondary → IsGrounded (run more h).1.primary (run more h).1.secondary
 
 -- every history has them
 abbrev pub RunsHaveClauses : Type 0

@@ -14,7 +14,8 @@ pub fn calls_are_steps()
 {}
 
 /// Every history that a list of events leads to has the clauses of the headline, the cover and the write order; those of
-/// the marks want an opening with honest identifiers.
+/// the marks want an opening with honest identifiers. No event makes honest identifiers dishonest, or a grounded history
+/// ungrounded.
 pub fn runs_have_clauses()
     ensures { RunsHaveClauses }
 {}

@@ -16,6 +16,7 @@ use Rattle.model.specs.Primary.{LocalOutcome, Waiting, OnDisk, Failed, Accepted,
 use Rattle.model.specs.PrimarySteps.{newly_completed, completion_of, with_completions, epoch_is_over, resync_is_over, ending_resync, follows, submission, submitted, appending, set_outcome, with_outcome, accepted_at, faulted}
 use Rattle.model.specs.Acknowledgements.{begun_with}
 use Rattle.laws.proofs.Primary.Moves.{IsKeptByMoves, following-from, with_frame}
+use Rattle.laws.proofs.Primary.Homes.{HasHomes}
 use Rattle.laws.proofs.Primary.HomesMoves.{homes-kept}
 use Rattle.laws.proofs.Tracked.{IsTracked}
 use Rattle.laws.proofs.Lists.Picks.{pick-any, pick-filtered, pick-image, any-pick}
@@ -48,24 +49,21 @@ pub record IsKnown (h : PrimaryHistory) : Type 0 where
 
 -- What follows a step.
 
--- completions go to the journal
-pub known-completions : (h : PrimaryHistory) → IsKnown h → IsKnown (with_completions h)
-known-completions h known = record {
-  tracked = tracked-completions h known.tracked;
-  numbers = (
-    λ n entry at. elim (get-split h.journal (map (completion_of h) (newly_completed h)) n entry at) [
-      | inl old ↦ known.numbers.0 n entry old
-      | inr new ↦
-          let of = pick-image (completion_of h) (newly_completed h) new.0 entry new.2 in
-          let stood = pick-filtered (λ (a : Accepted). is_open h a && completes h a) h.writes new.0 of.0 of.1 in
-          let number : of.0.write.number ≡ suc stood.0 = known.tracked.homes.numbered stood.0 of.0 stood.1 in
-          let same : of.0.write.number ≡ entry.write.number = ap (λ (e : Completion). e.write.number) of.2 in
-          let within = slice_get_within h.writes stood.0 of.0 stood.1 in
-          omega arith
-    ],
-    once,
-  );
-}
+-- completions go to the journal, each with the number of an open write
+pub numbers-completions : (h : PrimaryHistory) → HasHomes h → HasNumbers h → HasNumbers (with_completions h)
+numbers-completions h homes numbers = (
+  λ n entry at. elim (get-split h.journal (map (completion_of h) (newly_completed h)) n entry at) [
+    | inl old ↦ numbers.0 n entry old
+    | inr new ↦
+        let of = pick-image (completion_of h) (newly_completed h) new.0 entry new.2 in
+        let stood = pick-filtered (λ (a : Accepted). is_open h a && completes h a) h.writes new.0 of.0 of.1 in
+        let number : of.0.write.number ≡ suc stood.0 = homes.numbered stood.0 of.0 stood.1 in
+        let same : of.0.write.number ≡ entry.write.number = ap (λ (e : Completion). e.write.number) of.2 in
+        let within = slice_get_within h.writes stood.0 of.0 stood.1 in
+        omega arith
+  ],
+  once,
+)
   where
     passes : Accepted → Bool
     passes a = is_open h a && completes h a
@@ -81,13 +79,17 @@ known-completions h known = record {
 
     distinct : Once (λ (a : Accepted). a.write.number) h.writes
     distinct m n a b ata atb same =
-        let one = known.tracked.homes.numbered m a ata in
-        let two = known.tracked.homes.numbered n b atb in
+        let one = homes.numbered m a ata in
+        let two = homes.numbered n b atb in
         omega arith
 
     once : Once (λ (entry : Completion). entry.write.number) (h.journal ++ map (completion_of h) (newly_completed h))
-    once = once-append (λ (entry : Completion). entry.write.number) h.journal (map (completion_of h) (newly_completed h)) known.numbers.1
+    once = once-append (λ (entry : Completion). entry.write.number) h.journal (map (completion_of h) (newly_completed h)) numbers.1
         (once-map (λ (entry : Completion). entry.write.number) (completion_of h) (newly_completed h) (once-filter (λ (a : Accepted). a.write.number) passes h.writes distinct)) new
+
+-- completions go to the journal
+pub known-completions : (h : PrimaryHistory) → IsKnown h → IsKnown (with_completions h)
+known-completions h known = record { tracked = tracked-completions h known.tracked; numbers = numbers-completions h known.tracked.homes known.numbers }
 
 -- a barrier goes to the end of the stream
 pub known-parting : (g : PrimaryHistory) → epoch_is_over g ≡ true → IsKnown g → IsKnown (appending (BarrierItem (last_epoch (outward g).stream)) g)
@@ -102,7 +104,8 @@ known-following = following-from IsKnown IsKnown IsKnown known-completions known
 
 -- Moves that change the list of writes.
 
-numbers-submitted : (h : PrimaryHistory) (first : ℕ) (contents : List (List ℕ)) → HasNumbers h → HasNumbers (submitted h first contents)
+-- an accepted write is in no entry of the journal
+pub numbers-submitted : (h : PrimaryHistory) (first : ℕ) (contents : List (List ℕ)) → HasNumbers h → HasNumbers (submitted h first contents)
 numbers-submitted h first contents numbers = go (stands (outward h))
   where
     more : (added : Accepted) (n : ℕ) (entry : Completion) → slice_get h.journal n ≡ Some entry → entry.write.number ≤ length (h.writes ++ added ∷ [])
@@ -116,18 +119,20 @@ numbers-submitted h first contents numbers = go (stands (outward h))
     go false = (more (record { write = submission h first contents; journal_length = length h.journal; home = None; outcome = Waiting }), numbers.1)
 
 -- an outcome that is put down adds no write
-numbers-outcome : (h : PrimaryHistory) (number : ℕ) (outcome : LocalOutcome) → HasNumbers h → (n : ℕ) (entry : Completion) → slice_get h.journal n ≡ Some entry
+pub numbers-outcome : (h : PrimaryHistory) (number : ℕ) (outcome : LocalOutcome) → HasNumbers h → (n : ℕ) (entry : Completion) → slice_get h.journal n ≡ Some entry
     → entry.write.number ≤ length (map (set_outcome number outcome) h.writes)
 numbers-outcome h number outcome numbers n entry at = let low = numbers.0 n entry at in let long = length-map h.writes (set_outcome number outcome) in omega arith
 
-numbers-faulted : (h : PrimaryHistory) (number : ℕ) (offsets : List ℕ) → HasNumbers h → HasNumbers (faulted number offsets h)
+-- nor does a failed one
+pub numbers-faulted : (h : PrimaryHistory) (number : ℕ) (offsets : List ℕ) → HasNumbers h → HasNumbers (faulted number offsets h)
 numbers-faulted h number offsets numbers = go (accepted_at h number)
   where
     go : (v : Option Accepted) → HasNumbers (elim v as (λ _. PrimaryHistory) [ None ↦ h | Some accepted ↦ with_outcome number (Failed (within (length accepted.write.contents) offsets)) (record h { marks = marking accepted.write h.marks }) ])
     go None = numbers
     go (Some accepted) = (numbers-outcome h number (Failed (within (length accepted.write.contents) offsets)) numbers, numbers.1)
 
-numbers-begun : (h : PrimaryHistory) (decided : Decision) → HasNumbers h → HasNumbers (begun_with decided h)
+-- nor the begin of a stream
+pub numbers-begun : (h : PrimaryHistory) (decided : Decision) → HasNumbers h → HasNumbers (begun_with decided h)
 numbers-begun h NoSync numbers = numbers
 numbers-begun h BitmapSync numbers = numbers
 numbers-begun h FullSync numbers = numbers

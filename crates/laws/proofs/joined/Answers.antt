@@ -1,7 +1,7 @@
 -- What was taken begins what was pushed; an acknowledgement that was taken was due, and what was due is true; what is surely
 -- applied is then applied.
 use Rattle.laws.proofs.Joining.Promises.{keeps_promises}
-use Rattle.laws.proofs.Headlines.{joined_headline, joined_covers, joined_settles}
+use Rattle.laws.proofs.Headlines.{joined_headline, joined_covers, joined_settles, joined_settles_anyhow}
 use Rattle.laws.proofs.joined.Goals as goal
 use Rattle.laws.proofs.Joining.Taking.{takes_a_beginning}
 
@@ -19,3 +19,6 @@ returns-clause-cover c = joined_covers
 
 pub returns-clause-settlement : goal.returns-clause-settlement
 returns-clause-settlement c = joined_settles
+
+pub returns-clause-anyhow : goal.returns-clause-anyhow
+returns-clause-anyhow c = joined_settles_anyhow

@@ -1,8 +1,7 @@
-use Rattle.std.proofs.Common.{◌≡◌, ◌+◌, length, map, sym, subst, arith}
+use Rattle.std.proofs.Common.{◌≡◌, ◌+◌, ◌∙◌, length, map, sym, subst, arith}
 use Rattle.std.specs.Vec.{vec_capacity, vec_len}
 use Rattle.pair_steps.specs.State.{answered}
 use Rattle.pair_steps.proofs.Clauses.{has-clauses}
-use Rattle.pair_steps.proofs.Honest.{honest-kept}
 use Rattle.pair.specs.Events.{event_of}
 use Rattle.pair.specs.Running.{HasRun}
 use Rattle.pair.proofs.Running.{all-ran, none-ran, one-ran}
@@ -32,6 +31,9 @@ ended c =
     let none = c.loop-event-test.false in
     omega (arith, most, none)
 
+pub returns-clause-each : goal.returns-clause-each
+returns-clause-each c = c.loop-event.invariant.told ∙ ended c
+
 pub returns-clause-replies : goal.returns-clause-replies
 returns-clause-replies c h has = (all-ran c.args.events.now c.loop-event.event-index c.loop-event.replies.items (vec_len c.loop-event.replies) (vec_capacity c.loop-event.replies) c.args.pair c.loop-event.pair c.loop-event.invariant (ended c)).said h has
 
@@ -39,7 +41,10 @@ pub returns-clause-history : goal.returns-clause-history
 returns-clause-history c h has = (all-ran c.args.events.now c.loop-event.event-index c.loop-event.replies.items (vec_len c.loop-event.replies) (vec_capacity c.loop-event.replies) c.args.pair c.loop-event.pair c.loop-event.invariant (ended c)).after h has
 
 pub returns-clause-honest : goal.returns-clause-honest
-returns-clause-honest c h has = honest-kept (answered (map event_of c.args.events.now) c.loop-event.replies.items) h has.run
+returns-clause-honest c h has = (has-clauses h has.run).honest (answered (map event_of c.args.events.now) c.loop-event.replies.items)
+
+pub returns-clause-grounded : goal.returns-clause-grounded
+returns-clause-grounded c h has = (has-clauses h has.run).grounded (answered (map event_of c.args.events.now) c.loop-event.replies.items)
 
 pub returns-clause-beginning : goal.returns-clause-beginning
 returns-clause-beginning c h has = (has-clauses h has.run).beginning

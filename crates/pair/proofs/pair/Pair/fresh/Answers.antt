@@ -1,7 +1,7 @@
 use Rattle.std.specs.Prelude.{replicate}
 use Rattle.model.specs.Rows.{words}
 use Rattle.pair.specs.State.{PairView, state}
-use Rattle.pair.proofs.Parts.{zero-filled, zero-honest}
+use Rattle.pair.proofs.Parts.{zero-filled, zero-honest, zero-grounded}
 use Rattle.pair.proofs.pair.Pair.fresh.Goals as goal
 
 pub returns-clause-history : goal.returns-clause-history
@@ -11,3 +11,6 @@ returns-clause-history c =
 
 pub returns-clause-honest : goal.returns-clause-honest
 returns-clause-honest c = zero-honest c.args.settings (replicate 4096 0)
+
+pub returns-clause-grounded : goal.returns-clause-grounded
+returns-clause-grounded c = zero-grounded c.args.settings (replicate 4096 0)
