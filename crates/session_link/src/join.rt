@@ -1,0 +1,52 @@
+//! Both nodes of a session, in one hand again.
+ghost use Rattle.std.specs.Prelude.{◌≡◌};
+ghost use Rattle.model.specs.Headline.{IsJoined};
+ghost use Rattle.model.specs.Primary.{PrimaryHistory};
+ghost use Rattle.model.specs.Secondary.{SecondaryHistory};
+ghost use Rattle.session_nodes.specs.Primaries.{PrimaryHas, PrimaryIsHad};
+ghost use Rattle.session_nodes.specs.Secondaries.{SecondaryHas, SecondaryIsHad};
+
+use crate::{Back, Linked, There, join_direction};
+use blocks::Store;
+use primary::Primary;
+use ruled_link::{NamedIn, NamedOut};
+use secondary::Secondary;
+use std::sync::Wait;
+
+/// The primary of a session.
+pub type SessionPrimary<R, L, S> = Primary<NamedOut<R, There<L>>, NamedIn<R, Back<L>>, S>;
+
+/// The secondary of a session.
+pub type SessionSecondary<R, L, T> = Secondary<NamedOut<R, Back<L>>, NamedIn<R, There<L>>, T>;
+
+/// Both nodes of a session, as they were. Of any histories that they had over the session's link, what each took
+/// begins what the other pushed, on each connection, by its number. It takes no memory.
+pub fn join_nodes<R: Wait + Drop, L: Linked, S: Store + Drop, T: Store + Drop>(
+    primary: SessionPrimary<R, L, S>,
+    secondary: SessionSecondary<R, L, T>,
+) -> (SessionPrimary<R, L, S>, SessionSecondary<R, L, T>)
+    requires primary { PrimaryIsHad primary }
+    requires secondary { SecondaryIsHad secondary }
+    ensures primary { result.0 ≡ primary }
+    ensures secondary { result.1 ≡ secondary }
+    ensures joined { (p : PrimaryHistory) (s : SecondaryHistory) → PrimaryHas primary p → SecondaryHas secondary s → IsJoined p s }
+{
+    let (primary, outgoing, acks) = primary.into_parts();
+    let (secondary, answers, incoming) = secondary.into_parts();
+    let Some(outgoing) = outgoing else {
+        unreachable!()
+    };
+    let Some(acks) = acks else { unreachable!() };
+    let Some(answers) = answers else {
+        unreachable!()
+    };
+    let Some(incoming) = incoming else {
+        unreachable!()
+    };
+    let (outgoing, incoming) = join_direction(outgoing, incoming);
+    let (answers, acks) = join_direction(answers, acks);
+    (
+        primary.linked(Some(outgoing), Some(acks)),
+        secondary.linked(Some(answers), Some(incoming)),
+    )
+}

@@ -1,0 +1,62 @@
+-- A primary whose connections all went over one link.
+use Rattle.std.specs.Prelude.{ℕ, suc, ◌≡◌, ◌<◌, List, take, Some, slice_get, length, true, ◌&&◌, Option, is_none, Result}
+use Rattle.std.specs.List.{AllByRecursion}
+use Rattle.model.specs.Primary.{Outward, PrimaryHistory, outward_at, frames_due}
+use Rattle.model.specs.Frames.{Received}
+use Rattle.model.specs.LocalRuns.{PrimaryEvent, Takes, primary_run}
+use Rattle.blocks.specs.declared.refusal.Refusal.{Refusal}
+use Rattle.blocks.specs.declared.outcome.Done.{Done}
+use Rattle.blocks.specs.declared.outcome.Reply.{Reply}
+use Rattle.blocks.specs.declared.outcome.Reply.TheVariants as reply
+use Rattle.endpoint.specs.Calls.{is_starved}
+use Rattle.endpoint.specs.Incoming.{IncomingState}
+use Rattle.endpoint.specs.Outgoing.{OutgoingState}
+use Rattle.endpoint.specs.Joined.{pushed_at, taken_at}
+use Rattle.primary_steps.specs.Node.{NodeHas, primary_step}
+use Rattle.primary_steps.specs.Steps.{replied}
+use Rattle.primary.specs.State.{PrimaryView, node}
+
+-- Every connection of the history went over the ends that the node has: of each number, the present one and the earlier ones,
+-- what went out there is what the history pushed, and what came in is what it took. The ends are on the last connection, and
+-- the earlier ones are closed.
+pub record PrimaryOver (v : PrimaryView) (h : PrimaryHistory) : Type 0 where
+  pub out : OutgoingState
+  pub inn : IncomingState
+  pub out_there : v.outgoing ≡ Some out
+  pub in_there : v.incoming ≡ Some inn
+  pub opened : 0 < length h.connections
+  pub out_number : out.number ≡ length h.connections
+  pub in_number : inn.number ≡ length h.connections
+  pub out_past : AllByRecursion (λ before. before.number < length h.connections) out.past
+  pub in_past : AllByRecursion (λ before. before.number < length h.connections) inn.past
+  pub pushed : (number : ℕ) → pushed_at number out ≡ take (outward_at h number).pushed (frames_due h.settings (outward_at h number))
+  pub taken : (number : ℕ) → taken_at number inn ≡ (outward_at h number).taken
+  pub ended : (k : ℕ) (c : Outward) → suc k < length h.connections → slice_get h.connections k ≡ Some c → c.closed ≡ true
+
+-- the node has this history, and all of its connections went over the node's ends
+pub record PrimaryHas (v : PrimaryView) (h : PrimaryHistory) : Type 0 where
+  pub has : NodeHas (node v) h
+  pub over : PrimaryOver v h
+
+-- Invariant of the locked primary: it has some such history.
+pub record PrimaryIsHad (v : PrimaryView) : Type 0 where
+  pub history : PrimaryHistory
+  pub has : PrimaryHas v history
+
+-- The call was this step, on whichever such history the node had.
+pub record IsPrimaryStep {Told : Type 0} (step : PrimaryHistory → Told × PrimaryHistory) (v : PrimaryView) (told : Told) (w : PrimaryView) : Type 0 where
+  pub said : (h : PrimaryHistory) → PrimaryHas v h → told ≡ (step h).0
+  pub after : (h : PrimaryHistory) → PrimaryHas v h → PrimaryHas w (step h).1
+
+-- the call was the event's step
+abbrev pub PrimarySteps : PrimaryEvent → PrimaryView → Reply → PrimaryView → Type 0
+PrimarySteps event = IsPrimaryStep (primary_step event)
+
+-- Whichever such history the node had, some events lead from it to one that it has then.
+abbrev pub PrimaryRuns : PrimaryView → PrimaryView → Type 0
+PrimaryRuns v w = (h : PrimaryHistory) → PrimaryHas v h → (events : List PrimaryEvent) × PrimaryHas w (primary_run events h)
+
+-- A frame was taken, or none, and that was the step.
+pub record PrimaryTakes (result : Result Done Refusal) (v w : PrimaryView) : Type 0 where
+  pub frame : Option Received
+  pub step : PrimarySteps (Takes frame (is_none frame && is_starved result)) v (replied reply.Ok result) w

@@ -1,0 +1,15 @@
+//! The two nodes of a session, as they lie under their locks: a node whose connections all went over one link,
+//! and what its threads do in a turn.
+#![tactic(auto)]
+
+mod local;
+mod local_turn;
+mod peer;
+mod peer_turn;
+mod turn;
+
+pub use local::Local;
+pub use local_turn::LocalRole;
+pub use peer::Peer;
+pub use peer_turn::PeerRole;
+pub use turn::{STEPS, Turn};

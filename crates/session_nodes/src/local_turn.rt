@@ -1,0 +1,98 @@
+//! The turns of the primary's threads.
+ghost use Rattle.session_nodes.specs.Primaries.{PrimaryRuns};
+
+use crate::{Local, STEPS, Turn};
+use blocks::{Done, Store};
+use link::{FrameIn, FrameOut};
+
+/// What a thread of the primary's half is there for.
+#[derive(Clone, Copy, Debug, PartialEq, Eq)]
+pub enum LocalRole {
+    /// Sends the stream.
+    Sender,
+    /// Takes acknowledgements.
+    Receiver,
+    /// Has the disk do the writes.
+    Disk,
+    /// Copies marked blocks.
+    Resync,
+}
+
+impl<O: FrameOut + Drop, I: FrameIn + Drop, S: Store + Drop> Local<O, I, S> {
+    /// Does up to `STEPS` steps of the node: those of the role first, and where there are none, any other.
+    pub fn turn(&mut self, role: LocalRole) -> Turn
+        ensures runs { PrimaryRuns self.old self.new }
+    {
+        let was_open = self.node.is_open();
+        let mut turn = Turn::NOTHING;
+        for _ in 0..STEPS {
+            if !self.advance(role, &mut turn) {
+                break;
+            }
+            turn.worked = true;
+        }
+        if was_open && !self.node.is_open() {
+            turn.closed = Some(self.node.connections());
+            turn.told = true;
+        }
+        turn
+    }
+
+    /// Whether the disk has a write to do.
+    pub fn has_unfinished(&self) -> bool {
+        self.node.next_local().is_some()
+    }
+
+    // A step of the role, or of another one.
+    fn advance(&mut self, role: LocalRole, turn: &mut Turn) -> bool
+        ensures runs { PrimaryRuns self.old self.new }
+    {
+        if self.step(role, turn) {
+            return true;
+        }
+        self.help(turn)
+    }
+
+    // A step of whichever role has one.
+    fn help(&mut self, turn: &mut Turn) -> bool
+        ensures runs { PrimaryRuns self.old self.new }
+    {
+        if self.step(LocalRole::Sender, turn) {
+            return true;
+        }
+        if self.step(LocalRole::Receiver, turn) {
+            return true;
+        }
+        if self.step(LocalRole::Disk, turn) {
+            return true;
+        }
+        self.step(LocalRole::Resync, turn)
+    }
+
+    // One step of a role, if it has one.
+    fn step(&mut self, role: LocalRole, turn: &mut Turn) -> bool
+        ensures runs { PrimaryRuns self.old self.new }
+    {
+        match role {
+            LocalRole::Sender => match self.send() {
+                Ok(done) => {
+                    turn.pushed = true;
+                    turn.told |= done.completed.is_some();
+                    true
+                }
+                Err(_) => false,
+            },
+            LocalRole::Receiver => {
+                let taken = self.ack_in();
+                turn.told |= taken.is_ok();
+                taken.is_ok()
+            }
+            LocalRole::Disk => {
+                let written = self.write_next();
+                turn.told |= written.is_ok();
+                written.is_ok()
+            }
+            LocalRole::Resync => self.resync_next().is_ok(),
+        }
+    }
+}

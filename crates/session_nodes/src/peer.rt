@@ -1,0 +1,147 @@
+//! The secondary under its lock.
+ghost use Rattle.std.specs.Prelude.{◌≡◌, ◌-◌, ◌+◌, ◌<◌, ◌≤◌, ◌&&◌, true, false, Err, IfErr, OnErr, OnOk};
+ghost use Rattle.blocks.specs.declared.refusal.Refusal.TheVariants.{NotDrained};
+ghost use Rattle.endpoint.specs.Calls.{IsNewIn, IsNewOut, has_room, is_starved};
+ghost use Rattle.model.specs.LocalRuns.{Acknowledges, ClosesToo, OpensToo};
+ghost use Rattle.model.specs.Secondary.{SecondaryHistory, inward, is_drained};
+ghost use Rattle.secondary.specs.State.{node};
+ghost use Rattle.secondary_steps.specs.Node.{NodeHas};
+ghost use Rattle.secondary_steps.specs.Steps.{plainly, replied};
+ghost use Rattle.session_nodes.specs.Secondaries.{SecondaryIsHad, SecondaryReceives, SecondaryRuns, SecondarySteps};
+
+use blocks::{Done, Refusal, Settings, Store, Tuple};
+use link::{FrameIn, FrameOut};
+use secondary::Secondary;
+use std::alloc::Global;
+use std::marker::Model;
+
+/// The secondary of a session, as it lies under its lock. Invariant: it was opened, and all of its connections
+/// went over the ends that it has (`SecondaryIsHad`).
+#[derive(Drop)]
+pub struct Peer<O: FrameOut + Drop, I: FrameIn + Drop, S: Store + Drop> {
+    pub(crate) node: Secondary<O, I, S>,
+}
+
+impl<O: FrameOut + Drop, I: FrameIn + Drop, S: Store + Drop> Model for Peer<O, I, S> {
+    ghost use Rattle.secondary.specs.State.{SecondaryView};
+    ghost use Rattle.session_nodes.specs.Secondaries.{SecondaryIsHad};
+
+    ghost Value = { SecondaryView };
+
+    ghost view = { λ n. n.node };
+
+    ghost invariant = { λ n. SecondaryIsHad n.node };
+}
+
+impl<O: FrameOut + Drop, I: FrameIn + Drop, S: Store + Drop> Peer<O, I, S> {
+    /// A secondary over its disk, opened over unused ends of a link.
+    ///
+    /// `BadSetting` (15) and `NoMemory` (7) come as for `Secondary::new`.
+    pub fn open(
+        alloc: Global,
+        settings: Settings,
+        store: S,
+        tuple: Tuple,
+        link: (O, I),
+    ) -> Result<Peer<O, I, S>, Refusal>
+        requires outward { IsNewOut (O.state link.0) }
+        requires inward { IsNewIn (I.state link.1) }
+    {
+        let mut node = Secondary::new(alloc, settings, store, tuple)?;
+        let (outward, inward) = link;
+        match node.open(outward, inward) {
+            Ok(()) => Ok(Peer { node }),
+            Err(refusal) => Err(refusal),
+        }
+    }
+
+    /// Takes the next frame. The refusals are those of `Secondary::receive`.
+    pub fn receive(&mut self) -> Result<Done, Refusal>
+        ensures step { SecondaryReceives result self.old self.new }
+        ensures runs { SecondaryRuns self.old self.new }
+    {
+        self.node.receive()
+    }
+
+    /// Sends the next frame. The refusals are those of `Secondary::ack_out`.
+    pub fn ack_out(&mut self) -> Result<Done, Refusal>
+        ensures step { SecondarySteps (Acknowledges (has_room result) (is_starved result)) self.old (replied (λ done. done) result) self.new }
+        ensures runs { SecondaryRuns self.old self.new }
+    {
+        self.node.ack_out()
+    }
+
+    /// Has the disk do the next item. `NothingThere` (13) if there is none, and then nothing has changed.
+    pub fn apply_next(&mut self) -> Result<Done, Refusal>
+        ensures runs { SecondaryRuns self.old self.new }
+    {
+        match self.node.next() {
+            Ok(place) => self.apply_at(place),
+            Err(refusal) => Err(refusal),
+        }
+    }
+
+    // Has the disk do an item.
+    fn apply_at(&mut self, place: u32) -> Result<Done, Refusal>
+        ensures runs { SecondaryRuns self.old self.new }
+    {
+        self.node.peer(place)
+    }
+
+    /// Closes the end. `NotConnected` (12) if it is closed.
+    pub fn close(&mut self) -> Result<(), Refusal>
+        ensures step { SecondarySteps ClosesToo self.old (replied plainly result) self.new }
+    {
+        self.node.close()
+    }
+
+    /// Whether the end may open again: it is closed, and nothing is pending. `NotDrained` (36) if not.
+    pub fn may_reopen(&self) -> Result<(), Refusal>
+        ensures may { (h : SecondaryHistory) → NodeHas (node self.now) h → OnOk result (((inward h).closed ≡ true) × (is_drained h ≡ true)) }
+        ensures refused { (h : SecondaryHistory) → NodeHas (node self.now) h → IfErr result (λ e. (e ≡ NotDrained) × (((inward h).closed && is_drained h) ≡ false)) }
+    {
+        if self.node.is_open() || !self.node.is_drained() {
+            return Err(Refusal::NotDrained);
+        }
+        Ok(())
+    }
+
+    /// Opens the end anew under the connection's number.
+    ///
+    /// `NotDrained` (36) if the end is open, if items are pending, and if the node had a connection of this
+    /// number or a higher one; then nothing has changed.
+    pub fn reopen(&mut self, number: u32) -> Result<(), Refusal>
+        ensures numbered { number ≤ self.old.core.number → result ≡ Err NotDrained }
+        ensures step { self.old.core.number < number → SecondarySteps (OpensToo (number - (self.old.core.number + 1))) self.old (replied plainly result) self.new }
+        ensures unchanged { OnErr result (self.new ≡ self.old) }
+    {
+        if number <= self.node.number() {
+            return Err(Refusal::NotDrained);
+        }
+        self.open_again(number)
+    }
+
+    // The same of a number that is above the last one.
+    fn open_again(&mut self, number: u32) -> Result<(), Refusal>
+        requires above { self.old.core.number < number }
+        ensures step { SecondarySteps (OpensToo (number - (self.old.core.number + 1))) self.old (replied plainly result) self.new }
+        ensures unchanged { OnErr result (self.new ≡ self.old) }
+    {
+        self.node.reopen(number)
+    }
+
+    /// The node, for reading.
+    pub fn node(&self) -> &Secondary<O, I, S>
+        ensures { result.now ≡ self.now }
+    {
+        &self.node
+    }
+
+    /// The node by itself.
+    pub fn into_node(self) -> Secondary<O, I, S>
+        ensures node { result ≡ self }
+        ensures had { SecondaryIsHad result }
+    {
+        self.node
+    }
+}

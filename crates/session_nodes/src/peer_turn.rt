@@ -1,0 +1,80 @@
+//! The turns of the secondary's threads.
+ghost use Rattle.session_nodes.specs.Secondaries.{SecondaryRuns};
+
+use crate::{Peer, STEPS, Turn};
+use blocks::Store;
+use link::{FrameIn, FrameOut};
+
+/// What a thread of the secondary's half is there for.
+#[derive(Clone, Copy, Debug, PartialEq, Eq)]
+pub enum PeerRole {
+    /// Takes the stream.
+    Receiver,
+    /// Sends acknowledgements.
+    Sender,
+    /// Has the disk do what came.
+    Disk,
+}
+
+impl<O: FrameOut + Drop, I: FrameIn + Drop, S: Store + Drop> Peer<O, I, S> {
+    /// Does up to `STEPS` steps of the node: those of the role first, and where there are none, any other.
+    pub fn turn(&mut self, role: PeerRole) -> Turn
+        ensures runs { SecondaryRuns self.old self.new }
+    {
+        let was_open = self.node.is_open();
+        let mut turn = Turn::NOTHING;
+        for _ in 0..STEPS {
+            if !self.advance(role, &mut turn) {
+                break;
+            }
+            turn.worked = true;
+        }
+        if was_open && !self.node.is_open() {
+            turn.closed = Some(self.node.number());
+        }
+        turn
+    }
+
+    /// Whether the disk has an item to do.
+    pub fn has_unfinished(&self) -> bool {
+        !self.node.is_drained()
+    }
+
+    // A step of the role, or of another one.
+    fn advance(&mut self, role: PeerRole, turn: &mut Turn) -> bool
+        ensures runs { SecondaryRuns self.old self.new }
+    {
+        if self.step(role, turn) {
+            return true;
+        }
+        self.help(turn)
+    }
+
+    // A step of whichever role has one.
+    fn help(&mut self, turn: &mut Turn) -> bool
+        ensures runs { SecondaryRuns self.old self.new }
+    {
+        if self.step(PeerRole::Sender, turn) {
+            return true;
+        }
+        if self.step(PeerRole::Receiver, turn) {
+            return true;
+        }
+        self.step(PeerRole::Disk, turn)
+    }
+
+    // One step of a role, if it has one.
+    fn step(&mut self, role: PeerRole, turn: &mut Turn) -> bool
+        ensures runs { SecondaryRuns self.old self.new }
+    {
+        match role {
+            PeerRole::Receiver => self.receive().is_ok(),
+            PeerRole::Sender => {
+                let pushed = self.ack_out().is_ok();
+                turn.pushed |= pushed;
+                pushed
+            }
+            PeerRole::Disk => self.apply_next().is_ok(),
+        }
+    }
+}

@@ -1,0 +1,27 @@
+//! A turn of a thread at a locked node.
+
+/// The most steps of a turn: whoever has the lock does a handful of steps before it lets others in.
+pub const STEPS: u32 = 32;
+
+/// What a turn did.
+#[derive(Clone, Copy, Debug, PartialEq, Eq)]
+pub struct Turn {
+    /// Whether any step was done.
+    pub worked: bool,
+    /// Whether a frame was pushed, for which the other half may wait.
+    pub pushed: bool,
+    /// Whether something happened for which a writer may wait: its write ended, or there may be room for it.
+    pub told: bool,
+    /// The number of the connection that closed by itself in this turn.
+    pub closed: Option<u32>,
+}
+
+impl Turn {
+    /// A turn that did nothing.
+    pub const NOTHING: Turn = Turn {
+        worked: false,
+        pushed: false,
+        told: false,
+        closed: None,
+    };
+}
