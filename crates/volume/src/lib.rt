@@ -1,0 +1,13 @@
+//! A session: both nodes behind locks of their own, worked by threads, cut and reconnected while writers go on,
+//! and brought together at its end.
+#![tactic(auto)]
+
+mod bell;
+mod halves;
+mod mirror;
+mod session;
+mod worker;
+
+pub use mirror::Mirror;
+pub use session::{Parts, Session};
+pub use session_link::{Back, Linked, SessionPrimary, SessionSecondary, There};

@@ -1,0 +1,126 @@
+//! What callers do with a session while it runs.
+ghost use Rattle.std.specs.Prelude.{◌≡◌, ◌*◌, length, true, IfOk};
+
+use crate::worker::Shared;
+use blocks::{BLOCK_BYTES, Refusal, Store};
+use bytes::Bytes;
+use primary::Receipt;
+use session_link::Linked;
+use session_nodes::LocalRole;
+use std::alloc::Global;
+use std::sync::{Arc, Wait};
+use std::time::Clock;
+
+/// A running session, as any number of threads may share it.
+#[derive(Drop)]
+pub struct Mirror<R: Wait + Drop, L: Linked, S: Store + Drop, T: Store + Drop> {
+    pub(crate) alloc: Global,
+    pub(crate) shared: Arc<Shared<R, L, S, T>, Global>,
+}
+
+impl<R: Wait + Clock + Drop, L: Linked, S: Store + Drop, T: Store + Drop> Mirror<R, L, S, T> {
+    /// Writes whole blocks from the first one on, and returns the receipt once the write is completed as the
+    /// protocol says. Any number of writers may call it at a time.
+    ///
+    /// It asks again on `Conflict` (2), `LogFull` (3) and `ActivityFull` (4), waits while the write is open, and
+    /// returns every other refusal of `Primary::submit` and `Primary::take_completed`: `BadRange` (1),
+    /// `JournalFull` (5), `StreamFull` (6), `NoMemory` (7), `LocalFault` (8), `NotConnected` (12). A receipt of
+    /// another range would be `UnknownJob` (16).
+    pub fn write(&self, first: u64, bytes: &Bytes) -> Result<Receipt, Refusal>
+        ensures own { IfOk result (λ receipt. (receipt.first ≡ first) × (receipt.count * 4096 ≡ length bytes.now)) }
+    {
+        let number = self.submit(first, bytes)?;
+        let receipt = self.completed(number)?;
+        if receipt.first().0 != first || !is_size(receipt.count(), bytes.len()) {
+            return Err(Refusal::UnknownJob);
+        }
+        Ok(receipt)
+    }
+
+    /// Reads blocks of the local disk, 1 to 32 inside the device and inside one extent.
+    ///
+    /// `BadRange` (1) if they are not that, else `NoMemory` (7) if there is no room for their bytes, else
+    /// `ReadFault` (14) if the disk fails.
+    pub fn read(&self, first: u64, count: u64) -> Result<Vec<u8>, Refusal> {
+        self.shared
+            .local
+            .node
+            .lock(&self.shared.rt)
+            .read(self.alloc, first, count)
+    }
+
+    /// Closes both ends of the link. Writers go on without it; writes under way are completed by the close.
+    pub fn cut(&self) {
+        self.shared.cut();
+    }
+
+    /// Opens both ends anew under fresh words, and returns the connection's number, the first being 1. The
+    /// threads do the hello; if it is refused, both ends close.
+    ///
+    /// `NotDrained` (36) if an end is not closed, or if the secondary has items to do; ask again. Else
+    /// `UsedIdentifier` (33) if a word is zero, stands in a tuple that is known, or both are one; `StreamFull`
+    /// (6) after 4,294,967,295 connections; `NoMemory` (7). Then nothing has changed. If the secondary refuses
+    /// at last, the primary closes again before its stream began, and the number is used up.
+    pub fn reconnect(&self, sync: u64, loss: u64) -> Result<u32, Refusal> {
+        let shared = &self.shared;
+        let _door = shared.door.lock(&shared.rt);
+        shared.peer.node.lock(&shared.rt).may_reopen()?;
+        let number = shared.local.node.lock(&shared.rt).reopen(sync, loss)?;
+        let reopened = shared.peer.node.lock(&shared.rt).reopen(number);
+        if let Err(refusal) = reopened {
+            let _ = shared.local.node.lock(&shared.rt).close();
+            return Err(refusal);
+        }
+        shared.ring();
+        Ok(number)
+    }
+
+    // Has the write accepted, and does a turn at once.
+    fn submit(&self, first: u64, bytes: &Bytes) -> Result<u64, Refusal> {
+        let shared = &self.shared;
+        let mut looks = 0u32;
+        for _ in shared.rt.forever() {
+            let rings = shared.local.writers.rings();
+            let submitted = shared.local.node.lock(&shared.rt).submit(first, bytes);
+            match submitted {
+                Err(Refusal::Conflict(_) | Refusal::LogFull | Refusal::ActivityFull) => {
+                    if !shared.turn_local(LocalRole::Receiver).worked {
+                        shared.local.writers.wait(&shared.rt, rings, looks);
+                        looks = looks.saturating_add(1);
+                    }
+                }
+                Ok((number, _)) => return Ok(number),
+                Err(refusal) => return Err(refusal),
+            }
+        }
+        unreachable!()
+    }
+
+    // Waits until a write is completed or failed.
+    fn completed(&self, number: u64) -> Result<Receipt, Refusal> {
+        let shared = &self.shared;
+        let mut looks = 0u32;
+        for _ in shared.rt.forever() {
+            let rings = shared.local.writers.rings();
+            let worked = shared.turn_local(LocalRole::Disk).worked;
+            let taken = shared.local.node.lock(&shared.rt).take_completed(number);
+            match taken {
+                Err(Refusal::NotCompleted) => {
+                    if !worked {
+                        shared.local.writers.wait(&shared.rt, rings, looks);
+                        looks = looks.saturating_add(1);
+                    }
+                }
+                done => return done,
+            }
+        }
+        unreachable!()
+    }
+}
+
+// Whether so many blocks have so many bytes.
+fn is_size(blocks: u64, bytes: usize) -> bool
+    ensures { result ≡ true → blocks * 4096 ≡ bytes }
+{
+    bytes % BLOCK_BYTES == 0 && blocks == (bytes / BLOCK_BYTES) as u64
+}

@@ -1,0 +1,248 @@
+//! A session from its start to its end.
+ghost use Rattle.std.specs.Prelude.{◌≡◌, IfOk};
+ghost use Rattle.endpoint.specs.Calls.{IsNewIn, IsNewOut};
+ghost use Rattle.model.specs.Headline.{IsJoined};
+ghost use Rattle.model.specs.Primary.{PrimaryHistory};
+ghost use Rattle.model.specs.Secondary.{SecondaryHistory};
+ghost use Rattle.ruled_link.specs.Inward.{taking};
+ghost use Rattle.ruled_link.specs.Names.{row_of};
+ghost use Rattle.ruled_link.specs.Names as names;
+ghost use Rattle.ruled_link.specs.Outward.{sending};
+ghost use Rattle.session_nodes.specs.Primaries.{PrimaryHas, PrimaryIsHad};
+ghost use Rattle.session_nodes.specs.Secondaries.{SecondaryHas, SecondaryIsHad};
+
+use crate::Mirror;
+use crate::halves::{LocalHalf, PeerHalf};
+use crate::worker::{SessionLocal, SessionPeer, Shared};
+use blocks::{Refusal, Settings, Store, Tuple};
+use link::{FrameIn, FrameOut};
+use ruled_link::{RuledIn, RuledOut};
+use session_link::{Back, Linked, SessionPrimary, SessionSecondary, There};
+use session_nodes::{Local, LocalRole, Peer, PeerRole};
+use std::alloc::Global;
+use std::sync::atomic::{AtomicBool, Ordering};
+use std::sync::{Arc, Mutex, Wait};
+use std::thread;
+use std::thread::{JoinHandle, Threads};
+use std::time::Clock;
+
+/// What a session starts from: the settings of both nodes, the generation identifiers of each disk, the marks
+/// of the local one, a truth value for each block, and the first connection's two words.
+#[derive(Drop)]
+pub struct Parts {
+    pub settings: Settings,
+    pub own: Tuple,
+    pub peer: Tuple,
+    pub marks: Vec<bool>,
+    pub sync: u64,
+    pub loss: u64,
+}
+
+/// A running session: the mirror that callers share, and its threads. A thread's handle cannot be shared, so it
+/// stands apart.
+#[derive(Drop)]
+pub struct Session<R: Threads + Wait + Drop, L: Linked, S: Store + Drop, T: Store + Drop> {
+    mirror: Mirror<R, L, S, T>,
+    workers: Vec<JoinHandle<()>>,
+}
+
+const LOCAL_ROLES: [LocalRole; 4] = [
+    LocalRole::Sender,
+    LocalRole::Receiver,
+    LocalRole::Disk,
+    LocalRole::Resync,
+];
+
+const PEER_ROLES: [PeerRole; 3] = [PeerRole::Receiver, PeerRole::Sender, PeerRole::Disk];
+
+impl<
+    R: Threads + Wait + Clock + Copy + Drop + Send + Sync + 'static,
+    L: Linked + Send + Sync + 'static,
+    S: Store + Drop + Send + 'static,
+    T: Store + Drop + Send + 'static,
+> Session<R, L, S, T> {
+    /// Starts a session over two disks and the two directions of a link, whose rows are the session's: does the
+    /// hello, and starts the threads.
+    ///
+    /// `BadSetting` (15), `UsedIdentifier` (33) and the refusals of the hello (30 to 33) come as for the nodes;
+    /// `NoMemory` (7) if there is no memory, and if a thread cannot be started. Then nothing runs, and all that
+    /// was handed over is dropped.
+    pub fn start(
+        rt: R,
+        alloc: Global,
+        there: (RuledOut<R>, RuledIn<R>),
+        back: (RuledOut<R>, RuledIn<R>),
+        local: S,
+        peer: T,
+        parts: Parts,
+    ) -> Result<Session<R, L, S, T>, Refusal>
+        requires there { there.0.row ≡ row_of L.link names.There }
+        requires there_too { there.1.row ≡ row_of L.link names.There }
+        requires back { back.0.row ≡ row_of L.link names.Back }
+        requires back_too { back.1.row ≡ row_of L.link names.Back }
+        requires unused { IsNewOut (sending there.0) × IsNewIn (taking there.1) }
+        requires unused_too { IsNewOut (sending back.0) × IsNewIn (taking back.1) }
+    {
+        let (out, taken) = there;
+        let (answers, acks) = back;
+        let local = local_half(
+            alloc,
+            parts.settings,
+            local,
+            parts.own,
+            parts.marks,
+            (out.named::<There<L>>(), acks.named::<Back<L>>()),
+            (parts.sync, parts.loss),
+        )?;
+        match peer_half(
+            alloc,
+            parts.settings,
+            peer,
+            parts.peer,
+            (answers.named::<Back<L>>(), taken.named::<There<L>>()),
+        ) {
+            Ok(peer) => Session::over(rt, alloc, local, peer),
+            Err(refusal) => Err(refusal),
+        }
+    }
+
+    // The session of two halves that have said nothing yet.
+    fn over(
+        rt: R,
+        alloc: Global,
+        local: SessionLocal<R, L, S>,
+        peer: SessionPeer<R, L, T>,
+    ) -> Result<Session<R, L, S, T>, Refusal> {
+        let shared = Arc::new(
+            alloc,
+            Shared {
+                rt,
+                local,
+                peer,
+                door: Mutex::new(()),
+                stop: AtomicBool::new(false),
+            },
+        )?;
+        let mut session = Session {
+            mirror: Mirror { alloc, shared },
+            workers: Vec::new(alloc),
+        };
+        match session.begin() {
+            Ok(()) => Ok(session),
+            Err(refusal) => {
+                session.stop();
+                Err(refusal)
+            }
+        }
+    }
+
+    // Does the hello, and starts the threads.
+    fn begin(&mut self) -> Result<(), Refusal> {
+        self.mirror.shared.greet()?;
+        self.spawn()
+    }
+
+    // Starts all threads, as far as they can be had.
+    fn spawn(&mut self) -> Result<(), Refusal> {
+        self.workers
+            .try_reserve(LOCAL_ROLES.len() + PEER_ROLES.len())?;
+        for role in LOCAL_ROLES {
+            let shared = Arc::try_clone(&self.mirror.shared)?;
+            let Ok(worker) = thread::spawn(&self.mirror.shared.rt, move || shared.work_local(role))
+            else {
+                return Err(Refusal::NoMemory);
+            };
+            self.workers.push(worker)?;
+        }
+        for role in PEER_ROLES {
+            let shared = Arc::try_clone(&self.mirror.shared)?;
+            let Ok(worker) = thread::spawn(&self.mirror.shared.rt, move || shared.work_peer(role))
+            else {
+                return Err(Refusal::NoMemory);
+            };
+            self.workers.push(worker)?;
+        }
+        Ok(())
+    }
+}
+
+impl<R: Threads + Wait + Clock + Drop, L: Linked, S: Store + Drop, T: Store + Drop> Session<
+    R,
+    L,
+    S,
+    T,
+> {
+    /// What any number of threads may share.
+    pub fn mirror(&self) -> &Mirror<R, L, S, T> {
+        &self.mirror
+    }
+
+    /// Ends the session: cuts the link, lets the disks end all that is unfinished, stops the threads, and gives
+    /// both nodes back. `NotDrained` (36) if a node cannot be had back, which needs a thread that still shares
+    /// it.
+    ///
+    /// Each node has a history whose connections all went over the session's link. Whichever these are, they are
+    /// joined: on each connection, what one end took begins what the other pushed, both ways.
+    pub fn finish(self) -> Result<(SessionPrimary<R, L, S>, SessionSecondary<R, L, T>), Refusal>
+        ensures had { IfOk result (λ nodes. PrimaryIsHad nodes.0 × SecondaryIsHad nodes.1) }
+        ensures joined { IfOk result (λ nodes. (p : PrimaryHistory) (s : SecondaryHistory) → PrimaryHas nodes.0 p → SecondaryHas nodes.1 s → IsJoined p s) }
+    {
+        let mut session = self;
+        session.mirror.shared.cut();
+        session.mirror.shared.drain();
+        session.stop();
+        let Session { mirror, workers } = session;
+        drop(workers);
+        let shared = Arc::into_inner(mirror.shared).ok_or(Refusal::NotDrained)?;
+        Ok(shared.into_nodes())
+    }
+
+    // Stops the threads that run, and waits for their ends.
+    fn stop(&mut self) {
+        let shared = &self.mirror.shared;
+        shared.stop.store(true, Ordering::SeqCst);
+        shared.ring();
+        for _ in 0..LOCAL_ROLES.len() + PEER_ROLES.len() {
+            let Some(worker) = self.workers.pop() else {
+                break;
+            };
+            worker.join(&shared.rt);
+        }
+    }
+}
+
+// The primary's half, opened over unused ends.
+fn local_half<O: FrameOut + Drop, I: FrameIn + Drop, S: Store + Drop>(
+    alloc: Global,
+    settings: Settings,
+    store: S,
+    tuple: Tuple,
+    marks: Vec<bool>,
+    link: (O, I),
+    words: (u64, u64),
+) -> Result<LocalHalf<O, I, S>, Refusal>
+    requires outward { IsNewOut (O.state link.0) }
+    requires inward { IsNewIn (I.state link.1) }
+{
+    match Local::open(alloc, settings, store, tuple, marks, link, words) {
+        Ok(node) => Ok(LocalHalf::new(node)),
+        Err(refusal) => Err(refusal),
+    }
+}
+
+// The secondary's half, opened over unused ends.
+fn peer_half<O: FrameOut + Drop, I: FrameIn + Drop, S: Store + Drop>(
+    alloc: Global,
+    settings: Settings,
+    store: S,
+    tuple: Tuple,
+    link: (O, I),
+) -> Result<PeerHalf<O, I, S>, Refusal>
+    requires outward { IsNewOut (O.state link.0) }
+    requires inward { IsNewIn (I.state link.1) }
+{
+    match Peer::open(alloc, settings, store, tuple, link) {
+        Ok(node) => Ok(PeerHalf::new(node)),
+        Err(refusal) => Err(refusal),
+    }
+}
