@@ -1,4 +1,5 @@
 pub mod Asked
+pub mod Confirming
 pub mod Copying
 pub mod Kept
 pub mod Opening

@@ -1,8 +1,9 @@
 -- A receipt as its caller sees it.
-use Rattle.std.specs.Prelude.{ℕ, suc, Bool, true, false, Option, Some, None}
+use Rattle.std.specs.Prelude.{ℕ, suc, Bool, true, false, ◌==◌, ◌&&◌, Option, Some, None}
 use Rattle.std.specs.Option.{option_map}
 use Rattle.model.specs.Primary.{Kind, Linked, Alone}
-use Rattle.primary_steps.specs.Core.{Entry, Open, Failed, Completed}
+use Rattle.primary_steps.specs.Core.{Entry, Open, Failed, Completed, PrimaryState}
+use Rattle.primary_steps.specs.Transitions.{entry_at}
 use Rattle.model.specs.Settlement as model
 use Rattle.primary.specs.declared.receipts.Kind as receipts
 use Rattle.primary.specs.declared.receipts.Kind.TheVariants as kind
@@ -29,3 +30,19 @@ receipt_in number entry = elim entry.fate [
   | Failed ↦ None
   | Completed linked home ↦ Some (record { number = number; first = entry.first; count = entry.count; kind = kind_of linked; home = option_map (λ home. (suc home.0, home.1)) home })
 ]
+
+-- a home in a receipt is this one, whose connection is counted from 0
+abbrev pub is_home : Option (ℕ × ℕ) → Option (ℕ × ℕ) → Bool
+is_home home told = model.same_home (option_map (λ home. (suc home.0, home.1)) home) told
+
+-- the receipt is that of this entry, but for the number
+abbrev pub is_entry_of : Entry → model.Receipt → Bool
+is_entry_of entry receipt = elim entry.fate [
+  | Open ↦ false
+  | Failed ↦ false
+  | Completed linked home ↦ ((entry.first == receipt.first) && (entry.count == receipt.count)) && (model.same_kind (kind_of linked) receipt.kind && is_home home receipt.home)
+]
+
+-- the receipt is that of a completed write
+abbrev pub is_found : model.Receipt → PrimaryState → Bool
+is_found receipt s = elim (entry_at receipt.number s) [ None ↦ false | Some entry ↦ is_entry_of entry receipt ]

@@ -3,6 +3,7 @@
 
 mod acknowledge;
 mod close;
+mod confirm;
 mod ends;
 mod local;
 mod open;

@@ -1,7 +1,7 @@
 //! What is read off.
 ghost use Rattle.std.specs.Prelude.{◌≡◌, length, not};
 ghost use Rattle.model.specs.Headline.{is_marked};
-ghost use Rattle.model.specs.Primary.{PrimaryHistory, marked_blocks, outward, resync_runs, stands};
+ghost use Rattle.model.specs.Primary.{PrimaryHistory, items_sent, marked_blocks, outward, resync_runs, stands};
 ghost use Rattle.model.specs.Status.{incomplete, open_epochs, unanswered};
 ghost use Rattle.primary_steps.specs.Node.{NodeHas};
 ghost use Rattle.primary.specs.State.{node};
@@ -58,6 +58,18 @@ impl<O: FrameOut + Drop, I: FrameIn + Drop, S: Store + Drop> Primary<O, I, S> {
         ensures { (h : PrimaryHistory) → NodeHas (node self.now) h → result ≡ resync_runs (outward h) }
     {
         self.core.is_resync()
+    }
+
+    /// How many items were sent on the last connection.
+    pub fn items_sent(&self) -> u32
+        ensures { (h : PrimaryHistory) → NodeHas (node self.now) h → result ≡ items_sent (outward h) }
+    {
+        let pushed = match &self.outgoing {
+            Some(outgoing) => outgoing.pushed(),
+            None => 0,
+        };
+        // The hello's three frames are no items.
+        pushed.saturating_sub(3) as u32
     }
 
     /// How many writes were accepted, which is the number of the last one.

@@ -1,0 +1,66 @@
+//! The comparison of receipts with the journal.
+ghost use Rattle.std.specs.Prelude.{◌≡◌, [], not};
+ghost use Rattle.model.specs.Primary.{PrimaryHistory};
+ghost use Rattle.model.specs.Settlement.{has_strange};
+ghost use Rattle.primary_steps.specs.Node.{NodeHas};
+ghost use Rattle.primary.specs.Receipts.{is_entry_of, is_found, is_home};
+ghost use Rattle.primary.specs.State.{node};
+
+use crate::{Kind, Primary, Receipt};
+use blocks::Store;
+use link::{FrameIn, FrameOut};
+use primary_core::{Entry, Fate, PrimaryCore};
+
+impl<O: FrameOut + Drop, I: FrameIn + Drop, S: Store + Drop> Primary<O, I, S> {
+    /// Whether each of these receipts is that of an entry of the journal, and none is given twice. It takes no
+    /// memory, and time for each receipt and each accepted write.
+    pub fn confirm(&mut self, receipts: &[Receipt]) -> bool
+        ensures found { (h : PrimaryHistory) → NodeHas (node self.old) h → result ≡ not (has_strange h.journal [] receipts.now) }
+        ensures unchanged { self.new ≡ self.old }
+    {
+        self.core.clear_confirmed();
+        for receipt in receipts {
+            if !is_found(&self.core, receipt) || !self.core.confirm_entry(receipt.number()) {
+                return false;
+            }
+        }
+        true
+    }
+}
+
+// Whether the receipt is that of a completed write.
+fn is_found(core: &PrimaryCore, receipt: &Receipt) -> bool
+    ensures { result ≡ is_found receipt.now core.now.state }
+{
+    match core.entry(receipt.number()) {
+        Some(entry) => is_entry_of(entry, receipt),
+        None => false,
+    }
+}
+
+// Whether the receipt is that of this entry, but for the number.
+fn is_entry_of(entry: &Entry, receipt: &Receipt) -> bool
+    ensures { result ≡ is_entry_of entry.now receipt.now }
+{
+    let Fate::Completed { linked, home } = entry.fate() else {
+        return false;
+    };
+    let kind = if linked { Kind::Linked } else { Kind::Alone };
+    entry.first() == receipt.first().0
+        && entry.count() == receipt.count()
+        && kind == receipt.kind()
+        && is_home(home, receipt.home())
+}
+
+// Whether a receipt has this home, whose connection is counted from 0.
+fn is_home(home: Option<(u32, u32)>, told: Option<(u32, u32)>) -> bool
+    ensures { result ≡ is_home home told }
+{
+    match (home, told) {
+        (None, None) => true,
+        (Some((connection, place)), Some((told_connection, told_place))) => {
+            told_connection.checked_sub(1) == Some(connection) && place == told_place
+        }
+        _ => false,
+    }
+}

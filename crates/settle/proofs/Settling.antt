@@ -1,0 +1,159 @@
+-- What two nodes at rest have come to is what the model's settlement says.
+use Rattle.std.proofs.Common.{ℕ, ◌≡◌, ◌-◌, ◌<◌, ◌≤◌, inl, inr, nat_lt, Bool, true, false, not, ◌&&◌, List, [], ◌∷◌, length, Some, None, slice_get, Result, Ok, Err, refl, sym, ◌∙◌, ap, subst, arith, cond}
+use Rattle.std.specs.Prelude.{unwrap_or}
+use Rattle.std.proofs.lemmas.Bool.{cases_lt, eq-eqb, ne_eqb}
+use Rattle.std.proofs.lemmas.Option.{slice_get_within}
+use Rattle.blocks.specs.declared.tuple.Tuple.{Tuple}
+use Rattle.blocks.specs.declared.refusal.Refusal.{Refusal}
+use Rattle.blocks.specs.declared.refusal.Refusal.TheVariants.{ReadFault, StrangeReceipt, NotDrained}
+use Rattle.model.specs.Headline.{IsJoined, Cover, opening_marked}
+use Rattle.model.specs.LocalRuns.{primary_run, secondary_run}
+use Rattle.model.specs.Pair.{same_block}
+use Rattle.model.specs.Primary.{PrimaryHistory, items_sent, outward}
+use Rattle.model.specs.Refusals.{first_refusal}
+use Rattle.model.specs.Secondary.{Inward, SecondaryHistory, no_inward, inward, inward_at, items_taken}
+use Rattle.model.specs.Settlement.{Receipt, Settlement, applied_items, has_strange, is_at_rest, settlement, settle, unmarked_differences}
+use Rattle.model.specs.Theorems.{Opening, primary_at, secondary_at, marks_at, IsSoundOpening, Settles, SettlesAnyhow}
+use Rattle.laws.proofs.Headlines.{joined_settles, joined_settles_anyhow}
+use Rattle.laws.proofs.Joining.Openings.{kept-opening-primary, kept-opening-secondary}
+use Rattle.laws.proofs.Lists.Elements.{same-at}
+use Rattle.laws.proofs.Lists.Last.{last-at}
+use Rattle.laws.proofs.Secondary.Numbers.{NumbersRise, numbers-rise, inward-there, inward-cases}
+use Rattle.primary_steps.specs.Steps as primary
+use Rattle.secondary_steps.specs.Node as secondary
+use Rattle.settle.specs.Settled.{WereHonest, kept}
+
+-- The connection of a number.
+
+rises : (s : SecondaryHistory) → secondary.IsReached s → NumbersRise s.connections
+rises s r = subst (λ (x : SecondaryHistory). NumbersRise x.connections) (sym r.reached) (numbers-rise r.events _ refl)
+
+-- the last connection is found by its number
+pub at-last : (s : SecondaryHistory) (n : ℕ) → secondary.IsReached s → (inward s).number ≡ n → inward_at s n ≡ inward s
+at-last s n r is = elim (last-at (no_inward s) s.connections) [
+  | inl none ↦ none-at s n none
+  | inr at ↦ ap (inward_at s) (sym is) ∙ inward-there s (rises s r) (length s.connections - 1) (inward s) at
+]
+  where
+    none-at : (s : SecondaryHistory) (n : ℕ) → s.connections ≡ [] → inward_at s n ≡ inward s
+    none-at s n none = subst (λ (l : List Inward). inward_at (record s { connections = l }) n ≡ inward (record s { connections = l })) (sym none) refl
+
+-- no connection has a number above the last one's
+pub at-none : (s : SecondaryHistory) (n : ℕ) → secondary.IsReached s → (inward s).number < n → inward_at s n ≡ no_inward s
+at-none s n r above = elim (inward-cases s n) [
+  | inr none ↦ none
+  | inl (j, d, at, number, is) ↦ elim (last-at (no_inward s) s.connections) [
+    | inl none ↦ absurd (let wrong : slice_get [] j ≡ Some d = subst (λ (l : List Inward). slice_get l j ≡ Some d) none at in cc (wrong))
+    | inr last ↦
+        let within = slice_get_within s.connections j d at in
+        elim (cases_lt j (length s.connections - 1)) [
+          | inl less ↦ let more = (rises s r).rise j (length s.connections - 1) d (inward s) less at last in absurd (omega (arith, more, number, above))
+          | inr end ↦
+              let index : length s.connections - 1 ≡ j = omega (arith, within, end) in
+              let same : inward s ≡ d = same-at s.connections j (inward s) d (subst (λ (k : ℕ). slice_get s.connections k ≡ Some (inward s)) index last) at in
+              let equal = ap (λ (x : Inward). x.number) same in
+              absurd (omega (arith, equal, number, above))
+        ]
+  ]
+]
+
+-- What is kept of it: the last connection, under its own number alone.
+
+pub kept-last : (s : SecondaryHistory) (n : ℕ) → (inward s).number ≡ n → inward_at (kept s) n ≡ inward s
+kept-last s n is = ap (λ (b : Bool). unwrap_or (cond b (Some (inward s)) None) (no_inward s)) (eq-eqb (inward s).number n is)
+
+pub kept-none : (s : SecondaryHistory) (n : ℕ) → ((inward s).number ≡ n → ⊥) → inward_at (kept s) n ≡ no_inward s
+kept-none s n other = ap (λ (b : Bool). unwrap_or (cond b (Some (inward s)) None) (no_inward s)) (ne_eqb (inward s).number n other)
+
+-- that is all of it where no connection is numbered above
+pub kept-at : (s : SecondaryHistory) (n : ℕ) → secondary.IsReached s → (inward s).number ≤ n → inward_at (kept s) n ≡ inward_at s n
+kept-at s n r most = elim (cases_lt (inward s).number n) [
+  | inl less ↦ kept-none s n (λ is. absurd (omega (arith, less, is))) ∙ sym (at-none s n r less)
+  | inr least ↦ let is : (inward s).number ≡ n = omega (arith, most, least) in kept-last s n is ∙ sym (at-last s n r is)
+]
+
+-- How many items were taken at a number, and how many are applied: those of the last connection, or none.
+pub items-last : (s : SecondaryHistory) (n taken applied : ℕ) → (inward s).number ≡ n → taken ≡ length (items_taken (inward s)) → applied ≡ applied_items (inward s)
+    → (taken ≡ length (items_taken (inward_at (kept s) n))) × (applied ≡ applied_items (inward_at (kept s) n))
+items-last s n taken applied is one two = (one ∙ ap (λ (d : Inward). length (items_taken d)) (sym (kept-last s n is)), two ∙ ap applied_items (sym (kept-last s n is)))
+
+pub items-none : (s : SecondaryHistory) (n : ℕ) → ((inward s).number ≡ n → ⊥) → (0 ≡ length (items_taken (inward_at (kept s) n))) × (0 ≡ applied_items (inward_at (kept s) n))
+items-none s n other = (ap (λ (d : Inward). length (items_taken d)) (sym (kept-none s n other)), ap applied_items (sym (kept-none s n other)))
+
+-- The answer, by its tests.
+
+by : PrimaryHistory → SecondaryHistory → List Receipt → Bool → Bool → Bool → Result Settlement Refusal
+by p s receipts rest strange faulty = elim (first_refusal ((not rest, NotDrained) ∷ (strange, StrangeReceipt) ∷ (faulty, ReadFault) ∷ [])) as (λ _. Result Settlement Refusal) [ Some refusal ↦ Err refusal | None ↦ Ok (settlement p s receipts) ]
+
+pub not-at-rest : (p : PrimaryHistory) (s : SecondaryHistory) (receipts : List Receipt) (faulty : Bool) → is_at_rest p s ≡ false → settle p s receipts faulty ≡ Err NotDrained
+unfolding by
+not-at-rest p s receipts faulty rest = ap (λ (b : Bool). by p s receipts b (has_strange p.journal [] receipts) faulty) rest
+
+pub strange-given : (p : PrimaryHistory) (s : SecondaryHistory) (receipts : List Receipt) (faulty : Bool) → is_at_rest p s ≡ true → has_strange p.journal [] receipts ≡ true → settle p s receipts faulty ≡ Err StrangeReceipt
+unfolding by
+strange-given p s receipts faulty rest strange = λ i. by p s receipts (rest i) (strange i) faulty
+
+pub read-failed : (p : PrimaryHistory) (s : SecondaryHistory) (receipts : List Receipt) → is_at_rest p s ≡ true → has_strange p.journal [] receipts ≡ false → settle p s receipts true ≡ Err ReadFault
+unfolding by
+read-failed p s receipts rest strange = λ i. by p s receipts (rest i) (strange i) true
+
+pub is-settled : (p : PrimaryHistory) (s : SecondaryHistory) (receipts : List Receipt) → is_at_rest p s ≡ true → has_strange p.journal [] receipts ≡ false → settle p s receipts false ≡ Ok (settlement p s receipts)
+unfolding by
+is-settled p s receipts rest strange = λ i. by p s receipts (rest i) (strange i) false
+
+-- Where no connection is numbered above the primary's last one, what is kept settles as the whole does.
+pub kept-settles : (p : PrimaryHistory) (s : SecondaryHistory) (receipts : List Receipt) (faulty : Bool) → secondary.IsReached s → (inward s).number ≤ length p.connections
+    → settle p (kept s) receipts faulty ≡ settle p s receipts faulty
+kept-settles p s receipts faulty r most =
+    ap (λ (d : Inward). elim (first_refusal ((not (is_at_rest p s), NotDrained) ∷ (has_strange p.journal [] receipts, StrangeReceipt) ∷ (faulty, ReadFault) ∷ [])) as (λ _. Result Settlement Refusal) [
+      | Some refusal ↦ Err refusal
+      | None ↦ Ok (record { sent = items_sent (outward p); taken = length (items_taken d); applied = applied_items d; confirmed = length receipts; unmarked = unmarked_differences p s })
+    ]) (kept-at s (length p.connections) r most)
+
+-- What a settlement says of nodes that are joined, where the identifiers of both openings were honest.
+pub settled-says : (p : PrimaryHistory) (s : SecondaryHistory) → primary.IsReached p → secondary.IsReached s → WereHonest p s → IsJoined p s
+    → (receipts : List Receipt) (numbers : Settlement) → settle p s receipts false ≡ Ok numbers → Settles p s receipts numbers
+settled-says p s rp rs honest joined receipts numbers is =
+    subst (λ (q : PrimaryHistory). Settles q s receipts numbers) rp.is
+    (subst (λ (t : SecondaryHistory). Settles (primary_run rp.events (primary_at o)) t receipts numbers) (sym rs.reached)
+    (joined_settles o rp.events rs.events sound
+    (subst (λ (q : PrimaryHistory). IsJoined q (secondary_run rs.events (secondary_at o))) (sym rp.is) (subst (IsJoined p) rs.reached joined))
+    receipts false numbers
+    (subst (λ (q : PrimaryHistory). settle q (secondary_run rs.events (secondary_at o)) receipts false ≡ Ok numbers) (sym rp.is) (subst (λ (t : SecondaryHistory). settle p t receipts false ≡ Ok numbers) rs.reached is))))
+  where
+    o : Opening
+    o = record { settings = rp.settings; peer_settings = rs.settings; local = rp.disk; peer = rs.disk; own = rp.tuple; peer_tuple = rs.tuple; marks = rp.marks }
+
+    sound : IsSoundOpening o
+    sound =
+        let here = subst (λ (q : PrimaryHistory). (q.settings ≡ o.settings) × (q.opening_map ≡ o.local) × (q.opening_marks ≡ o.marks) × (q.opening_tuple ≡ o.own)) rp.is
+        (let k = kept-opening-primary o rp.events in (k.settings, k.disk, k.marks, k.tuple)) in
+        let there = subst (λ (t : SecondaryHistory). (t.opening_map ≡ o.peer) × (t.opening_tuple ≡ o.peer_tuple)) (sym rs.reached) (let k = kept-opening-secondary o rs.events in (k.disk, k.tuple)) in
+        let marked : (block : ℕ) → opening_marked p block ≡ marks_at o block
+        = λ block. (λ i. nat_lt block (here.0 i).blocks && (here.2 i) block) in
+        let covers : Cover (opening_marked p) p.opening_map s.opening_map → Cover (marks_at o) o.local o.peer
+        = λ cover block differs. sym (marked block) ∙ cover block ((λ i. same_block (here.1 i block) (there.0 i block)) ∙ differs) in
+        record {
+          ranges = record { here = rp.ranges; there = rs.in_range };
+          local = rp.sized;
+          peer = rs.sized;
+          identifiers = record {
+            own_data = subst (λ (t : Tuple). 0 < t.current) here.3 honest.own_data;
+            same_current = λ same. covers (honest.same_current (ap (λ (t : Tuple). t.current) there.1 ∙ same ∙ sym (ap (λ (t : Tuple). t.current) here.3)));
+            from_bitmap = λ some same. covers (honest.from_bitmap (subst (λ (t : Tuple). 0 < t.bitmap) (sym here.3) some) (ap (λ (t : Tuple). t.current) there.1 ∙ same ∙ sym (ap (λ (t : Tuple). t.bitmap) here.3)));
+          };
+        }
+
+-- The same whatever the identifiers say.
+pub settled-says-anyhow : (p : PrimaryHistory) (s : SecondaryHistory) → primary.IsReached p → secondary.IsReached s → IsJoined p s
+    → (receipts : List Receipt) (numbers : Settlement) → settle p s receipts false ≡ Ok numbers → SettlesAnyhow p s receipts numbers
+settled-says-anyhow p s rp rs joined receipts numbers is =
+    subst (λ (q : PrimaryHistory). SettlesAnyhow q s receipts numbers) rp.is
+    (subst (λ (t : SecondaryHistory). SettlesAnyhow (primary_run rp.events (primary_at o)) t receipts numbers) (sym rs.reached)
+    (joined_settles_anyhow o rp.events rs.events (record { here = rp.ranges; there = rs.in_range })
+    (subst (λ (q : PrimaryHistory). IsJoined q (secondary_run rs.events (secondary_at o))) (sym rp.is) (subst (IsJoined p) rs.reached joined))
+    receipts false numbers
+    (subst (λ (q : PrimaryHistory). settle q (secondary_run rs.events (secondary_at o)) receipts false ≡ Ok numbers) (sym rp.is) (subst (λ (t : SecondaryHistory). settle p t receipts false ≡ Ok numbers) rs.reached is))))
+  where
+    o : Opening
+    o = record { settings = rp.settings; peer_settings = rs.settings; local = rp.disk; peer = rs.disk; own = rp.tuple; peer_tuple = rs.tuple; marks = rp.marks }

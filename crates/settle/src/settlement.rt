@@ -1,0 +1,123 @@
+//! The settlement of two nodes.
+ghost use Rattle.std.specs.Prelude.{◌≡◌, ◌⊎◌, ◌<◌, ◌≤◌, length, true, Err, IfOk};
+ghost use Rattle.blocks.specs.declared.refusal.Refusal.TheVariants.{ReadFault};
+ghost use Rattle.model.specs.Headline.{IsJoined};
+ghost use Rattle.model.specs.Primary.{PrimaryHistory};
+ghost use Rattle.model.specs.Secondary.{SecondaryHistory, inward_at, items_taken};
+ghost use Rattle.model.specs.Settlement.{applied_items, is_at_rest, settle};
+ghost use Rattle.model.specs.Theorems.{Settles, SettlesAnyhow};
+ghost use Rattle.primary.specs.State.{node as primary_node};
+ghost use Rattle.primary_steps.specs.Node.{NodeHas as PrimaryHas};
+ghost use Rattle.secondary.specs.State.{node as secondary_node};
+ghost use Rattle.secondary_steps.specs.Node.{NodeHas as SecondaryHas};
+ghost use Rattle.settle.specs.Settled.{WereHonest, is_read_fault, kept, numbers, settled};
+
+use crate::compare::unmarked;
+use blocks::{Refusal, Store};
+use link::{FrameIn, FrameOut};
+use primary::{Primary, Receipt};
+use secondary::Secondary;
+
+/// The counts of two nodes at rest.
+#[derive(Debug, PartialEq, Eq, Clone, Copy)]
+pub struct Settled {
+    /// How many items of the primary's last connection were sent.
+    pub sent: u32,
+    /// How many items the secondary took on that connection: 0 where it never opened it.
+    pub taken: u32,
+    /// How many writes and resync items of those are applied.
+    pub applied: u32,
+    /// How many receipts are confirmed: all that were given.
+    pub confirmed: u64,
+    /// On how many blocks that are not marked the disks differ. A block that only one of them has counts.
+    pub unmarked: u32,
+}
+
+/// Compares two nodes at rest, and the receipts that callers have with the journal.
+///
+/// Returns `NotDrained` (36) unless both ends are closed, nothing is pending at the secondary, and the primary's disk
+/// has done or failed every write; else `StrangeReceipt` (19) if a receipt is of no entry of the journal, or is
+/// given twice; else `ReadFault` (14) if a disk fails a read. It changes neither node but for the disks' counts of
+/// faults, and takes no memory; it takes time for each receipt, each accepted write and each block.
+///
+/// The secondary knows `taken` and `applied` of its own last connection alone. Where that is numbered above the
+/// primary's last one, which no session brings about, both are 0.
+pub fn settle<
+    O: FrameOut + Drop,
+    I: FrameIn + Drop,
+    S: Store + Drop,
+    P: FrameOut + Drop,
+    J: FrameIn + Drop,
+    T: Store + Drop,
+>(
+    primary: &mut Primary<O, I, S>,
+    secondary: &mut Secondary<P, J, T>,
+    receipts: &[Receipt],
+) -> Result<Settled, Refusal>
+    ensures kept { (p : PrimaryHistory) (s : SecondaryHistory) → PrimaryHas (primary_node primary.old) p → SecondaryHas (secondary_node secondary.old) s
+        → settled result ≡ settle p (kept s) receipts.now (is_read_fault result) }
+    ensures history { secondary.old.core.number ≤ primary.old.core.connections
+        → (p : PrimaryHistory) (s : SecondaryHistory) → PrimaryHas (primary_node primary.old) p → SecondaryHas (secondary_node secondary.old) s
+        → settled result ≡ settle p s receipts.now (is_read_fault result) }
+    ensures primary { primary.new ≡ record primary.old { faults = primary.new.faults; steady = primary.new.steady } }
+    ensures secondary { secondary.new ≡ record secondary.old { faults = secondary.new.faults; steady = secondary.new.steady } }
+    ensures fault { result ≡ Err ReadFault → (primary.old.faults < primary.new.faults) ⊎ (secondary.old.faults < secondary.new.faults) }
+    ensures uncounted { (result ≡ Err ReadFault → ⊥) → (primary.new.faults ≡ primary.old.faults) × (secondary.new.faults ≡ secondary.old.faults) }
+    ensures works { primary.old.steady ≡ true → secondary.old.steady ≡ true
+        → (primary.new.steady ≡ true) × (secondary.new.steady ≡ true) × (result ≡ Err ReadFault → ⊥) }
+    ensures settles { secondary.old.core.number ≤ primary.old.core.connections
+        → IfOk result (λ n. (p : PrimaryHistory) (s : SecondaryHistory) → PrimaryHas (primary_node primary.old) p → SecondaryHas (secondary_node secondary.old) s
+        → IsJoined p s → WereHonest p s → Settles p s receipts.now (numbers n)) }
+    ensures anyhow { secondary.old.core.number ≤ primary.old.core.connections
+        → IfOk result (λ n. (p : PrimaryHistory) (s : SecondaryHistory) → PrimaryHas (primary_node primary.old) p → SecondaryHas (secondary_node secondary.old) s
+        → IsJoined p s → SettlesAnyhow p s receipts.now (numbers n)) }
+{
+    if !is_at_rest(primary, secondary) {
+        return Err(Refusal::NotDrained);
+    }
+    if !primary.confirm(receipts) {
+        return Err(Refusal::StrangeReceipt);
+    }
+    let unmarked = unmarked(primary, secondary)?;
+    let (taken, applied) = items_at(secondary, primary.connections());
+    Ok(Settled {
+        sent: primary.items_sent(),
+        taken,
+        applied,
+        confirmed: receipts.len() as u64,
+        unmarked,
+    })
+}
+
+// Whether both ends are closed, nothing is pending, and the primary's disk has done or failed every write.
+fn is_at_rest<
+    O: FrameOut + Drop,
+    I: FrameIn + Drop,
+    S: Store + Drop,
+    P: FrameOut + Drop,
+    J: FrameIn + Drop,
+    T: Store + Drop,
+>(primary: &Primary<O, I, S>, secondary: &Secondary<P, J, T>) -> bool
+    ensures { (p : PrimaryHistory) (s : SecondaryHistory) → PrimaryHas (primary_node primary.now) p → SecondaryHas (secondary_node secondary.now) s
+        → result ≡ is_at_rest p s }
+{
+    !primary.is_open()
+        && !secondary.is_open()
+        && secondary.is_drained()
+        && primary.next_local().is_none()
+}
+
+// How many items were taken on the connection of this number, and how many of them are applied; 0 where it is not the
+// secondary's last one.
+fn items_at<P: FrameOut + Drop, J: FrameIn + Drop, T: Store + Drop>(
+    secondary: &Secondary<P, J, T>,
+    number: u32,
+) -> (u32, u32)
+    ensures { (s : SecondaryHistory) → SecondaryHas (secondary_node secondary.now) s
+        → (result.0 ≡ length (items_taken (inward_at (kept s) number))) × (result.1 ≡ applied_items (inward_at (kept s) number)) }
+{
+    if secondary.number() != number {
+        return (0, 0);
+    }
+    (secondary.items_taken(), secondary.items_applied())
+}

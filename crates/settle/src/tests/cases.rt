@@ -1,0 +1,182 @@
+//! What is done to two nodes before they settle.
+
+use crate::tests::nodes::{Local, Peer, close, connect, submit, write};
+use crate::{Settled, settle};
+use blocks::Refusal;
+use primary::Receipt;
+use std::alloc::Global;
+use std::process::Abort;
+use std::sync::Wait;
+
+/// What is done to them.
+#[derive(Clone, Copy, Debug)]
+pub(super) enum Case {
+    /// They are never opened, and settle to this.
+    Unopened(u32),
+    /// They are never opened, and a disk fails a read of the first settlement alone.
+    Failing,
+    /// One write of this block.
+    Write(u64),
+    /// Four writes, one after the other.
+    Writes,
+    /// Two writes, of which the link is lost when one of them is taken.
+    Unfinished,
+    /// A write on each of two connections.
+    Connections,
+    /// A write of block 2, and a receipt that is not of another write of these nodes.
+    Strange,
+}
+
+/// Nothing was sent.
+const NOTHING: Settled = Settled {
+    sent: 0,
+    taken: 0,
+    applied: 0,
+    confirmed: 0,
+    unmarked: 0,
+};
+
+fn is<R: Wait + Drop>(
+    rt: &impl Abort,
+    local: &mut Local<R>,
+    peer: &mut Peer<R>,
+    receipts: &[Receipt],
+    wanted: Result<Settled, Refusal>,
+) {
+    assert_eq!(rt; settle(local, peer, receipts), wanted);
+}
+
+/// It changes nothing, so the next one says the same.
+fn is_twice<R: Wait + Drop>(
+    rt: &impl Abort,
+    local: &mut Local<R>,
+    peer: &mut Peer<R>,
+    receipts: &[Receipt],
+    wanted: Settled,
+) {
+    is(rt, local, peer, receipts, Ok(wanted));
+    is(rt, local, peer, receipts, Ok(wanted));
+}
+
+/// Each write is an item of the stream, and ends its epoch with a barrier.
+fn writes<R: Wait + Drop>(
+    rt: &impl Abort,
+    alloc: Global,
+    local: &mut Local<R>,
+    peer: &mut Peer<R>,
+    receipts: &mut Vec<Receipt>,
+) -> Result<(), Refusal> {
+    for block in 0..4 {
+        write(alloc, local, peer, block, receipts)?;
+    }
+    is(rt, local, peer, receipts, Err(Refusal::NotDrained));
+    close(local, peer)?;
+    let wanted = Settled {
+        sent: 8,
+        taken: 8,
+        applied: 4,
+        confirmed: 4,
+        unmarked: 0,
+    };
+    is_twice(rt, local, peer, receipts, wanted);
+    Ok(())
+}
+
+/// Each of the items is in the way until it is done. What the peer did not take is marked.
+fn unfinished<R: Wait + Drop>(
+    rt: &impl Abort,
+    alloc: Global,
+    local: &mut Local<R>,
+    peer: &mut Peer<R>,
+) -> Result<(), Refusal> {
+    let wanted = Err(Refusal::NotDrained);
+    for block in 0..2 {
+        submit(alloc, local, block)?;
+        local.send()?;
+    }
+    peer.receive()?;
+    local.close()?;
+    is(rt, local, peer, &[], wanted);
+    peer.close()?;
+    is(rt, local, peer, &[], wanted);
+    peer.peer(0)?;
+    for number in 1..3 {
+        is(rt, local, peer, &[], wanted);
+        local.local(number)?;
+    }
+    let wanted = Settled {
+        sent: 2,
+        taken: 1,
+        applied: 1,
+        ..NOTHING
+    };
+    is_twice(rt, local, peer, &[], wanted);
+    Ok(())
+}
+
+/// The second connection begins with a resync of nothing, which is two items.
+fn connections<R: Wait + Copy + Drop>(
+    (rt, out, alloc): (R, &impl Abort, Global),
+    local: &mut Local<R>,
+    peer: &mut Peer<R>,
+    receipts: &mut Vec<Receipt>,
+) -> Result<(), Refusal> {
+    write(alloc, local, peer, 2, receipts)?;
+    close(local, peer)?;
+    connect(rt, alloc, local, peer, (4, 5))?;
+    write(alloc, local, peer, 3, receipts)?;
+    close(local, peer)?;
+    let wanted = Settled {
+        sent: 4,
+        taken: 4,
+        applied: 1,
+        confirmed: 2,
+        unmarked: 0,
+    };
+    is_twice(out, local, peer, receipts, wanted);
+    Ok(())
+}
+
+/// Has the nodes settle. Receipts come to those that are given.
+pub(super) fn goes<R: Wait + Copy + Drop>(
+    (rt, out, alloc): (R, &impl Abort, Global),
+    local: &mut Local<R>,
+    peer: &mut Peer<R>,
+    receipts: &mut Vec<Receipt>,
+    case: Case,
+) -> Result<(), Refusal> {
+    match case {
+        Case::Unopened(unmarked) => {
+            is_twice(
+                out,
+                local,
+                peer,
+                receipts,
+                Settled {
+                    unmarked,
+                    ..NOTHING
+                },
+            );
+            return Ok(());
+        }
+        Case::Failing => {
+            is(out, local, peer, receipts, Err(Refusal::ReadFault));
+            is(out, local, peer, receipts, Ok(NOTHING));
+            return Ok(());
+        }
+        _ => {}
+    }
+    connect(rt, alloc, local, peer, (2, 3))?;
+    match case {
+        Case::Write(block) => write(alloc, local, peer, block, receipts),
+        Case::Writes => writes(out, alloc, local, peer, receipts),
+        Case::Unfinished => unfinished(out, alloc, local, peer),
+        Case::Connections => connections((rt, out, alloc), local, peer, receipts),
+        _ => {
+            write(alloc, local, peer, 2, receipts)?;
+            close(local, peer)?;
+            is(out, local, peer, receipts, Err(Refusal::StrangeReceipt));
+            Ok(())
+        }
+    }
+}
