@@ -1,5 +1,5 @@
 //! A session from its start to its end.
-ghost use Rattle.std.specs.Prelude.{◌≡◌, IfOk};
+ghost use Rattle.std.specs.Prelude.{◌≡◌, ◌≤◌, IfOk};
 ghost use Rattle.endpoint.specs.Calls.{IsNewIn, IsNewOut};
 ghost use Rattle.model.specs.Headline.{IsJoined};
 ghost use Rattle.model.specs.Primary.{PrimaryHistory};
@@ -182,10 +182,12 @@ impl<R: Threads + Wait + Clock + Drop, L: Linked, S: Store + Drop, T: Store + Dr
     /// it.
     ///
     /// Each node has a history whose connections all went over the session's link. Whichever these are, they are
-    /// joined: on each connection, what one end took begins what the other pushed, both ways.
+    /// joined: on each connection, what one end took begins what the other pushed, both ways. No connection of the
+    /// secondary has a number above the primary's last one, or 36 is answered, which no session brings about.
     pub fn finish(self) -> Result<(SessionPrimary<R, L, S>, SessionSecondary<R, L, T>), Refusal>
         ensures had { IfOk result (λ nodes. PrimaryIsHad nodes.0 × SecondaryIsHad nodes.1) }
         ensures joined { IfOk result (λ nodes. (p : PrimaryHistory) (s : SecondaryHistory) → PrimaryHas nodes.0 p → SecondaryHas nodes.1 s → IsJoined p s) }
+        ensures numbered { IfOk result (λ nodes. nodes.1.core.number ≤ nodes.0.core.connections) }
     {
         let mut session = self;
         session.mirror.shared.cut();
@@ -194,7 +196,11 @@ impl<R: Threads + Wait + Clock + Drop, L: Linked, S: Store + Drop, T: Store + Dr
         let Session { mirror, workers } = session;
         drop(workers);
         let shared = Arc::into_inner(mirror.shared).ok_or(Refusal::NotDrained)?;
-        Ok(shared.into_nodes())
+        let (primary, secondary) = shared.into_nodes();
+        if secondary.number() > primary.connections() {
+            return Err(Refusal::NotDrained);
+        }
+        Ok((primary, secondary))
     }
 
     // Stops the threads that run, and waits for their ends.
