@@ -9,7 +9,7 @@ use Rattle.model.specs.Headline.{Cover}
 use Rattle.model.specs.Rows.{connect}
 use Rattle.model.specs.Theorems.{marks_at}
 use Rattle.model.specs.WriteRows.{one_write}
-use Rattle.laws.specs.Examples.{new_pair, left_behind, OpeningsAreMet, OneWriteIsMet, CoverIsMet, ReflectionIsMet, RestIsMet, OrderIsMet}
+use Rattle.laws.specs.Examples.{new_pair, left_behind, OpeningsAreMet, OneWriteIsMet, CoverIsMet, ReflectionIsMet, RestIsMet, OrderIsMet, WholeEpochIsMet, RefusedFramesAreMet, ReleasesAreMet}
 use Rattle.laws.proofs.Headlines.{every_run_is_joined}
 
 ranges : IsInRange standard
@@ -66,3 +66,31 @@ rest_is_met = record { rest = refl; numbers = refl }
 
 pub order_is_met : OrderIsMet
 order_is_met = record { unharmed = record { local = refl; opening = λ same. refl }; consistent = refl; adopted = refl; earlier = refl; later = refl; completed = refl; before = refl; copied = refl; written = refl; whole_to = refl }
+
+pub whole_epoch_is_met : WholeEpochIsMet
+whole_epoch_is_met = record { unharmed = record { local = refl; opening = λ same. refl }; consistent = refl; write = refl; connection = refl; epoch = refl; whole_to = refl; before = refl; written = refl }
+
+pub refused_frames_are_met : RefusedFramesAreMet
+refused_frames_are_met = record {
+  hello = refl;
+  by_hello = refl;
+  hello_before = refl;
+  hello_seen = refl;
+  primary = refl;
+  frame = refl;
+  first = refl;
+  unmarked = refl;
+  marks = refl;
+  identifiers = refl;
+  uncompleted = refl;
+  completed = refl;
+  secondary = refl;
+  frame_too = refl;
+  first_too = refl;
+  before_too = refl;
+  closed_too = refl;
+  stays = refl;
+}
+
+pub releases_are_met : ReleasesAreMet
+releases_are_met = record { earlier = refl; later = refl; shared = refl; shared_too = refl; first = refl; waits = refl; second = refl; both = refl }

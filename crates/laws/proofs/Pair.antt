@@ -5,3 +5,5 @@ pub mod Primary
 pub mod Runs
 pub mod Secondary
 pub mod Refused
+pub mod RefusedFrames
+pub mod LostConnections

@@ -1,19 +1,27 @@
 -- The premises of the theorems are met, and their conclusions speak of something: histories that a short script reaches.
-use Rattle.std.specs.Prelude.{◌≡◌, ◌==◌, true, false, if◌then◌else◌, List, [], ◌∷◌, ◌++◌, length, Some, None, slice_get, Ok}
+use Rattle.std.specs.Prelude.{◌≡◌, ◌==◌, true, false, if◌then◌else◌, List, [], ◌∷◌, ◌++◌, length, take, Some, None, slice_get, Ok}
+use Rattle.blocks.specs.declared.settings.Protocol.TheVariants as protocol
+use Rattle.blocks.specs.declared.refusal.Refusal.TheVariants.{SplitBrain, BadBarrierAck, BadField}
+use Rattle.blocks.specs.declared.outcome.Reply.TheVariants as reply
 use Rattle.blocks.specs.SettingsRange.{standard}
-use Rattle.model.specs.Contents.{Write, filled}
-use Rattle.model.specs.Stream.{WriteItem}
-use Rattle.model.specs.Primary.{OnDisk, Accepted, Linked, outward, stands, unreleased, active_extents}
-use Rattle.model.specs.Secondary.{inward, items_taken, secondary_map, whole}
-use Rattle.model.specs.Pair.{Event, LocalEvent, SendEvent, ReceiveEvent, PeerEvent, AckOutEvent, AckInEvent, ClosePrimaryEvent, CloseSecondaryEvent, PairHistory, run_fed, differing, marked}
+use Rattle.model.specs.Acknowledgements.{ack_in}
+use Rattle.model.specs.Contents.{Write, covers, filled}
+use Rattle.model.specs.Frames.{BarrierFrame, ProtocolFrame, SizesFrame, UuidsFrame, WriteAckFrame, BarrierAckFrame}
+use Rattle.model.specs.LocalRuns.{PrimaryEvent, Opens, Submits, WritesLocally, Sends, Takes, primary_run}
+use Rattle.model.specs.Stream.{WriteItem, epoch_of}
+use Rattle.model.specs.Primary.{OnDisk, Accepted, Linked, Alone, PrimaryHistory, outward, outward_at, stands, is_released, unreleased, active_extents}
+use Rattle.model.specs.Secondary.{SecondaryHistory, inward, items_taken, pending, secondary_map, whole}
+use Rattle.model.specs.SecondarySteps.{receive}
+use Rattle.model.specs.Pair.{Event, LocalEvent, SendEvent, ReceiveEvent, PeerEvent, AckOutEvent, AckInEvent, ClosePrimaryEvent, CloseSecondaryEvent, PairHistory, step, run_fed, differing, marked}
 use Rattle.model.specs.Headline.{IsJoined, IsGrounded, is_covered}
 use Rattle.model.specs.Settlement.{is_at_rest, settle}
-use Rattle.model.specs.Rows.{words, fill, connect}
+use Rattle.model.specs.Rows.{words, fresh_with, fill, connect}
 use Rattle.model.specs.ResyncRows.{written_alone, first_copied, second_copied, ended}
 use Rattle.model.specs.WriteOrder.{comes_before, has_adopted, IsUnharmed}
 use Rattle.model.specs.WriteRows.{one_write}
-use Rattle.model.specs.Theorems.{Opening, pair_at, IsSoundOpening}
+use Rattle.model.specs.Theorems.{Opening, primary_at, pair_at, IsSoundOpening}
 use Rattle.laws.specs.Reflections.{touches, is_sure}
+use Rattle.laws.specs.Statements.{is_refused_frame, is_refused_by}
 
 -- A new pair of eight blocks of one byte each, with equal identifiers.
 abbrev pub new_pair : Opening
@@ -120,3 +128,93 @@ pub record OrderIsMet : Type 0 where
   pub copied : secondary_map (reached rewritten).secondary 3 ≡ Some (170 ∷ [])
   pub written : secondary_map (reached rewritten).secondary 2 ≡ Some (204 ∷ [])
   pub whole_to : whole (reached rewritten).secondary ≡ 2
+
+-- The same, and the peer takes the barrier that ends the last write's epoch.
+abbrev pub rewritten_to_the_end : List Event
+rewritten_to_the_end = rewritten ++ SendEvent ∷ ReceiveEvent ∷ []
+
+-- The premises of the write order's second half: the last write came over the present connection, in an epoch to which the
+-- secondary is whole; and the writes before it.
+pub record WholeEpochIsMet : Type 0 where
+  pub unharmed : IsUnharmed (reached rewritten_to_the_end).primary (reached rewritten_to_the_end).secondary
+  pub consistent : (reached rewritten_to_the_end).secondary.consistent ≡ true
+  pub write : slice_get (reached rewritten_to_the_end).primary.writes 2 ≡ Some since
+  pub connection : (inward (reached rewritten_to_the_end).secondary).number ≡ 2
+  pub epoch : epoch_of (outward_at (reached rewritten_to_the_end).primary 2).stream 6 ≡ 3
+  pub whole_to : whole (reached rewritten_to_the_end).secondary ≡ 3
+  pub before : comes_before (reached rewritten_to_the_end).primary first_alone since ≡ true
+  pub written : secondary_map (reached rewritten_to_the_end).secondary 2 ≡ Some (204 ∷ [])
+
+-- A write that is sent, taken, and on the local disk alone.
+abbrev pub under_way : PairHistory
+under_way = reached (unseen ++ SendEvent ∷ ReceiveEvent ∷ [])
+
+-- A primary that gets a BARRIER_ACK there, though it sent no barrier: the write is marked and completed alone, and the word for
+-- a loss is its current identifier.
+abbrev pub broken_off : PrimaryHistory
+broken_off = (ack_in (Some (Ok (BarrierAckFrame 1 1))) false under_way.primary).1
+
+-- A secondary that gets the second barrier there, and never got the first.
+abbrev pub broken_off_too : SecondaryHistory
+broken_off_too = (receive (Some (Ok (BarrierFrame 2))) false under_way.secondary).1
+
+-- Two nodes that each went on from the same data by itself, before the primary takes the last frame of the hello.
+abbrev pub estranged : PairHistory
+estranged = (run_fed (take 12 (connect 9 11)) (fresh_with standard (words 7 1 0 0) (words 8 1 0 0))).1
+
+-- Frames that are refused as such, and what that does.
+pub record RefusedFramesAreMet : Type 0 where
+  pub hello : (step AckInEvent false estranged).0 ≡ reply.Refused SplitBrain
+  pub by_hello : is_refused_by AckInEvent SplitBrain ≡ true
+  pub hello_before : (outward estranged.primary).closed ≡ false
+  pub hello_seen : (step AckInEvent false estranged).1.primary.peer ≡ Some (words 8 1 0 0)
+  pub primary : (ack_in (Some (Ok (BarrierAckFrame 1 1))) false under_way.primary).0 ≡ reply.Refused BadBarrierAck
+  pub frame : is_refused_frame BadBarrierAck ≡ true
+  pub first : (outward under_way.primary).refused ≡ false
+  pub unmarked : under_way.primary.marks 2 ≡ false
+  pub marks : broken_off.marks 2 ≡ true
+  pub identifiers : broken_off.tuple ≡ words 7 1 0 0
+  pub uncompleted : under_way.primary.journal ≡ []
+  pub completed : broken_off.journal ≡ record { write = the_write; kind = Alone; home = Some (0, 0) } ∷ []
+  pub secondary : (receive (Some (Ok (BarrierFrame 2))) false under_way.secondary).0 ≡ reply.Refused BadField
+  pub frame_too : is_refused_frame BadField ≡ true
+  pub first_too : (inward under_way.secondary).refused ≡ false
+  pub before_too : (inward under_way.secondary).closed ≡ false
+  pub closed_too : (inward broken_off_too).closed ≡ true
+  pub stays : pending (inward broken_off_too) ≡ (0, WriteItem the_write) ∷ []
+
+-- A primary by itself that took the peer's hello.
+abbrev pub met : List PrimaryEvent
+met =
+    Opens 5 7 false ∷ Sends true false ∷ Sends true false ∷ Sends true false
+    ∷ Takes (Some (Ok (ProtocolFrame protocol.C))) false ∷ Takes (Some (Ok (SizesFrame 8))) false ∷ Takes (Some (Ok (UuidsFrame (words 1 0 0 0)))) false ∷ []
+
+-- Then a write of block 2, another one over it once the first is completed, and the acknowledgement of the first one's epoch.
+abbrev pub written_over : List PrimaryEvent
+written_over =
+    met ++ Submits 2 ((170 ∷ []) ∷ []) false ∷ WritesLocally 1 ∷ Sends true false ∷ Takes (Some (Ok (WriteAckFrame (record { first = 2; number = 1; count = 1; place = 0 })))) false
+    ∷ Submits 2 ((187 ∷ []) ∷ []) false ∷ WritesLocally 2 ∷ Sends true false ∷ Sends true false ∷ Takes (Some (Ok (WriteAckFrame (record { first = 2; number = 2; count = 1; place = 2 })))) false
+    ∷ Sends true false ∷ Takes (Some (Ok (BarrierAckFrame 1 1))) false ∷ []
+
+-- then that of the second one's
+abbrev pub released_in_turn : List PrimaryEvent
+released_in_turn = written_over ++ Takes (Some (Ok (BarrierAckFrame 2 1))) false ∷ []
+
+-- the two writes
+abbrev pub the_earlier : Accepted
+the_earlier = record { write = the_write; journal_length = 0; home = Some (0, 0); outcome = OnDisk }
+
+-- the one over it
+abbrev pub the_later : Accepted
+the_later = record { write = record { number = 2; first = 2; contents = (187 ∷ []) ∷ [] }; journal_length = 1; home = Some (0, 2); outcome = OnDisk }
+
+-- Of two writes that share a block the earlier one is released first; and then both are.
+pub record ReleasesAreMet : Type 0 where
+  pub earlier : slice_get (primary_run released_in_turn (primary_at new_pair)).writes 0 ≡ Some the_earlier
+  pub later : slice_get (primary_run released_in_turn (primary_at new_pair)).writes 1 ≡ Some the_later
+  pub shared : covers the_earlier.write 2 ≡ true
+  pub shared_too : covers the_later.write 2 ≡ true
+  pub first : is_released (primary_run written_over (primary_at new_pair)) the_earlier ≡ true
+  pub waits : is_released (primary_run written_over (primary_at new_pair)) the_later ≡ false
+  pub second : is_released (primary_run released_in_turn (primary_at new_pair)) the_later ≡ true
+  pub both : is_released (primary_run released_in_turn (primary_at new_pair)) the_earlier ≡ true

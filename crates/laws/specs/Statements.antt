@@ -1,13 +1,20 @@
 -- The theorems that are proved, as the contracts name them. Those of joined nodes and of the pair are stated over openings,
 -- with `JoinedRuns` and `EveryRun` of the model.
-use Rattle.std.specs.Prelude.{ℕ, suc, ◌≡◌, ◌<◌, ◌≤◌, ◌⊎◌, Bool, true, false, List, length, take, Some, slice_get}
+use Rattle.std.specs.Prelude.{ℕ, suc, ◌≡◌, ◌<◌, ◌≤◌, ◌⊎◌, Bool, true, false, List, [], ◌∷◌, ◌++◌, length, take, if◌then◌else◌, Option, Some, slice_get, Ok}
+use Rattle.blocks.specs.declared.tuple.Tuple.{Tuple}
 use Rattle.blocks.specs.declared.refusal.Refusal.{Refusal}
 use Rattle.blocks.specs.declared.refusal.Refusal.TheVariants.{BadRange, Conflict, LogFull, ActivityFull, JournalFull, StreamFull, NoMemory, LocalFault, NotCompleted, NothingToDo, LinkFull, NotConnected, NothingThere, ReadFault, BadSetting, UnknownJob, EpochOpen, PendingFull, StrangeReceipt, BadMagic, BadCommand, BadLength, BadField, BadBarrierAck, UnknownAck, PrimaryStale, SplitBrain, Unrelated, UsedIdentifier, OtherProtocol, OtherSize, NotDrained}
 use Rattle.blocks.specs.declared.outcome.Reply.TheVariants as reply
 use Rattle.model.specs.Contents.{Write, IsDisk, covers}
 use Rattle.model.specs.LocalRuns.{PrimaryEvent, primary_run, SecondaryEvent, secondary_run}
-use Rattle.model.specs.Primary.{Outward, PrimaryHistory, outward, outward_at, stands, items_sent, active_extents, Accepted, is_released}
-use Rattle.model.specs.Secondary.{Inward, SecondaryHistory, inward_at, items_taken, pending, inward}
+use Rattle.model.specs.Acknowledgements.{ack_in}
+use Rattle.model.specs.Frames.{UuidsFrame, Received}
+use Rattle.model.specs.Identifiers.{lost}
+use Rattle.model.specs.Marks.{marking_unreleased}
+use Rattle.model.specs.PrimarySteps.{close_primary}
+use Rattle.model.specs.SecondarySteps.{receive, close_secondary}
+use Rattle.model.specs.Primary.{Outward, PrimaryHistory, outward, with_outward, outward_at, stands, items_sent, active_extents, Accepted, is_released, is_on_disk, is_completed, last_index}
+use Rattle.model.specs.Secondary.{Inward, SecondaryHistory, inward_at, items_taken, pending, inward, with_inward, secondary_map}
 use Rattle.model.specs.Stream.{WriteItem, IsBeginning, IsLawful}
 use Rattle.model.specs.Pair.{Event, PairHistory, step, run, ReceiveEvent, AckInEvent}
 use Rattle.model.specs.Headline.{IsJoined, TakesABeginning, StaysClosed, StaysClosedToo, HoldsEarlierEpochs, KeepsPromises, MarksDifferences, is_marked, is_covered}
@@ -190,3 +197,54 @@ RefusedStepsChangeNothing =
 abbrev pub RefusedFramesClose : Type 0
 RefusedFramesClose =
     (event : Event) (starved : Bool) (h : PairHistory) (refusal : Refusal) → (step event starved h).0 ≡ reply.Refused refusal → is_refused_by event refusal ≡ true → is_closed_by event (step event starved h).1 ≡ true
+
+-- The peer's tuple last seen, once this frame of the hello was taken after so many: the third names the tuple, also where it
+-- is then refused.
+abbrev pub seen_after : ℕ → Received → Option Tuple → Option Tuple
+seen_after (suc (suc n)) (Ok (UuidsFrame peer)) seen = Some peer
+seen_after n frame seen = seen
+
+-- A primary's history with a frame that counts as taken, and as refused.
+abbrev pub with_refused : Received → PrimaryHistory → PrimaryHistory
+with_refused frame p =
+    let c = outward p in
+    with_outward (λ c. record c { taken = c.taken ++ frame ∷ []; refused = true }) (record p { peer = elim c.begun [ true ↦ p.peer | false ↦ seen_after (length c.taken) frame p.peer ] })
+
+-- the same of a secondary
+abbrev pub with_refused_too : Received → SecondaryHistory → SecondaryHistory
+with_refused_too frame s = with_inward (λ c. record c { taken = c.taken ++ frame ∷ []; refused = true }) s
+
+-- A primary that refuses a frame, whatever the frame is, has all effects of a close in the same step: its history is what the
+-- close leaves once the frame counts as taken. Unreleased writes are marked, the tuple goes by the word for a loss where the
+-- stream had begun, and what the local disk has done is completed alone, unless the peer had answered it before.
+abbrev pub RefusedFramesCloseThePrimary : Type 0
+RefusedFramesCloseThePrimary =
+    (frame : Received) (starved : Bool) (p : PrimaryHistory) (refusal : Refusal) → (ack_in (Some frame) starved p).0 ≡ reply.Refused refusal → is_refused_frame refusal ≡ true
+    → (ack_in (Some frame) starved p).1 ≡ (close_primary (with_refused frame p)).1
+
+-- The same of a secondary: its items stay, and nothing more is taken or sent.
+abbrev pub RefusedFramesCloseTheSecondary : Type 0
+RefusedFramesCloseTheSecondary =
+    (frame : Received) (starved : Bool) (s : SecondaryHistory) (refusal : Refusal) → (receive (Some frame) starved s).0 ≡ reply.Refused refusal → is_refused_frame refusal ≡ true
+    → (receive (Some frame) starved s).1 ≡ (close_secondary (with_refused_too frame s)).1
+
+-- What was pending at the secondary stays so, and its disk holds what it held: a refused frame brings no item. (An open end has
+-- refused none before.)
+abbrev pub RefusedFramesLeaveTheItems : Type 0
+RefusedFramesLeaveTheItems =
+    (frame : Received) (starved : Bool) (s : SecondaryHistory) (refusal : Refusal) → (inward s).refused ≡ false → (receive (Some frame) starved s).0 ≡ reply.Refused refusal → is_refused_frame refusal ≡ true
+    → (pending (inward (receive (Some frame) starved s).1) ≡ pending (inward s)) × (secondary_map (receive (Some frame) starved s).1 ≡ secondary_map s)
+
+-- What a primary that loses its connection does: it marks every block of the writes that were unreleased before; its tuple
+-- goes by the word for a loss, if the stream had begun; and each write of the connection that its local disk has done is
+-- completed.
+pub record LosesItsConnection (p q : PrimaryHistory) : Type 0 where
+  pub marks : (block : ℕ) → q.marks block ≡ marking_unreleased p block
+  pub tuple : q.tuple ≡ (if (outward p).begun then lost (outward p).loss p.tuple else p.tuple)
+  pub completed : (n place : ℕ) (a : Accepted) → slice_get p.writes n ≡ Some a → a.home ≡ Some (last_index p.connections, place) → is_on_disk a.outcome ≡ true → is_completed q a.write.number ≡ true
+
+-- A primary that refuses a frame does so. The frame itself releases nothing. (An open end has refused none before.)
+abbrev pub RefusedFramesLoseTheConnection : Type 0
+RefusedFramesLoseTheConnection =
+    (frame : Received) (starved : Bool) (p : PrimaryHistory) (refusal : Refusal) → (outward p).refused ≡ false → (ack_in (Some frame) starved p).0 ≡ reply.Refused refusal → is_refused_frame refusal ≡ true
+    → LosesItsConnection p (ack_in (Some frame) starved p).1

@@ -4,8 +4,8 @@
 //! `docs/PROOFS.md`.
 #![tactic(auto)]
 
-ghost use Rattle.laws.specs.Statements.{PrimaryWritesOnce, PrimaryStreamsAreLawful, PrimaryExtentsAreFew, PrimaryReleasesInOrder, PrimaryStaysClosed, PrimaryReflects, PrimaryMarksAtRest, SecondaryHoldsEarlierEpochs, SecondaryDrainsFirst, SecondaryStaysClosed, JoinedTakesABeginning, JoinedRunsKeepPromises, EveryRunIsJoined, EveryRunTakesABeginning, EveryRunStaysClosed, EveryRunHoldsEarlierEpochs, EveryRunKeepsPromises, EveryRunMarksDifferences, EveryStepIsHonest, RefusedStepsChangeNothing, RefusedFramesClose};
-ghost use Rattle.laws.specs.Examples.{OpeningsAreMet, OneWriteIsMet, CoverIsMet, ReflectionIsMet, RestIsMet, OrderIsMet};
+ghost use Rattle.laws.specs.Statements.{PrimaryWritesOnce, PrimaryStreamsAreLawful, PrimaryExtentsAreFew, PrimaryReleasesInOrder, PrimaryStaysClosed, PrimaryReflects, PrimaryMarksAtRest, SecondaryHoldsEarlierEpochs, SecondaryDrainsFirst, SecondaryStaysClosed, JoinedTakesABeginning, JoinedRunsKeepPromises, EveryRunIsJoined, EveryRunTakesABeginning, EveryRunStaysClosed, EveryRunHoldsEarlierEpochs, EveryRunKeepsPromises, EveryRunMarksDifferences, EveryStepIsHonest, RefusedStepsChangeNothing, RefusedFramesClose, RefusedFramesCloseThePrimary, RefusedFramesCloseTheSecondary, RefusedFramesLeaveTheItems, RefusedFramesLoseTheConnection};
+ghost use Rattle.laws.specs.Examples.{OpeningsAreMet, OneWriteIsMet, CoverIsMet, ReflectionIsMet, RestIsMet, OrderIsMet, WholeEpochIsMet, RefusedFramesAreMet, ReleasesAreMet};
 ghost use Rattle.model.specs.Theorems.{JoinedRunsHaveTheHeadline, JoinedRunsCoverDifferences, JoinedRunsSettle, JoinedRunsSettleAnyhow, JoinedRunsKeepWriteOrder, EveryRunHasTheHeadline, EveryRunCoversDifferences, EveryRunKeepsWriteOrder};
 
 /// A primary by itself, for any frames taken. Each write has one place, on one connection; streams are lawful; a closed
@@ -83,15 +83,22 @@ pub fn honest_link()
 {}
 
 /// Every refusal, want of memory among them: a refused step of the pair leaves its history as it was, for each of the fourteen
-/// events; but where it refuses a frame that was taken, the end that took it is closed then.
+/// events; but where it refuses a frame that was taken, the end that took it is closed then. Whatever frame an end refuses,
+/// its step has all effects of a close: of a primary `effects`, and what they are `loss`; of a
+/// secondary `effects_too`, and its items stay.
 pub fn refusals()
     ensures unchanged { RefusedStepsChangeNothing }
     ensures closed { RefusedFramesClose }
+    ensures effects { RefusedFramesCloseThePrimary }
+    ensures effects_too { RefusedFramesCloseTheSecondary }
+    ensures loss { RefusedFramesLoseTheConnection }
+    ensures items_stay { RefusedFramesLeaveTheItems }
 {}
 
 /// The premises are met by histories of a worked write, and the conclusions speak of something there: a write completed
 /// over the link and applied, a block that differs and is under an unreleased write, and then marked, a block that is clean
-/// because its item is surely applied, two nodes at rest, a secondary that adopted a tuple after a resync and has a write since.
+/// because its item is surely applied, two nodes at rest, a secondary that adopted a tuple after a resync and has a
+/// write since, in an epoch to which it is whole; frames that are refused at each end; and two writes of a block, released in turn.
 pub fn premises_are_met()
     ensures openings { OpeningsAreMet }
     ensures write { OneWriteIsMet }
@@ -99,4 +106,7 @@ pub fn premises_are_met()
     ensures reflection { ReflectionIsMet }
     ensures rest { RestIsMet }
     ensures order { OrderIsMet }
+    ensures whole_epoch { WholeEpochIsMet }
+    ensures refused { RefusedFramesAreMet }
+    ensures releases { ReleasesAreMet }
 {}

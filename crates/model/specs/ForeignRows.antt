@@ -3,6 +3,7 @@ use Rattle.std.specs.Prelude.{ℕ, ◌≡◌, true, false, List, [], ◌∷◌, 
 use Rattle.blocks.specs.declared.settings.Protocol.TheVariants as protocol
 use Rattle.blocks.specs.declared.refusal.Refusal.TheVariants as refusal
 use Rattle.blocks.specs.declared.outcome.Reply.{Reply}
+use Rattle.blocks.specs.declared.command.Command.TheVariants as command
 use Rattle.blocks.specs.SettingsRange.{standard}
 use Rattle.model.specs.Primary.{PrimaryHistory, outward}
 use Rattle.model.specs.Pair.{SendEvent, ReceiveEvent, PairHistory}
@@ -12,7 +13,7 @@ use Rattle.model.specs.Frames.{DataFrame, RsDataReplyFrame, BarrierFrame, Protoc
 use Rattle.model.specs.Acknowledgements.{ack_in}
 use Rattle.model.specs.Secondary.{SecondaryHistory}
 use Rattle.model.specs.SecondarySteps.{receive, peer}
-use Rattle.model.specs.WriteRows.{one_write}
+use Rattle.model.specs.WriteRows.{one_write, semisynchronous}
 
 -- a write of so many blocks of one byte
 abbrev pub write_of : ℕ → ℕ → ℕ → Write
@@ -88,3 +89,15 @@ pub record AfterOneWrite : Type 0 where
   pub identifiers : (primary_after (Ok (BarrierAckFrame 1 2)) completed_one).tuple ≡ words 7 1 0 0
   pub marks_too : (primary_after (Ok (WriteAckFrame (ack_of 2 1 1 0))) completed_one).marks 2 ≡ true
   pub identifiers_too : (primary_after (Ok (WriteAckFrame (ack_of 2 1 1 0))) completed_one).tuple ≡ words 7 1 0 0
+
+-- under protocol B, a primary that sent a write, and the peer has received it
+abbrev pub received_one : PrimaryHistory
+received_one = (after (fill 2 1 170 ∷ SendEvent ∷ []) (connected semisynchronous)).primary
+
+-- The RECV_ACK of a place is taken once: a second one is refused, and closes the end.
+pub record AcknowledgedOnce : Type 0 where
+  pub first : reply_of (Ok (RecvAckFrame (ack_of 2 1 1 0))) received_one ≡ frame command.RecvAck
+  pub second : reply_of (Ok (RecvAckFrame (ack_of 2 1 1 0))) (primary_after (Ok (RecvAckFrame (ack_of 2 1 1 0))) received_one) ≡ refused refusal.UnknownAck
+  pub closed : (outward (primary_after (Ok (RecvAckFrame (ack_of 2 1 1 0))) (primary_after (Ok (RecvAckFrame (ack_of 2 1 1 0))) received_one))).closed ≡ true
+  pub marks : (primary_after (Ok (RecvAckFrame (ack_of 2 1 1 0))) (primary_after (Ok (RecvAckFrame (ack_of 2 1 1 0))) received_one)).marks 2 ≡ true
+  pub identifiers : (primary_after (Ok (RecvAckFrame (ack_of 2 1 1 0))) (primary_after (Ok (RecvAckFrame (ack_of 2 1 1 0))) received_one)).tuple ≡ words 7 1 0 0

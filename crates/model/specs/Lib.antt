@@ -21,6 +21,7 @@ pub mod SecondarySteps
 pub mod Settlement
 pub mod Status
 pub mod Stream
+pub mod TestRows
 pub mod Theorems
 pub mod UsageRows
 pub mod WriteOrder

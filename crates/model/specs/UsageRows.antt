@@ -5,13 +5,14 @@ use Rattle.blocks.specs.declared.refusal.Refusal.TheVariants.{StrangeReceipt, No
 use Rattle.blocks.specs.SettingsRange.{standard}
 use Rattle.model.specs.Contents.{filled}
 use Rattle.model.specs.Primary.{Linked, Alone, PrimaryHistory, primary_opening, no_outward, outward_at}
-use Rattle.model.specs.Secondary.{SecondaryHistory, secondary_opening, inward, inward_at}
+use Rattle.model.specs.Secondary.{SecondaryHistory, secondary_opening, inward, inward_at, secondary_map, whole}
 use Rattle.model.specs.LocalRuns.{Opens, Closes, primary_run, OpensToo, ClosesToo, secondary_run}
-use Rattle.model.specs.Pair.{Event, LocalEvent, SendEvent, ReceiveEvent, PeerFaultEvent, AckOutEvent, AckInEvent, ClosePrimaryEvent, CloseSecondaryEvent, PairHistory}
+use Rattle.model.specs.Pair.{Event, LocalEvent, SendEvent, ReceiveEvent, PeerEvent, PeerFaultEvent, AckOutEvent, AckInEvent, ClosePrimaryEvent, CloseSecondaryEvent, PairHistory}
 use Rattle.model.specs.Settlement.{Receipt, settle}
-use Rattle.model.specs.Status.{secondary_line, linked_secondary, target_secondary}
+use Rattle.model.specs.Status.{primary_line, linked_primary, secondary_line, linked_secondary, target_secondary}
 use Rattle.model.specs.Rows.{words, connected, after, fill}
 use Rattle.model.specs.WriteRows.{one_write, two_epochs}
+use Rattle.model.specs.CloseRows.{short_epochs}
 use Rattle.model.specs.ResyncRows.{two_marked, first_copied, second_copied}
 
 -- what the secondary of a pair says of itself
@@ -79,3 +80,20 @@ pub record Settlements : Type 0 where
   pub unfinished : settle (after (fill 2 1 170 ∷ ClosePrimaryEvent ∷ CloseSecondaryEvent ∷ []) (connected standard)).primary (sized_secondary 8) [] false ≡ Err NotDrained
   pub larger : settle (sized_primary 8 (λ block. false)) (sized_secondary 4) [] false ≡ Ok (record { sent = 0; taken = 0; applied = 0; confirmed = 0; unmarked = 4 })
   pub smaller : settle (sized_primary 4 (λ block. true)) (sized_secondary 8) [] false ≡ Ok (record { sent = 0; taken = 0; applied = 0; confirmed = 0; unmarked = 4 })
+
+-- The primary's line counts among `pe` a write that was sent and is not answered, and not one that is still to be sent.
+pub record SentAndUnanswered : Type 0 where
+  pub unsent : primary_line (after (fill 2 1 170 ∷ []) (connected standard)).primary ≡ linked_primary protocol.C 0 1 1 0
+  pub sent : primary_line (after (fill 2 1 170 ∷ SendEvent ∷ []) (connected standard)).primary ≡ linked_primary protocol.C 1 1 1 0
+  pub one_of_two : primary_line (after (fill 2 1 170 ∷ fill 3 1 187 ∷ SendEvent ∷ []) (connected standard)).primary ≡ linked_primary protocol.C 1 2 1 0
+
+-- Epochs of one write. The peer has taken one with its barrier.
+abbrev pub epoch_taken : List Event
+epoch_taken = fill 2 1 170 ∷ SendEvent ∷ SendEvent ∷ ReceiveEvent ∷ ReceiveEvent ∷ []
+
+-- An item that failed with all its blocks kept is not done: its disk holds the write, and it is not whole to that epoch.
+pub record FailedIsNotWhole : Type 0 where
+  pub written : secondary_map (after (epoch_taken ++ PeerFaultEvent 0 1 ∷ []) (connected short_epochs)).secondary 2 ≡ Some (170 ∷ [])
+  pub failed : whole (after (epoch_taken ++ PeerFaultEvent 0 1 ∷ []) (connected short_epochs)).secondary ≡ 0
+  pub pending : whole (after epoch_taken (connected short_epochs)).secondary ≡ 0
+  pub done : whole (after (epoch_taken ++ PeerEvent 0 ∷ []) (connected short_epochs)).secondary ≡ 1

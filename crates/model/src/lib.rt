@@ -8,10 +8,11 @@
 ghost use Rattle.model.specs.ClearingRows.{Cleared, ClearedToTheEnd, ClearedUnderWay, ClearedByTheLocalWrite, UnderALaterWrite, FailedClearsNothing};
 ghost use Rattle.model.specs.CloseRows.{LostLink, Reconnected, AcknowledgedFirst};
 ghost use Rattle.model.specs.DecisionRows.{Decisions, Turns, Freshness, RefusedHello};
-ghost use Rattle.model.specs.DiskRows.{Ranges, OneSlot, LocalFault, LateFault, PeerFault};
-ghost use Rattle.model.specs.ForeignRows.{ToSecondary, ToPrimary, AfterOneWrite};
+ghost use Rattle.model.specs.DiskRows.{Ranges, OneSlot, LocalFault, LateFault, PeerFault, OthersOfTheEpochStay};
+ghost use Rattle.model.specs.ForeignRows.{ToSecondary, ToPrimary, AfterOneWrite, AcknowledgedOnce};
 ghost use Rattle.model.specs.ResyncRows.{NothingMarked, EmptyPeer, OneBlock, WrittenAlone, Resynced, BrokenEnd, AmongWrites};
-ghost use Rattle.model.specs.UsageRows.{Usage, NeverOpened, Settlements};
+ghost use Rattle.model.specs.TestRows.{LogBeforeConflict, PendingBeforeMemory, FaultsInOrder};
+ghost use Rattle.model.specs.UsageRows.{Usage, NeverOpened, Settlements, SentAndUnanswered, FailedIsNotWhole};
 ghost use Rattle.model.specs.WriteRows.{OneWrite, TwoInTurn, Asynchronous, ReceivedAndLost, Overlapping, TwoEpochs, Full, AtTheStart};
 
 /// Writes over a standing connection, under each protocol.
@@ -33,6 +34,7 @@ pub fn disks()
     ensures local_fault { LocalFault }
     ensures late_fault { LateFault }
     ensures peer_fault { PeerFault }
+    ensures others_stay { OthersOfTheEpochStay }
 {}
 
 /// A lost link, and the connection after it.
@@ -76,11 +78,21 @@ pub fn foreign_frames()
     ensures to_secondary { ToSecondary }
     ensures to_primary { ToPrimary }
     ensures after_one_write { AfterOneWrite }
+    ensures acknowledged_once { AcknowledgedOnce }
 {}
 
-/// What a secondary says of its use, a connection that it never opened, and settlements.
+/// What the order of a step's tests is, where more than one of them holds.
+pub fn tests_in_order()
+    ensures submit { LogBeforeConflict }
+    ensures receive { PendingBeforeMemory }
+    ensures peer_fault { FaultsInOrder }
+{}
+
+/// What the nodes say of their use, a connection that a secondary never opened, and settlements.
 pub fn usage()
     ensures usage { Usage }
     ensures never_opened { NeverOpened }
     ensures settlements { Settlements }
+    ensures unanswered { SentAndUnanswered }
+    ensures failed_is_not_whole { FailedIsNotWhole }
 {}

@@ -60,12 +60,12 @@ IsSparedOrCloses {X} closed h done =
     (refusal : Refusal) → done.0 ≡ reply.Refused refusal → ((is_refused_frame refusal ≡ false) × (done.1 ≡ h)) ⊎ ((is_refused_frame refusal ≡ true) × (closed done.1 ≡ true))
 
 -- no test is about a frame
-abbrev AreOthers : List Test → Type 0
+abbrev pub AreOthers : List Test → Type 0
 AreOthers [] = Unit {0}
 AreOthers (test ∷ tests) = (is_refused_frame test.1 ≡ false) × AreOthers tests
 
 -- nor then is the first that holds
-first-other : (tests : List Test) (refusal : Refusal) → AreOthers tests → first_refusal tests ≡ Some refusal → is_refused_frame refusal ≡ false
+pub first-other : (tests : List Test) (refusal : Refusal) → AreOthers tests → first_refusal tests ≡ Some refusal → is_refused_frame refusal ≡ false
 first-other [] refusal others is = absurd (cc)
 first-other ((true, first) ∷ tests) refusal others is = let same : first ≡ refusal = cc in ap is_refused_frame (sym same) ∙ others.0
 first-other ((false, first) ∷ tests) refusal others is = first-other tests refusal others.1 is

@@ -126,17 +126,17 @@ tested-keeps P h tests done same new = go (first_refusal tests) refl
 
 -- What follows a step's effect, taken apart: the journal, then the barrier, then the end of a resync.
 
-abbrev after_barrier : PrimaryHistory → PrimaryHistory
+abbrev pub after_barrier : PrimaryHistory → PrimaryHistory
 after_barrier g = elim (epoch_is_over g) [ true ↦ appending (BarrierItem (last_epoch (outward g).stream)) g | false ↦ g ]
 
-abbrev after_resync : PrimaryHistory → PrimaryHistory
+abbrev pub after_resync : PrimaryHistory → PrimaryHistory
 after_resync g = elim (resync_is_over g) [ true ↦ ending_resync g | false ↦ g ]
 
 history-of : (b : Bool) (x y : Followed) → (elim b as (λ _. Followed) [ true ↦ x | false ↦ y ]).history ≡ elim b as (λ _. PrimaryHistory) [ true ↦ x.history | false ↦ y.history ]
 history-of true x y = refl
 history-of false x y = refl
 
-follows-history : (h : PrimaryHistory) → (follows h).history ≡ after_resync (after_barrier (with_completions h))
+pub follows-history : (h : PrimaryHistory) → (follows h).history ≡ after_resync (after_barrier (with_completions h))
 follows-history h = history-of (resync_is_over (after_barrier (with_completions h))) _ _
 
 by-case : (P : PrimaryHistory → Type 0) (b : Bool) (x y : PrimaryHistory) → (b ≡ true → P x) → (b ≡ false → P y) → P (elim b as (λ _. PrimaryHistory) [ true ↦ x | false ↦ y ])

@@ -16,3 +16,6 @@ returns-clause-late_fault c = record { answers = refl; differs = refl; marks = r
 
 pub returns-clause-peer_fault : goal.returns-clause-peer_fault
 returns-clause-peer_fault c = record { answers = refl; differs = refl; closes = refl; marks = refl }
+
+pub returns-clause-others_stay : goal.returns-clause-others_stay
+returns-clause-others_stay c = record { before = refl; pending = refl; answers = refl; written = refl; drained = refl }

@@ -10,3 +10,9 @@ returns-clause-never_opened c = record { number = refl; stands = refl; first = r
 
 pub returns-clause-settlements : goal.returns-clause-settlements
 returns-clause-settlements c = record { through = refl; failed = refl; twice = refl; strange = refl; faulty = refl; unfinished = refl; larger = refl; smaller = refl }
+
+pub returns-clause-unanswered : goal.returns-clause-unanswered
+returns-clause-unanswered c = record { unsent = refl; sent = refl; one_of_two = refl }
+
+pub returns-clause-failed_is_not_whole : goal.returns-clause-failed_is_not_whole
+returns-clause-failed_is_not_whole c = record { written = refl; failed = refl; pending = refl; done = refl }
