@@ -5,6 +5,7 @@
 mod bell;
 mod halves;
 mod mirror;
+mod observed;
 mod session;
 mod worker;
 

@@ -1,0 +1,47 @@
+//! The images of both disks.
+ghost use Rattle.std.specs.Prelude.{◌≡◌, ◌*◌, ◌<◌, ◌≤◌, vec_len, IfOk};
+
+use crate::fault::Fault;
+use blocks::BLOCK_BYTES;
+use std::fs::OpenFile;
+use std::io::Read;
+use std::rt::Files;
+use std::{fs, io};
+
+/// The files that hold the disks. A disk with no file is filled with zeros, and is not saved.
+#[derive(Clone, Copy)]
+pub struct Images<'a> {
+    pub local: Option<&'a str>,
+    pub peer: Option<&'a str>,
+}
+
+/// The bytes of a disk of so many blocks: its file's, or zeros.
+pub(crate) fn load<'a, H: Files + AllocGlobal>(
+    rt: &H,
+    file: Option<&'a str>,
+    blocks: u32,
+) -> Result<Vec<u8>, Fault<'a>>
+    requires { blocks ≤ 262144 }
+    ensures { IfOk result (λ bytes. vec_len bytes ≡ blocks * 4096) }
+{
+    let wanted = blocks as usize * BLOCK_BYTES;
+    let mut bytes = Vec::from_elem(rt.alloc(), 0u8, wanted)?;
+    let Some(file) = file else {
+        return Ok(bytes);
+    };
+    match fill(rt, file, &mut bytes) {
+        Ok(found) if found == wanted as u64 => Ok(bytes),
+        Ok(found) => Err(Fault::WrongLength(file, found, wanted as u64)),
+        Err(error) => Err(Fault::Unread(file, error)),
+    }
+}
+
+// Reads a file of just as many bytes as the buffer has. Of another file it reads nothing. Returns the file's length.
+fn fill<H: Files>(rt: &H, file: &str, bytes: &mut [u8]) -> io::Result<u64> {
+    let mut image = fs::open(rt, file)?;
+    let length = image.metadata()?.len();
+    if length == bytes.len() as u64 {
+        image.read_exact(bytes)?;
+    }
+    Ok(length)
+}

@@ -1,0 +1,16 @@
+//! A run of a session: writers in threads of their own over both nodes, a thread that cuts their link and
+//! reconnects it, and what the two disks have come to at its end.
+#![tactic(auto)]
+
+mod fault;
+mod images;
+mod options;
+mod saving;
+mod session;
+mod telling;
+mod whole_run;
+mod work;
+
+pub use images::Images;
+pub use options::{Options, Telling};
+pub use whole_run::run;

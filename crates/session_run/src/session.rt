@@ -1,0 +1,189 @@
+//! One session from its start to its settlement.
+ghost use Rattle.std.specs.Prelude.{◌≡◌, ◌*◌, ◌<◌, length, IfOk};
+ghost use Rattle.endpoint.specs.Calls.{IsNewIn, IsNewOut};
+ghost use Rattle.ruled_link.specs.Inward.{taking};
+ghost use Rattle.ruled_link.specs.Names.{row_of};
+ghost use Rattle.ruled_link.specs.Names as names;
+ghost use Rattle.ruled_link.specs.Outward.{sending};
+
+use crate::options::Options;
+use crate::work::work;
+use blocks::{MemStore, Refusal, Tuple};
+use primary::Receipt;
+use ruled_link::{RuledIn, RuledOut, ruled};
+use settle::settle;
+use status::{primary_line, secondary_line};
+use std::alloc::Global;
+use std::io::Write;
+use std::marker::Brand;
+use std::sync::Wait;
+use std::thread::Threads;
+use std::time::Clock;
+use volume::{Linked, Parts, Session, SessionPrimary, SessionSecondary};
+
+/// The identifiers of a disk that holds what it held when the pair was made.
+const FIRST: Tuple = Tuple {
+    current: 1,
+    bitmap: 0,
+    first_historical: 0,
+    second_historical: 0,
+};
+
+/// The identifiers of a disk of which nothing is known.
+const NONE: Tuple = Tuple {
+    current: 0,
+    bitmap: 0,
+    first_historical: 0,
+    second_historical: 0,
+};
+
+/// What a session came to, with both disks.
+#[derive(Drop)]
+pub(crate) struct Report {
+    /// Writes that were completed.
+    pub(crate) completed: u64,
+    /// Receipts that the settlement confirmed.
+    pub(crate) confirmed: u64,
+    /// Blocks without a mark on which the disks differ.
+    pub(crate) unmarked: u32,
+    /// The status lines of both nodes at the end, if they are wanted.
+    pub(crate) status: Option<(String, String)>,
+    pub(crate) local: MemStore,
+    pub(crate) peer: MemStore,
+}
+
+/// Runs a session over the images of two disks: starts it, makes all writes while the link is cut, ends it, and
+/// settles. On `err` it tells what the options want.
+///
+/// `BadSetting` (15) if a setting is out of its range or an image has not its blocks; else the refusals of
+/// `Session::start`, of `Mirror::write`, of `Session::finish` and of `settle`, in this order.
+pub(crate) fn run_session<
+    R: Threads + Wait + Clock + Copy + Drop + Send + Sync + 'static,
+    E: Write + Send,
+>(
+    rt: R,
+    alloc: Global,
+    options: &Options,
+    images: (Vec<u8>, Vec<u8>),
+    err: &mut E,
+) -> Result<Report, Refusal>
+    ensures { IfOk result (λ report. report.completed ≡ options.now.writers * options.now.writes) }
+{
+    let (local, peer) = images;
+    let settings = options.settings();
+    settings.check()?;
+    let parts = Parts {
+        settings,
+        own: FIRST,
+        peer: if local == peer { FIRST } else { NONE },
+        marks: Vec::from_elem(alloc, false, settings.blocks as usize)?,
+        sync: 2,
+        loss: 3,
+    };
+    let disks = (MemStore::from_image(local)?, MemStore::from_image(peer)?);
+    let there = ruled(rt, alloc, settings.link)?;
+    let back = ruled(rt, alloc, settings.link)?;
+    run_named::<Brand, R, E>(rt, alloc, options, there, back, disks, parts, err)
+}
+
+// All that the session is used for stands in one function over its link's name, which the caller picks.
+fn run_named<
+    L: Linked + Send + Sync + 'static,
+    R: Threads + Wait + Clock + Copy + Drop + Send + Sync + 'static,
+    E: Write + Send,
+>(
+    rt: R,
+    alloc: Global,
+    options: &Options,
+    there: (RuledOut<R>, RuledIn<R>),
+    back: (RuledOut<R>, RuledIn<R>),
+    disks: (MemStore, MemStore),
+    parts: Parts,
+    err: &mut E,
+) -> Result<Report, Refusal>
+    requires blocks { 0 < options.now.blocks }
+    requires there { there.0.row ≡ row_of L.link names.There }
+    requires there_too { there.1.row ≡ row_of L.link names.There }
+    requires back { back.0.row ≡ row_of L.link names.Back }
+    requires back_too { back.1.row ≡ row_of L.link names.Back }
+    requires unused { IsNewOut (sending there.0) × IsNewIn (taking there.1) }
+    requires unused_too { IsNewOut (sending back.0) × IsNewIn (taking back.1) }
+    ensures { IfOk result (λ report. report.completed ≡ options.now.writers * options.now.writes) }
+{
+    let (local, peer) = disks;
+    match Session::<R, L, MemStore, MemStore>::start(rt, alloc, there, back, local, peer, parts) {
+        Ok(session) => use_session(rt, alloc, options, session, err),
+        Err(refusal) => Err(refusal),
+    }
+}
+
+// Makes all writes, ends the session, and settles.
+fn use_session<
+    L: Linked + Send + Sync + 'static,
+    R: Threads + Wait + Clock + Copy + Drop + Send + Sync + 'static,
+    E: Write + Send,
+>(
+    rt: R,
+    alloc: Global,
+    options: &Options,
+    session: Session<R, L, MemStore, MemStore>,
+    err: &mut E,
+) -> Result<Report, Refusal>
+    requires { 0 < options.now.blocks }
+    ensures { IfOk result (λ report. report.completed ≡ options.now.writers * options.now.writes) }
+{
+    let worked = work(&rt, alloc, session.mirror(), options, err);
+    match session.finish() {
+        Ok((primary, secondary)) => match worked {
+            Ok(receipts) => {
+                bring_together(alloc, options, primary, secondary, receipts.as_slice())
+            }
+            Err(refusal) => Err(refusal),
+        },
+        Err(refusal) => match worked {
+            Ok(_) => Err(refusal),
+            Err(first) => Err(first),
+        },
+    }
+}
+
+// Settles two nodes that are at rest, with the receipts of all writes.
+fn bring_together<L: Linked, R: Wait + Drop>(
+    alloc: Global,
+    options: &Options,
+    primary: SessionPrimary<R, L, MemStore>,
+    secondary: SessionSecondary<R, L, MemStore>,
+    receipts: &[Receipt],
+) -> Result<Report, Refusal>
+    ensures { IfOk result (λ report. report.completed ≡ length receipts.now) }
+{
+    let (mut primary, mut secondary) = (primary, secondary);
+    let settled = settle(&mut primary, &mut secondary, receipts);
+    let status = status(alloc, options, &primary, &secondary);
+    let (local, peer) = (primary.into_store(), secondary.into_store());
+    let settled = settled?;
+    Ok(Report {
+        completed: receipts.len() as u64,
+        confirmed: settled.confirmed,
+        unmarked: settled.unmarked,
+        status: status?,
+        local,
+        peer,
+    })
+}
+
+// The status lines of both nodes, if they are wanted.
+fn status<L: Linked, R: Wait + Drop>(
+    alloc: Global,
+    options: &Options,
+    primary: &SessionPrimary<R, L, MemStore>,
+    secondary: &SessionSecondary<R, L, MemStore>,
+) -> Result<Option<(String, String)>, Refusal> {
+    if !options.telling.status {
+        return Ok(None);
+    }
+    Ok(Some((
+        primary_line(alloc, primary)?,
+        secondary_line(alloc, secondary)?,
+    )))
+}

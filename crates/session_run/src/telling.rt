@@ -1,0 +1,110 @@
+//! What a run tells while it goes on.
+use crate::options::Options;
+use blocks::MemStore;
+use std::io;
+use std::io::Write;
+use std::sync::atomic::{AtomicU64, Ordering};
+use std::sync::{Condvar, Mutex, Wait};
+use std::time::{Clock, Duration};
+use volume::{Linked, Mirror};
+
+/// How long a run goes on before it tells something again, in seconds.
+const PERIOD_S: u64 = 1;
+
+/// What a terminal takes as the order to empty the line.
+const EMPTY_LINE: &str = "\r\x1b[K";
+
+/// How far the threads of a run are.
+#[derive(Drop)]
+pub(crate) struct Course {
+    completed: AtomicU64,
+    is_over: Mutex<bool>,
+    over: Condvar,
+}
+
+impl Course {
+    /// Nothing is written yet.
+    pub(crate) fn new() -> Course {
+        Course {
+            completed: AtomicU64::new(0),
+            is_over: Mutex::new(false),
+            over: Condvar::new(),
+        }
+    }
+
+    /// Counts a completed write.
+    pub(crate) fn count(&self) {
+        self.completed.fetch_add(1, Ordering::SeqCst);
+    }
+
+    /// Ends the telling.
+    pub(crate) fn end<R: Wait>(&self, rt: &R) {
+        *self.is_over.lock(rt) = true;
+        self.over.notify_all();
+    }
+
+    // Waits for a period, or until the end. Returns whether the end has come.
+    fn wait<R: Wait + Clock>(&self, rt: &R) -> bool {
+        let is_over = self.is_over.lock(rt);
+        if *is_over {
+            return true;
+        }
+        let (is_over, _) = self
+            .over
+            .wait_timeout(rt, is_over, Duration::from_secs(PERIOD_S));
+        *is_over
+    }
+}
+
+/// Tells what the options want, until the end. A failed write to `err` is no fault of the run.
+pub(crate) fn tell<R: Wait + Clock + Drop, L: Linked, E: Write>(
+    rt: &R,
+    mirror: &Mirror<R, L, MemStore, MemStore>,
+    options: &Options,
+    course: &Course,
+    err: &mut E,
+) {
+    let mut has_line = false;
+    for _ in rt.forever() {
+        if course.wait(rt) {
+            break;
+        }
+        let _ = tell_once(mirror, options, course, err);
+        has_line = options.telling.progress;
+    }
+    if has_line {
+        let _ = write!(err, "{EMPTY_LINE}");
+    }
+}
+
+fn tell_once<R: Wait + Clock + Drop, L: Linked, E: Write>(
+    mirror: &Mirror<R, L, MemStore, MemStore>,
+    options: &Options,
+    course: &Course,
+    err: &mut E,
+) -> io::Result<()> {
+    if options.telling.progress {
+        write!(err, "{EMPTY_LINE}")?;
+    }
+    if options.telling.status {
+        if let Ok(lines) = mirror.status() {
+            tell_status(&lines, err)?;
+        }
+    }
+    if options.telling.progress {
+        let completed = course.completed.load(Ordering::SeqCst);
+        let all = options.all_writes();
+        let marks = mirror.marks();
+        write!(
+            err,
+            "{completed} of {all} writes are completed, {marks} blocks are out of sync"
+        )?;
+    }
+    err.flush()
+}
+
+/// Writes the status lines of both nodes.
+pub(crate) fn tell_status<E: Write>(lines: &(String, String), err: &mut E) -> io::Result<()> {
+    writeln!(err, "{}", lines.0)?;
+    writeln!(err, "{}", lines.1)
+}

@@ -1,0 +1,69 @@
+//! A run, from its images to its lines.
+ghost use Rattle.std.specs.Prelude.{◌≡◌, ◌≤◌};
+
+use crate::fault::Fault;
+use crate::images::{Images, load};
+use crate::options::Options;
+use crate::saving::save;
+use crate::session::{Report, run_session};
+use crate::telling::tell_status;
+use std::io::Write;
+use std::rt::Files;
+use std::sync::Wait;
+use std::thread::Threads;
+use std::time::Clock;
+
+/// Runs a session with these options over these images, saves both disks, and prints `completed X`, `settled X`
+/// and `unmarked 0`, X being the number of writes. Returns the exit status: 0 if all is done; 1 if a file, the
+/// output or memory failed, or an image has not as many bytes as its blocks; 3 for any other refusal.
+///
+/// Faults are found in this order: options out of their ranges (15), the local image, the peer's, the start, the
+/// writes, saving. Then a line on `err` tells of the first, which for a refusal R is `refused R`; nothing is
+/// printed, and if the fault came before saving, no image is changed. What the options want told goes to `err` too.
+pub fn run<
+    H: Files + AllocGlobal + Threads + Wait + Clock + Copy + Drop + Send + Sync + 'static,
+    W: Write,
+    E: Write + Send,
+>(rt: &H, options: &Options, images: &Images<'_>, out: &mut W, err: &mut E) -> u8
+    ensures { result ≤ 3 }
+{
+    match run_images(rt, options, images, out, err) {
+        Ok(()) => 0,
+        Err(fault) => {
+            let _ = writeln!(err, "{fault}");
+            fault.status()
+        }
+    }
+}
+
+fn run_images<
+    'a,
+    H: Files + AllocGlobal + Threads + Wait + Clock + Copy + Drop + Send + Sync + 'static,
+    W: Write,
+    E: Write + Send,
+>(
+    rt: &H,
+    options: &Options,
+    images: &Images<'a>,
+    out: &mut W,
+    err: &mut E,
+) -> Result<(), Fault<'a>> {
+    options.settings().check()?;
+    let local = load(rt, images.local, options.blocks)?;
+    let peer = load(rt, images.peer, options.blocks)?;
+    let mut report = run_session(*rt, rt.alloc(), options, (local, peer), err)?;
+    if let Some(lines) = &report.status {
+        let _ = tell_status(lines, err);
+    }
+    save(rt, images, &mut report.local, &mut report.peer)?;
+    match print(&report, out) {
+        Ok(()) => Ok(()),
+        Err(error) => Err(Fault::Unwritten(error)),
+    }
+}
+
+fn print<W: Write>(report: &Report, out: &mut W) -> std::io::Result<()> {
+    writeln!(out, "completed {}", report.completed)?;
+    writeln!(out, "settled {}", report.confirmed)?;
+    writeln!(out, "unmarked {}", report.unmarked)
+}

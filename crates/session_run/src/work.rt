@@ -1,0 +1,174 @@
+//! The threads of a run: those that write, the one that cuts the link, and the one that tells of them.
+ghost use Rattle.std.specs.Prelude.{◌≡◌, ◌*◌, ◌<◌, vec_len, IfOk};
+ghost use Rattle.std.specs.Thread.{IsSend, IsSync};
+
+use crate::options::{Options, byte, words};
+use crate::telling::{Course, tell};
+use blocks::{BLOCK_BYTES, MemStore, Refusal};
+use bytes::Bytes;
+use primary::Receipt;
+use std::alloc::Global;
+use std::io::Write;
+use std::sync::Wait;
+use std::thread;
+use std::thread::Threads;
+use std::time::{Clock, Duration};
+use volume::{Linked, Mirror};
+
+/// How long a thread waits between two cuts, and before it asks the session again, in milliseconds.
+const PAUSE_MS: u64 = 1;
+
+/// Makes all writes while the link is cut, tells on `err` what the options want, and returns the receipts of all
+/// writes once the disks are alike or the link is down. The first writer that is refused decides what is refused; every other one still makes its writes.
+pub(crate) fn work<
+    R: Threads + Wait + Clock + Copy + Drop + Send + Sync + 'static,
+    L: Linked + Send + Sync + 'static,
+    E: Write + Send,
+>(
+    rt: &R,
+    alloc: Global,
+    mirror: &Mirror<R, L, MemStore, MemStore>,
+    options: &Options,
+    err: &mut E,
+) -> Result<Vec<Receipt>, Refusal>
+    requires { 0 < options.now.blocks }
+    ensures { IfOk result (λ receipts. vec_len receipts ≡ options.now.writers * options.now.writes) }
+{
+    let course = Course::new();
+    if !options.telling.status && !options.telling.progress {
+        return write_and_cut(rt, alloc, mirror, options, &course);
+    }
+    let (_, worked) = thread::join(
+        rt,
+        || { tell(rt, mirror, options, &course, err) },
+        || -> Result<Vec<Receipt>, Refusal>
+            requires { IsSend R.row × IsSync R.row × IsSend L.row × IsSync L.row × (0 < options.now.blocks) }
+        {
+            let worked = write_and_cut(rt, alloc, mirror, options, &course);
+            course.end(rt);
+            worked
+        },
+    );
+    worked
+}
+
+// Makes all writes while the link is cut, and then waits until the disks are alike, if the link is up.
+fn write_and_cut<
+    R: Threads + Wait + Clock + Copy + Drop + Send + Sync + 'static,
+    L: Linked + Send + Sync + 'static,
+>(
+    rt: &R,
+    alloc: Global,
+    mirror: &Mirror<R, L, MemStore, MemStore>,
+    options: &Options,
+    course: &Course,
+) -> Result<Vec<Receipt>, Refusal>
+    requires { 0 < options.now.blocks }
+    ensures { IfOk result (λ receipts. vec_len receipts ≡ options.now.writers * options.now.writes) }
+{
+    let (cut, written) = thread::join(
+        rt,
+        || -> Result<(), Refusal> { cut_all(rt, mirror, options.cuts) },
+        || -> Result<Vec<Receipt>, Refusal>
+            requires { IsSend R.row × IsSync R.row × IsSend L.row × IsSync L.row × (0 < options.now.blocks) }
+        { write_all(rt, alloc, mirror, options, course) },
+    );
+    rest(rt, mirror);
+    let receipts = written?;
+    cut?;
+    Ok(receipts)
+}
+
+// Waits until the link has nothing left to do.
+fn rest<R: Wait + Clock + Drop, L: Linked>(rt: &R, mirror: &Mirror<R, L, MemStore, MemStore>) {
+    for _ in rt.forever() {
+        if mirror.is_quiet() {
+            break;
+        }
+        thread::sleep(rt, Duration::from_millis(PAUSE_MS));
+    }
+}
+
+// Lets each writer make its writes in a thread of its own, and gathers the receipts.
+fn write_all<
+    R: Threads + Wait + Clock + Copy + Drop + Send + Sync + 'static,
+    L: Linked + Send + Sync + 'static,
+>(
+    rt: &R,
+    alloc: Global,
+    mirror: &Mirror<R, L, MemStore, MemStore>,
+    options: &Options,
+    course: &Course,
+) -> Result<Vec<Receipt>, Refusal>
+    requires { 0 < options.now.blocks }
+    ensures { IfOk result (λ receipts. vec_len receipts ≡ options.now.writers * options.now.writes) }
+{
+    let written = thread::map_indices(
+        rt,
+        alloc,
+        options.writers as usize,
+        &|writer| -> Result<Vec<Receipt>, Refusal> {
+            write_turns(alloc, mirror, options, writer as u32, course)
+        },
+    )?;
+    let mut all = Vec::new(alloc);
+    for receipts in written {
+        all.append(&mut receipts?)?;
+    }
+    // Each writer that was not refused has all of its receipts.
+    if all.len() as u64 != options.all_writes() {
+        return Err(Refusal::UnknownJob);
+    }
+    Ok(all)
+}
+
+// Makes the writes of one writer, one after another.
+fn write_turns<R: Wait + Clock + Drop, L: Linked>(
+    alloc: Global,
+    mirror: &Mirror<R, L, MemStore, MemStore>,
+    options: &Options,
+    writer: u32,
+    course: &Course,
+) -> Result<Vec<Receipt>, Refusal>
+    requires { 0 < options.now.blocks }
+    ensures { IfOk result (λ receipts. vec_len receipts ≡ options.now.writes) }
+{
+    let mut receipts = Vec::with_capacity(alloc, options.writes as usize)?;
+    for turn in 0..options.writes {
+        let bytes = Bytes::copy_from_slice(alloc, &[byte(writer, turn); BLOCK_BYTES])?;
+        receipts.push(mirror.write(options.block(writer, turn), &bytes)?)?;
+        course.count();
+    }
+    Ok(receipts)
+}
+
+// Cuts the link and reconnects it, so many times.
+fn cut_all<R: Wait + Clock + Drop, L: Linked>(
+    rt: &R,
+    mirror: &Mirror<R, L, MemStore, MemStore>,
+    cuts: u32,
+) -> Result<(), Refusal> {
+    for round in 1..=cuts {
+        mirror.cut();
+        reconnect(rt, mirror, round)?;
+        thread::sleep(rt, Duration::from_millis(PAUSE_MS));
+    }
+    Ok(())
+}
+
+// Reconnects once the secondary's disk has done its items.
+fn reconnect<R: Wait + Clock + Drop, L: Linked>(
+    rt: &R,
+    mirror: &Mirror<R, L, MemStore, MemStore>,
+    round: u32,
+) -> Result<(), Refusal> {
+    let (sync, loss) = words(round);
+    for _ in rt.forever() {
+        match mirror.reconnect(sync, loss) {
+            Err(Refusal::NotDrained) => thread::sleep(rt, Duration::from_millis(PAUSE_MS)),
+            Err(refusal) => return Err(refusal),
+            Ok(_) => return Ok(()),
+        }
+    }
+    unreachable!()
+}
