@@ -1,4 +1,4 @@
-//! What `--help` prints below the usage: the script language, the refusals, and the exit statuses.
+//! What `--help` prints below the usage: the script language, what a run does, the refusals, and the exit statuses.
 use blocks::Refusal;
 use std::fmt;
 use std::fmt::Display;
@@ -66,11 +66,51 @@ A command that is refused prints its first word, refused and a number; 2 is
 followed by the number of the write in its way, which is 1 below.
 ";
 
-/// The exit statuses.
-const STATUSES: &str = "
+/// The exit statuses of a script.
+const SCRIPT_STATUSES: &str = "
 Exit statuses: 0 done (a refusal is a result); 1 a file, the output or memory
 failed, or the script is not UTF-8; 2 wrong usage, or a line that stopped the
 script.
+";
+
+/// What a run does, and what it prints.
+const RUN: &str = "\
+A run starts both nodes, connects them, and has W writers make K writes each, of
+one block. Writer i makes its write j, both from 0, to block (i * K + j) mod N,
+filled with the byte (i + j + 1) mod 256. It waits until the disks are alike, or
+the link is down, disconnects, compares the disks, and prints three lines, X
+being W * K:
+  completed X          writes that were completed, as the protocol says
+  settled X            those of them that the primary's journal confirms
+  unmarked 0           blocks that differ and have no mark: 0, whatever was cut
+
+An image is a file of N * 4096 bytes, which the run reads at its start, and
+replaces at its end by what the disk holds then. A disk with no image is filled
+with zeros, and is not saved. If the disks differ at the start, the secondary
+counts as fresh, and every block is copied to it.
+
+With --cuts C, a further thread cuts the link and reconnects it, C times, while
+the writers go on: the blocks that they write meanwhile are marked, and copied
+at the next connection. A write of a lost connection is completed without the
+peer. A connection that the nodes refuse (32, after quick cuts) is given up:
+then marked blocks stay, on which the images may differ.
+
+  run --writers 4 --writes 50 --cuts 3
+                    => completed 200
+                    => settled 200
+                    => unmarked 0
+
+--status shows the status lines of both nodes on standard error, once a second
+and at the end. On a terminal a run of more than a second shows how far it is.
+
+A refused start or write prints refused R on standard error, and none of the
+three lines; then no image is changed. R is one of these:
+";
+
+/// The exit statuses of a run.
+const RUN_STATUSES: &str = "
+Exit statuses: 0 done; 1 a file, the output or memory failed, or an image is of
+another length; 2 wrong usage; 3 a refusal other than 7.
 ";
 
 /// The refusals in the order of their numbers.
@@ -109,15 +149,32 @@ const REFUSALS: [Refusal; 32] = [
     Refusal::NotDrained,
 ];
 
-/// The text below the usage.
-pub(crate) struct Help;
+/// The text below the usage of the program and of `script`.
+pub(crate) struct ScriptHelp;
 
-impl Display for Help {
+/// The text below the usage of `run`.
+pub(crate) struct RunHelp;
+
+impl Display for ScriptHelp {
     fn fmt<W: fmt::Write>(&self, f: &mut fmt::Formatter<W>) -> fmt::Result {
         f.write_str(COMMANDS)?;
-        for refusal in REFUSALS {
-            writeln!(f, "  {:>2}  {refusal}", refusal.number())?;
-        }
-        f.write_str(STATUSES)
+        write_refusals(f)?;
+        f.write_str(SCRIPT_STATUSES)
     }
+}
+
+impl Display for RunHelp {
+    fn fmt<W: fmt::Write>(&self, f: &mut fmt::Formatter<W>) -> fmt::Result {
+        f.write_str(RUN)?;
+        write_refusals(f)?;
+        f.write_str(RUN_STATUSES)
+    }
+}
+
+// A line for each refusal.
+fn write_refusals<W: fmt::Write>(f: &mut fmt::Formatter<W>) -> fmt::Result {
+    for refusal in REFUSALS {
+        writeln!(f, "  {:>2}  {refusal}", refusal.number())?;
+    }
+    Ok(())
 }

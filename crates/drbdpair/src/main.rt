@@ -1,8 +1,10 @@
-//! `drbdpair` runs a pair of mirrored disks from a script, and prints what each command of it did.
+//! `drbdpair` runs a pair of mirrored disks: from a script, and prints what each command of it did, or by threads, and
+//! prints what their session came to.
 #![tactic(auto)]
 
 mod help;
 mod program;
+mod session;
 #[cfg(test)]
 mod tests;
 

@@ -1,8 +1,14 @@
 //! The program's words.
 use crate::program::run_on;
-use std::fs;
+use std::alloc::Global;
+use std::io::{IsTerminal, Write};
 use std::process::Abort;
+use std::rt::Files;
+use std::sync::Wait;
 use std::test::Fail;
+use std::thread::Threads;
+use std::time::Clock;
+use std::{fs, io};
 
 const ONE_WRITE: &str = "\
 pair
@@ -33,21 +39,50 @@ cs:Connected ro:Primary/Secondary ds:UpToDate/UpToDate pr:C pe:0 ap:0 ep:1 oos:0
 cs:Connected ro:Secondary/Primary ds:UpToDate/UpToDate pr:C pending:0 use:Yes whole:0
 ";
 
+/// A standard error that keeps what is written.
+#[derive(Drop)]
+struct Said {
+    bytes: Vec<u8>,
+    is_terminal: bool,
+}
+
+impl Said {
+    fn new(alloc: Global) -> Said {
+        Said {
+            bytes: Vec::new(alloc),
+            is_terminal: false,
+        }
+    }
+}
+
+impl Write for Said {
+    fn write(&mut self, bytes: &[u8]) -> io::Result<usize> {
+        self.bytes.write(bytes)
+    }
+
+    fn flush(&mut self) -> io::Result<()> {
+        Ok(())
+    }
+}
+
+impl IsTerminal for Said {
+    fn is_terminal(&self) -> bool {
+        self.is_terminal
+    }
+}
+
 /// Runs the program over these words with a script on its standard input.
-fn runs(
-    rt: &(impl Abort + AllocGlobal + std::rt::Files),
-    words: &[&str],
-    out: &str,
-    status: u8,
-) -> Result<(), Fail> {
+fn runs<
+    H: Abort + AllocGlobal + Files + Threads + Wait + Clock + Copy + Drop + Send + Sync + 'static,
+>(rt: &H, words: &[&str], out: &str, status: u8) -> Result<(), Fail> {
     let alloc = rt.alloc();
     let mut written = Vec::new(alloc);
-    let mut said = Vec::new(alloc);
+    let mut said = Said::new(alloc);
     let mut input = ONE_WRITE.as_bytes();
     let answer = run_on(rt, words, &mut input, &mut written, &mut said);
     assert_eq!(rt; answer, status);
     assert_eq!(rt; written.as_slice(), out.as_bytes());
-    assert_eq!(rt; said.is_empty(), status == 0);
+    assert_eq!(rt; said.bytes.is_empty(), status == 0);
     Ok(())
 }
 
@@ -68,10 +103,10 @@ fn a_file_is_run(rt: HostRuntime) -> Result<(), Fail> {
     runs(&rt, &["drbdpair", "script", "one_write", "-"], "", 2)?;
     fs::remove_file(&rt, "one_write")?;
     let mut written = Vec::new(rt.alloc());
-    let mut said = Vec::new(rt.alloc());
+    let mut said = Said::new(rt.alloc());
     let words = ["drbdpair", "script", "one_write"];
     let status = run_on(&rt, &words, &mut b"".as_slice(), &mut written, &mut said);
-    let lines = said.iter().filter(|byte| **byte == b'\n').count();
+    let lines = said.bytes.iter().filter(|byte| **byte == b'\n').count();
     assert_eq!(rt; (status, lines, written.is_empty()), (1, 1, true));
     Ok(())
 }
@@ -85,10 +120,10 @@ fn help_is_asked_for(rt: HostRuntime) -> Result<(), Fail> {
         ["./program", "script", "--help"].as_slice(),
     ] {
         let mut written = Vec::new(alloc);
-        let mut said = Vec::new(alloc);
+        let mut said = Said::new(alloc);
         let status = run_on(&rt, words, &mut b"".as_slice(), &mut written, &mut said);
         assert_eq!(rt; status, 0);
-        assert!(rt; said.is_empty());
+        assert!(rt; said.bytes.is_empty());
         let text = std::str::from_utf8(&written).unwrap_or("");
         assert!(rt; text.contains("Usage: drbdpair"));
         assert!(rt; text.contains("\n  status               both nodes' status lines"));
@@ -97,5 +132,207 @@ fn help_is_asked_for(rt: HostRuntime) -> Result<(), Fail> {
         assert!(rt; text.contains("\n  36  an end is still open, or items are left to apply\n"));
         assert!(rt; text.contains("\nExit statuses: 0 done"));
     }
+    Ok(())
+}
+
+/// Writers in threads of their own: all writes are completed and settled, also while the link is cut.
+#[test]
+fn a_session_is_run(rt: HostRuntime) -> Result<(), Fail> {
+    let words = ["drbdpair", "run", "--writers", "4", "--writes", "50"];
+    runs(&rt, &words, "completed 200\nsettled 200\nunmarked 0\n", 0)?;
+    runs(
+        &rt,
+        &["drbdpair", "run"],
+        "completed 20\nsettled 20\nunmarked 0\n",
+        0,
+    )?;
+    let words = [
+        "drbdpair",
+        "run",
+        "--writers",
+        "4",
+        "--writes",
+        "1000",
+        "--cuts",
+        "20",
+    ];
+    runs(&rt, &words, "completed 4000\nsettled 4000\nunmarked 0\n", 0)
+}
+
+/// Both protocols that complete a write before the peer has it settle alike.
+#[test]
+fn a_session_is_run_under_each_protocol(rt: HostRuntime) -> Result<(), Fail> {
+    for protocol in ["A", "B"] {
+        let words = ["drbdpair", "run", "--protocol", protocol, "--blocks", "1"];
+        runs(&rt, &words, "completed 20\nsettled 20\nunmarked 0\n", 0)?;
+    }
+    Ok(())
+}
+
+/// Values outside their ranges are wrong usage, before any file is read.
+#[test]
+fn a_run_has_ranges(rt: HostRuntime) -> Result<(), Fail> {
+    for (name, value) in [
+        ("--writers", "17"),
+        ("--writers", "0"),
+        ("--writes", "10001"),
+        ("--writes", "0"),
+        ("--blocks", "262145"),
+        ("--blocks", "0"),
+        ("--cuts", "101"),
+        ("--cuts", "x"),
+        ("--protocol", "D"),
+        ("--protocol", "c"),
+    ] {
+        runs(
+            &rt,
+            &["drbdpair", "run", "--local", "no/such/file", name, value],
+            "",
+            2,
+        )?;
+    }
+    Ok(())
+}
+
+/// Both images hold what was written, and nothing is left beside them.
+#[test]
+fn images_are_saved(rt: HostRuntime) -> Result<(), Fail> {
+    let zeros = Vec::from_elem(rt.alloc(), 0u8, 32_768)?;
+    fs::write(&rt, "saved_local", zeros.as_slice())?;
+    fs::write(&rt, "saved_peer", zeros.as_slice())?;
+    let words = [
+        "drbdpair",
+        "run",
+        "--writers",
+        "1",
+        "--local",
+        "saved_local",
+        "--peer",
+        "saved_peer",
+    ];
+    runs(&rt, &words, "completed 10\nsettled 10\nunmarked 0\n", 0)?;
+    for name in ["saved_local", "saved_peer"] {
+        let image = fs::read(&rt, name)?;
+        assert_eq!(rt; image.len(), 32_768);
+        let wanted = [9u8, 10, 3, 4, 5, 6, 7, 8];
+        for (place, byte) in image.iter().enumerate() {
+            assert_eq!(rt; Some(byte), wanted.get(place / 4096));
+        }
+        fs::remove_file(&rt, name)?;
+    }
+    assert!(rt; fs::metadata(&rt, "saved_local.local-new").is_err());
+    assert!(rt; fs::metadata(&rt, "saved_peer.peer-new").is_err());
+    Ok(())
+}
+
+/// An image of another length is refused, and stays as it was; so is one that is not there. The local one is first.
+#[test]
+fn images_have_the_length_of_their_blocks(rt: HostRuntime) -> Result<(), Fail> {
+    let zeros = Vec::from_elem(rt.alloc(), 0u8, 32_767)?;
+    fs::write(&rt, "short_image", zeros.as_slice())?;
+    let words = ["drbdpair", "run", "--peer", "short_image"];
+    runs(&rt, &words, "", 1)?;
+    let mut said = Said::new(rt.alloc());
+    let words = [
+        "drbdpair",
+        "run",
+        "--local",
+        "short_image",
+        "--peer",
+        "no/such/file",
+    ];
+    let status = run_on(
+        &rt,
+        &words,
+        &mut b"".as_slice(),
+        &mut Vec::new(rt.alloc()),
+        &mut said,
+    );
+    assert_eq!(rt; status, 1);
+    let line = "short_image has 32767 bytes: an image of this device has 32768\n";
+    assert_eq!(rt; said.bytes.as_slice(), line.as_bytes());
+    assert_eq!(rt; fs::read(&rt, "short_image")?.as_slice(), zeros.as_slice());
+    fs::remove_file(&rt, "short_image")?;
+    Ok(())
+}
+
+/// Images that differ are alike after a run: every block is copied, and those that are written hold what was written.
+#[test]
+fn images_that_differ_become_alike(rt: HostRuntime) -> Result<(), Fail> {
+    let ones = Vec::from_elem(rt.alloc(), 1u8, 65_536)?;
+    let twos = Vec::from_elem(rt.alloc(), 2u8, 65_536)?;
+    fs::write(&rt, "differs_local", ones.as_slice())?;
+    fs::write(&rt, "differs_peer", twos.as_slice())?;
+    let words = [
+        "drbdpair",
+        "run",
+        "--blocks",
+        "16",
+        "--writers",
+        "1",
+        "--local",
+        "differs_local",
+        "--peer",
+        "differs_peer",
+    ];
+    runs(&rt, &words, "completed 10\nsettled 10\nunmarked 0\n", 0)?;
+    let local = fs::read(&rt, "differs_local")?;
+    let peer = fs::read(&rt, "differs_peer")?;
+    assert_eq!(rt; local.get(40_960), Some(&1));
+    assert!(rt; local == peer);
+    fs::remove_file(&rt, "differs_local")?;
+    fs::remove_file(&rt, "differs_peer")?;
+    Ok(())
+}
+
+/// A disk that cannot be saved is status 1, and both images are as they were.
+#[test]
+fn a_failed_save_loses_nothing(rt: HostRuntime) -> Result<(), Fail> {
+    let zeros = Vec::from_elem(rt.alloc(), 0u8, 32_768)?;
+    fs::write(&rt, "unsaved_local", zeros.as_slice())?;
+    fs::write(&rt, "unsaved_peer", zeros.as_slice())?;
+    // A folder stands where the peer's disk is written first.
+    fs::create_dir(&rt, "unsaved_peer.peer-new")?;
+    let words = [
+        "drbdpair",
+        "run",
+        "--local",
+        "unsaved_local",
+        "--peer",
+        "unsaved_peer",
+    ];
+    runs(&rt, &words, "", 1)?;
+    for name in ["unsaved_local", "unsaved_peer"] {
+        assert!(rt; fs::read(&rt, name)? == zeros);
+        fs::remove_file(&rt, name)?;
+    }
+    assert!(rt; fs::metadata(&rt, "unsaved_local.local-new").is_err());
+    fs::remove_dir(&rt, "unsaved_peer.peer-new")?;
+    Ok(())
+}
+
+/// The status lines come on standard error, the last two at the end; standard output has the three lines alone.
+#[test]
+fn status_lines_are_shown(rt: HostRuntime) -> Result<(), Fail> {
+    let mut written = Vec::new(rt.alloc());
+    let mut said = Said::new(rt.alloc());
+    let words = ["drbdpair", "run", "--status"];
+    let status = run_on(&rt, &words, &mut b"".as_slice(), &mut written, &mut said);
+    assert_eq!(rt; status, 0);
+    assert_eq!(rt;
+        written.as_slice(),
+        b"completed 20\nsettled 20\nunmarked 0\n".as_slice()
+    );
+    let text = str::from_utf8(said.bytes.as_slice())?;
+    assert!(rt;
+        text.contains(
+            "cs:StandAlone ro:Primary/Unknown ds:UpToDate/DUnknown pr:C pe:0 ap:0 ep:0 oos:0\n"
+        )
+    );
+    assert!(rt;
+        text.contains(
+            "cs:StandAlone ro:Secondary/Unknown ds:Consistent/DUnknown pr:C pending:0 use:Yes"
+        )
+    );
     Ok(())
 }

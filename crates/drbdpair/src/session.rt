@@ -1,0 +1,120 @@
+//! The words of `run`: its options, and the files of both disks.
+use blocks::{MAX_BLOCKS, Protocol, Settings};
+use clap::builder::ValueParser;
+use clap::{Arg, ArgAction, ArgMatches, Command, Error, value_parser};
+use session_run::{Images, Options, Telling};
+use std::alloc::Global;
+
+const ABOUT: &str = "Runs a session of writer threads, and prints what it came to";
+
+/// The values of `--protocol`.
+const PROTOCOLS: [&str; 3] = ["A", "B", "C"];
+
+/// The command `run`, with this help below its usage.
+pub(crate) fn command<'a>(alloc: Global, help: &'a str) -> Result<Command<'a>, Error> {
+    let protocol = option(
+        alloc,
+        "protocol",
+        "P",
+        "When a write is completed: A, B or C",
+    )
+    .value_parser(ValueParser::Names(&PROTOCOLS))
+    .default_value("C");
+    let status = Arg::new(alloc, "status")
+        .long("status")
+        .action(ArgAction::SetTrue)
+        .help(
+            "Shows the status lines of both nodes on standard error, once a second and at the end",
+        );
+    Ok(
+        Command::new(alloc, "run")
+            .about(ABOUT)
+            .after_help(help)
+            .arg(number(
+                alloc,
+                "blocks",
+                "N",
+                "Blocks of the device, of 4 KiB",
+                1,
+                i64::from(MAX_BLOCKS),
+                "8",
+            ))?
+            .arg(protocol)?
+            .arg(number(alloc, "writers", "W", "Threads that write", 1, 16, "2"))?
+            .arg(number(
+                alloc,
+                "writes",
+                "K",
+                "Writes of each writer",
+                1,
+                10_000,
+                "10",
+            ))?
+            .arg(number(
+                alloc,
+                "cuts",
+                "C",
+                "How often the link is cut and reconnected",
+                0,
+                100,
+                "0",
+            ))?
+            .arg(option(alloc, "local", "FILE", "The image of the local disk"))?
+            .arg(option(alloc, "peer", "FILE", "The image of the peer's disk"))?
+            .arg(status)?,
+    )
+}
+
+/// What a run is to do. `progress` says whether a long run is to show how far it is.
+pub(crate) fn options(words: &ArgMatches<'_>, progress: bool) -> Options {
+    Options {
+        protocol: protocol(words),
+        blocks: words.get_one("blocks").unwrap_or(Settings::STANDARD.blocks),
+        writers: words.get_one("writers").unwrap_or(2),
+        writes: words.get_one("writes").unwrap_or(10),
+        cuts: words.get_one("cuts").unwrap_or(0),
+        telling: Telling {
+            status: words.get_flag("status"),
+            progress,
+        },
+    }
+}
+
+/// The files of both disks.
+pub(crate) fn images<'a>(words: &ArgMatches<'a>) -> Images<'a> {
+    Images {
+        local: words.get_str("local"),
+        peer: words.get_str("peer"),
+    }
+}
+
+fn protocol(words: &ArgMatches<'_>) -> Protocol {
+    match words.get_str("protocol") {
+        Some("A") => Protocol::A,
+        Some("B") => Protocol::B,
+        _ => Protocol::C,
+    }
+}
+
+// An option with a value.
+fn option<'a>(alloc: Global, name: &'a str, value: &'a str, help: &'a str) -> Arg<'a> {
+    Arg::new(alloc, name)
+        .long(name)
+        .value_name(value)
+        .help(help)
+}
+
+// An option whose value is a number in this range.
+fn number<'a>(
+    alloc: Global,
+    name: &'a str,
+    value: &'a str,
+    help: &'a str,
+    least: i64,
+    most: i64,
+    standard: &'a str,
+) -> Arg<'a> {
+    option(alloc, name, value, help)
+        .value_parser(value_parser!(u32).range(least..=most))
+        .default_value(standard)
+}
