@@ -1,5 +1,5 @@
 -- What was popped is the frames taken, and what is in hand.
-use Rattle.std.proofs.Common.{◌≡◌, ◌≢◌, ℕ, ◌<◌, ◌≤◌, Bool, true, false, cond, List, [], ◌∷◌, ◌++◌, Option, None, Some, refl, sym, ap, ◌∙◌, subst, append_assoc, inl, inr, arith}
+use Rattle.std.proofs.Common.{◌≡◌, ◌≢◌, ℕ, ◌<◌, ◌≤◌, Bool, true, false, cond, List, [], ◌∷◌, ◌++◌, length, Option, None, Some, refl, sym, ap, ◌∙◌, subst, append_assoc, inl, inr, arith}
 use Rattle.std.specs.List.{AllByRecursion}
 use Rattle.std.proofs.lemmas.Bool.{cases_eq, cases_lt}
 use Rattle.std.proofs.lemmas.List.{append-nil}
@@ -68,6 +68,25 @@ takes_frame pieces went more number old middle new before after frame t same lat
       rising = t.rising;
     })
 
+-- ---- which connection a piece is of
+
+later_is : (number : ℕ) (p : PieceState) → number < p.number → later_of number (Some p) ≡ p ∷ []
+later_is number p lt = ap (λ (b : Bool). cond b (p ∷ []) []) (below number p.number lt)
+
+pub not_later : (number : ℕ) (p : PieceState) → p.number ≤ number → later_of number (Some p) ≡ []
+not_later number p le = ap (λ (b : Bool). cond b (p ∷ []) []) (not_below number p.number le)
+
+-- where the piece in hand is not of a later connection
+pub none_later : (number : ℕ) (rest : Option PieceState) → is_later number rest ≡ false → later_of number rest ≡ []
+none_later number None e = refl
+none_later number (Some p) e = ap (λ (b : Bool). cond b (p ∷ []) []) e
+
+-- where there is no later piece in hand, the test says so
+pub later_not : (number : ℕ) (rest : Option PieceState) (p : PieceState) → later_of number rest ≡ p ∷ [] → is_later number rest ≡ false → ⊥
+later_not number rest p is not =
+    let one : 1 ≡ 0 = ap length (sym is ∙ none_later number rest not) in
+    absurd (omega (arith, one))
+
 -- ---- taking the next piece
 
 -- what was popped more, on one connection
@@ -122,12 +141,6 @@ takes_none old new went number front rest t none d =
       rising = t.rising;
     }
 
-later_is : (number : ℕ) (p : PieceState) → number < p.number → later_of number (Some p) ≡ p ∷ []
-later_is number p lt = ap (λ (b : Bool). cond b (p ∷ []) []) (below number p.number lt)
-
-pub not_later : (number : ℕ) (p : PieceState) → p.number ≤ number → later_of number (Some p) ≡ []
-not_later number p le = ap (λ (b : Bool). cond b (p ∷ []) []) (not_below number p.number le)
-
 -- there was one, which is in hand now
 pub takes_piece : (old new : EndState) (went : Went) (number : ℕ) (front : GatheredState) (rest : Option PieceState) (p : PieceState) → Takes (inward_state old went number front rest)
     → later_of number rest ≡ [] → rest_on number rest ≡ [] → IsDropped number old new (p ∷ []) → Takes (inward_state new went number front (Some p))
@@ -160,11 +173,6 @@ takes_piece old new went number front rest p t none spent d =
       highest = split.2;
       rising = t.rising;
     }
-
--- where the piece in hand is not of a later connection
-pub none_later : (number : ℕ) (rest : Option PieceState) → is_later number rest ≡ false → later_of number rest ≡ []
-none_later number None e = refl
-none_later number (Some p) e = ap (λ (b : Bool). cond b (p ∷ []) []) e
 
 -- ---- beginning a connection
 

@@ -1,5 +1,5 @@
 //! The bytes of a frame as they come.
-ghost use Rattle.std.specs.Prelude.{◌≡◌, ◌<◌, ◌≤◌, ◌++◌, [], length, take, drop, true, IfOk, IfErr, OnOk, OnErr, MatchOption};
+ghost use Rattle.std.specs.Prelude.{◌≡◌, ◌+◌, ◌<◌, ◌≤◌, ◌++◌, [], length, take, drop, true, IfOk, IfErr, OnOk, OnErr, MatchOption};
 ghost use Rattle.packets.specs.Cutting.{IsCut};
 ghost use Rattle.ruled_link.specs.Carried.{BeginsNoCut};
 ghost use Rattle.blocks.specs.declared.refusal.Refusal.TheVariants.{NoMemory};
@@ -9,6 +9,7 @@ use bytes::{Bytes, BytesMut};
 use packets::{Frame, cut_length};
 use std::alloc::Global;
 use std::marker::Model;
+use std::mem;
 use std::sync::Wait;
 
 /// Bytes of the longest frame, a write of 32 blocks.
@@ -28,6 +29,8 @@ const SHORT_FRAME: usize = 40;
 pub(crate) struct Gathered {
     alloc: Global,
     buffer: BytesMut,
+    // The chunk before, whose room comes again once its frames are gone.
+    before: BytesMut,
     // Whether the chunk has room for the longest frame: a long frame keeps its part of it.
     is_ready: bool,
     // How many bytes the frame has, once its header is there; before, those of a header.
@@ -35,13 +38,14 @@ pub(crate) struct Gathered {
 }
 
 impl Model for Gathered {
+    ghost use Rattle.std.specs.Prelude.{◌≡◌, []};
     ghost use Rattle.ruled_link.specs.Inward.{GatheredState, IsGathered};
 
     ghost Value = { GatheredState };
 
     ghost view = { λ g. record { bytes = g.buffer.items; is_ready = g.is_ready } };
 
-    ghost invariant = { λ g. IsGathered g.buffer.items g.buffer.spare g.is_ready g.whole };
+    ghost invariant = { λ g. IsGathered g.buffer.items g.buffer.spare g.is_ready g.whole × (g.before.items ≡ []) };
 }
 
 impl Gathered {
@@ -50,22 +54,27 @@ impl Gathered {
         ensures empty { IfOk result (λ g. g ≡ record { bytes = []; is_ready = true }) }
         ensures refused { IfErr result (λ e. e ≡ NoMemory) }
     {
+        let mut buffer = BytesMut::new(alloc);
+        renew(&mut buffer, alloc)?;
         Ok(Gathered {
             alloc,
-            buffer: new_chunk(alloc)?,
+            buffer,
+            before: BytesMut::new(alloc),
             is_ready: true,
             whole: HEADER_BYTES,
         })
     }
 
-    /// Makes a new chunk where the last one has no room for the longest frame. `NoMemory` (7) where it cannot be had.
+    /// Goes on in the chunk before, or in a new one, where the last one has no room for the longest frame.
+    /// `NoMemory` (7) where a new one cannot be had.
     pub(crate) fn ready(&mut self) -> Result<(), Refusal>
         ensures ready { OnOk result (self.new ≡ record self.old { is_ready = true }) }
         ensures unchanged { OnErr result (self.new ≡ self.old) }
         ensures refused { IfErr result (λ e. e ≡ NoMemory) }
     {
         if !self.is_ready {
-            self.buffer = new_chunk(self.alloc)?;
+            renew(&mut self.before, self.alloc)?;
+            mem::swap(&mut self.buffer, &mut self.before);
             self.is_ready = true;
         }
         Ok(())
@@ -147,16 +156,48 @@ impl Gathered {
     }
 }
 
-/// A chunk with room for the longest frame. The split has its block counted by owners already, so that frames
-/// can be cut off it later without memory.
-fn new_chunk(alloc: Global) -> Result<BytesMut, Refusal>
-    ensures empty { IfOk result (λ b. (b.items ≡ []) × (131104 ≤ b.spare)) }
+/// Makes room for the longest frame in a chunk without bytes, and for more. `NoMemory` (7) where this cannot be
+/// had.
+fn renew(chunk: &mut BytesMut, alloc: Global) -> Result<(), Refusal>
+    requires { chunk.old.items ≡ [] }
+    ensures empty { chunk.new.items ≡ [] }
+    ensures room { OnOk result (131104 ≤ chunk.new.spare) }
     ensures refused { IfErr result (λ e. e ≡ NoMemory) }
 {
-    let mut chunk = BytesMut::with_capacity(alloc, CHUNK_BYTES + 1)?;
+    widen(chunk, alloc)?;
+    count_owners(chunk)
+}
+
+/// Gives a chunk without bytes the room of its whole block, where no frame shares that any more, or else that of
+/// a new one.
+fn widen(chunk: &mut BytesMut, alloc: Global) -> Result<(), Refusal>
+    requires { chunk.old.items ≡ [] }
+    ensures empty { chunk.new.items ≡ [] }
+    ensures room { OnOk result (131104 < chunk.new.spare) }
+    ensures refused { IfErr result (λ e. e ≡ NoMemory) }
+{
+    if chunk.try_reclaim(CHUNK_BYTES + 1) {
+        return Ok(());
+    }
+    *chunk = BytesMut::with_capacity(alloc, CHUNK_BYTES + 1)?;
+    Ok(())
+}
+
+/// Has the block of a chunk without bytes counted by owners, so that frames can be cut off it later without
+/// memory. A split of one byte does it.
+fn count_owners(chunk: &mut BytesMut) -> Result<(), Refusal>
+    requires empty { chunk.old.items ≡ [] }
+    requires room { 0 < chunk.old.spare }
+    ensures empty { chunk.new.items ≡ [] }
+    ensures room { OnOk result (chunk.new.spare + 1 ≡ chunk.old.spare) }
+    ensures refused { IfErr result (λ e. e ≡ NoMemory) }
+{
     chunk.advance_mut(1);
-    let _ = chunk.split_to(1)?;
-    Ok(chunk)
+    if let Err(error) = chunk.split_to(1) {
+        chunk.clear();
+        return Err(error.into());
+    }
+    Ok(())
 }
 
 /// All bytes of a chunk whose block is counted by owners, cut off it. No memory is asked for there, but no

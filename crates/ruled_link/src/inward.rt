@@ -1,15 +1,16 @@
 //! The taking end of a link between threads.
-ghost use Rattle.std.specs.Prelude.{◌≡◌, ◌<◌, ◌≤◌, [], ◌∷◌, ◌++◌, length, true, false, None, IfOk, OnOk, OnErr, IfErr, IfNone, MatchOption};
+ghost use Rattle.std.specs.Prelude.{◌≡◌, ◌<◌, ◌≤◌, [], ◌∷◌, ◌++◌, length, take, true, false, None, IfOk, OnOk, OnErr, IfErr, IfNone, IfSome, MatchOption, Some};
 ghost use Rattle.link.specs.Past.{ended};
 ghost use Rattle.packets.specs.Cutting.{IsCut};
 ghost use Rattle.ruled_link.specs.Carried.{BeginsNoCut};
 ghost use Rattle.ruled_link.specs.Moments.{WasEmpty};
+ghost use Rattle.ruled_link.specs.Pieces.{bytes_if};
 ghost use Rattle.ruled_link.specs.Inward.{in_hand, is_later, later_of, not_before, rest_on, taking};
 ghost use Rattle.blocks.specs.declared.refusal.Refusal.TheVariants.{NoMemory, NothingThere};
 
 use crate::gathered::Gathered;
 use crate::rest::Rest;
-use crate::{Moment, PieceIn, Unwatched};
+use crate::{Moment, Piece, PieceIn, Unwatched};
 use blocks::Refusal;
 use link::{FrameIn, Trail};
 use packets::Frame;
@@ -89,27 +90,52 @@ impl<R: Wait, M: Moment> RuledIn<R, M> {
         Some(frame)
     }
 
-    /// Takes the next piece in hand. `NothingThere` (13) where there is none, or it is of a later connection.
-    fn next_piece(&mut self) -> Result<(), Refusal>
-        requires { rest_on self.old.number self.old.rest ≡ [] }
-        ensures more { OnOk result (length (in_hand self.old) < length (in_hand self.new)) }
-        ensures none { OnErr result (in_hand self.new ≡ in_hand self.old) }
-        ensures empty { OnErr result (is_later self.new.number self.new.rest ≡ false → WasEmpty M.holds self.new.pieces) }
+    /// Takes the next piece in hand, and then the frame that is whole with it. `NothingThere` (13) where there is
+    /// no piece, or it is of a later connection.
+    fn next_piece(&mut self) -> Result<Option<Frame>, Refusal>
+        requires ready { self.old.is_ready ≡ true }
+        requires spent { rest_on self.old.number self.old.rest ≡ [] }
+        requires now { later_of self.old.number self.old.rest ≡ [] }
+        ensures frame { IfOk result (λ found. IfSome found (λ frame. (self.new ≡ record self.old {
+          pieces = self.new.pieces;
+          taken = self.old.taken ++ frame ∷ [];
+          is_ready = self.new.is_ready;
+          front = [];
+          rest = self.new.rest;
+        }) × IsCut frame × (length frame ≤ 40 → self.new.is_ready ≡ true))) }
+        ensures none { IfOk result (λ found. IfNone found (self.new ≡ record self.old {
+          pieces = self.new.pieces;
+          front = self.new.front;
+          rest = self.new.rest;
+        })) }
+        // Where no frame is whole, there is more in hand than before, and none of it lies behind the frame's end.
+        ensures more { IfOk result (λ found. IfNone found (length (in_hand self.old) < length (in_hand self.new))) }
+        ensures part { IfOk result (λ found. IfNone found (BeginsNoCut (in_hand self.new))) }
+        ensures spent { IfOk result (λ found. IfNone found (rest_on self.new.number self.new.rest ≡ [])) }
+        ensures now { IfOk result (λ found. IfNone found (later_of self.new.number self.new.rest ≡ [])) }
         ensures refused { IfErr result (λ e. e ≡ NothingThere) }
-        ensures same { self.new ≡ record self.old { pieces = self.new.pieces; rest = self.new.rest } }
+        ensures empty { OnErr result (is_later self.new.number self.new.rest ≡ false → WasEmpty M.holds self.new.pieces) }
+        ensures same { OnErr result (self.new ≡ record self.old {
+          pieces = self.new.pieces;
+          rest = self.new.rest;
+        }) }
+        ensures kept { OnErr result (in_hand self.new ≡ in_hand self.old) }
     {
-        if self.holds_later() {
-            return Err(Refusal::NothingThere);
-        }
-        let Some(piece) = self.pieces.pop_from(self.number) else {
+        let Some(sheet) = self.pieces.pop_from(self.number) else {
             return Err(Refusal::NothingThere);
         };
+        let piece = sheet.piece();
         let is_later = piece.number() > self.number;
-        self.rest = Some(Rest::new(piece));
+        take_in_hand(&mut self.front, &mut self.rest, self.number, piece);
+        self.pieces.give_back(sheet);
         if is_later {
             return Err(Refusal::NothingThere);
         }
-        Ok(())
+        let Some(frame) = self.front.cut(self.pieces.runtime()) else {
+            return Ok(None);
+        };
+        self.taken = self.taken.and(&frame);
+        Ok(Some(frame))
     }
 
     /// Whether the piece in hand is of a later connection.
@@ -156,11 +182,16 @@ impl<R: Wait, M: Moment> FrameIn for RuledIn<R, M> {
           rest = self.new.rest;
         }) }
     {
+        if let Some(frame) = self.next_in_hand() {
+            return Ok(frame);
+        }
+        if self.holds_later() {
+            return Err(Refusal::NothingThere);
+        }
         loop {
-            if let Some(frame) = self.next_in_hand() {
+            if let Some(frame) = self.next_piece()? {
                 return Ok(frame);
             }
-            self.next_piece()?;
         }
     }
 
@@ -196,6 +227,42 @@ fn gather(front: &mut Gathered, rest: &mut Option<Rest>, number: u32)
         let used = front.put(rest.bytes());
         rest.advance(used);
     }
+}
+
+/// Takes a piece that was popped in hand: as many of its bytes as the frame lacks come to the others, where it
+/// is of this connection, and what is left of it stays.
+#[inline]
+fn take_in_hand(front: &mut Gathered, rest: &mut Option<Rest>, number: u32, piece: &Piece)
+    requires ready { front.old.is_ready ≡ true }
+    requires spent { rest_on number rest.old ≡ [] }
+    requires now { later_of number rest.old ≡ [] }
+    ensures bytes { front.new.bytes ++ rest_on number rest.new ≡ front.old.bytes ++ bytes_if number piece.now }
+    ensures ready { front.new.is_ready ≡ true }
+    ensures later { later_of number rest.new ≡ later_of number (Some piece.now) }
+    ensures none { bytes_if number piece.now ≡ [] → front.new ≡ front.old }
+    ensures some { 0 < length piece.now.bytes }
+    // It leaves some only where the frame is whole.
+    ensures all { BeginsNoCut front.new.bytes → rest_on number rest.new ≡ [] }
+{
+    let used = put_own(front, number, piece);
+    if used < piece.bytes().len() {
+        *rest = Some(Rest::behind(piece, used));
+    }
+}
+
+/// Puts as many bytes of a piece of this connection as the frame lacks at the end of what came of it, and
+/// returns how many.
+#[inline]
+fn put_own(front: &mut Gathered, number: u32, piece: &Piece) -> usize
+    requires { front.old.is_ready ≡ true }
+    ensures within { result ≤ length (bytes_if number piece.now) }
+    ensures put { front.new ≡ record front.old { bytes = front.old.bytes ++ take result (bytes_if number piece.now) } }
+    ensures all { BeginsNoCut front.new.bytes → result ≡ length (bytes_if number piece.now) }
+{
+    if piece.number() != number {
+        return 0;
+    }
+    front.put(piece.bytes())
 }
 
 /// Drops the piece in hand where it is of an earlier connection than this.

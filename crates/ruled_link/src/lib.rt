@@ -13,6 +13,8 @@ mod outward;
 mod piece;
 mod pieces;
 mod rest;
+mod sheet;
+mod stock;
 
 pub use ends::{join_ends, ruled, watched};
 pub use inward::RuledIn;

@@ -5,7 +5,7 @@ ghost use Rattle.packets.specs.Cutting.{IsCut};
 ghost use Rattle.ruled_link.specs.Moments.{WasFull};
 ghost use Rattle.ruled_link.specs.Outward.{IsPushed, sending};
 
-use crate::{Moment, PIECE_BYTES, Piece, PieceOut, Unwatched};
+use crate::{Moment, PIECE_BYTES, PieceOut, Unwatched};
 use link::{FrameOut, Offered, Trail};
 use packets::Frame;
 use std::marker::Model;
@@ -120,10 +120,10 @@ fn push_from<R: Wait, M: Moment>(
     let mut at = from;
     while at < bytes.len() {
         let end = bytes.len().min(at.saturating_add(PIECE_BYTES));
-        match pieces.push(Piece::of(number, &bytes[at..end])) {
-            Ok(()) => at = end,
-            Err(_) => break,
+        if !pieces.push_bytes(number, &bytes[at..end]) {
+            break;
         }
+        at = end;
     }
     at
 }

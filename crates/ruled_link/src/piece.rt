@@ -52,6 +52,29 @@ impl Piece {
         }
     }
 
+    /// Writes another piece over this one.
+    #[inline]
+    pub(crate) fn write(&mut self, number: u32, bytes: &[u8])
+        requires some { 0 < length bytes.now }
+        requires few { length bytes.now ≤ 1400 }
+        ensures { self.new ≡ record { number = number; bytes = bytes.now } }
+    {
+        self.bytes[..bytes.len()].copy_from_slice(bytes);
+        self.len = bytes.len();
+        self.number = number;
+    }
+
+    /// The same piece once more.
+    pub(crate) fn copied(&self) -> Piece
+        ensures { result ≡ self.now }
+    {
+        Piece {
+            bytes: self.bytes,
+            len: self.len,
+            number: self.number,
+        }
+    }
+
     /// Its bytes.
     #[inline]
     pub fn bytes(&self) -> &[u8]

@@ -1,9 +1,12 @@
 //! The row of pieces of one direction, and its two ends.
-ghost use Rattle.std.specs.Prelude.{◌≡◌, ◌<◌, ◌≤◌, List, [], ◌∷◌, ◌++◌, OnOk, OnErr, IfNone, IfOk, IfErr, MatchOption};
+ghost use Rattle.std.specs.Prelude.{◌≡◌, ◌<◌, ◌≤◌, List, [], ◌∷◌, ◌++◌, length, OnOk, OnErr, IfNone, IfOk, IfErr, MatchOption};
+ghost use Rattle.std.specs.Bool.{OnTrue, OnFalse};
 ghost use Rattle.ruled_link.specs.Moments.{WasEmpty, WasFull};
 ghost use Rattle.ruled_link.specs.Pieces.{PieceState};
 ghost use Rattle.ruled_link.specs.Inward.{IsDropped};
 
+use crate::sheet::Sheet;
+use crate::stock::{Returns, Stock};
 use crate::{Moment, Piece, Unwatched};
 use crossbeam_queue::protocol::{Join, Lesson, Outcome, Protocol, Split};
 use crossbeam_queue::{Pass, RuledArrayQueue};
@@ -25,7 +28,7 @@ struct InOrder<M: Moment> {
     of: PhantomData<M>,
 }
 
-impl<M: Moment> Protocol<Piece, Log> for InOrder<M> {
+impl<M: Moment> Protocol<Sheet, Log> for InOrder<M> {
     ghost use Rattle.std.specs.Prelude.{true, []};
     ghost use Rattle.ruled_link.specs.Row.{log};
     ghost use Rattle.ruled_link.specs.Row as row;
@@ -58,7 +61,7 @@ impl Join<Log> for Ends {
 /// What a pass learns that may do both.
 struct Whole;
 
-impl Lesson<Piece, Log> for Whole {
+impl Lesson<Sheet, Log> for Whole {
     ghost use Rattle.std.specs.Prelude.{◌≡◌, ◌++◌};
 
     ghost fact = { λ v pieces. v.pushed ≡ v.taken ++ pieces };
@@ -68,14 +71,14 @@ struct Pushed<M: Moment> {
     of: PhantomData<M>,
 }
 
-impl<M: Moment> Outcome<Piece, Log> for Pushed<M> {
+impl<M: Moment> Outcome<Sheet, Log> for Pushed<M> {
     ghost use Rattle.std.specs.Prelude.{◌≡◌, [], ◌∷◌, ◌++◌};
     ghost use Rattle.ruled_link.specs.Row.{log};
 
     ghost then = { λ v x w. w ≡ log v.pushes v.takes (v.pushed ++ x ∷ []) v.taken };
 }
 
-impl<M: Moment> Lesson<Piece, Log> for Pushed<M> {
+impl<M: Moment> Lesson<Sheet, Log> for Pushed<M> {
     ghost use Rattle.ruled_link.specs.Row.{PushedAt};
 
     ghost fact = { λ v pieces. PushedAt M.holds v.pushed pieces };
@@ -85,27 +88,28 @@ struct Taken<M: Moment> {
     of: PhantomData<M>,
 }
 
-impl<M: Moment> Outcome<Piece, Log> for Taken<M> {
+impl<M: Moment> Outcome<Sheet, Log> for Taken<M> {
     ghost use Rattle.std.specs.Prelude.{◌≡◌, [], ◌∷◌, ◌++◌};
     ghost use Rattle.ruled_link.specs.Row.{log};
 
     ghost then = { λ v x w. w ≡ log v.pushes v.takes v.pushed (v.taken ++ x ∷ []) };
 }
 
-impl<M: Moment> Lesson<Piece, Log> for Taken<M> {
+impl<M: Moment> Lesson<Sheet, Log> for Taken<M> {
     ghost use Rattle.std.specs.Prelude.{◌++◌};
 
     ghost fact = { λ v pieces. M.holds (v.taken ++ pieces) v.taken };
 }
 
-type Row<M> = RuledArrayQueue<Piece, Log, InOrder<M>>;
+type Row<M> = RuledArrayQueue<Sheet, Log, InOrder<M>>;
 
 /// The end of a row that pushes.
 #[derive(Drop)]
 pub struct PieceOut<R: Wait, M: Moment = Unwatched> {
     rt: R,
     row: Arc<Row<M>, Global>,
-    pass: Pass<Piece, Log>,
+    pass: Pass<Sheet, Log>,
+    stock: Stock,
 }
 
 impl<R: Wait, M: Moment> Model for PieceOut<R, M> {
@@ -127,7 +131,8 @@ impl<R: Wait, M: Moment> Model for PieceOut<R, M> {
 pub struct PieceIn<R: Wait, M: Moment = Unwatched> {
     rt: R,
     row: Arc<Row<M>, Global>,
-    pass: Pass<Piece, Log>,
+    pass: Pass<Sheet, Log>,
+    returns: Returns,
 }
 
 impl<R: Wait, M: Moment> Model for PieceIn<R, M> {
@@ -172,12 +177,19 @@ pub fn watched_row<R: Wait + Copy, M: Moment>(
     let taker = queue.another::<Ends>(&mut pass);
     let row = Arc::new(alloc, queue)?;
     let other = Arc::try_clone(&row)?;
+    let (stock, returns) = Stock::new(alloc, capacity)?;
     Ok((
-        PieceOut { rt, row, pass },
+        PieceOut {
+            rt,
+            row,
+            pass,
+            stock,
+        },
         PieceIn {
             rt,
             row: other,
             pass: taker,
+            returns,
         },
     ))
 }
@@ -192,8 +204,36 @@ impl<R: Wait, M: Moment> PieceOut<R, M> {
         ensures unchanged { OnErr result (self.new ≡ self.old) }
         ensures full { OnErr result (WasFull M.holds self.old.row self.old.pieces) }
     {
-        self.row
-            .push_as::<Pushed<M>, R>(&self.rt, &mut self.pass, piece)
+        match self.push_bytes(piece.number(), piece.bytes()) {
+            true => Ok(()),
+            false => Err(piece),
+        }
+    }
+
+    /// Pushes a piece of the connection of this number at the end of the row, and answers whether there was
+    /// room. It takes no memory.
+    #[inline]
+    pub(crate) fn push_bytes(&mut self, number: u32, bytes: &[u8]) -> bool
+        requires some { 0 < length bytes.now }
+        requires few { length bytes.now ≤ 1400 }
+        ensures pushed { OnTrue result (self.new ≡ record self.old {
+          pieces = self.old.pieces ++ record { number = number; bytes = bytes.now } ∷ [];
+        }) }
+        ensures unchanged { OnFalse result (self.new ≡ self.old) }
+        ensures full { OnFalse result (WasFull M.holds self.old.row self.old.pieces) }
+    {
+        let mut sheet = self.stock.take(&self.rt);
+        sheet.write(number, bytes);
+        match self
+            .row
+            .push_as::<Pushed<M>, R>(&self.rt, &mut self.pass, sheet)
+        {
+            Ok(()) => true,
+            Err(sheet) => {
+                self.stock.put_back(&self.rt, sheet);
+                false
+            }
+        }
     }
 }
 
@@ -206,25 +246,47 @@ impl<R: Wait, M: Moment> PieceIn<R, M> {
             self.new ≡ record self.old { pieces = self.old.pieces ++ piece ∷ [] }) }
         ensures empty { IfNone result (WasEmpty M.holds self.old.pieces) }
     {
+        let sheet = self.pop_sheet()?;
+        let piece = sheet.piece().copied();
+        self.give_back(sheet);
+        Some(piece)
+    }
+
+    /// Takes the sheet of the first piece of the row, or nothing where the row was empty at some moment of the
+    /// call. Whoever has read it gives it back.
+    #[inline]
+    fn pop_sheet(&mut self) -> Option<Sheet>
+        ensures first { MatchOption result (self.new ≡ self.old) (λ piece.
+            self.new ≡ record self.old { pieces = self.old.pieces ++ piece ∷ [] }) }
+        ensures empty { IfNone result (WasEmpty M.holds self.old.pieces) }
+    {
         self.row.pop_as::<Taken<M>, R>(&self.rt, &mut self.pass)
     }
 
-    /// Takes the first piece of this connection or a later one. Pieces of earlier ones before it are dropped.
+    /// Takes the sheet of the first piece of this connection or a later one. Pieces of earlier ones before it
+    /// are dropped.
     #[inline]
-    pub(crate) fn pop_from(&mut self, number: u32) -> Option<Piece>
+    pub(crate) fn pop_from(&mut self, number: u32) -> Option<Sheet>
         ensures next { MatchOption result (IsDropped number self.old self.new [])
             (λ piece. (number ≤ piece.number) × IsDropped number self.old self.new (piece ∷ [])) }
         ensures empty { IfNone result (WasEmpty M.holds self.new.pieces) }
     {
         for _ in 0..u64::MAX {
-            let piece = self.pop()?;
-            if piece.number() >= number {
-                return Some(piece);
+            let sheet = self.pop_sheet()?;
+            if sheet.piece().number() >= number {
+                return Some(sheet);
             }
+            self.give_back(sheet);
         }
         // No run drops so many pieces.
         for _ in self.rt.forever() {}
         unreachable!()
+    }
+
+    /// Gives a sheet that was read back to the end that pushes.
+    #[inline]
+    pub(crate) fn give_back(&self, sheet: Sheet) {
+        self.returns.put(&self.rt, sheet);
     }
 
     /// The runtime that its calls wait by.
@@ -243,21 +305,33 @@ pub fn join_pieces<R: Wait, M: Moment>(
     ensures ends { (result.0 ≡ outward) × (result.1 ≡ inward) }
     ensures begins { (rest : List PieceState) × (inward.pieces ++ rest ≡ outward.pieces) }
 {
-    let PieceOut { rt, row, mut pass } = outward;
+    let PieceOut {
+        rt,
+        row,
+        mut pass,
+        stock,
+    } = outward;
     let PieceIn {
         rt: other_rt,
         row: other,
         pass: taker,
+        returns,
     } = inward;
     row.absorb::<Ends>(&mut pass, taker);
     row.learn_as::<Whole>(&mut pass);
     let taker = row.another::<Ends>(&mut pass);
     (
-        PieceOut { rt, row, pass },
+        PieceOut {
+            rt,
+            row,
+            pass,
+            stock,
+        },
         PieceIn {
             rt: other_rt,
             row: other,
             pass: taker,
+            returns,
         },
     )
 }

@@ -23,15 +23,16 @@ impl Model for Rest {
 }
 
 impl Rest {
-    /// All of a piece.
-    #[inline]
-    pub(crate) fn new(piece: Piece) -> Rest
-        ensures whole { result ≡ piece }
-        ensures some { 0 < length result.bytes }
+    /// What is left of a piece behind so many of its bytes.
+    #[cold]
+    pub(crate) fn behind(piece: &Piece, used: usize) -> Rest
+        requires { used ≤ length piece.now.bytes }
+        ensures { result ≡ record piece.now { bytes = drop used piece.now.bytes } }
     {
-        // A piece has a byte at least.
-        let _ = piece.bytes();
-        Rest { piece, used: 0 }
+        Rest {
+            piece: piece.copied(),
+            used,
+        }
     }
 
     /// The number of its connection.

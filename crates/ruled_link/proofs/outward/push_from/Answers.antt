@@ -13,11 +13,11 @@ loop-at-init g c = record {
 
 pub loop-at-preserved : goal.loop-at-preserved
 loop-at-preserved g c =
-    let went = c.in-Ok.ensures.pushed in
+    let went = c.if-not-push_bytes.ensures.pushed in
     record {
       row = ap (λ (x : EndState). x.row) went ∙ c.loop-at.invariant.row;
-      started = omega (arith, c.min-end.ensures, c.saturating_add.ensures);
+      started = omega (arith, c.loop-at.invariant.started, c.min-end.ensures, c.saturating_add.ensures, c.loop-at-test.true);
       within = omega (arith, c.min-end.ensures);
-      pushed = pushed_more c.args.number c.args.bytes.now c.args.from c.loop-at.at c.min-end.result c.args.pieces.now.pieces c.loop-at.pieces.pieces c.push.new.self.pieces c.of.result
-          (omega (arith, c.min-end.ensures, c.saturating_add.ensures)) c.of.ensures (ap (λ (x : EndState). x.pieces) went) c.loop-at.invariant.pushed;
+      pushed = pushed_more c.args.number c.args.bytes.now c.args.from c.loop-at.at c.min-end.result c.args.pieces.now.pieces c.loop-at.pieces.pieces c.push_bytes.new.self.pieces _
+          (omega (arith, c.min-end.ensures, c.saturating_add.ensures, c.loop-at-test.true)) refl (ap (λ (x : EndState). x.pieces) went) c.loop-at.invariant.pushed;
     }

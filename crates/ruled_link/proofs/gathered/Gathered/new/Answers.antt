@@ -3,4 +3,4 @@ use Rattle.std.proofs.Common.{true}
 use Rattle.ruled_link.proofs.gathered.Gathered.new.Goals as goal
 
 pub invariant_of-result : goal.invariant_of-result
-invariant_of-result c = let h = c.in_ok-new_chunk.ensures.empty in gathered_none c.in_ok-new_chunk.field-0.items c.in_ok-new_chunk.field-0.spare true h.0 (λ _. h.1)
+invariant_of-result c = (gathered_none c.renew.new.chunk.items c.renew.new.chunk.spare true c.renew.ensures.empty (λ _. c.in_ok-renew.ensures.room), c.new.ensures.items)

@@ -1,32 +1,46 @@
 -- A piece that was popped is in hand.
-use Rattle.std.proofs.Common.{◌≡◌, [], ◌∷◌, Bool, false, sym, ap, subst, ◌∙◌}
-use Rattle.ruled_link.specs.Inward.{InwardState, IsDropped, later_of, is_later, rest_on}
+use Rattle.std.proofs.Common.{[], ◌∷◌, Some, sym, ap, subst, ◌∙◌, arith}
+use Rattle.ruled_link.specs.Carried.{BeginsNoCut}
+use Rattle.ruled_link.specs.Inward.{GatheredState, InwardState, IsDropped, Takes, inward_state, later_of, rest_on}
 use Rattle.ruled_link.specs.Pieces.{PieceState}
-use Rattle.ruled_link.proofs.Taking.{takes_none, takes_piece, none_later}
+use Rattle.ruled_link.proofs.Carrying.{other_bytes}
+use Rattle.ruled_link.proofs.Taking.{takes_none, takes_piece, takes_gathered, takes_frame}
 use Rattle.ruled_link.proofs.inward.RuledIn.next_piece.Goals as goal
-
--- the piece in hand is not of a later connection
-apart : (inside now : InwardState) (answer : Bool) → inside ≡ now → answer ≡ false → answer ≡ is_later now.number now.rest → later_of inside.number inside.rest ≡ []
-apart inside now answer same not is = none_later inside.number inside.rest (ap (λ (s : InwardState). is_later s.number s.rest) same ∙ sym is ∙ not)
 
 pub invariant_of-self : goal.invariant_of-self
 invariant_of-self g c =
     let e = c.self.inside in
-    takes_none e.pieces c.pop_from.new.self e.taken.went e.number e.front e.rest c.self.invariant
-    (apart _ c.args.self.now c.holds_later.result c.self.view_is c.if-holds_later.false c.holds_later.ensures) c.in_default.ensures.next
+    takes_none e.pieces c.pop_from.new.self e.taken.went e.number e.front e.rest c.self.invariant (ap (λ (s : InwardState). later_of s.number s.rest) c.self.view_is ∙ c.requires.now) c.in_default.ensures.next
 
 pub invariant_of-self-then-is_later : goal.invariant_of-self-then-is_later
 invariant_of-self-then-is_later g c =
     let e = c.self.inside in
-    takes_piece e.pieces c.pop_from.new.self e.taken.went e.number e.front e.rest c.new.result c.self.invariant
-    (apart _ c.args.self.now c.holds_later.result c.self.view_is c.if-holds_later.false c.holds_later.ensures)
-    (ap (λ (s : InwardState). rest_on s.number s.rest) c.self.view_is ∙ c.requires)
-    (subst (λ (p : PieceState). IsDropped e.number e.pieces c.pop_from.new.self (p ∷ [])) (sym c.new.ensures.whole) c.in-Some.ensures.next.1)
+    let p = c.piece-piece.result.now in
+    let dropped = subst (λ (x : PieceState). IsDropped e.number e.pieces c.pop_from.new.self (x ∷ [])) (sym c.piece-piece.ensures) c.in-Some.ensures.next.1 in
+    let held = takes_piece e.pieces c.pop_from.new.self e.taken.went e.number e.front e.rest p c.self.invariant (ap (λ (s : InwardState). later_of s.number s.rest) c.self.view_is ∙ c.requires.now)
+    (ap (λ (s : InwardState). rest_on s.number s.rest) c.self.view_is ∙ c.requires.spent) dropped in
+    let none = c.take_in_hand.ensures.none (other_bytes e.number p (λ same. omega (arith, same, c.if-is_later.true, c.number.ensures))) in
+    takes_gathered c.pop_from.new.self e.taken.went e.number e.front c.take_in_hand.new.front (Some p) c.take_in_hand.new.rest held c.take_in_hand.ensures.bytes c.take_in_hand.ensures.later
+    (subst (λ (s : GatheredState). BeginsNoCut s.bytes) (sym none) c.self.invariant.part)
+
+pub invariant_of-self-in_default-cut : goal.invariant_of-self-in_default-cut
+invariant_of-self-in_default-cut g c =
+    let e = c.self.inside in
+    let p = c.piece-piece.result.now in
+    let dropped = subst (λ (x : PieceState). IsDropped e.number e.pieces c.pop_from.new.self (x ∷ [])) (sym c.piece-piece.ensures) c.in-Some.ensures.next.1 in
+    let held = takes_piece e.pieces c.pop_from.new.self e.taken.went e.number e.front e.rest p c.self.invariant (ap (λ (s : InwardState). later_of s.number s.rest) c.self.view_is ∙ c.requires.now)
+    (ap (λ (s : InwardState). rest_on s.number s.rest) c.self.view_is ∙ c.requires.spent) dropped in
+    subst (λ (s : GatheredState). Takes (inward_state c.pop_from.new.self e.taken.went e.number s c.take_in_hand.new.rest)) (sym c.in_default-cut.ensures.0)
+    (takes_gathered c.pop_from.new.self e.taken.went e.number e.front c.take_in_hand.new.front (Some p) c.take_in_hand.new.rest held c.take_in_hand.ensures.bytes c.take_in_hand.ensures.later
+    c.in_default-cut.ensures.1)
 
 pub invariant_of-self-2 : goal.invariant_of-self-2
 invariant_of-self-2 g c =
     let e = c.self.inside in
-    takes_piece e.pieces c.pop_from.new.self e.taken.went e.number e.front e.rest c.new.result c.self.invariant
-    (apart _ c.args.self.now c.holds_later.result c.self.view_is c.if-holds_later.false c.holds_later.ensures)
-    (ap (λ (s : InwardState). rest_on s.number s.rest) c.self.view_is ∙ c.requires)
-    (subst (λ (p : PieceState). IsDropped e.number e.pieces c.pop_from.new.self (p ∷ [])) (sym c.new.ensures.whole) c.in-Some.ensures.next.1)
+    let p = c.piece-piece.result.now in
+    let cut = c.in-Some-cut.ensures in
+    let dropped = subst (λ (x : PieceState). IsDropped e.number e.pieces c.pop_from.new.self (x ∷ [])) (sym c.piece-piece.ensures) c.in-Some.ensures.next.1 in
+    let held = takes_piece e.pieces c.pop_from.new.self e.taken.went e.number e.front e.rest p c.self.invariant (ap (λ (s : InwardState). later_of s.number s.rest) c.self.view_is ∙ c.requires.now)
+    (ap (λ (s : InwardState). rest_on s.number s.rest) c.self.view_is ∙ c.requires.spent) dropped in
+    takes_frame c.pop_from.new.self e.taken.went c.and-self-inside.result.went e.number e.front c.take_in_hand.new.front c.cut.new.self (Some p) c.take_in_hand.new.rest c.in-Some-cut.frame held
+    c.take_in_hand.ensures.bytes c.take_in_hand.ensures.later cut.0 cut.1 cut.2 c.and-self-inside.ensures

@@ -1,22 +1,19 @@
 -- Each piece brings a byte at least, and no frame lacks more than the longest one has.
-use Rattle.std.proofs.Common.{◌≡◌, ◌<◌, ◌-◌, List, ℕ, [], ◌++◌, length, ap, ◌∙◌, arith}
-use Rattle.std.proofs.lemmas.List.{append-nil}
-use Rattle.ruled_link.specs.Inward.{InwardState, in_hand, rest_on}
+use Rattle.std.proofs.Common.{◌≡◌, ◌<◌, ◌-◌, length, Option, None, subst, arith}
+use Rattle.std.specs.Prelude.{IfNone}
+use Rattle.ruled_link.specs.Inward.{in_hand}
 use Rattle.ruled_link.proofs.Carrying.{part_most}
 use Rattle.ruled_link.proofs.inward.RuledInFrameIn.take.Goals as goal
 
--- the bytes in hand are the same where those of the piece came to the others
-hand_same : (old new : InwardState) → new ≡ record old { front = in_hand old; rest = new.rest } → rest_on new.number new.rest ≡ [] → in_hand new ≡ in_hand old
-hand_same old new is spent = ap (λ (x : List ℕ). new.front ++ x) spent ∙ append-nil new.front ∙ ap (λ (s : InwardState). s.front) is
+-- what is said of no frame holds where there was none
+from_none : {X : Type 0} (found : Option X) (P : Type 0) → found ≡ None → IfNone found P → P
+from_none {X = X} found P none holds = subst (λ (o : Option X). IfNone o P) none holds
 
 pub loop-frame-smaller : goal.loop-frame-smaller
 loop-frame-smaller g c =
     let old = c.loop-frame.self in
-    let middle = c.next_in_hand.new.self in
     let new = c.next_piece.new.self in
-    let none = c.in_default.ensures in
-    let same = ap length (hand_same old middle none.frame.0 none.frame.1) in
-    let few = part_most (in_hand old) none.none in
-    let more = c.in_ok-next_piece.ensures.more in
-    let less : 132504 - length (in_hand new) < 132504 - length (in_hand old) = omega (arith, same, few, more) in
+    let few = part_most (in_hand old) c.loop-frame.invariant.part in
+    let more = from_none c.in_ok-frame.field-0 (length (in_hand old) < length (in_hand new)) c.in_default-2.is c.in_ok-frame.ensures.more in
+    let less : 132504 - length (in_hand new) < 132504 - length (in_hand old) = omega (arith, few, more) in
     less

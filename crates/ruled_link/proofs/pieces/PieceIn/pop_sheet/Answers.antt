@@ -3,7 +3,7 @@ use Rattle.std.proofs.Common.{ap, rules, arith}
 use Rattle.std.proofs.lemmas.Grind.{common_steps}
 use Rattle.ruled_link.specs.declared.pieces.Log.{Log}
 use Rattle.ruled_link.proofs.Rows.{empty_at, gets}
-use Rattle.ruled_link.proofs.pieces.PieceIn.pop.Goals as goal
+use Rattle.ruled_link.proofs.pieces.PieceIn.pop_sheet.Goals as goal
 
 pub pop_as-requires-clause-rule : goal.pop_as-requires-clause-rule
 pop_as-requires-clause-rule g c = (

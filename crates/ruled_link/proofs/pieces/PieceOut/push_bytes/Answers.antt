@@ -2,7 +2,7 @@
 use Rattle.std.proofs.Common.{ap, rules}
 use Rattle.ruled_link.specs.declared.pieces.Log.{Log}
 use Rattle.ruled_link.proofs.Rows.{full_at, sends}
-use Rattle.ruled_link.proofs.pieces.PieceOut.push.Goals as goal
+use Rattle.ruled_link.proofs.pieces.PieceOut.push_bytes.Goals as goal
 
 pub push_as-requires-clause-rule : goal.push_as-requires-clause-rule
 push_as-requires-clause-rule g c = (
@@ -12,6 +12,3 @@ push_as-requires-clause-rule g c = (
 
 pub returns-clause-pushed : goal.returns-clause-pushed
 returns-clause-pushed g c = search rules
-
-pub returns-clause-handed_back : goal.returns-clause-handed_back
-returns-clause-handed_back g c = search rules
