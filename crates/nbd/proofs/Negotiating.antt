@@ -1,0 +1,78 @@
+-- What comes of whole options.
+use Rattle.std.proofs.Common.{◌≡◌, ℕ, ◌<◌, Bool, true, false, cond, eqb, List, [], ◌++◌, length, refl, sym, ap, ◌∙◌, arith}
+use Rattle.std.specs.Prelude.{nat_lt}
+use Rattle.std.proofs.lemmas.Bool.{eqb-true, eqb-false}
+use Rattle.std.proofs.lemmas.Bool.Decides.{nat_tests}
+use Rattle.std.proofs.lemmas.List.{length-append}
+use Rattle.packets.specs.Numbers.{number_in, number_bytes}
+use Rattle.packets.proofs.Digits.{number_again, number_last, number_only}
+use Rattle.packets.proofs.Widths.{number_bytes_length, number_in_front}
+use Rattle.nbd.specs.declared.phase.Part.TheVariants as part
+use Rattle.nbd.specs.declared.phase.Phase.TheVariants as phase
+use Rattle.nbd.specs.declared.phase.Refused.TheVariants as refused
+use Rattle.nbd.specs.Exports.{Exported}
+use Rattle.nbd.specs.Machine.{Fed, silent, after_step, then_fed, fed}
+use Rattle.nbd.specs.Messages.{ClientOption, FitsOption, option_bytes, at_option, closed, option_answer}
+use Rattle.nbd.specs.Options.{option_magic, option_replied, option_reply, rep_err_too_big}
+use Rattle.nbd.specs.Steps.{Stepped, after_reply, after_option, option_begins, goes_on, step, skipped}
+use Rattle.nbd.proofs.Answering.{none_of}
+use Rattle.nbd.proofs.Feeding.{then_fed_nothing, fed_whole, fed_skipped, fed_closed, fed_append}
+
+-- the header of an option
+abbrev head : ClientOption → List ℕ
+head o = number_bytes 8 option_magic ++ number_bytes 4 o.number ++ number_bytes 4 (length o.bytes)
+
+head_front : (o : ClientOption) → length (number_bytes 8 option_magic ++ number_bytes 4 o.number) ≡ 12
+head_front o =
+    length-append (number_bytes 8 option_magic) (number_bytes 4 o.number) ∙ omega (arith, number_bytes_length 8 option_magic, number_bytes_length 4 o.number)
+
+head_length : (o : ClientOption) → length (head o) ≡ 16
+head_length o =
+    length-append (number_bytes 8 option_magic ++ number_bytes 4 o.number) (number_bytes 4 (length o.bytes))
+    ∙ omega (arith, head_front o, number_bytes_length 4 (length o.bytes))
+
+-- the header of an option says its number and how many data follow
+head_read : (e : Exported) (no_zeroes : Bool) (o : ClientOption) → FitsOption o → after_option e no_zeroes (head o) ≡ option_begins e no_zeroes o.number (length o.bytes)
+head_read e no_zeroes o fits =
+    let m = number_bytes 8 option_magic in
+    let n = number_bytes 4 o.number in
+    let l = number_bytes 4 (length o.bytes) in
+    let m_len = number_bytes_length 8 option_magic in
+    let magic : number_in 8 0 (m ++ n ++ l) ≡ option_magic =
+    number_in_front 8 0 (m ++ n) l (omega (arith, head_front o)) ∙ number_in_front 8 0 m n (omega (arith, m_len)) ∙ number_only 8 option_magic (omega arith) in
+    let number : number_in 4 8 (m ++ n ++ l) ≡ o.number = number_again 4 8 o.number m l m_len fits.number in
+    let long : number_in 4 12 (m ++ n ++ l) ≡ length o.bytes = number_last 4 12 (length o.bytes) (m ++ n) (head_front o) fits.length in
+    rw (magic, number, long) refl
+
+no_bytes_are_few : (n : ℕ) → eqb n 0 ≡ true → nat_lt 8192 n ≡ true → n < n
+no_bytes_are_few n none many = grind (arith, nat_tests)
+
+-- the data, after the header
+ends : (e : Exported) (z : Bool) (n : ℕ) (bytes : List ℕ) (none many named : Bool) → eqb (length bytes) 0 ≡ none → nat_lt 8192 (length bytes) ≡ many
+    → (let first = after_step e (cond none (after_reply z (option_replied e z n [])) (cond many (cond named (goes_on phase.Closed) (goes_on (phase.Skip (length bytes) (refused.LongOption z n))))
+    (goes_on (phase.Gather (part.OptionData z n (length bytes)))))) in then_fed first (fed first.machine bytes))
+    ≡ cond many (cond named (silent (closed e)) (record { machine = at_option e z; sent = option_reply n rep_err_too_big []; requests = [] })) (after_step e (after_reply z (option_replied e z n bytes)))
+unfolding fed step skipped
+ends e z n bytes true true named is_none is_many = absurd (omega (arith, no_bytes_are_few (length bytes) is_none is_many))
+ends e z n bytes true false named is_none is_many =
+    let first = after_step e (after_reply z (option_replied e z n [])) in
+    let empty : bytes ≡ [] = none_of bytes (eqb-true _ _ is_none) in
+    ap (λ (x : List ℕ). then_fed first (fed first.machine x)) empty ∙ then_fed_nothing first
+    ∙ ap (λ (x : List ℕ). after_step e (after_reply z (option_replied e z n x))) (sym empty)
+ends e z n bytes false true true is_none is_many = ap (λ (f : Fed). then_fed (silent (closed e)) f) (fed_closed e [] bytes)
+ends e z n bytes false true false is_none is_many =
+    let other = eqb-false _ _ is_none in
+    let first = after_step e (goes_on (phase.Skip (length bytes) (refused.LongOption z n))) in
+    ap (λ (f : Fed). then_fed first f) (fed_skipped e (length bytes) (refused.LongOption z n) bytes (omega (arith, other)) refl)
+ends e z n bytes false false named is_none is_many =
+    let other = eqb-false _ _ is_none in
+    let first = after_step e (goes_on (phase.Gather (part.OptionData z n (length bytes)))) in
+    ap (λ (f : Fed). then_fed first f) (fed_whole e (part.OptionData z n (length bytes)) [] bytes (omega (arith, other)) (omega arith))
+
+pub option_is_answered : (e : Exported) (no_zeroes : Bool) (o : ClientOption) → FitsOption o → fed (at_option e no_zeroes) (option_bytes o) ≡ option_answer e no_zeroes o
+unfolding option_bytes step
+option_is_answered e no_zeroes o fits =
+    fed_append (at_option e no_zeroes) (head o) o.bytes
+    ∙ ap (λ (f : Fed). then_fed f (fed f.machine o.bytes))
+    (fed_whole e (part.Option no_zeroes) [] (head o) (omega (arith, head_length o)) (omega (arith, head_length o)) ∙ ap (λ (s : Stepped). after_step e s) (head_read e no_zeroes o fits))
+    ∙ ends e no_zeroes o.number o.bytes (eqb (length o.bytes) 0) (nat_lt 8192 (length o.bytes)) (eqb o.number 1) refl refl

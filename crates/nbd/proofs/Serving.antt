@@ -1,0 +1,154 @@
+-- Each request that is given out is inside the device.
+use Rattle.std.proofs.Common.{◌≡◌, ◌≢◌, ℕ, ◌+◌, ◌%◌, ◌<◌, ◌≤◌, Bool, true, false, cond, eqb, List, [], ◌∷◌, ◌++◌, length, Result, Ok, Err, refl, sym, ◌∙◌, subst, arith}
+use Rattle.std.specs.Prelude.{nat_lt}
+use Rattle.std.specs.List.{AllByRecursion}
+use Rattle.std.proofs.lemmas.Bool.{eqb-true, eqb-false}
+use Rattle.std.proofs.lemmas.List.{length-append}
+use Rattle.blocks.specs.declared.refusal.Refusal.{Refusal}
+use Rattle.packets.specs.Numbers.{number_in}
+use Rattle.nbd.specs.declared.command.Command.{Command}
+use Rattle.nbd.specs.declared.command.Command.TheVariants as command
+use Rattle.nbd.specs.declared.errno.Errno.{Errno}
+use Rattle.nbd.specs.declared.header.RequestHeader.{RequestHeader}
+use Rattle.nbd.specs.declared.phase.Part.{Part}
+use Rattle.nbd.specs.declared.phase.Part.TheVariants as part
+use Rattle.nbd.specs.declared.phase.Phase.{Phase}
+use Rattle.nbd.specs.declared.phase.Phase.TheVariants as phase
+use Rattle.nbd.specs.declared.phase.Refused.{Refused}
+use Rattle.nbd.specs.declared.phase.Refused.TheVariants as refused
+use Rattle.nbd.specs.declared.request.Request.{Request}
+use Rattle.nbd.specs.Exports.{Exported}
+use Rattle.nbd.specs.Inside.{IsInside}
+use Rattle.nbd.specs.Judging.{command_at, is_whole, is_long, judged_as, judged}
+use Rattle.nbd.specs.Machine.{Machine, Fed, IsDue, Waits, with_byte, fed}
+use Rattle.nbd.specs.Options.{option_magic}
+use Rattle.nbd.specs.Requests.{header_at}
+use Rattle.nbd.specs.Steps.{wanted, Stepped, option_begins, payload_length, begins, request_of, after_header, step, skipped}
+use Rattle.nbd.proofs.Waiting.{IsServed, served_as, first_true, above_none, not_above, step_waits, skipped_waits}
+
+-- ---- one request
+
+-- what whole blocks are
+pub record AreBlocks (offset bytes : ℕ) : Type 0 where
+  pub first : offset % 4096 ≡ 0
+  pub whole : bytes % 4096 ≡ 0
+  pub some : 0 < bytes
+
+blocks_are : (offset bytes : ℕ) → is_whole offset bytes ≡ true → AreBlocks offset bytes
+blocks_are offset bytes h =
+    let p = first_true _ _ h in
+    let q = first_true _ _ p.1 in
+    record { first = eqb-true _ _ p.0; whole = eqb-true _ _ q.0; some = above_none bytes q.1 }
+
+-- a READ, a WRITE or a WRITE_ZEROES that is served
+range_inside : (e : Exported) (c : Command) (h : RequestHeader) (payload : List ℕ) → c ≢ command.Disconnect → (c ≡ command.Read → h.length ≤ 33554432)
+    → (c ≡ command.Write → length payload ≡ h.length) → IsServed e c h → IsInside e.blocks (request_of c h payload)
+range_inside e c h payload stays short whole s =
+    let b = blocks_are h.offset h.length s.whole in
+    record {
+      stays = stays;
+      some = λ _. omega (arith, b.whole, b.some);
+      inside = omega (arith, b.first, b.whole, s.inside);
+      read = λ is. omega (arith, short is);
+      payload = λ is. omega (arith, whole is, b.whole);
+    }
+
+-- FLUSH goes over no block
+flush_inside : (e : Exported) (h : RequestHeader) → (h.offset ≡ 0) × (h.length ≡ 0) → IsInside e.blocks (request_of command.Flush h [])
+flush_inside e h zeros = record {
+  stays = λ same. cc;
+  some = λ other. absurd (other refl);
+  inside = omega (arith, zeros.0, zeros.1);
+  read = λ same. absurd cc;
+  payload = λ same. absurd cc;
+}
+
+cond_gives : (P : Request → Type 0) (b : Bool) (x y : Stepped) → AllByRecursion P x.requests → AllByRecursion P y.requests → AllByRecursion P (cond b x y).requests
+cond_gives P true x y hx hy = hx
+cond_gives P false x y hx hy = hy
+
+short_read : (h : RequestHeader) → is_long command.Read h.length ≡ false → h.length ≤ 33554432
+short_read h is = not_above 33554432 h.length is
+
+-- a request that follows its header at once
+begins_inside : (e : Exported) (h : RequestHeader) (r : Result Command Errno) → judged_as e (command_at h.kind) h ≡ r → AllByRecursion (IsInside e.blocks) (begins h r).requests
+begins_inside e h (Ok command.Read) is =
+    let s = (served_as e (command_at h.kind) h command.Read is).1 in
+    (range_inside e command.Read h [] (λ same. cc) (λ _. short_read h s.short) (λ same. absurd cc) s, tt)
+begins_inside e h (Ok command.Write) is = tt
+begins_inside e h (Ok command.Disconnect) is = tt
+begins_inside e h (Ok command.Flush) is = (flush_inside e h (served_as e (command_at h.kind) h command.Flush is).1, tt)
+begins_inside e h (Ok command.WriteZeroes) is =
+    let s = (served_as e (command_at h.kind) h command.WriteZeroes is).1 in
+    (range_inside e command.WriteZeroes h [] (λ same. cc) (λ same. absurd cc) (λ same. absurd cc) s, tt)
+begins_inside e h (Err errno) is = cond_gives (IsInside e.blocks) (eqb (payload_length h) 0) _ _ tt tt
+
+header_inside : (e : Exported) (r : Result RequestHeader Refusal) → AllByRecursion (IsInside e.blocks) (after_header e r).requests
+unfolding judged
+header_inside e (Ok h) = begins_inside e h (judged e h) refl
+header_inside e (Err refusal) = tt
+
+-- a request that follows its payload
+payload_inside : (e : Exported) (h : RequestHeader) (payload : List ℕ) → judged e h ≡ Ok command.Write → length payload ≡ h.length → IsInside e.blocks (request_of command.Write h payload)
+unfolding judged
+payload_inside e h payload is whole =
+    range_inside e command.Write h payload (λ same. cc) (λ same. absurd cc) (λ _. whole) (served_as e (command_at h.kind) h command.Write is).1
+
+option_gives : (P : Request → Type 0) (e : Exported) (no_zeroes : Bool) (option bytes : ℕ) → AllByRecursion P (option_begins e no_zeroes option bytes).requests
+option_gives P e no_zeroes option bytes =
+    cond_gives P (eqb bytes 0) _ _ tt (cond_gives P (nat_lt 8192 bytes) _ _ (cond_gives P (eqb option 1) _ _ tt tt) tt)
+
+-- what a step gives out
+step_inside : (e : Exported) (p : Part) (bytes : List ℕ) → IsDue e p → length bytes ≡ wanted p → AllByRecursion (IsInside e.blocks) (step e p bytes).requests
+unfolding step
+step_inside e part.ClientFlags bytes due whole = cond_gives (IsInside e.blocks) (nat_lt (number_in 4 0 bytes) 4) _ _ tt tt
+step_inside e (part.Option no_zeroes) bytes due whole =
+    cond_gives (IsInside e.blocks) (eqb (number_in 8 0 bytes) option_magic) _ _ (option_gives (IsInside e.blocks) e no_zeroes (number_in 4 8 bytes) (number_in 4 12 bytes)) tt
+step_inside e (part.OptionData no_zeroes option length) bytes due whole = tt
+step_inside e part.Request bytes due whole = header_inside e (header_at bytes)
+step_inside e (part.Payload h) bytes due whole = (payload_inside e h bytes due whole, tt)
+
+skipped_inside : (P : Request → Type 0) (r : Refused) → AllByRecursion P (skipped r).requests
+unfolding skipped
+skipped_inside P (refused.LongOption no_zeroes option) = tt
+skipped_inside P (refused.Write cookie errno) = tt
+
+-- ---- byte after byte
+
+all_append : (P : Request → Type 0) (xs ys : List Request) → AllByRecursion P xs → AllByRecursion P ys → AllByRecursion P (xs ++ ys)
+all_append P [] ys hx hy = hy
+all_append P (x ∷ xs) ys hx hy = (hx.0, all_append P xs ys hx.1 hy)
+
+-- the machine waits for what is due, and what it gave out is inside
+pub record GoesOn (e : Exported) (f : Fed) : Type 0 where
+  pub export : f.machine.export ≡ e
+  pub waits : Waits e f.machine.phase f.machine.held
+  pub inside : AllByRecursion (IsInside e.blocks) f.requests
+
+cond_goes : (e : Exported) (b : Bool) (x y : Fed) → (b ≡ true → GoesOn e x) → (b ≡ false → GoesOn e y) → GoesOn e (cond b x y)
+cond_goes e true x y hx hy = hx refl
+cond_goes e false x y hx hy = hy refl
+
+byte_goes : (e : Exported) (q : Phase) (held : List ℕ) (b : ℕ) → Waits e q held → GoesOn e (with_byte e q held b)
+byte_goes e (phase.Gather p) held b waits =
+    let longer : length (held ++ b ∷ []) ≡ length held + 1 = length-append held (b ∷ []) in
+    cond_goes e (eqb (length held + 1) (wanted p)) _ _
+    (λ yes. record {
+      export = refl;
+      waits = step_waits e p (held ++ b ∷ []);
+      inside = step_inside e p (held ++ b ∷ []) waits.1 (longer ∙ eqb-true _ _ yes);
+    })
+    (λ no. let other = eqb-false _ _ no in record { export = refl; waits = (omega (arith, other, longer, waits.0), waits.1); inside = tt })
+byte_goes e (phase.Skip left r) held b waits =
+    cond_goes e (eqb left 1) _ _
+    (λ yes. record { export = refl; waits = skipped_waits e r; inside = skipped_inside (IsInside e.blocks) r })
+    (λ no. let other = eqb-false _ _ no in record { export = refl; waits = (omega (arith, other, waits.0), refl); inside = tt })
+byte_goes e phase.Closed held b waits = record { export = refl; waits = waits; inside = tt }
+
+pub fed_inside : (e : Exported) (m : Machine) (bytes : List ℕ) → m.export ≡ e → Waits e m.phase m.held → AllByRecursion (IsInside e.blocks) (fed m bytes).requests
+unfolding fed
+fed_inside e m [] same waits = tt
+fed_inside e m (b ∷ bs) same waits =
+    let first = with_byte m.export m.phase m.held b in
+    let goes : GoesOn e first = subst (λ (x : Exported). GoesOn e (with_byte x m.phase m.held b)) (sym same) (byte_goes e m.phase m.held b waits) in
+    all_append (IsInside e.blocks) first.requests (fed first.machine bs).requests goes.inside (fed_inside e first.machine bs goes.export goes.waits)

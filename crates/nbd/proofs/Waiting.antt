@@ -1,0 +1,184 @@
+-- What is waited for after a step: at least one byte, and of a part that is held no more than 32 MiB.
+use Rattle.std.proofs.Common.{◌≡◌, ℕ, ◌+◌, ◌<◌, ◌≤◌, Bool, true, false, cond, eqb, List, [], length, Option, Some, None, Result, Ok, Err, refl, ap, subst, arith}
+use Rattle.std.specs.Prelude.{nat_lt, ◌*◌, not, ◌&&◌, ◌==◌}
+use Rattle.std.proofs.lemmas.Bool.{eqb-true, eqb-false}
+use Rattle.std.proofs.lemmas.Bool.Decides.{nat_tests}
+use Rattle.blocks.specs.declared.refusal.Refusal.{Refusal}
+use Rattle.packets.specs.Numbers.{number_in}
+use Rattle.nbd.specs.declared.command.Command.{Command}
+use Rattle.nbd.specs.declared.command.Command.TheVariants as command
+use Rattle.nbd.specs.declared.errno.Errno.{Errno}
+use Rattle.nbd.specs.declared.errno.Errno.TheVariants.{Invalid, Overflow}
+use Rattle.nbd.specs.declared.header.RequestHeader.{RequestHeader}
+use Rattle.nbd.specs.declared.options.Next.{Next}
+use Rattle.nbd.specs.declared.options.Next.TheVariants.{Negotiate, Transmit, Close}
+use Rattle.nbd.specs.declared.phase.Part.{Part}
+use Rattle.nbd.specs.declared.phase.Part.TheVariants as part
+use Rattle.nbd.specs.declared.phase.Phase.{Phase}
+use Rattle.nbd.specs.declared.phase.Phase.TheVariants as phase
+use Rattle.nbd.specs.declared.phase.Refused.{Refused}
+use Rattle.nbd.specs.declared.phase.Refused.TheVariants as refused
+use Rattle.nbd.specs.Exports.{Exported}
+use Rattle.nbd.specs.Judging.{command_at, may_have, is_whole, is_long, past_end, judged_range, judged_as, judged_flush, judged}
+use Rattle.nbd.specs.Machine.{IsDue, Waits}
+use Rattle.nbd.specs.Options.{option_magic, option_replied}
+use Rattle.nbd.specs.Requests.{header_at}
+use Rattle.nbd.specs.Steps.{wanted, Stepped, phase_after, option_begins, payload_length, refuses, begins, after_header, step, skipped}
+
+-- the two ways of a test
+cond_waits : (e : Exported) (b : Bool) (x y : Stepped) → (b ≡ true → Waits e x.phase []) → (b ≡ false → Waits e y.phase []) → Waits e (cond b x y).phase []
+cond_waits e true x y hx hy = hx refl
+cond_waits e false x y hx hy = hy refl
+
+next_waits : (e : Exported) (no_zeroes : Bool) (n : Next) → Waits e (phase_after no_zeroes n) []
+next_waits e no_zeroes Negotiate = (omega arith, tt)
+next_waits e no_zeroes Transmit = (omega arith, tt)
+next_waits e no_zeroes Close = refl
+
+-- a number that is not 0
+some : (n : ℕ) → eqb n 0 ≡ false → 0 < n
+some n h = let no = eqb-false n 0 h in omega (arith, no)
+
+within : (n : ℕ) → nat_lt 8192 n ≡ false → n ≤ 8192
+within n h = grind (arith, nat_tests)
+
+option_waits : (e : Exported) (no_zeroes : Bool) (option length : ℕ) → Waits e (option_begins e no_zeroes option length).phase []
+option_waits e no_zeroes option length =
+    cond_waits e (eqb length 0) _ _ (λ _. next_waits e no_zeroes (option_replied e no_zeroes option []).next) (λ long.
+    cond_waits e (nat_lt 8192 length) _ _
+    (λ _. cond_waits e (eqb option 1) _ _ (λ _. refl) (λ _. (some length long, refl)))
+    (λ short. (some length long, within length short)))
+
+-- ---- a request that is served
+
+-- a test that let a request through
+passed : (b : Bool) (x : Errno) (r : Result Command Errno) (c : Command) → cond b (Err x) r ≡ Ok c → (b ≡ false) × (r ≡ Ok c)
+passed true x r c h = absurd cc
+passed false x r c h = (refl, h)
+
+abbrev served : Command → Result Command Errno
+served c = Ok c
+
+served_is : (c d : Command) → served c ≡ served d → c ≡ d
+served_is c d h = cc
+
+refused_is : (x : Errno) (c : Command) → Err x ≡ served c → ⊥
+refused_is x c h = cc
+
+second : (a b : Bool) → not (a && b) ≡ false → b ≡ true
+second true true h = refl
+second true false h = absurd cc
+second false b h = absurd cc
+
+pub not_above : (a b : ℕ) → nat_lt a b ≡ false → b ≤ a
+not_above a b h = grind (arith, nat_tests)
+
+-- what is known of a request for blocks that is served
+pub record IsServed (e : Exported) (c : Command) (h : RequestHeader) : Type 0 where
+  pub whole : is_whole h.offset h.length ≡ true
+  pub short : is_long c h.length ≡ false
+  pub inside : h.offset + h.length ≤ 4096 * e.blocks
+
+pub range_served : (e : Exported) (c d : Command) (h : RequestHeader) → judged_range e c h ≡ Ok d → IsServed e c h × (c ≡ d)
+range_served e c d h is =
+    let p0 = passed (not (may_have c h.flags && is_whole h.offset h.length)) Invalid _ d is in
+    let p1 = passed (is_long c h.length) Overflow _ d p0.1 in
+    let p2 = passed (nat_lt (4096 * e.blocks) (h.offset + h.length)) (past_end c) (Ok c) d p1.1 in
+    (record { whole = second _ _ p0.0; short = p1.0; inside = not_above _ _ p2.0 }, served_is c d p2.1)
+
+third : (a b c : Bool) → a && (b && c) ≡ true → c ≡ true
+third true true true h = refl
+third true true false h = absurd cc
+third true false c h = absurd cc
+third false b c h = absurd cc
+
+pub first_true : (a b : Bool) → a && b ≡ true → (a ≡ true) × (b ≡ true)
+first_true true b h = (refl, h)
+first_true false b h = absurd cc
+
+ok_taken : (b : Bool) (c d : Command) → cond b (Ok c) (Err Invalid) ≡ Ok d → (b ≡ true) × (c ≡ d)
+ok_taken true c d h = (refl, served_is c d h)
+ok_taken false c d h = absurd (refused_is Invalid d h)
+
+-- what is known of a request that is served with this command
+abbrev pub ServedAs : Exported → Command → RequestHeader → Type 0
+ServedAs e command.Disconnect h = Unit {0}
+ServedAs e command.Flush h = (h.offset ≡ 0) × (h.length ≡ 0)
+ServedAs e c h = IsServed e c h
+
+flush_served : (e : Exported) (h : RequestHeader) (d : Command) → judged_flush h ≡ Ok d → (command.Flush ≡ d) × ServedAs e d h
+flush_served e h d is =
+    let p = ok_taken (may_have command.Flush h.flags && ((h.offset == 0) && (h.length == 0))) command.Flush d is in
+    let q = first_true _ _ (first_true _ _ p.0).1 in
+    let zeros : ServedAs e command.Flush h = (eqb-true _ _ q.0, eqb-true _ _ q.1) in
+    (p.1, subst (λ (x : Command). ServedAs e x h) p.1 zeros)
+
+-- a request that is served has the command of its number, and lies inside the device
+pub served_as : (e : Exported) (o : Option Command) (h : RequestHeader) (d : Command) → judged_as e o h ≡ Ok d → (o ≡ Some d) × ServedAs e d h
+served_as e None h d is = absurd (refused_is Invalid d is)
+served_as e (Some command.Disconnect) h d is =
+    let same = served_is command.Disconnect d is in
+    let nothing : ServedAs e command.Disconnect h = tt in
+    (ap (λ (x : Command). Some x) same, subst (λ (x : Command). ServedAs e x h) same nothing)
+served_as e (Some command.Flush) h d is = let p = flush_served e h d is in (ap (λ (x : Command). Some x) p.0, p.1)
+served_as e (Some command.Read) h d is =
+    let p = range_served e command.Read d h is in (ap (λ (x : Command). Some x) p.1, subst (λ (x : Command). ServedAs e x h) p.1 p.0)
+served_as e (Some command.Write) h d is =
+    let p = range_served e command.Write d h is in (ap (λ (x : Command). Some x) p.1, subst (λ (x : Command). ServedAs e x h) p.1 p.0)
+served_as e (Some command.WriteZeroes) h d is =
+    let p = range_served e command.WriteZeroes d h is in (ap (λ (x : Command). Some x) p.1, subst (λ (x : Command). ServedAs e x h) p.1 p.0)
+
+pub above_none : (n : ℕ) → nat_lt 0 n ≡ true → 0 < n
+above_none n h = grind (arith, nat_tests)
+
+-- a payload that is held has at least one byte, and at most 32 MiB
+pub payload_bounded : (e : Exported) (h : RequestHeader) → judged e h ≡ Ok command.Write → (0 < h.length) × (h.length ≤ 33554432)
+unfolding judged
+payload_bounded e h is =
+    let s = (served_as e (command_at h.kind) h command.Write is).1 in
+    (above_none h.length (third _ _ _ s.whole), not_above 33554432 h.length s.short)
+
+refuses_waits : (e : Exported) (h : RequestHeader) (errno : Errno) → Waits e (refuses h errno).phase []
+refuses_waits e h errno =
+    cond_waits e (eqb (payload_length h) 0) _ _ (λ _. (omega arith, tt)) (λ more. (some (payload_length h) more, refl))
+
+begins_waits : (e : Exported) (h : RequestHeader) (r : Result Command Errno) → judged e h ≡ r → Waits e (begins h r).phase []
+begins_waits e h (Ok command.Read) is = (omega arith, tt)
+begins_waits e h (Ok command.Write) is = ((payload_bounded e h is).0, is)
+begins_waits e h (Ok command.Disconnect) is = refl
+begins_waits e h (Ok command.Flush) is = (omega arith, tt)
+begins_waits e h (Ok command.WriteZeroes) is = (omega arith, tt)
+begins_waits e h (Err errno) is = refuses_waits e h errno
+
+pub header_waits : (e : Exported) (r : Result RequestHeader Refusal) → Waits e (after_header e r).phase []
+header_waits e (Ok h) = begins_waits e h (judged e h) refl
+header_waits e (Err refusal) = refl
+
+-- ---- all
+
+pub step_waits : (e : Exported) (p : Part) (bytes : List ℕ) → Waits e (step e p bytes).phase []
+unfolding step
+step_waits e part.ClientFlags bytes = cond_waits e (nat_lt (number_in 4 0 bytes) 4) _ _ (λ _. (omega arith, tt)) (λ _. refl)
+step_waits e (part.Option no_zeroes) bytes =
+    cond_waits e (eqb (number_in 8 0 bytes) option_magic) _ _ (λ _. option_waits e no_zeroes (number_in 4 8 bytes) (number_in 4 12 bytes)) (λ _. refl)
+step_waits e (part.OptionData no_zeroes option length) bytes = next_waits e no_zeroes (option_replied e no_zeroes option bytes).next
+step_waits e part.Request bytes = header_waits e (header_at bytes)
+step_waits e (part.Payload h) bytes = (omega arith, tt)
+
+pub skipped_waits : (e : Exported) (r : Refused) → Waits e (skipped r).phase []
+unfolding skipped
+skipped_waits e (refused.LongOption no_zeroes option) = (omega arith, tt)
+skipped_waits e (refused.Write cookie errno) = (omega arith, tt)
+
+-- no part is longer than 32 MiB
+pub due_bounded : (e : Exported) (p : Part) → IsDue e p → wanted p ≤ 33554432
+due_bounded e part.ClientFlags due = omega arith
+due_bounded e (part.Option no_zeroes) due = omega arith
+due_bounded e (part.OptionData no_zeroes option length) due = omega (arith, due)
+due_bounded e part.Request due = omega arith
+due_bounded e (part.Payload h) due = (payload_bounded e h due).1
+
+pub held_bounded : (e : Exported) (q : Phase) (held : List ℕ) → Waits e q held → length held ≤ 28 + 33554432
+held_bounded e (phase.Gather p) held waits = omega (arith, waits.0, due_bounded e p waits.1)
+held_bounded e (phase.Skip left r) held waits = omega (arith, ap length waits.1)
+held_bounded e phase.Closed held waits = omega (arith, ap length waits)

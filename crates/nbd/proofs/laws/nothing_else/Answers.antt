@@ -1,0 +1,5 @@
+use Rattle.nbd.proofs.Parsing.{parsed}
+use Rattle.nbd.proofs.laws.nothing_else.Goals as goal
+
+pub returns : goal.returns
+returns c e bytes fits = parsed e bytes fits

@@ -1,0 +1,11 @@
+pub mod Errors
+pub mod Exports
+pub mod Inside
+pub mod Judging
+pub mod Machine
+pub mod Messages
+pub mod Options
+pub mod Pieces
+pub mod Replies
+pub mod Requests
+pub mod Steps

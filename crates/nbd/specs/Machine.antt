@@ -1,0 +1,84 @@
+-- A connection as a machine that takes one byte after another.
+use Rattle.std.specs.Prelude.{ℕ, ◌≡◌, ◌+◌, ◌-◌, ◌<◌, ◌≤◌, ◌==◌, if◌then◌else◌, List, [], ◌∷◌, ◌++◌, length, take, Ok}
+use Rattle.nbd.specs.declared.command.Command.TheVariants.{Write}
+use Rattle.nbd.specs.declared.phase.Part.{Part}
+use Rattle.nbd.specs.declared.phase.Part.TheVariants as part
+use Rattle.nbd.specs.declared.phase.Phase.{Phase}
+use Rattle.nbd.specs.declared.phase.Phase.TheVariants as phase
+use Rattle.nbd.specs.declared.request.Request.{Request}
+use Rattle.nbd.specs.Exports.{Exported}
+use Rattle.nbd.specs.Judging.{judged}
+use Rattle.nbd.specs.Steps.{wanted, Stepped, step, skipped}
+
+-- what a clause sees of a connection: the export that it serves, what it waits for, and the bytes of that which it has
+pub record Machine : Type 0 where
+  pub export : Exported
+  pub phase : Phase
+  pub held : List ℕ
+
+-- what comes of bytes: the connection after them, the bytes that go back, and the requests that are given out
+pub record Fed : Type 0 where
+  pub machine : Machine
+  pub sent : List ℕ
+  pub requests : List Request
+
+-- nothing comes of it
+abbrev pub silent : Machine → Fed
+silent m = record { machine = m; sent = []; requests = [] }
+
+-- a step was made, and nothing is held any more
+abbrev pub after_step : Exported → Stepped → Fed
+after_step e s = record { machine = record { export = e; phase = s.phase; held = [] }; sent = s.sent; requests = s.requests }
+
+-- the next byte: the last of its part makes a step, and one that is skipped is counted
+abbrev pub with_byte : Exported → Phase → List ℕ → ℕ → Fed
+with_byte e (phase.Gather p) held byte =
+    if length held + 1 == wanted p then after_step e (step e p (held ++ byte ∷ []))
+    else silent (record { export = e; phase = phase.Gather p; held = held ++ byte ∷ [] })
+with_byte e (phase.Skip left refused) held byte =
+    if left == 1 then after_step e (skipped refused)
+    else silent (record { export = e; phase = phase.Skip (left - 1) refused; held = [] })
+with_byte e phase.Closed held byte = silent (record { export = e; phase = phase.Closed; held = held })
+
+-- one thing after another
+abbrev pub then_fed : Fed → Fed → Fed
+then_fed a b = record { machine = b.machine; sent = a.sent ++ b.sent; requests = a.requests ++ b.requests }
+
+-- what comes of bytes, one after another
+unfoldable pub fed : Machine → List ℕ → Fed
+fed m [] = silent m
+fed m (byte ∷ bytes) = let first = with_byte m.export m.phase m.held byte in then_fed first (fed first.machine bytes)
+
+-- what is known of a part: a payload is that of a WRITE that is served
+abbrev pub IsDue : Exported → Part → Type 0
+IsDue e (part.OptionData no_zeroes option length) = length ≤ 8192
+IsDue e (part.Payload h) = judged e h ≡ Ok Write
+IsDue e p = Unit {0}
+
+-- what is held is less than what is waited for
+abbrev pub Waits : Exported → Phase → List ℕ → Type 0
+Waits e (phase.Gather p) held = (length held < wanted p) × IsDue e p
+Waits e (phase.Skip left refused) held = (0 < left) × (held ≡ [])
+Waits e phase.Closed held = held ≡ []
+
+-- as many bytes as the phase takes at once: at most those that it waits for
+abbrev pub IsPortion : Phase → List ℕ → ℕ → Type 0
+IsPortion (phase.Gather p) held count = length held + count ≤ wanted p
+IsPortion (phase.Skip left refused) held count = count ≤ left
+IsPortion phase.Closed held count = Unit {0}
+
+-- this came of a connection's bytes: how it goes on, and what was put at the end of both lists
+pub record Adds (f : Fed) (m : Machine) (old_bytes new_bytes : List ℕ) (old_requests new_requests : List Request) : Type 0 where
+  pub machine : m ≡ f.machine
+  pub sent : new_bytes ≡ old_bytes ++ f.sent
+  pub given : new_requests ≡ old_requests ++ f.requests
+
+-- the rest of what comes of bytes is this, where so much of it was put at the end of both lists
+pub record Continues (all rest : Fed) (old_bytes new_bytes : List ℕ) (old_requests new_requests : List Request) : Type 0 where
+  pub machine : all.machine ≡ rest.machine
+  pub sent : old_bytes ++ all.sent ≡ new_bytes ++ rest.sent
+  pub given : old_requests ++ all.requests ≡ new_requests ++ rest.requests
+
+-- a list that still begins as it did
+abbrev pub Begins : {A : Type 0} → List A → List A → Type 0
+Begins old new = take (length old) new ≡ old

@@ -1,0 +1,120 @@
+-- What a client may say: options (NBD protocol, "Handshake"), then requests ("Transmission"); and what comes of them.
+use Rattle.std.specs.Prelude.{ℕ, ◌≡◌, ◌+◌, ◌<◌, ◌≤◌, ◌^◌, ◌==◌, nat_lt, ◌⊎◌, Bool, true, false, if◌then◌else◌, List, [], ◌∷◌, ◌++◌, length, take, Result, Ok, Err}
+use Rattle.std.specs.List.{flat_map, list_any, AllByRecursion}
+use Rattle.blocks.specs.declared.refusal.Refusal.{Refusal}
+use Rattle.packets.specs.Numbers.{number_bytes}
+use Rattle.nbd.specs.declared.command.Command.{Command}
+use Rattle.nbd.specs.declared.command.Command.TheVariants as command
+use Rattle.nbd.specs.declared.errno.Errno.{Errno}
+use Rattle.nbd.specs.declared.header.RequestHeader.{RequestHeader}
+use Rattle.nbd.specs.declared.phase.Part.TheVariants as part
+use Rattle.nbd.specs.declared.phase.Phase.TheVariants as phase
+use Rattle.nbd.specs.Exports.{Exported}
+use Rattle.nbd.specs.Judging.{judged}
+use Rattle.nbd.specs.Machine.{Machine, Fed, silent, after_step, then_fed, fed}
+use Rattle.nbd.specs.Options.{option_magic, option_replied, option_reply, rep_err_too_big}
+use Rattle.nbd.specs.Replies.{reply_spelling}
+use Rattle.nbd.specs.Requests.{spelling, FitsFields, header_at}
+use Rattle.nbd.specs.Steps.{request_of, payload_length, failure, after_reply}
+
+-- a request on the wire: its header, and the payload of a WRITE
+pub record Message : Type 0 where
+  pub header : RequestHeader
+  pub payload : List ℕ
+
+-- a WRITE, served or not, has as many bytes of payload as it says, and another request has none
+pub record IsMessage (m : Message) : Type 0 where
+  pub fields : FitsFields m.header
+  pub whole : length m.payload ≡ payload_length m.header
+
+-- its bytes
+abbrev pub message_bytes : Message → List ℕ
+message_bytes m = spelling m.header ++ m.payload
+
+-- the bytes of messages, one after another
+abbrev pub stream_of : List Message → List ℕ
+stream_of messages = flat_map message_bytes messages
+
+-- a connection between two requests
+abbrev pub at_request : Exported → Machine
+at_request e = record { export = e; phase = phase.Gather part.Request; held = [] }
+
+-- a connection that is closed
+abbrev pub closed : Exported → Machine
+closed e = record { export = e; phase = phase.Closed; held = [] }
+
+-- what comes of a message that is judged so: a request that is served is given out with its payload, one that is refused has
+-- its reply, and one to disconnect ends the connection
+abbrev pub answer_as : Exported → Message → Result Command Errno → Fed
+answer_as e m (Ok command.Disconnect) = silent (closed e)
+answer_as e m (Ok c) = record { machine = at_request e; sent = []; requests = request_of c m.header m.payload ∷ [] }
+answer_as e m (Err errno) = record { machine = at_request e; sent = reply_spelling (failure m.header.cookie errno); requests = [] }
+
+-- what comes of a message
+abbrev pub answer : Exported → Message → Fed
+answer e m = answer_as e m (judged e m.header)
+
+-- whether a message ends the connection
+abbrev pub is_end : Result Command Errno → Bool
+is_end (Ok command.Disconnect) = true
+is_end _ = false
+
+-- what comes of messages, one after another, up to one that ends the connection
+abbrev pub answers : Exported → List Message → Fed
+answers e [] = silent (at_request e)
+answers e (m ∷ messages) = if is_end (judged e m.header) then silent (closed e) else then_fed (answer e m) (answers e messages)
+
+-- whether one of the messages ends the connection
+abbrev pub has_end : Exported → List Message → Bool
+has_end e messages = list_any (λ m. is_end (judged e m.header)) messages
+
+-- less than a message whose header was read so; where it is no header, the connection is closed
+abbrev pub IsRestWith : Result RequestHeader Refusal → List ℕ → Type 0
+IsRestWith (Ok h) rest = length rest < 28 + payload_length h
+IsRestWith (Err refusal) rest = Unit {0}
+
+-- bytes that begin with no whole message
+abbrev pub IsRest : List ℕ → Type 0
+IsRest rest = (length rest < 28) ⊎ ((28 ≤ length rest) × IsRestWith (header_at (take 28 rest)) rest)
+
+-- the bytes of a client are messages and then a rest, and what comes of them is the answers to those messages and nothing else
+pub record Parses (e : Exported) (bytes : List ℕ) : Type 0 where
+  pub messages : List Message
+  pub rest : List ℕ
+  pub each : AllByRecursion IsMessage messages
+  pub whole : bytes ≡ stream_of messages ++ rest
+  pub end : (has_end e messages ≡ true) ⊎ IsRest rest
+  pub sent : (fed (at_request e) bytes).sent ≡ (answers e messages).sent
+  pub given : (fed (at_request e) bytes).requests ≡ (answers e messages).requests
+
+-- ---- the handshake
+
+-- an option on the wire: its number and its data
+pub record ClientOption : Type 0 where
+  pub number : ℕ
+  pub bytes : List ℕ
+
+-- the numbers of an option fit their fields
+pub record FitsOption (o : ClientOption) : Type 0 where
+  pub number : o.number < 2 ^ 32
+  pub length : length o.bytes < 2 ^ 32
+
+-- its bytes: magic number, option, the length of the data, and the data
+unfoldable pub option_bytes : ClientOption → List ℕ
+option_bytes o = number_bytes 8 option_magic ++ number_bytes 4 o.number ++ number_bytes 4 (length o.bytes) ++ o.bytes
+
+-- a connection that waits for an option
+abbrev pub at_option : Exported → Bool → Machine
+at_option e no_zeroes = record { export = e; phase = phase.Gather (part.Option no_zeroes); held = [] }
+
+-- an option with too many data: EXPORT_NAME closes the connection, since it has no error reply
+abbrev pub too_big : Exported → Bool → ℕ → Fed
+too_big e no_zeroes option =
+    if option == 1 then silent (closed e)
+    else record { machine = at_option e no_zeroes; sent = option_reply option rep_err_too_big []; requests = [] }
+
+-- what comes of an option
+abbrev pub option_answer : Exported → Bool → ClientOption → Fed
+option_answer e no_zeroes o =
+    if nat_lt 8192 (length o.bytes) then too_big e no_zeroes o.number
+    else after_step e (after_reply no_zeroes (option_replied e no_zeroes o.number o.bytes))

@@ -1,0 +1,164 @@
+-- What one step of a connection makes, once the bytes that it waits for are there.
+use Rattle.std.specs.Prelude.{ℕ, ◌≡◌, ◌/◌, ◌%◌, ◌==◌, Bool, nat_lt, if◌then◌else◌, List, [], ◌∷◌, Some, Result, Ok, Err}
+use Rattle.blocks.specs.declared.refusal.Refusal.{Refusal}
+use Rattle.blocks.specs.declared.refusal.Refusal.TheVariants.{NoMemory}
+use Rattle.packets.specs.Numbers.{number_in}
+use Rattle.nbd.specs.declared.command.Command.{Command}
+use Rattle.nbd.specs.declared.command.Command.TheVariants as command
+use Rattle.nbd.specs.declared.errno.Errno.{Errno}
+use Rattle.nbd.specs.declared.header.RequestHeader.{RequestHeader}
+use Rattle.nbd.specs.declared.options.OptionReply.{OptionReply}
+use Rattle.nbd.specs.declared.options.Next.{Next}
+use Rattle.nbd.specs.declared.options.Next.TheVariants.{Negotiate, Transmit, Close}
+use Rattle.nbd.specs.declared.phase.Part.{Part}
+use Rattle.nbd.specs.declared.phase.Part.TheVariants as part
+use Rattle.nbd.specs.declared.phase.Phase.{Phase}
+use Rattle.nbd.specs.declared.phase.Phase.TheVariants as phase
+use Rattle.nbd.specs.declared.phase.Refused.{Refused}
+use Rattle.nbd.specs.declared.phase.Refused.TheVariants as refused
+use Rattle.nbd.specs.declared.reply.Reply.{Reply}
+use Rattle.nbd.specs.declared.request.Request.{Request}
+use Rattle.nbd.specs.declared.step.Made.{Made}
+use Rattle.nbd.specs.declared.step.Made.TheVariants as made
+use Rattle.nbd.specs.declared.step.Step.{Step}
+use Rattle.nbd.specs.Exports.{Exported}
+use Rattle.nbd.specs.Judging.{judged}
+use Rattle.nbd.specs.Options.{option_magic, option_replied, Replied, option_reply, rep_err_too_big}
+use Rattle.nbd.specs.Replies.{reply_spelling}
+use Rattle.nbd.specs.Requests.{header_at}
+
+-- how many bytes a part has
+abbrev pub wanted : Part → ℕ
+wanted part.ClientFlags = 4
+wanted (part.Option no_zeroes) = 16
+wanted (part.OptionData no_zeroes option length) = length
+wanted part.Request = 28
+wanted (part.Payload header) = header.length
+
+-- how a connection goes on, the bytes that go back, and the requests that are given out
+pub record Stepped : Type 0 where
+  pub phase : Phase
+  pub sent : List ℕ
+  pub requests : List Request
+
+-- the connection goes on so, and nothing else comes of it
+abbrev pub goes_on : Phase → Stepped
+goes_on phase = record { phase = phase; sent = []; requests = [] }
+
+-- bytes go back
+abbrev pub sends : Phase → List ℕ → Stepped
+sends phase sent = record { phase = phase; sent = sent; requests = [] }
+
+-- the reply to a request that failed
+abbrev pub failure : ℕ → Errno → Reply
+failure cookie errno = record { cookie = cookie; error = Some errno }
+
+-- ---- the handshake
+
+-- the client's flags: fixed newstyle (1) and no zeros (2), and no other
+abbrev pub after_flags : ℕ → Stepped
+after_flags flags = if nat_lt flags 4 then goes_on (phase.Gather (part.Option (nat_lt 1 flags))) else goes_on phase.Closed
+
+-- the phase after an option
+abbrev pub phase_after : Bool → Next → Phase
+phase_after no_zeroes Negotiate = phase.Gather (part.Option no_zeroes)
+phase_after no_zeroes Transmit = phase.Gather part.Request
+phase_after no_zeroes Close = phase.Closed
+
+-- the step of an option with this reply
+abbrev pub after_reply : Bool → Replied → Stepped
+after_reply no_zeroes a = sends (phase_after no_zeroes a.next) a.sent
+
+-- an option with more data than are kept: they are skipped, but for EXPORT_NAME, which has no reply for this
+abbrev pub long_option : Bool → ℕ → ℕ → Stepped
+long_option no_zeroes option length =
+    if option == 1 then goes_on phase.Closed else goes_on (phase.Skip length (refused.LongOption no_zeroes option))
+
+-- an option with this header
+abbrev pub option_begins : Exported → Bool → ℕ → ℕ → Stepped
+option_begins e no_zeroes option length =
+    if length == 0 then after_reply no_zeroes (option_replied e no_zeroes option []) else
+    if nat_lt 8192 length then long_option no_zeroes option length else
+    goes_on (phase.Gather (part.OptionData no_zeroes option length))
+
+-- the header of an option
+abbrev pub after_option : Exported → Bool → List ℕ → Stepped
+after_option e no_zeroes bytes =
+    if number_in 8 0 bytes == option_magic then option_begins e no_zeroes (number_in 4 8 bytes) (number_in 4 12 bytes) else goes_on phase.Closed
+
+-- ---- requests
+
+-- the request that is given out for a header and its payload
+abbrev pub request_of : Command → RequestHeader → List ℕ → Request
+request_of c h payload = record {
+  command = c;
+  fua = h.flags % 2 == 1;
+  cookie = h.cookie;
+  first_block = h.offset / 4096;
+  block_count = h.length / 4096;
+  payload = payload;
+}
+
+-- a request is given out
+abbrev pub gives : Command → RequestHeader → List ℕ → Stepped
+gives c h payload = record { phase = phase.Gather part.Request; sent = []; requests = request_of c h payload ∷ [] }
+
+-- how many bytes follow a header: only a WRITE, served or not, has a payload
+abbrev pub payload_length : RequestHeader → ℕ
+payload_length h = if h.kind == 1 then h.length else 0
+
+-- a request that is refused: its reply goes back once its payload is skipped
+abbrev pub refuses : RequestHeader → Errno → Stepped
+refuses h errno =
+    if payload_length h == 0 then sends (phase.Gather part.Request) (reply_spelling (failure h.cookie errno))
+    else goes_on (phase.Skip (payload_length h) (refused.Write h.cookie errno))
+
+-- a request that was judged so
+abbrev pub begins : RequestHeader → Result Command Errno → Stepped
+begins h (Ok command.Disconnect) = goes_on phase.Closed
+begins h (Ok command.Write) = goes_on (phase.Gather (part.Payload h))
+begins h (Ok c) = gives c h []
+begins h (Err errno) = refuses h errno
+
+-- the header of a request, or bytes that are none
+abbrev pub after_header : Exported → Result RequestHeader Refusal → Stepped
+after_header e (Ok h) = begins h (judged e h)
+after_header e (Err refusal) = goes_on phase.Closed
+
+-- ---- all
+
+-- what comes of a part, once all of its bytes are there
+unfoldable pub step : Exported → Part → List ℕ → Stepped
+step e part.ClientFlags bytes = after_flags (number_in 4 0 bytes)
+step e (part.Option no_zeroes) bytes = after_option e no_zeroes bytes
+step e (part.OptionData no_zeroes option length) bytes = after_reply no_zeroes (option_replied e no_zeroes option bytes)
+step e part.Request bytes = after_header e (header_at bytes)
+step e (part.Payload h) bytes = gives command.Write h bytes
+
+-- what comes of a refusal, once what it skips is past
+unfoldable pub skipped : Refused → Stepped
+skipped (refused.LongOption no_zeroes option) = sends (phase.Gather (part.Option no_zeroes)) (option_reply option rep_err_too_big [])
+skipped (refused.Write cookie errno) = sends (phase.Gather part.Request) (reply_spelling (failure cookie errno))
+
+-- ---- what the code makes of it
+
+-- an option's answer is this one, unless memory ran out
+abbrev pub IsReplied : Result OptionReply Refusal → Replied → Type 0
+IsReplied (Ok a) reply = (a.sent.items ≡ reply.sent) × (a.next ≡ reply.next)
+IsReplied (Err refusal) reply = refusal ≡ NoMemory
+
+-- the bytes that go back
+abbrev pub made_bytes : Made → List ℕ
+made_bytes made.Nothing = []
+made_bytes (made.Bytes bytes) = bytes.items
+made_bytes (made.Reply reply) = reply_spelling reply
+made_bytes (made.Request request) = []
+
+-- the requests that are given out
+abbrev pub made_requests : Made → List Request
+made_requests (made.Request request) = request ∷ []
+made_requests _ = []
+
+-- a step without where its bytes lie
+abbrev pub view : Step → Stepped
+view s = record { phase = s.phase; sent = made_bytes s.made; requests = made_requests s.made }

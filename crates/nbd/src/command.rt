@@ -1,0 +1,90 @@
+//! Commands of a request, and their flags.
+ghost use Rattle.std.specs.Prelude.{◌≡◌};
+ghost use Rattle.nbd.specs.Judging.{kind_of, command_at, may_have, is_long, past_end};
+
+use crate::Errno;
+
+/// The most bytes of a READ or a WRITE, 32 MiB: what the protocol has clients rely on by default (NBD
+/// protocol, "Block size constraints").
+pub(crate) const MAX_REQUEST_BYTES: u32 = 33_554_432;
+
+/// NBD_CMD_FLAG_FUA: the reply waits until the data are on stable storage (NBD protocol, "Command flags").
+pub(crate) const FLAG_FUA: u16 = 1;
+
+/// NBD_CMD_FLAG_NO_HOLE: the zeros are written, and no hole is made (NBD protocol, "Command flags").
+pub(crate) const FLAG_NO_HOLE: u16 = 2;
+
+/// The command of a request (NBD protocol, "Request types").
+#[derive(Clone, Copy, Debug, PartialEq, Eq)]
+pub enum Command {
+    /// Reads blocks.
+    Read,
+    /// Writes blocks.
+    Write,
+    /// Ends the connection. It has no reply.
+    Disconnect,
+    /// Puts all completed writes on stable storage.
+    Flush,
+    /// Fills blocks with zeros.
+    WriteZeroes,
+}
+
+impl Command {
+    /// The command's number in a request.
+    pub fn number(self) -> u16
+        ensures { result ≡ kind_of self }
+    {
+        match self {
+            Command::Read => 0,
+            Command::Write => 1,
+            Command::Disconnect => 2,
+            Command::Flush => 3,
+            Command::WriteZeroes => 6,
+        }
+    }
+
+    /// The command that has a number; `None` for a number that no command of this server has.
+    pub fn with_number(number: u16) -> Option<Command>
+        ensures { result ≡ command_at number }
+    {
+        match number {
+            0 => Some(Command::Read),
+            1 => Some(Command::Write),
+            2 => Some(Command::Disconnect),
+            3 => Some(Command::Flush),
+            6 => Some(Command::WriteZeroes),
+            _ => None,
+        }
+    }
+
+    /// Whether a request with this command may have these flags: FUA goes with each command, as the protocol
+    /// demands of a server that offers it; NO_HOLE goes with WRITE_ZEROES only.
+    pub(crate) fn may_have(self, flags: u16) -> bool
+        ensures { result ≡ may_have self flags }
+    {
+        match self {
+            Command::WriteZeroes => flags <= FLAG_FUA + FLAG_NO_HOLE,
+            _ => flags <= FLAG_FUA,
+        }
+    }
+
+    /// Whether the length exceeds the most bytes of a payload, the request's or its reply's.
+    pub(crate) fn is_long(self, length: u32) -> bool
+        ensures { result ≡ is_long self length }
+    {
+        match self {
+            Command::WriteZeroes => false,
+            _ => length > MAX_REQUEST_BYTES,
+        }
+    }
+
+    /// The error for a range past the device's end.
+    pub(crate) fn past_end(self) -> Errno
+        ensures { result ≡ past_end self }
+    {
+        match self {
+            Command::Write | Command::WriteZeroes => Errno::NoSpace,
+            _ => Errno::Invalid,
+        }
+    }
+}

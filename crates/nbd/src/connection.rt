@@ -1,0 +1,205 @@
+//! The server's side of one connection.
+ghost use Rattle.std.specs.Prelude.{◌≡◌, ◌+◌, ◌<◌, ◌≤◌, ◌++◌, [], length, IfErr, OnErr, OnOk, IsTrue, ◌↔◌};
+ghost use Rattle.blocks.specs.declared.refusal.Refusal.TheVariants.{NoMemory};
+ghost use Rattle.nbd.specs.declared.phase.Phase.TheVariants as phase;
+ghost use Rattle.nbd.specs.declared.phase.Part.TheVariants as part;
+ghost use Rattle.std.specs.List.{AllByRecursion};
+ghost use Rattle.nbd.specs.Inside.{IsInside};
+ghost use Rattle.nbd.specs.Machine.{Adds, Begins, IsPortion, Waits, fed, after_step};
+ghost use Rattle.nbd.specs.Steps.{view};
+
+use crate::phase::{Part, Phase};
+use crate::step::{Step, end_skip, take_part};
+use crate::{Export, Output};
+use blocks::Refusal;
+use std::alloc::Global;
+use std::marker::Model;
+use std::mem;
+
+/// The server's side of one connection. It takes the client's bytes in any pieces, and produces the bytes to
+/// send back and the requests to serve. The server sends [`greeting`](crate::greeting) first.
+#[derive(Drop)]
+pub struct Connection {
+    alloc: Global,
+    export: Export,
+    phase: Phase,
+    // The bytes so far of the part that the phase gathers; empty in any other phase.
+    held: Vec<u8>,
+}
+
+impl Model for Connection {
+    ghost use Rattle.nbd.specs.Machine.{Machine, Waits};
+
+    ghost Value = { Machine };
+
+    ghost view = { λ c. record { export = c.export; phase = c.phase; held = c.held.items } };
+
+    ghost invariant = { λ c. Waits c.export c.phase c.held.items };
+}
+
+impl Connection {
+    /// A connection whose client has sent nothing yet. It takes no memory.
+    pub fn new(alloc: Global, export: Export) -> Connection
+        ensures { result ≡ record {
+          export = export;
+          phase = phase.Gather part.ClientFlags;
+          held = [];
+        } }
+    {
+        Connection {
+            alloc,
+            export,
+            phase: Phase::Gather(Part::ClientFlags),
+            held: Vec::new(alloc),
+        }
+    }
+
+    /// Whether the connection is closed: the client disconnected or broke the protocol, or memory ran out.
+    /// The caller still serves the requests that it has, sends their replies, and then closes the socket.
+    pub fn is_closed(&self) -> bool
+        ensures { IsTrue result ↔ (self.now.phase ≡ phase.Closed) }
+    {
+        matches!(self.phase, Phase::Closed)
+    }
+
+    /// Takes the client's next bytes, and appends to `out` the bytes to send back and the requests to serve.
+    /// It does not matter how the bytes are cut.
+    ///
+    /// A request that [`Export::judge`] refuses gets one error reply, in `out`, and is not given to the
+    /// caller; the payload of a refused WRITE is skipped and never kept. A closed connection ignores all
+    /// further bytes. `NoMemory` (7), the only refusal, closes the connection and leaves `out` as it was.
+    pub fn feed(&mut self, piece: &[u8], out: &mut Output) -> Result<(), Refusal>
+        ensures machine { OnOk result (self.new ≡ (fed self.old piece.now).machine) }
+        ensures sent { OnOk result (out.new.bytes.items
+            ≡ out.old.bytes.items ++ (fed self.old piece.now).sent) }
+        ensures given { OnOk result (out.new.requests.items
+            ≡ out.old.requests.items ++ (fed self.old piece.now).requests) }
+        ensures closed { OnErr result (self.new.phase ≡ phase.Closed) }
+        ensures same_bytes { OnErr result (out.new.bytes.items ≡ out.old.bytes.items) }
+        ensures same_requests { OnErr result (out.new.requests.items ≡ out.old.requests.items) }
+        ensures refused { IfErr result (λ e. e ≡ NoMemory) }
+        // Each request lies inside the device.
+        ensures inside { AllByRecursion (IsInside self.old.export.blocks) (fed self.old piece.now).requests }
+        // The bytes that the connection holds between two calls.
+        ensures bounded { length self.new.held ≤ 28 + 33554432 }
+    {
+        self.is_waiting();
+        let sent = out.bytes.len();
+        let given = out.requests.len();
+        let taken = self.take_all(piece, out);
+        if taken.is_err() {
+            out.bytes.truncate(sent);
+            out.requests.truncate(given);
+            self.close();
+        }
+        self.is_waiting();
+        taken
+    }
+
+    /// Proof hint: brings the invariant of the phase and the bound on the held bytes into scope.
+    fn is_waiting(&self)
+        ensures waits { Waits self.now.export self.now.phase self.now.held }
+        ensures bounded { length self.now.held ≤ 28 + 33554432 }
+    {
+        let _phase = self.phase;
+    }
+
+    /// Closes the connection.
+    fn close(&mut self)
+        ensures phase { self.new.phase ≡ phase.Closed }
+        ensures held { self.new.held ≡ [] }
+    {
+        self.phase = Phase::Closed;
+        self.held.clear();
+    }
+
+    /// Takes a piece, portion after portion. An error may leave some output in `out`.
+    fn take_all(&mut self, piece: &[u8], out: &mut Output) -> Result<(), Refusal>
+        ensures adds { OnOk result (Adds (fed self.old piece.now) self.new
+            out.old.bytes.items out.new.bytes.items out.old.requests.items out.new.requests.items) }
+        ensures begins { Begins out.old.bytes.items out.new.bytes.items }
+        ensures begins_given { Begins out.old.requests.items out.new.requests.items }
+        ensures refused { IfErr result (λ e. e ≡ NoMemory) }
+    {
+        let mut rest = piece;
+        while !rest.is_empty() {
+            let (now, later) = rest.split_at(self.portion(rest.len()));
+            self.take(now, out)?;
+            rest = later;
+        }
+        Ok(())
+    }
+
+    /// How many of the next `count` bytes to take at once: at most as many as the phase still needs.
+    fn portion(&self, count: usize) -> usize
+        requires { 0 < count }
+        ensures some { 0 < result }
+        ensures within { result ≤ count }
+        ensures portion { IsPortion self.now.phase self.now.held result }
+    {
+        match self.phase {
+            Phase::Gather(part) => (part.wanted() - self.held.len()).min(count),
+            Phase::Skip { left, .. } => (left as usize).min(count),
+            Phase::Closed => count,
+        }
+    }
+
+    /// Takes one portion. An error leaves `out` as it was.
+    fn take(&mut self, bytes: &[u8], out: &mut Output) -> Result<(), Refusal>
+        requires some { 0 < length bytes.now }
+        requires portion { IsPortion self.old.phase self.old.held (length bytes.now) }
+        ensures adds { OnOk result (Adds (fed self.old bytes.now) self.new
+            out.old.bytes.items out.new.bytes.items out.old.requests.items out.new.requests.items) }
+        ensures same_bytes { OnErr result (out.new.bytes.items ≡ out.old.bytes.items) }
+        ensures same_requests { OnErr result (out.new.requests.items ≡ out.old.requests.items) }
+        ensures refused { IfErr result (λ e. e ≡ NoMemory) }
+    {
+        let phase = self.phase;
+        match phase {
+            Phase::Gather(part) if self.held.len() + bytes.len() < part.wanted() => {
+                self.held.extend_from_slice(bytes)?;
+                Ok(())
+            }
+            Phase::Gather(part) => {
+                let mut held = mem::replace(&mut self.held, Vec::new(self.alloc));
+                held.extend_from_slice(bytes)?;
+                let step = take_part(self.alloc, &self.export, part, &mut held)?;
+                held.clear();
+                self.turn(step, held, out)
+            }
+            Phase::Skip { left, refused } if bytes.len() < left as usize => {
+                self.phase = Phase::Skip {
+                    left: left - bytes.len() as u32,
+                    refused,
+                };
+                Ok(())
+            }
+            Phase::Skip { refused, .. } => {
+                let step = end_skip(self.alloc, refused)?;
+                let held = mem::replace(&mut self.held, Vec::new(self.alloc));
+                self.turn(step, held, out)
+            }
+            Phase::Closed => Ok(()),
+        }
+    }
+
+    /// Applies a step: appends its output and enters its phase, with nothing held. It reserves exactly the
+    /// bytes of the next part, at most 32 MiB. An error leaves `out` as it was.
+    fn turn(&mut self, step: Step, mut held: Vec<u8>, out: &mut Output) -> Result<(), Refusal>
+        requires empty { held.items ≡ [] }
+        requires waits { Waits self.old.export step.phase [] }
+        ensures adds { OnOk result (Adds (after_step self.old.export (view step)) self.new
+            out.old.bytes.items out.new.bytes.items out.old.requests.items out.new.requests.items) }
+        ensures same_bytes { OnErr result (out.new.bytes.items ≡ out.old.bytes.items) }
+        ensures same_requests { OnErr result (out.new.requests.items ≡ out.old.requests.items) }
+        ensures refused { IfErr result (λ e. e ≡ NoMemory) }
+    {
+        if let Phase::Gather(part) = step.phase {
+            held.reserve_exact(part.wanted())?;
+        }
+        out.put(step.made)?;
+        self.phase = step.phase;
+        self.held = held;
+        Ok(())
+    }
+}

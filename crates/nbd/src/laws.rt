@@ -1,0 +1,49 @@
+//! Laws of the machine over whole messages. These functions do nothing: each contract is a law over the
+//! definitions that the contract of [`Connection::feed`](crate::Connection::feed) cites.
+ghost use Rattle.std.specs.Prelude.{◌≡◌, Bool, ℕ, ◌+◌, ◌<◌, List, ◌++◌, slice_index};
+ghost use Rattle.std.specs.List.{AllByRecursion};
+ghost use Rattle.blocks.specs.Ranges.{IsRange};
+ghost use Rattle.nbd.specs.Exports.{Exported};
+ghost use Rattle.nbd.specs.Machine.{Machine, fed, then_fed};
+ghost use Rattle.nbd.specs.Messages.{ClientOption, FitsOption, IsMessage, Message, Parses, answer, answers, at_option, at_request, message_bytes, option_answer, option_bytes, stream_of};
+ghost use Rattle.nbd.specs.Pieces.{Joins, pieces};
+
+/// It does not matter how the bytes are cut: two pieces, one after the other, have the output of both
+/// together.
+pub fn one_piece_after_another()
+    ensures { (m : Machine) (bytes piece : List ℕ)
+        → fed m (bytes ++ piece) ≡ then_fed (fed m bytes) (fed (fed m bytes).machine piece) }
+{}
+
+/// An option has one reply, whatever its length: with too many data it is refused, or closes the connection if
+/// it is EXPORT_NAME.
+pub fn one_reply_to_an_option()
+    ensures { (e : Exported) (no_zeroes : Bool) (o : ClientOption) → FitsOption o
+        → fed (at_option e no_zeroes) (option_bytes o) ≡ option_answer e no_zeroes o }
+{}
+
+/// A message has one answer: an accepted request is given out once, with its payload; a refused one gets one
+/// reply, with its cookie; there is no other output.
+pub fn one_answer()
+    ensures { (e : Exported) (m : Message) → IsMessage m
+        → fed (at_request e) (message_bytes m) ≡ answer e m }
+{}
+
+/// Each of several messages is answered in its turn.
+pub fn each_is_answered()
+    ensures { (e : Exported) (messages : List Message) → AllByRecursion IsMessage messages
+        → fed (at_request e) (stream_of messages) ≡ answers e messages }
+{}
+
+/// Whatever bytes a client sends, they are messages and then a rest that begins with no whole message; the
+/// output is the answers to those messages and nothing else.
+pub fn nothing_else()
+    ensures { (e : Exported) (bytes : List ℕ) → ((i : ℕ) → slice_index bytes i < 256) → Parses e bytes }
+{}
+
+/// The ranges of a request cover its blocks, each block once, and the device takes each of them.
+pub fn ranges_cover()
+    ensures joined { (first count : ℕ) → Joins first (pieces first count) (first + count) }
+    ensures each { (first count : ℕ)
+        → AllByRecursion (λ p. IsRange (first + count) p.0 p.1) (pieces first count) }
+{}

@@ -1,0 +1,69 @@
+//! Numbers among bytes, the highest byte first.
+ghost use Rattle.std.specs.Prelude.{◌≡◌, ◌+◌, ◌≤◌, ◌++◌, length};
+ghost use Rattle.packets.specs.Numbers.{number_in, number_bytes};
+
+use crate::short::Short;
+use byteorder::{BigEndian, ByteOrder};
+
+/// The number in the two bytes at a place.
+#[tactic(auto, unfolding(packets::specs::Numbers::number_in))]
+pub(crate) fn u16_at(bytes: &[u8], place: usize) -> u16
+    requires { place + 2 ≤ length bytes.now }
+    ensures { result ≡ number_in 2 place bytes.now }
+{
+    BigEndian::read_u16(&bytes[place..])
+}
+
+/// The number in the four bytes at a place.
+#[tactic(auto, unfolding(packets::specs::Numbers::number_in))]
+pub(crate) fn u32_at(bytes: &[u8], place: usize) -> u32
+    requires { place + 4 ≤ length bytes.now }
+    ensures { result ≡ number_in 4 place bytes.now }
+{
+    BigEndian::read_u32(&bytes[place..])
+}
+
+/// The number in the eight bytes at a place.
+#[tactic(auto, unfolding(packets::specs::Numbers::number_in))]
+pub(crate) fn u64_at(bytes: &[u8], place: usize) -> u64
+    requires { place + 8 ≤ length bytes.now }
+    ensures { result ≡ number_in 8 place bytes.now }
+{
+    BigEndian::read_u64(&bytes[place..])
+}
+
+/// Puts the two bytes of a number at the end.
+#[tactic(auto, unfolding(packets::specs::Numbers::number_bytes))]
+pub(crate) fn put_u16(out: &mut Short, number: u16)
+    requires { length out.old + 2 ≤ 28 }
+    ensures written { out.new ≡ out.old ++ number_bytes 2 number }
+    ensures len { length out.new ≡ length out.old + 2 }
+{
+    let mut bytes = [0; 2];
+    BigEndian::write_u16(&mut bytes, number);
+    out.put(&bytes);
+}
+
+/// Puts the four bytes of a number at the end.
+#[tactic(auto, unfolding(packets::specs::Numbers::number_bytes))]
+pub(crate) fn put_u32(out: &mut Short, number: u32)
+    requires { length out.old + 4 ≤ 28 }
+    ensures written { out.new ≡ out.old ++ number_bytes 4 number }
+    ensures len { length out.new ≡ length out.old + 4 }
+{
+    let mut bytes = [0; 4];
+    BigEndian::write_u32(&mut bytes, number);
+    out.put(&bytes);
+}
+
+/// Puts the eight bytes of a number at the end.
+#[tactic(auto, unfolding(packets::specs::Numbers::number_bytes))]
+pub(crate) fn put_u64(out: &mut Short, number: u64)
+    requires { length out.old + 8 ≤ 28 }
+    ensures written { out.new ≡ out.old ++ number_bytes 8 number }
+    ensures len { length out.new ≡ length out.old + 8 }
+{
+    let mut bytes = [0; 8];
+    BigEndian::write_u64(&mut bytes, number);
+    out.put(&bytes);
+}

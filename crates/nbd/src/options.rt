@@ -1,0 +1,267 @@
+//! The handshake: the greeting, and the reply to each option.
+ghost use Rattle.std.specs.Prelude.{◌≡◌, ◌+◌, ◌≤◌, ◌++◌, [], length, IfOk, OnOk};
+ghost use Rattle.std.specs.Option.{option_copied};
+ghost use Rattle.nbd.specs.Options.{greeting, option_reply, size_and_flags, info_export, info_block_size, is_named, asked_name, export_name, listed, informed, informed_of, option_replied, replies};
+ghost use Rattle.nbd.specs.Steps.{IsReplied};
+
+use crate::numbers::{put_u16, put_u32, put_u64, u16_at, u32_at};
+use crate::{Export, Short};
+use blocks::Refusal;
+use std::alloc::{AllocError, Global};
+
+/// IHAVEOPT, which begins each option.
+pub(crate) const OPTION_MAGIC: u64 = 0x4948_4156_454F_5054;
+
+/// NBD_OPT_EXPORT_NAME.
+pub(crate) const OPT_EXPORT_NAME: u32 = 1;
+
+const OPT_ABORT: u32 = 2;
+
+const OPT_LIST: u32 = 3;
+
+const OPT_INFO: u32 = 6;
+
+const OPT_GO: u32 = 7;
+
+const REP_ACK: u32 = 1;
+
+const REP_SERVER: u32 = 2;
+
+const REP_INFO: u32 = 3;
+
+const REP_ERR_UNSUP: u32 = 0x8000_0001;
+
+const REP_ERR_INVALID: u32 = 0x8000_0003;
+
+const REP_ERR_UNKNOWN: u32 = 0x8000_0006;
+/// NBD_REP_ERR_TOO_BIG.
+pub(crate) const REP_ERR_TOO_BIG: u32 = 0x8000_0009;
+
+/// The zeros that end the reply to EXPORT_NAME unless the client set NO_ZEROES.
+const EXPORT_NAME_ZEROS: [u8; 124] = [0; 124];
+
+/// What follows an option.
+#[derive(Clone, Copy, Debug, PartialEq, Eq)]
+pub(crate) enum Next {
+    /// The next option.
+    Negotiate,
+    /// Requests.
+    Transmit,
+    /// The end of the connection.
+    Close,
+}
+
+/// The reply to an option.
+#[derive(Drop)]
+pub(crate) struct OptionReply {
+    /// The bytes to send back.
+    pub(crate) sent: Vec<u8>,
+    /// What follows.
+    pub(crate) next: Next,
+}
+
+/// The 18 bytes that a server sends first (NBD protocol, "Fixed newstyle negotiation").
+#[tactic(auto, unfolding(crate::specs::Options::greeting))]
+pub fn greeting() -> Short
+    ensures { result ≡ greeting }
+{
+    let mut out = Short::new();
+    put_u64(&mut out, 0x4E42_444D_4147_4943);
+    put_u64(&mut out, OPTION_MAGIC);
+    put_u16(&mut out, 3);
+    out
+}
+
+/// The reply to an option with these data (NBD protocol, "Option types"). `NoMemory` (7) is the only
+/// refusal.
+#[tactic(auto, unfolding(crate::specs::Options::option_replied))]
+pub(crate) fn reply_to_option(
+    alloc: Global,
+    export: &Export,
+    no_zeroes: bool,
+    option: u32,
+    bytes: &[u8],
+) -> Result<OptionReply, Refusal>
+    ensures { IsReplied result (option_replied export.now no_zeroes option bytes.now) }
+{
+    match option {
+        OPT_EXPORT_NAME => export_name(alloc, export, no_zeroes, bytes),
+        OPT_ABORT => Ok(OptionReply {
+            sent: replied(alloc, OPT_ABORT, REP_ACK)?,
+            next: Next::Close,
+        }),
+        OPT_LIST => list(alloc, export, bytes),
+        OPT_INFO => inform(alloc, export, OPT_INFO, Next::Negotiate, bytes),
+        OPT_GO => inform(alloc, export, OPT_GO, Next::Transmit, bytes),
+        _ => refuse(alloc, option, REP_ERR_UNSUP),
+    }
+}
+
+/// A reply of this type and no data; the handshake continues.
+pub(crate) fn refuse(alloc: Global, option: u32, kind: u32) -> Result<OptionReply, Refusal>
+    ensures { IsReplied result (replies option kind) }
+{
+    Ok(OptionReply {
+        sent: replied(alloc, option, kind)?,
+        next: Next::Negotiate,
+    })
+}
+
+/// The bytes of a reply without data.
+fn replied(alloc: Global, option: u32, kind: u32) -> Result<Vec<u8>, AllocError>
+    ensures { IfOk result (λ sent. sent.items ≡ option_reply option kind []) }
+{
+    let mut sent = Vec::new(alloc);
+    put_reply(&mut sent, option, kind, &[])?;
+    Ok(sent)
+}
+
+/// Appends a reply.
+#[tactic(auto, unfolding(crate::specs::Options::option_reply))]
+fn put_reply(out: &mut Vec<u8>, option: u32, kind: u32, bytes: &[u8]) -> Result<(), AllocError>
+    requires { length bytes.now ≤ 4100 }
+    ensures { OnOk result (out.new.items ≡ out.old.items ++ option_reply option kind bytes.now) }
+{
+    let mut head = Short::new();
+    put_u64(&mut head, 0x0003_E889_0455_65A9);
+    put_u32(&mut head, option);
+    put_u32(&mut head, kind);
+    put_u32(&mut head, bytes.len() as u32);
+    out.extend_from_slice(head.as_slice())?;
+    out.extend_from_slice(bytes)?;
+    Ok(())
+}
+
+/// Appends the device's size in bytes and the transmission flags.
+#[tactic(auto, unfolding(crate::specs::Options::size_and_flags))]
+fn put_size_and_flags(out: &mut Short, export: &Export)
+    requires { length out.old + 10 ≤ 28 }
+    ensures { out.new ≡ out.old ++ size_and_flags export.now }
+{
+    put_u64(out, export.bytes());
+    put_u16(out, 333);
+}
+
+/// EXPORT_NAME: the export's size; for another name the connection closes, since the option has no error reply.
+fn export_name(
+    alloc: Global,
+    export: &Export,
+    no_zeroes: bool,
+    name: &[u8],
+) -> Result<OptionReply, Refusal>
+    ensures { IsReplied result (export_name export.now no_zeroes name.now) }
+{
+    let mut sent = Vec::new(alloc);
+    if !is_named(export, name) {
+        return Ok(OptionReply {
+            sent,
+            next: Next::Close,
+        });
+    }
+    let mut head = Short::new();
+    put_size_and_flags(&mut head, export);
+    sent.extend_from_slice(head.as_slice())?;
+    if !no_zeroes {
+        sent.extend_from_slice(&EXPORT_NAME_ZEROS)?;
+    }
+    Ok(OptionReply {
+        sent,
+        next: Next::Transmit,
+    })
+}
+
+/// Whether a name is the export's. The empty name is the default export, which is this one.
+fn is_named(export: &Export, name: &[u8]) -> bool
+    ensures { result ≡ is_named export.now name.now }
+{
+    name.is_empty() || name == export.name().as_bytes()
+}
+
+/// LIST: the export's name.
+fn list(alloc: Global, export: &Export, bytes: &[u8]) -> Result<OptionReply, Refusal>
+    ensures { IsReplied result (listed export.now bytes.now) }
+{
+    if !bytes.is_empty() {
+        return refuse(alloc, OPT_LIST, REP_ERR_INVALID);
+    }
+    let name = export.name().as_bytes();
+    let mut length = Short::new();
+    put_u32(&mut length, name.len() as u32);
+    let mut server = Vec::new(alloc);
+    server.extend_from_slice(length.as_slice())?;
+    server.extend_from_slice(name)?;
+    let mut sent = Vec::new(alloc);
+    put_reply(&mut sent, OPT_LIST, REP_SERVER, server.as_slice())?;
+    put_reply(&mut sent, OPT_LIST, REP_ACK, &[])?;
+    Ok(OptionReply {
+        sent,
+        next: Next::Negotiate,
+    })
+}
+
+/// INFO or GO: the export's size and its block sizes, whether or not the client asked for them.
+fn inform(
+    alloc: Global,
+    export: &Export,
+    option: u32,
+    next: Next,
+    bytes: &[u8],
+) -> Result<OptionReply, Refusal>
+    ensures { IsReplied result (informed_of export.now option next (asked_name bytes.now)) }
+{
+    match asked_name(bytes) {
+        None => refuse(alloc, option, REP_ERR_INVALID),
+        Some(name) if !is_named(export, name) => refuse(alloc, option, REP_ERR_UNKNOWN),
+        Some(_) => Ok(OptionReply {
+            sent: informed(alloc, export, option)?,
+            next,
+        }),
+    }
+}
+
+/// The name in the data of INFO or GO, if the data are well formed.
+#[tactic(auto, unfolding(crate::specs::Options::asked_name))]
+fn asked_name(bytes: &[u8]) -> Option<&[u8]>
+    ensures { option_copied result ≡ asked_name bytes.now }
+{
+    if bytes.len() < 6 {
+        return None;
+    }
+    let name_length = u32_at(bytes, 0) as usize;
+    if bytes.len() < name_length + 6 {
+        return None;
+    }
+    let requests = u16_at(bytes, 4 + name_length) as usize;
+    if bytes.len() != name_length + 6 + 2 * requests {
+        return None;
+    }
+    Some(&bytes[4..4 + name_length])
+}
+
+/// The replies with the export's size and its block sizes.
+fn informed(alloc: Global, export: &Export, option: u32) -> Result<Vec<u8>, AllocError>
+    ensures { IfOk result (λ sent. sent.items ≡ (informed export.now option Next.Negotiate).sent) }
+{
+    let mut size = Short::new();
+    put_u16(&mut size, 0);
+    put_size_and_flags(&mut size, export);
+    let mut sent = Vec::new(alloc);
+    put_reply(&mut sent, option, REP_INFO, size.as_slice())?;
+    put_reply(&mut sent, option, REP_INFO, block_sizes().as_slice())?;
+    put_reply(&mut sent, option, REP_ACK, &[])?;
+    Ok(sent)
+}
+
+/// The least, preferred and most bytes of a request. A client that sends more at once is served too, up to
+/// 32 MiB.
+#[tactic(auto, unfolding(crate::specs::Options::info_block_size))]
+fn block_sizes() -> Short
+    ensures { result ≡ info_block_size }
+{
+    let mut out = Short::new();
+    put_u16(&mut out, 3);
+    put_u32(&mut out, 4096);
+    put_u32(&mut out, 4096);
+    put_u32(&mut out, 131_072);
+    out
+}
