@@ -1,9 +1,10 @@
-//! How fast frames of one block go through a link between two threads, and through one in one thread, beside
-//! a plain copy of the same bytes.
+//! How fast frames of one block, and acknowledgements, go through a link between two threads, and through one
+//! in one thread, beside a plain copy of the bytes of a frame of one block.
 
 mod frames;
 mod measure;
 
+use crate::links::frames::Sample;
 use std::sync::Wait;
 use std::thread::Threads;
 
@@ -14,9 +15,28 @@ pub(crate) fn measure_all(
     count: u32,
 ) -> anyhow::Result<()> {
     let alloc = rt.alloc();
+    let write = Sample::write(alloc)?;
+    let ack = Sample::Acknowledgement;
     measure::copied(rt, alloc, count)?;
     measure::buffers(rt, alloc, count)?;
-    measure::encoded(rt, alloc, count)?;
-    measure::one_thread(threads, rt, alloc, count)?;
-    measure::two_threads(threads, rt, alloc, count)
+    measure::encoded(rt, alloc, "encoded", &write, count)?;
+    measure::one_thread(threads, rt, alloc, "one thread", &write, count)?;
+    measure::two_threads(threads, rt, alloc, "two threads", write, count)?;
+    measure::encoded(rt, alloc, "acknowledgement encoded", &ack, count)?;
+    measure::one_thread(
+        threads,
+        rt,
+        alloc,
+        "acknowledgement, one thread",
+        &ack,
+        count,
+    )?;
+    measure::two_threads(
+        threads,
+        rt,
+        alloc,
+        "acknowledgement, two threads",
+        ack,
+        count,
+    )
 }

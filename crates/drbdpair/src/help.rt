@@ -109,8 +109,25 @@ three lines; then no image is changed. R is one of these:
 
 /// The exit statuses of a run.
 const RUN_STATUSES: &str = "
-Exit statuses: 0 done; 1 a file, the output or memory failed, or an image is of
-another length; 2 wrong usage; 3 a refusal other than 7.
+Exit statuses: 0 done; 1 a file, a socket, the output or memory failed, or an
+image is of another length; 2 wrong usage; 3 a refusal other than 7.
+";
+
+/// What a run over sockets does.
+const TCP: &str = "\
+This is run, but the frames of each direction go over a socket on 127.0.0.1, in
+this same process, and the link is not cut: see run --help for what is written,
+for the images, and for the three lines. If a socket fails, both ends of the
+link close, the writers go on without it, and the blocks that may differ are
+marked.
+
+  tcp --writers 4 --writes 50
+                    => completed 200
+                    => settled 200
+                    => unmarked 0
+
+A refused start or write prints refused R on standard error, and none of the
+three lines; then no image is changed. R is one of these:
 ";
 
 /// The refusals in the order of their numbers.
@@ -155,6 +172,9 @@ pub(crate) struct ScriptHelp;
 /// The text below the usage of `run`.
 pub(crate) struct RunHelp;
 
+/// The text below the usage of `tcp`.
+pub(crate) struct TcpHelp;
+
 impl Display for ScriptHelp {
     fn fmt<W: fmt::Write>(&self, f: &mut fmt::Formatter<W>) -> fmt::Result {
         f.write_str(COMMANDS)?;
@@ -166,6 +186,14 @@ impl Display for ScriptHelp {
 impl Display for RunHelp {
     fn fmt<W: fmt::Write>(&self, f: &mut fmt::Formatter<W>) -> fmt::Result {
         f.write_str(RUN)?;
+        write_refusals(f)?;
+        f.write_str(RUN_STATUSES)
+    }
+}
+
+impl Display for TcpHelp {
+    fn fmt<W: fmt::Write>(&self, f: &mut fmt::Formatter<W>) -> fmt::Result {
+        f.write_str(TCP)?;
         write_refusals(f)?;
         f.write_str(RUN_STATUSES)
     }

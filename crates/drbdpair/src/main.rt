@@ -8,11 +8,20 @@ mod session;
 #[cfg(test)]
 mod tests;
 
+use numbers::Status;
+use std::io::{ErrorKind, Write};
 use std::process::ExitCode;
 use std::{env, io};
 
 fn main(rt: HostRuntime) -> io::Result<ExitCode> {
-    let words = env::args(&rt)?.collect::<Vec<String>>(rt.alloc())?;
+    let words = match env::args(&rt) {
+        Ok(words) => words.collect::<Vec<String>>(rt.alloc())?,
+        Err(error) if error.kind() == ErrorKind::InvalidData => {
+            writeln!(rt.stderr(), "error: an argument is not UTF-8")?;
+            return Ok(ExitCode::from(Status::Misused.code()));
+        }
+        Err(error) => return Err(error),
+    };
     let status = program::run_on(
         &rt,
         words.as_slice(),

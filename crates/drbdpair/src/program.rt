@@ -1,16 +1,18 @@
 //! The program's words.
 ghost use Rattle.std.specs.Prelude.{◌≤◌};
 
-use crate::help::{RunHelp, ScriptHelp};
+use crate::help::{RunHelp, ScriptHelp, TcpHelp};
 use crate::session;
 use clap::error::ErrorKind;
 use clap::{Arg, ArgMatches, Command, Error};
 use numbers::Status;
 use script::script_on;
+use session_run::Path;
 use std::alloc::{AllocError, Global};
 use std::convert::AsStr;
 use std::fs;
 use std::io::{IsTerminal, Read, Write};
+use std::net::{Net, TcpListener, TcpStream};
 use std::rt::Files;
 use std::sync::Wait;
 use std::thread::Threads;
@@ -20,11 +22,21 @@ const ABOUT: &str =
     "Runs a pair of mirrored disks, after DRBD 8.4, from a script or by threads: without words, the script of standard input.";
 
 /// The whole program over its words, the first of which is its name: `script FILE`, where `-` stands for `input`, or
-/// `run` with its options; no words at all mean `script -`. It returns the exit status. A long run shows how far it is
+/// `run` or `tcp` with its options; no words at all mean `script -`. It returns the exit status. A long run shows how far it is
 /// if `err` is a terminal.
 pub fn run_on<
     S: AsStr,
-    H: Files + AllocGlobal + Threads + Wait + Clock + Copy + Drop + Send + Sync + 'static,
+    H: Files
+        + AllocGlobal
+        + Net<Listener = TcpListener, Stream = TcpStream>
+        + Threads
+        + Wait
+        + Clock
+        + Copy
+        + Drop
+        + Send
+        + Sync
+        + 'static,
     I: Read,
     W: Write,
     E: Write + IsTerminal + Send,
@@ -35,32 +47,39 @@ pub fn run_on<
     if words.len() < 2 {
         return script_on(alloc, input, out, err);
     }
-    let helps = match helps(alloc) {
+    let helps = match help_texts(alloc) {
         Ok(helps) => helps,
         Err(error) => {
             let _ = writeln!(err, "{error}");
             return Status::Failed.code();
         }
     };
-    match matches_of(alloc, helps.0.as_str(), helps.1.as_str(), words) {
+    match matches_of(alloc, &helps, words) {
         Ok(matches) => run_matches(rt, &matches, input, out, err),
         Err(error) => explain(&error, out, err),
     }
 }
 
-/// The texts below the usages of `script` and of `run`.
-fn helps(alloc: Global) -> Result<(String, String), AllocError> {
-    Ok((
-        format!(in alloc; "{ScriptHelp}")?,
-        format!(in alloc; "{RunHelp}")?,
-    ))
+/// The texts below the usages.
+#[derive(Drop)]
+struct HelpTexts {
+    script: String,
+    run: String,
+    tcp: String,
+}
+
+fn help_texts(alloc: Global) -> Result<HelpTexts, AllocError> {
+    Ok(HelpTexts {
+        script: format!(in alloc; "{ScriptHelp}")?,
+        run: format!(in alloc; "{RunHelp}")?,
+        tcp: format!(in alloc; "{TcpHelp}")?,
+    })
 }
 
 /// The command line.
 fn matches_of<'a, S: AsStr>(
     alloc: Global,
-    script_help: &'a str,
-    run_help: &'a str,
+    helps: &'a HelpTexts,
     words: &'a [S],
 ) -> Result<ArgMatches<'a>, Error> {
     let file = Arg::new(alloc, "FILE")
@@ -68,20 +87,31 @@ fn matches_of<'a, S: AsStr>(
         .help("The script; - is the standard input");
     let script = Command::new(alloc, "script")
         .about("Runs a script, and prints what each command did")
-        .after_help(script_help)
+        .after_help(helps.script.as_str())
         .arg(file)?;
     Command::new(alloc, "drbdpair")
         .bin_name("drbdpair")?
         .about(ABOUT)
-        .after_help(script_help)
+        .after_help(helps.script.as_str())
         .subcommand_required(true)
         .subcommand(script)?
-        .subcommand(session::command(alloc, run_help)?)?
+        .subcommand(session::run(alloc, helps.run.as_str())?)?
+        .subcommand(session::tcp(alloc, helps.tcp.as_str())?)?
         .try_get_matches_from(words)
 }
 
 fn run_matches<
-    H: Files + AllocGlobal + Threads + Wait + Clock + Copy + Drop + Send + Sync + 'static,
+    H: Files
+        + AllocGlobal
+        + Net<Listener = TcpListener, Stream = TcpStream>
+        + Threads
+        + Wait
+        + Clock
+        + Copy
+        + Drop
+        + Send
+        + Sync
+        + 'static,
     I: Read,
     W: Write,
     E: Write + IsTerminal + Send,
@@ -89,16 +119,33 @@ fn run_matches<
     ensures { result ≤ 3 }
 {
     match matches.subcommand() {
-        Some(("run", words)) => session_run::run(
-            rt,
-            &session::options(words, err.is_terminal()),
-            &session::images(words),
-            out,
-            err,
-        ),
+        Some(("run", words)) => run_session(rt, words, Path::Link, out, err),
+        Some(("tcp", words)) => run_session(rt, words, Path::Sockets, out, err),
         Some((_, words)) => run_script(rt, words.get_str("FILE").unwrap_or("-"), input, out, err),
         None => script_on(rt.alloc(), input, out, err),
     }
+}
+
+/// Runs a session whose frames go this way.
+fn run_session<
+    H: Files
+        + AllocGlobal
+        + Net<Listener = TcpListener, Stream = TcpStream>
+        + Threads
+        + Wait
+        + Clock
+        + Copy
+        + Drop
+        + Send
+        + Sync
+        + 'static,
+    W: Write,
+    E: Write + IsTerminal + Send,
+>(rt: &H, words: &ArgMatches<'_>, path: Path, out: &mut W, err: &mut E) -> u8
+    ensures { result ≤ 3 }
+{
+    let options = session::options(words, path, err.is_terminal());
+    session_run::run(rt, &options, &session::images(words), out, err)
 }
 
 /// Runs the script of a file, or of `input` if the file is `-`.
@@ -130,7 +177,10 @@ fn explain<W: Write, E: Write>(error: &Error, out: &mut W, err: &mut E) -> u8
     if !error.use_stderr() {
         return match write!(out, "{error}") {
             Ok(()) => Status::Done.code(),
-            Err(_) => Status::Failed.code(),
+            Err(fault) => {
+                let _ = writeln!(err, "the output could not be written: {fault}");
+                Status::Failed.code()
+            }
         };
     }
     let _ = write!(err, "{error}");

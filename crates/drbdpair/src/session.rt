@@ -1,17 +1,42 @@
-//! The words of `run`: its options, and the files of both disks.
+//! The words of `run` and `tcp`: their options, and the files of both disks.
 use blocks::{MAX_BLOCKS, Protocol, Settings};
 use clap::builder::ValueParser;
 use clap::{Arg, ArgAction, ArgMatches, Command, Error, value_parser};
-use session_run::{Images, Options, Telling};
+use session_run::{Images, Options, Path, Telling};
 use std::alloc::Global;
 
-const ABOUT: &str = "Runs a session of writer threads, and prints what it came to";
+const RUN_ABOUT: &str = "Runs a session of writer threads, and prints what it came to";
+
+const TCP_ABOUT: &str = "Runs a session whose nodes are connected by sockets on 127.0.0.1";
 
 /// The values of `--protocol`.
 const PROTOCOLS: [&str; 3] = ["A", "B", "C"];
 
 /// The command `run`, with this help below its usage.
-pub(crate) fn command<'a>(alloc: Global, help: &'a str) -> Result<Command<'a>, Error> {
+pub(crate) fn run<'a>(alloc: Global, help: &'a str) -> Result<Command<'a>, Error> {
+    let cuts = number(
+        alloc,
+        "cuts",
+        "C",
+        "How often the link is cut and reconnected",
+        0,
+        100,
+        "0",
+    );
+    let command = Command::new(alloc, "run").about(RUN_ABOUT).after_help(help);
+    with_options(alloc, command.arg(cuts)?)
+}
+
+/// The command `tcp`, with this help below its usage. It takes the options of `run` but for `--cuts`.
+pub(crate) fn tcp<'a>(alloc: Global, help: &'a str) -> Result<Command<'a>, Error> {
+    with_options(
+        alloc,
+        Command::new(alloc, "tcp").about(TCP_ABOUT).after_help(help),
+    )
+}
+
+// The command with the options that `run` and `tcp` have alike.
+fn with_options<'a>(alloc: Global, command: Command<'a>) -> Result<Command<'a>, Error> {
     let protocol = option(
         alloc,
         "protocol",
@@ -27,9 +52,7 @@ pub(crate) fn command<'a>(alloc: Global, help: &'a str) -> Result<Command<'a>, E
             "Shows the status lines of both nodes on standard error, once a second and at the end",
         );
     Ok(
-        Command::new(alloc, "run")
-            .about(ABOUT)
-            .after_help(help)
+        command
             .arg(number(
                 alloc,
                 "blocks",
@@ -50,29 +73,25 @@ pub(crate) fn command<'a>(alloc: Global, help: &'a str) -> Result<Command<'a>, E
                 10_000,
                 "10",
             ))?
-            .arg(number(
-                alloc,
-                "cuts",
-                "C",
-                "How often the link is cut and reconnected",
-                0,
-                100,
-                "0",
-            ))?
             .arg(option(alloc, "local", "FILE", "The image of the local disk"))?
             .arg(option(alloc, "peer", "FILE", "The image of the peer's disk"))?
             .arg(status)?,
     )
 }
 
-/// What a run is to do. `progress` says whether a long run is to show how far it is.
-pub(crate) fn options(words: &ArgMatches<'_>, progress: bool) -> Options {
+/// What a run is to do, whose frames go this way. `progress` says whether a long run is to show how far it is.
+pub(crate) fn options(words: &ArgMatches<'_>, path: Path, progress: bool) -> Options {
+    let cuts = match path {
+        Path::Link => words.get_one("cuts").unwrap_or(0),
+        Path::Sockets => 0,
+    };
     Options {
         protocol: protocol(words),
         blocks: words.get_one("blocks").unwrap_or(Settings::STANDARD.blocks),
         writers: words.get_one("writers").unwrap_or(2),
         writes: words.get_one("writes").unwrap_or(10),
-        cuts: words.get_one("cuts").unwrap_or(0),
+        cuts,
+        path,
         telling: Telling {
             status: words.get_flag("status"),
             progress,

@@ -2,6 +2,7 @@
 use crate::program::run_on;
 use std::alloc::Global;
 use std::io::{IsTerminal, Write};
+use std::net::{Net, TcpListener, TcpStream};
 use std::process::Abort;
 use std::rt::Files;
 use std::sync::Wait;
@@ -73,7 +74,18 @@ impl IsTerminal for Said {
 
 /// Runs the program over these words with a script on its standard input.
 fn runs<
-    H: Abort + AllocGlobal + Files + Threads + Wait + Clock + Copy + Drop + Send + Sync + 'static,
+    H: Abort
+        + AllocGlobal
+        + Files
+        + Net<Listener = TcpListener, Stream = TcpStream>
+        + Threads
+        + Wait
+        + Clock
+        + Copy
+        + Drop
+        + Send
+        + Sync
+        + 'static,
 >(rt: &H, words: &[&str], out: &str, status: u8) -> Result<(), Fail> {
     let alloc = rt.alloc();
     let mut written = Vec::new(alloc);
@@ -133,6 +145,33 @@ fn help_is_asked_for(rt: HostRuntime) -> Result<(), Fail> {
         assert!(rt; text.contains("\nExit statuses: 0 done"));
     }
     Ok(())
+}
+
+/// The same over sockets, which are not cut.
+#[test]
+fn a_session_is_run_over_sockets(rt: HostRuntime) -> Result<(), Fail> {
+    let words = ["drbdpair", "tcp", "--writers", "4", "--writes", "50"];
+    runs(&rt, &words, "completed 200\nsettled 200\nunmarked 0\n", 0)?;
+    for protocol in ["A", "B", "C"] {
+        for writers in ["1", "16"] {
+            let words = [
+                "drbdpair",
+                "tcp",
+                "--protocol",
+                protocol,
+                "--writers",
+                writers,
+                "--writes",
+                "10",
+            ];
+            let out = match writers {
+                "1" => "completed 10\nsettled 10\nunmarked 0\n",
+                _ => "completed 160\nsettled 160\nunmarked 0\n",
+            };
+            runs(&rt, &words, out, 0)?;
+        }
+    }
+    runs(&rt, &["drbdpair", "tcp", "--cuts", "1"], "", 2)
 }
 
 /// Writers in threads of their own: all writes are completed and settled, also while the link is cut.

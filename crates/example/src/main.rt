@@ -1,9 +1,11 @@
 //! How another program uses the crates: two nodes over a link, one of them with a disk of the program's own,
-//! ten writes, a link that is lost, and the resync. It prints what was confirmed of each write.
+//! ten writes, a link that is lost, and the resync; then the same mirror worked by threads. It prints how each write was
+//! completed.
 #![tactic(auto)]
 
 mod disk;
 mod mirror;
+mod session;
 
 ghost use Rattle.std.specs.Prelude.{◌≤◌, ◌+◌};
 
@@ -11,8 +13,9 @@ use blocks::{MemStore, Refusal, Settings, Tuple};
 use bytes::Bytes;
 use disk::LooseDisk;
 use mirror::{Local, Peer, connect, work};
-use primary::{Kind, Primary};
+use primary::{Kind, Primary, Receipt};
 use secondary::Secondary;
+use session::written_by_threads;
 use std::alloc::Global;
 use std::io;
 use std::io::Print;
@@ -30,7 +33,14 @@ const ALIKE: Tuple = Tuple {
 };
 
 fn main(rt: HostRuntime) -> anyhow::Result<()> {
-    run(&rt, &rt, rt.alloc())
+    run(&rt, &rt, rt.alloc())?;
+    let receipt = written_by_threads(rt, rt.alloc())?;
+    println!(rt;
+        "by threads, block {}: {}",
+        receipt.first().0,
+        place(&receipt)
+    )?;
+    Ok(())
 }
 
 fn run<R: Wait + Copy + Drop>(out: &impl Print, rt: R, alloc: Global) -> anyhow::Result<()> {
@@ -106,11 +116,19 @@ fn confirmed<R: Wait + Drop>(rt: &impl Print, local: &mut Local<R, MemStore>) ->
             println!(rt; "write {number} is not completed")?;
             continue;
         };
-        let disks = match receipt.kind() {
-            Kind::Linked => "both disks",
-            Kind::Alone => "the primary's disk",
-        };
-        println!(rt; "write {number} of block {}: {disks}", receipt.first().0)?;
+        println!(rt;
+            "write {number} of block {}: {}",
+            receipt.first().0,
+            place(&receipt)
+        )?;
     }
     Ok(())
+}
+
+/// Which disks a completed write is on.
+fn place(receipt: &Receipt) -> &'static str {
+    match receipt.kind() {
+        Kind::Linked => "both disks",
+        Kind::Alone => "the primary's disk",
+    }
 }

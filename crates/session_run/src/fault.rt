@@ -12,6 +12,8 @@ pub(crate) enum Fault<'a> {
     Unread(&'a str, io::Error),
     /// The image has so many bytes, and not those of its blocks.
     WrongLength(&'a str, u64, u64),
+    /// The sockets could not be connected.
+    Unconnected(io::Error),
     /// The start, a write or the settlement was refused, or there was no memory (7).
     Refused(Refusal),
     /// The image could not be saved; the file is as it was.
@@ -43,6 +45,7 @@ impl fmt::Display for Fault<'_> {
                     "{file} has {found} bytes: an image of this device has {wanted}"
                 )
             }
+            Fault::Unconnected(error) => write!(f, "the sockets could not be connected: {error}"),
             Fault::Refused(refusal) => write!(f, "refused {}", refusal.number()),
             Fault::Unsaved(file, error) => write!(f, "{file} could not be saved: {error}"),
             Fault::Unwritten(error) => write!(f, "the output could not be written: {error}"),

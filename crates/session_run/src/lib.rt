@@ -5,12 +5,15 @@
 mod fault;
 mod images;
 mod options;
+mod parts;
+mod report;
 mod saving;
 mod session;
+mod sockets;
 mod telling;
 mod whole_run;
 mod work;
 
 pub use images::Images;
-pub use options::{Options, Telling};
+pub use options::{Options, Path, Telling};
 pub use whole_run::run;

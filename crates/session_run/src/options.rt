@@ -15,10 +15,21 @@ pub struct Options {
     pub writers: u32,
     /// Writes of each writer, 1 to 10,000, of one block each.
     pub writes: u32,
-    /// How often the link is cut and reconnected, 0 to 100.
+    /// How often the link is cut and reconnected, 0 to 100. Sockets are not reconnected: 0 over them.
     pub cuts: u32,
+    /// How frames go from one node to the other.
+    pub path: Path,
     /// What is told while the run goes on.
     pub telling: Telling,
+}
+
+/// How the frames of a run go from one node to the other.
+#[derive(Clone, Copy, Debug, PartialEq, Eq)]
+pub enum Path {
+    /// Through a link in this process.
+    Link,
+    /// Over sockets on 127.0.0.1, one for each direction.
+    Sockets,
 }
 
 /// What a run tells on standard error while it goes on.

@@ -1,5 +1,5 @@
-//! One session from its start to its settlement.
-ghost use Rattle.std.specs.Prelude.{◌≡◌, ◌*◌, ◌<◌, length, IfOk};
+//! A session over a link in this process, from its start to its settlement.
+ghost use Rattle.std.specs.Prelude.{◌≡◌, ◌*◌, ◌<◌, IfOk};
 ghost use Rattle.endpoint.specs.Calls.{IsNewIn, IsNewOut};
 ghost use Rattle.ruled_link.specs.Inward.{taking};
 ghost use Rattle.ruled_link.specs.Names.{row_of};
@@ -7,50 +7,18 @@ ghost use Rattle.ruled_link.specs.Names as names;
 ghost use Rattle.ruled_link.specs.Outward.{sending};
 
 use crate::options::Options;
+use crate::parts::parts;
+use crate::report::{Report, bring_together};
 use crate::work::work;
-use blocks::{MemStore, Refusal, Tuple};
-use primary::Receipt;
+use blocks::{MemStore, Refusal};
 use ruled_link::{RuledIn, RuledOut, ruled};
-use settle::settle;
-use status::{primary_line, secondary_line};
 use std::alloc::Global;
 use std::io::Write;
 use std::marker::Brand;
 use std::sync::Wait;
 use std::thread::Threads;
 use std::time::Clock;
-use volume::{Linked, Parts, Session, SessionPrimary, SessionSecondary};
-
-/// The identifiers of a disk that holds what it held when the pair was made.
-const FIRST: Tuple = Tuple {
-    current: 1,
-    bitmap: 0,
-    first_historical: 0,
-    second_historical: 0,
-};
-
-/// The identifiers of a disk of which nothing is known.
-const NONE: Tuple = Tuple {
-    current: 0,
-    bitmap: 0,
-    first_historical: 0,
-    second_historical: 0,
-};
-
-/// What a session came to, with both disks.
-#[derive(Drop)]
-pub(crate) struct Report {
-    /// Writes that were completed.
-    pub(crate) completed: u64,
-    /// Receipts that the settlement confirmed.
-    pub(crate) confirmed: u64,
-    /// Blocks without a mark on which the disks differ.
-    pub(crate) unmarked: u32,
-    /// The status lines of both nodes at the end, if they are wanted.
-    pub(crate) status: Option<(String, String)>,
-    pub(crate) local: MemStore,
-    pub(crate) peer: MemStore,
-}
+use volume::{Linked, Parts, Session};
 
 /// Runs a session over the images of two disks: starts it, makes all writes while the link is cut, ends it, and
 /// settles. On `err` it tells what the options want.
@@ -69,20 +37,13 @@ pub(crate) fn run_session<
 ) -> Result<Report, Refusal>
     ensures { IfOk result (λ report. report.completed ≡ options.now.writers * options.now.writes) }
 {
-    let (local, peer) = images;
-    let settings = options.settings();
-    settings.check()?;
-    let parts = Parts {
-        settings,
-        own: FIRST,
-        peer: if local == peer { FIRST } else { NONE },
-        marks: Vec::from_elem(alloc, false, settings.blocks as usize)?,
-        sync: 2,
-        loss: 3,
-    };
-    let disks = (MemStore::from_image(local)?, MemStore::from_image(peer)?);
-    let there = ruled(rt, alloc, settings.link)?;
-    let back = ruled(rt, alloc, settings.link)?;
+    let parts = parts(alloc, options, &images)?;
+    let disks = (
+        MemStore::from_image(images.0)?,
+        MemStore::from_image(images.1)?,
+    );
+    let there = ruled(rt, alloc, parts.settings.link)?;
+    let back = ruled(rt, alloc, parts.settings.link)?;
     run_named::<Brand, R, E>(rt, alloc, options, there, back, disks, parts, err)
 }
 
@@ -145,45 +106,4 @@ fn use_session<
             Err(first) => Err(first),
         },
     }
-}
-
-// Settles two nodes that are at rest, with the receipts of all writes.
-fn bring_together<L: Linked, R: Wait + Drop>(
-    alloc: Global,
-    options: &Options,
-    primary: SessionPrimary<R, L, MemStore>,
-    secondary: SessionSecondary<R, L, MemStore>,
-    receipts: &[Receipt],
-) -> Result<Report, Refusal>
-    ensures { IfOk result (λ report. report.completed ≡ length receipts.now) }
-{
-    let (mut primary, mut secondary) = (primary, secondary);
-    let settled = settle(&mut primary, &mut secondary, receipts);
-    let status = status(alloc, options, &primary, &secondary);
-    let (local, peer) = (primary.into_store(), secondary.into_store());
-    let settled = settled?;
-    Ok(Report {
-        completed: receipts.len() as u64,
-        confirmed: settled.confirmed,
-        unmarked: settled.unmarked,
-        status: status?,
-        local,
-        peer,
-    })
-}
-
-// The status lines of both nodes, if they are wanted.
-fn status<L: Linked, R: Wait + Drop>(
-    alloc: Global,
-    options: &Options,
-    primary: &SessionPrimary<R, L, MemStore>,
-    secondary: &SessionSecondary<R, L, MemStore>,
-) -> Result<Option<(String, String)>, Refusal> {
-    if !options.telling.status {
-        return Ok(None);
-    }
-    Ok(Some((
-        primary_line(alloc, primary)?,
-        secondary_line(alloc, secondary)?,
-    )))
 }

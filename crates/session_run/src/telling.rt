@@ -1,12 +1,11 @@
 //! What a run tells while it goes on.
 use crate::options::Options;
-use blocks::MemStore;
 use std::io;
 use std::io::Write;
 use std::sync::atomic::{AtomicU64, Ordering};
 use std::sync::{Condvar, Mutex, Wait};
 use std::time::{Clock, Duration};
-use volume::{Linked, Mirror};
+use volume::{Mirror, PrimaryHalf, SecondaryHalf};
 
 /// How long a run goes on before it tells something again, in seconds.
 const PERIOD_S: u64 = 1;
@@ -57,13 +56,12 @@ impl Course {
 }
 
 /// Tells what the options want, until the end. A failed write to `err` is no fault of the run.
-pub(crate) fn tell<R: Wait + Clock + Drop, L: Linked, E: Write>(
-    rt: &R,
-    mirror: &Mirror<R, L, MemStore, MemStore>,
-    options: &Options,
-    course: &Course,
-    err: &mut E,
-) {
+pub(crate) fn tell<
+    R: Wait + Clock + Drop,
+    A: PrimaryHalf + Drop,
+    B: SecondaryHalf + Drop,
+    E: Write,
+>(rt: &R, mirror: &Mirror<R, A, B>, options: &Options, course: &Course, err: &mut E) {
     let mut has_line = false;
     for _ in rt.forever() {
         if course.wait(rt) {
@@ -77,8 +75,8 @@ pub(crate) fn tell<R: Wait + Clock + Drop, L: Linked, E: Write>(
     }
 }
 
-fn tell_once<R: Wait + Clock + Drop, L: Linked, E: Write>(
-    mirror: &Mirror<R, L, MemStore, MemStore>,
+fn tell_once<R: Wait + Clock + Drop, A: PrimaryHalf + Drop, B: SecondaryHalf + Drop, E: Write>(
+    mirror: &Mirror<R, A, B>,
     options: &Options,
     course: &Course,
     err: &mut E,

@@ -3,11 +3,14 @@ ghost use Rattle.std.specs.Prelude.{◌≡◌, ◌≤◌};
 
 use crate::fault::Fault;
 use crate::images::{Images, load};
-use crate::options::Options;
+use crate::options::{Options, Path};
+use crate::report::Report;
 use crate::saving::save;
-use crate::session::{Report, run_session};
+use crate::session::run_session;
+use crate::sockets::{connect, run_over};
 use crate::telling::tell_status;
 use std::io::Write;
+use std::net::{Net, TcpListener, TcpStream};
 use std::rt::Files;
 use std::sync::Wait;
 use std::thread::Threads;
@@ -17,11 +20,21 @@ use std::time::Clock;
 /// and `unmarked 0`, X being the number of writes. Returns the exit status: 0 if all is done; 1 if a file, the
 /// output or memory failed, or an image has not as many bytes as its blocks; 3 for any other refusal.
 ///
-/// Faults are found in this order: options out of their ranges (15), the local image, the peer's, the start, the
-/// writes, saving. Then a line on `err` tells of the first, which for a refusal R is `refused R`; nothing is
+/// Faults are found in this order: options out of their ranges (15), the local image, the peer's, the sockets, the
+/// start, the writes, saving. Then a line on `err` tells of the first, which for a refusal R is `refused R`; nothing is
 /// printed, and if the fault came before saving, no image is changed. What the options want told goes to `err` too.
 pub fn run<
-    H: Files + AllocGlobal + Threads + Wait + Clock + Copy + Drop + Send + Sync + 'static,
+    H: Files
+        + AllocGlobal
+        + Net<Listener = TcpListener, Stream = TcpStream>
+        + Threads
+        + Wait
+        + Clock
+        + Copy
+        + Drop
+        + Send
+        + Sync
+        + 'static,
     W: Write,
     E: Write + Send,
 >(rt: &H, options: &Options, images: &Images<'_>, out: &mut W, err: &mut E) -> u8
@@ -38,7 +51,17 @@ pub fn run<
 
 fn run_images<
     'a,
-    H: Files + AllocGlobal + Threads + Wait + Clock + Copy + Drop + Send + Sync + 'static,
+    H: Files
+        + AllocGlobal
+        + Net<Listener = TcpListener, Stream = TcpStream>
+        + Threads
+        + Wait
+        + Clock
+        + Copy
+        + Drop
+        + Send
+        + Sync
+        + 'static,
     W: Write,
     E: Write + Send,
 >(
@@ -51,7 +74,7 @@ fn run_images<
     options.settings().check()?;
     let local = load(rt, images.local, options.blocks)?;
     let peer = load(rt, images.peer, options.blocks)?;
-    let mut report = run_session(*rt, rt.alloc(), options, (local, peer), err)?;
+    let mut report = run_disks(rt, options, (local, peer), err)?;
     if let Some(lines) = &report.status {
         let _ = tell_status(lines, err);
     }
@@ -59,6 +82,34 @@ fn run_images<
     match print(&report, out) {
         Ok(()) => Ok(()),
         Err(error) => Err(Fault::Unwritten(error)),
+    }
+}
+
+// Runs the session over two disks.
+fn run_disks<
+    'a,
+    H: Net<Listener = TcpListener, Stream = TcpStream>
+        + AllocGlobal
+        + Threads
+        + Wait
+        + Clock
+        + Copy
+        + Drop
+        + Send
+        + Sync
+        + 'static,
+    E: Write + Send,
+>(rt: &H, options: &Options, images: (Vec<u8>, Vec<u8>), err: &mut E) -> Result<Report, Fault<'a>> {
+    let report = match options.path {
+        Path::Link => run_session(*rt, rt.alloc(), options, images, err),
+        Path::Sockets => match connect(rt) {
+            Ok(ways) => run_over(*rt, rt.alloc(), options, images, ways, err),
+            Err(error) => return Err(Fault::Unconnected(error)),
+        },
+    };
+    match report {
+        Ok(report) => Ok(report),
+        Err(refusal) => Err(Fault::Refused(refusal)),
     }
 }
 

@@ -4,7 +4,7 @@ ghost use Rattle.std.specs.Thread.{IsSend, IsSync};
 
 use crate::options::{Options, byte, words};
 use crate::telling::{Course, tell};
-use blocks::{BLOCK_BYTES, MemStore, Refusal};
+use blocks::{BLOCK_BYTES, Refusal};
 use bytes::Bytes;
 use primary::Receipt;
 use std::alloc::Global;
@@ -13,7 +13,7 @@ use std::sync::Wait;
 use std::thread;
 use std::thread::Threads;
 use std::time::{Clock, Duration};
-use volume::{Linked, Mirror};
+use volume::{Mirror, PrimaryHalf, SecondaryHalf};
 
 /// How long a thread waits between two cuts, and before it asks the session again, in milliseconds.
 const PAUSE_MS: u64 = 1;
@@ -22,12 +22,13 @@ const PAUSE_MS: u64 = 1;
 /// writes once the disks are alike or the link is down. The first writer that is refused decides what is refused; every other one still makes its writes.
 pub(crate) fn work<
     R: Threads + Wait + Clock + Copy + Drop + Send + Sync + 'static,
-    L: Linked + Send + Sync + 'static,
+    A: PrimaryHalf + Drop + Send + Sync + 'static,
+    B: SecondaryHalf + Drop + Send + Sync + 'static,
     E: Write + Send,
 >(
     rt: &R,
     alloc: Global,
-    mirror: &Mirror<R, L, MemStore, MemStore>,
+    mirror: &Mirror<R, A, B>,
     options: &Options,
     err: &mut E,
 ) -> Result<Vec<Receipt>, Refusal>
@@ -42,7 +43,7 @@ pub(crate) fn work<
         rt,
         || { tell(rt, mirror, options, &course, err) },
         || -> Result<Vec<Receipt>, Refusal>
-            requires { IsSend R.row × IsSync R.row × IsSend L.row × IsSync L.row × (0 < options.now.blocks) }
+            requires { IsSend R.row × IsSync R.row × IsSend A.row × IsSync A.row × IsSend B.row × IsSync B.row × (0 < options.now.blocks) }
         {
             let worked = write_and_cut(rt, alloc, mirror, options, &course);
             course.end(rt);
@@ -55,11 +56,12 @@ pub(crate) fn work<
 // Makes all writes while the link is cut, and then waits until the disks are alike, if the link is up.
 fn write_and_cut<
     R: Threads + Wait + Clock + Copy + Drop + Send + Sync + 'static,
-    L: Linked + Send + Sync + 'static,
+    A: PrimaryHalf + Drop + Send + Sync + 'static,
+    B: SecondaryHalf + Drop + Send + Sync + 'static,
 >(
     rt: &R,
     alloc: Global,
-    mirror: &Mirror<R, L, MemStore, MemStore>,
+    mirror: &Mirror<R, A, B>,
     options: &Options,
     course: &Course,
 ) -> Result<Vec<Receipt>, Refusal>
@@ -70,7 +72,7 @@ fn write_and_cut<
         rt,
         || -> Result<(), Refusal> { cut_all(rt, mirror, options.cuts) },
         || -> Result<Vec<Receipt>, Refusal>
-            requires { IsSend R.row × IsSync R.row × IsSend L.row × IsSync L.row × (0 < options.now.blocks) }
+            requires { IsSend R.row × IsSync R.row × IsSend A.row × IsSync A.row × IsSend B.row × IsSync B.row × (0 < options.now.blocks) }
         { write_all(rt, alloc, mirror, options, course) },
     );
     rest(rt, mirror);
@@ -80,7 +82,10 @@ fn write_and_cut<
 }
 
 // Waits until the link has nothing left to do.
-fn rest<R: Wait + Clock + Drop, L: Linked>(rt: &R, mirror: &Mirror<R, L, MemStore, MemStore>) {
+fn rest<R: Wait + Clock + Drop, A: PrimaryHalf + Drop, B: SecondaryHalf + Drop>(
+    rt: &R,
+    mirror: &Mirror<R, A, B>,
+) {
     for _ in rt.forever() {
         if mirror.is_quiet() {
             break;
@@ -92,11 +97,12 @@ fn rest<R: Wait + Clock + Drop, L: Linked>(rt: &R, mirror: &Mirror<R, L, MemStor
 // Lets each writer make its writes in a thread of its own, and gathers the receipts.
 fn write_all<
     R: Threads + Wait + Clock + Copy + Drop + Send + Sync + 'static,
-    L: Linked + Send + Sync + 'static,
+    A: PrimaryHalf + Drop + Send + Sync + 'static,
+    B: SecondaryHalf + Drop + Send + Sync + 'static,
 >(
     rt: &R,
     alloc: Global,
-    mirror: &Mirror<R, L, MemStore, MemStore>,
+    mirror: &Mirror<R, A, B>,
     options: &Options,
     course: &Course,
 ) -> Result<Vec<Receipt>, Refusal>
@@ -123,9 +129,9 @@ fn write_all<
 }
 
 // Makes the writes of one writer, one after another.
-fn write_turns<R: Wait + Clock + Drop, L: Linked>(
+fn write_turns<R: Wait + Clock + Drop, A: PrimaryHalf + Drop, B: SecondaryHalf + Drop>(
     alloc: Global,
-    mirror: &Mirror<R, L, MemStore, MemStore>,
+    mirror: &Mirror<R, A, B>,
     options: &Options,
     writer: u32,
     course: &Course,
@@ -143,9 +149,9 @@ fn write_turns<R: Wait + Clock + Drop, L: Linked>(
 }
 
 // Cuts the link and reconnects it, so many times.
-fn cut_all<R: Wait + Clock + Drop, L: Linked>(
+fn cut_all<R: Wait + Clock + Drop, A: PrimaryHalf + Drop, B: SecondaryHalf + Drop>(
     rt: &R,
-    mirror: &Mirror<R, L, MemStore, MemStore>,
+    mirror: &Mirror<R, A, B>,
     cuts: u32,
 ) -> Result<(), Refusal> {
     for round in 1..=cuts {
@@ -157,9 +163,9 @@ fn cut_all<R: Wait + Clock + Drop, L: Linked>(
 }
 
 // Reconnects once the secondary's disk has done its items.
-fn reconnect<R: Wait + Clock + Drop, L: Linked>(
+fn reconnect<R: Wait + Clock + Drop, A: PrimaryHalf + Drop, B: SecondaryHalf + Drop>(
     rt: &R,
-    mirror: &Mirror<R, L, MemStore, MemStore>,
+    mirror: &Mirror<R, A, B>,
     round: u32,
 ) -> Result<(), Refusal> {
     let (sync, loss) = words(round);

@@ -1,24 +1,24 @@
 //! What callers do with a session while it runs.
 ghost use Rattle.std.specs.Prelude.{◌≡◌, ◌*◌, length, true, IfOk};
 
-use crate::worker::Shared;
-use blocks::{BLOCK_BYTES, Refusal, Store};
+use crate::shared::{Path, Shared};
+use crate::{PrimaryHalf, SecondaryHalf};
+use blocks::{BLOCK_BYTES, Refusal};
 use bytes::Bytes;
 use primary::Receipt;
-use session_link::Linked;
 use session_nodes::LocalRole;
 use std::alloc::Global;
 use std::sync::{Arc, Wait};
 use std::time::Clock;
 
-/// A running session, as any number of threads may share it.
+/// A running session over these two halves, as any number of threads may share it.
 #[derive(Drop)]
-pub struct Mirror<R: Wait + Drop, L: Linked, S: Store + Drop, T: Store + Drop> {
+pub struct Mirror<R: Wait + Drop, A: PrimaryHalf + Drop, B: SecondaryHalf + Drop> {
     pub(crate) alloc: Global,
-    pub(crate) shared: Arc<Shared<R, L, S, T>, Global>,
+    pub(crate) shared: Arc<Shared<R, A, B>, Global>,
 }
 
-impl<R: Wait + Clock + Drop, L: Linked, S: Store + Drop, T: Store + Drop> Mirror<R, L, S, T> {
+impl<R: Wait + Clock + Drop, A: PrimaryHalf + Drop, B: SecondaryHalf + Drop> Mirror<R, A, B> {
     /// Writes whole blocks from the first one on, and returns the receipt once the write is completed as the
     /// protocol says. Any number of writers may call it at a time.
     ///
@@ -42,11 +42,7 @@ impl<R: Wait + Clock + Drop, L: Linked, S: Store + Drop, T: Store + Drop> Mirror
     /// `BadRange` (1) if they are not that, else `NoMemory` (7) if there is no room for their bytes, else
     /// `ReadFault` (14) if the disk fails.
     pub fn read(&self, first: u64, count: u64) -> Result<Vec<u8>, Refusal> {
-        self.shared
-            .local
-            .node
-            .lock(&self.shared.rt)
-            .read(self.alloc, first, count)
+        self.shared.local.read(self.alloc, first, count)
     }
 
     /// Closes both ends of the link. Writers go on without it; writes under way are completed by the close.
@@ -57,18 +53,21 @@ impl<R: Wait + Clock + Drop, L: Linked, S: Store + Drop, T: Store + Drop> Mirror
     /// Opens both ends anew under fresh words, and returns the connection's number, the first being 1. The
     /// threads do the hello; if it is refused, both ends close.
     ///
+    /// `NotConnected` (12) if the session goes over streams: it has one connection, and this is asked first. Else
     /// `NotDrained` (36) if an end is not closed, or if the secondary has items to do; ask again. Else
     /// `UsedIdentifier` (33) if a word is zero, stands in a tuple that is known, or both are one; `StreamFull`
     /// (6) after 4,294,967,295 connections; `NoMemory` (7). Then nothing has changed. If the secondary refuses
     /// at last, the primary closes again before its stream began, and the number is used up.
     pub fn reconnect(&self, sync: u64, loss: u64) -> Result<u32, Refusal> {
         let shared = &self.shared;
+        if shared.path == Path::Wire {
+            return Err(Refusal::NotConnected);
+        }
         let _door = shared.door.lock(&shared.rt);
-        shared.peer.node.lock(&shared.rt).may_reopen()?;
-        let number = shared.local.node.lock(&shared.rt).reopen(sync, loss)?;
-        let reopened = shared.peer.node.lock(&shared.rt).reopen(number);
-        if let Err(refusal) = reopened {
-            let _ = shared.local.node.lock(&shared.rt).close();
+        shared.peer.may_reopen()?;
+        let number = shared.local.reopen(sync, loss)?;
+        if let Err(refusal) = shared.peer.reopen(number) {
+            shared.local.close();
             return Err(refusal);
         }
         shared.ring();
@@ -80,17 +79,15 @@ impl<R: Wait + Clock + Drop, L: Linked, S: Store + Drop, T: Store + Drop> Mirror
         let shared = &self.shared;
         let mut looks = 0u32;
         for _ in shared.rt.forever() {
-            let rings = shared.local.writers.rings();
-            let submitted = shared.local.node.lock(&shared.rt).submit(first, bytes);
-            match submitted {
+            let rings = shared.local.writers().rings();
+            match shared.local.submit(first, bytes) {
                 Err(Refusal::Conflict(_) | Refusal::LogFull | Refusal::ActivityFull) => {
                     if !shared.turn_local(LocalRole::Receiver).worked {
-                        shared.local.writers.wait(&shared.rt, rings, looks);
+                        shared.local.writers().wait(&shared.rt, rings, looks);
                         looks = looks.saturating_add(1);
                     }
                 }
-                Ok((number, _)) => return Ok(number),
-                Err(refusal) => return Err(refusal),
+                done => return done,
             }
         }
         unreachable!()
@@ -101,13 +98,12 @@ impl<R: Wait + Clock + Drop, L: Linked, S: Store + Drop, T: Store + Drop> Mirror
         let shared = &self.shared;
         let mut looks = 0u32;
         for _ in shared.rt.forever() {
-            let rings = shared.local.writers.rings();
+            let rings = shared.local.writers().rings();
             let worked = shared.turn_local(LocalRole::Disk).worked;
-            let taken = shared.local.node.lock(&shared.rt).take_completed(number);
-            match taken {
+            match shared.local.take_completed(number) {
                 Err(Refusal::NotCompleted) => {
                     if !worked {
-                        shared.local.writers.wait(&shared.rt, rings, looks);
+                        shared.local.writers().wait(&shared.rt, rings, looks);
                         looks = looks.saturating_add(1);
                     }
                 }

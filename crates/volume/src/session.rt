@@ -13,18 +13,26 @@ ghost use Rattle.session_nodes.specs.Secondaries.{SecondaryHas, SecondaryIsHad};
 
 use crate::Mirror;
 use crate::halves::{LocalHalf, PeerHalf};
-use crate::worker::{SessionLocal, SessionPeer, Shared};
+use crate::shared::{Path, Shared};
+use crate::workers::Workers;
 use blocks::{Refusal, Settings, Store, Tuple};
 use link::{FrameIn, FrameOut};
-use ruled_link::{RuledIn, RuledOut};
-use session_link::{Back, Linked, SessionPrimary, SessionSecondary, There};
-use session_nodes::{Local, LocalRole, Peer, PeerRole};
+use ruled_link::{NamedIn, NamedOut, RuledIn, RuledOut};
+use session_link::{Back, Linked, SessionPrimary, SessionSecondary, There, join_nodes};
+use session_nodes::{Local, Peer};
 use std::alloc::Global;
-use std::sync::atomic::{AtomicBool, Ordering};
-use std::sync::{Arc, Mutex, Wait};
-use std::thread;
-use std::thread::{JoinHandle, Threads};
+use std::sync::{Arc, Wait};
+use std::thread::Threads;
 use std::time::Clock;
+
+/// The primary's half over a session's link.
+pub type SessionLocal<R, L, S> = LocalHalf<R, NamedOut<R, There<L>>, NamedIn<R, Back<L>>, S>;
+
+/// The secondary's half over a session's link.
+pub type SessionPeer<R, L, T> = PeerHalf<R, NamedOut<R, Back<L>>, NamedIn<R, There<L>>, T>;
+
+/// What any number of threads may share of a session over a link.
+pub type SessionMirror<R, L, S, T> = Mirror<R, SessionLocal<R, L, S>, SessionPeer<R, L, T>>;
 
 /// What a session starts from: the settings of both nodes, the generation identifiers of each disk, the marks
 /// of the local one, a truth value for each block, and the first connection's two words.
@@ -38,22 +46,12 @@ pub struct Parts {
     pub loss: u64,
 }
 
-/// A running session: the mirror that callers share, and its threads. A thread's handle cannot be shared, so it
-/// stands apart.
+/// A running session over a link: the mirror that callers share, and its threads.
 #[derive(Drop)]
 pub struct Session<R: Threads + Wait + Drop, L: Linked, S: Store + Drop, T: Store + Drop> {
-    mirror: Mirror<R, L, S, T>,
-    workers: Vec<JoinHandle<()>>,
+    mirror: SessionMirror<R, L, S, T>,
+    workers: Workers,
 }
-
-const LOCAL_ROLES: [LocalRole; 4] = [
-    LocalRole::Sender,
-    LocalRole::Receiver,
-    LocalRole::Disk,
-    LocalRole::Resync,
-];
-
-const PEER_ROLES: [PeerRole; 3] = [PeerRole::Receiver, PeerRole::Sender, PeerRole::Disk];
 
 impl<
     R: Threads + Wait + Clock + Copy + Drop + Send + Sync + 'static,
@@ -86,6 +84,7 @@ impl<
         let (out, taken) = there;
         let (answers, acks) = back;
         let local = local_half(
+            rt,
             alloc,
             parts.settings,
             local,
@@ -95,6 +94,7 @@ impl<
             (parts.sync, parts.loss),
         )?;
         match peer_half(
+            rt,
             alloc,
             parts.settings,
             peer,
@@ -113,24 +113,15 @@ impl<
         local: SessionLocal<R, L, S>,
         peer: SessionPeer<R, L, T>,
     ) -> Result<Session<R, L, S, T>, Refusal> {
-        let shared = Arc::new(
-            alloc,
-            Shared {
-                rt,
-                local,
-                peer,
-                door: Mutex::new(()),
-                stop: AtomicBool::new(false),
-            },
-        )?;
+        let shared = Arc::new(alloc, Shared::new(rt, local, peer, Path::Link))?;
         let mut session = Session {
             mirror: Mirror { alloc, shared },
-            workers: Vec::new(alloc),
+            workers: Workers::new(alloc),
         };
         match session.begin() {
             Ok(()) => Ok(session),
             Err(refusal) => {
-                session.stop();
+                session.workers.stop(&session.mirror.shared);
                 Err(refusal)
             }
         }
@@ -139,30 +130,7 @@ impl<
     // Does the hello, and starts the threads.
     fn begin(&mut self) -> Result<(), Refusal> {
         self.mirror.shared.greet()?;
-        self.spawn()
-    }
-
-    // Starts all threads, as far as they can be had.
-    fn spawn(&mut self) -> Result<(), Refusal> {
-        self.workers
-            .try_reserve(LOCAL_ROLES.len() + PEER_ROLES.len())?;
-        for role in LOCAL_ROLES {
-            let shared = Arc::try_clone(&self.mirror.shared)?;
-            let Ok(worker) = thread::spawn(&self.mirror.shared.rt, move || shared.work_local(role))
-            else {
-                return Err(Refusal::NoMemory);
-            };
-            self.workers.push(worker)?;
-        }
-        for role in PEER_ROLES {
-            let shared = Arc::try_clone(&self.mirror.shared)?;
-            let Ok(worker) = thread::spawn(&self.mirror.shared.rt, move || shared.work_peer(role))
-            else {
-                return Err(Refusal::NoMemory);
-            };
-            self.workers.push(worker)?;
-        }
-        Ok(())
+        self.workers.start(&self.mirror.shared)
     }
 }
 
@@ -173,7 +141,7 @@ impl<R: Threads + Wait + Clock + Drop, L: Linked, S: Store + Drop, T: Store + Dr
     T,
 > {
     /// What any number of threads may share.
-    pub fn mirror(&self) -> &Mirror<R, L, S, T> {
+    pub fn mirror(&self) -> &SessionMirror<R, L, S, T> {
         &self.mirror
     }
 
@@ -192,33 +160,35 @@ impl<R: Threads + Wait + Clock + Drop, L: Linked, S: Store + Drop, T: Store + Dr
         let mut session = self;
         session.mirror.shared.cut();
         session.mirror.shared.drain();
-        session.stop();
+        session.workers.stop(&session.mirror.shared);
         let Session { mirror, workers } = session;
         drop(workers);
         let shared = Arc::into_inner(mirror.shared).ok_or(Refusal::NotDrained)?;
-        let (primary, secondary) = shared.into_nodes();
+        let (primary, secondary) = into_nodes(shared);
         if secondary.number() > primary.connections() {
             return Err(Refusal::NotDrained);
         }
         Ok((primary, secondary))
     }
+}
 
-    // Stops the threads that run, and waits for their ends.
-    fn stop(&mut self) {
-        let shared = &self.mirror.shared;
-        shared.stop.store(true, Ordering::SeqCst);
-        shared.ring();
-        for _ in 0..LOCAL_ROLES.len() + PEER_ROLES.len() {
-            let Some(worker) = self.workers.pop() else {
-                break;
-            };
-            worker.join(&shared.rt);
-        }
-    }
+// Both nodes of a session over a link, out of their locks and brought together.
+fn into_nodes<R: Wait + Drop, L: Linked, S: Store + Drop, T: Store + Drop>(
+    shared: Shared<R, SessionLocal<R, L, S>, SessionPeer<R, L, T>>,
+) -> (SessionPrimary<R, L, S>, SessionSecondary<R, L, T>)
+    ensures had { PrimaryIsHad result.0 × SecondaryIsHad result.1 }
+    ensures joined { (p : PrimaryHistory) (s : SecondaryHistory) → PrimaryHas result.0 p → SecondaryHas result.1 s → IsJoined p s }
+{
+    let Shared { local, peer, .. } = shared;
+    join_nodes(
+        local.node.into_inner().into_node(),
+        peer.node.into_inner().into_node(),
+    )
 }
 
 // The primary's half, opened over unused ends.
-fn local_half<O: FrameOut + Drop, I: FrameIn + Drop, S: Store + Drop>(
+pub(crate) fn local_half<R: Wait + Drop, O: FrameOut + Drop, I: FrameIn + Drop, S: Store + Drop>(
+    rt: R,
     alloc: Global,
     settings: Settings,
     store: S,
@@ -226,29 +196,30 @@ fn local_half<O: FrameOut + Drop, I: FrameIn + Drop, S: Store + Drop>(
     marks: Vec<bool>,
     link: (O, I),
     words: (u64, u64),
-) -> Result<LocalHalf<O, I, S>, Refusal>
+) -> Result<LocalHalf<R, O, I, S>, Refusal>
     requires outward { IsNewOut (O.state link.0) }
     requires inward { IsNewIn (I.state link.1) }
 {
     match Local::open(alloc, settings, store, tuple, marks, link, words) {
-        Ok(node) => Ok(LocalHalf::new(node)),
+        Ok(node) => Ok(LocalHalf::new(rt, node)),
         Err(refusal) => Err(refusal),
     }
 }
 
 // The secondary's half, opened over unused ends.
-fn peer_half<O: FrameOut + Drop, I: FrameIn + Drop, S: Store + Drop>(
+pub(crate) fn peer_half<R: Wait + Drop, O: FrameOut + Drop, I: FrameIn + Drop, S: Store + Drop>(
+    rt: R,
     alloc: Global,
     settings: Settings,
     store: S,
     tuple: Tuple,
     link: (O, I),
-) -> Result<PeerHalf<O, I, S>, Refusal>
+) -> Result<PeerHalf<R, O, I, S>, Refusal>
     requires outward { IsNewOut (O.state link.0) }
     requires inward { IsNewIn (I.state link.1) }
 {
     match Peer::open(alloc, settings, store, tuple, link) {
-        Ok(node) => Ok(PeerHalf::new(node)),
+        Ok(node) => Ok(PeerHalf::new(rt, node)),
         Err(refusal) => Err(refusal),
     }
 }

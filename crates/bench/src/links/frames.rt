@@ -1,4 +1,4 @@
-//! Sending and receiving frames.
+//! What is sent over a link, and sending and receiving it.
 ghost use Rattle.std.specs.Prelude.{◌≡◌, None, IfOk};
 ghost use Rattle.packets.specs.Cutting.{IsCut};
 ghost use Rattle.packets.specs.Spelling.{IsSpellable};
@@ -6,7 +6,7 @@ ghost use Rattle.packets.specs.Spelling.{IsSpellable};
 use blocks::{Block, Refusal};
 use bytes::Bytes;
 use link::{FrameIn, FrameOut};
-use packets::{Frame, Packet, encode};
+use packets::{Acknowledgement, Frame, Packet, encode};
 use std::alloc::Global;
 use std::sync::Wait;
 use std::thread;
@@ -19,8 +19,42 @@ fn spelled(alloc: Global, packet: &Packet) -> Result<Frame, Refusal>
     encode(alloc, packet)
 }
 
+/// A packet that is sent again and again.
+#[derive(Drop)]
+pub(crate) enum Sample {
+    /// A write of one block, with these contents.
+    Write(Bytes),
+    /// An acknowledgement of one block.
+    Acknowledgement,
+}
+
+impl Sample {
+    /// A write of one block.
+    pub(crate) fn write(alloc: Global) -> anyhow::Result<Sample> {
+        Ok(Sample::Write(Bytes::copy_from_slice(alloc, &[0x5A; 4096])?))
+    }
+
+    /// Bytes of its frame.
+    pub(crate) fn bytes(&self) -> usize {
+        match self {
+            Sample::Write(_) => 4128,
+            Sample::Acknowledgement => 32,
+        }
+    }
+
+    /// Its frame, encoded.
+    pub(crate) fn frame(&self, alloc: Global) -> Result<Frame, Refusal>
+        ensures { IfOk result (λ frame. IsCut frame) }
+    {
+        match self {
+            Sample::Write(contents) => write(alloc, contents),
+            Sample::Acknowledgement => acknowledgement(alloc),
+        }
+    }
+}
+
 /// The frame of a write of one block.
-pub(crate) fn write(alloc: Global, contents: &Bytes) -> Result<Frame, Refusal>
+fn write(alloc: Global, contents: &Bytes) -> Result<Frame, Refusal>
     ensures { IfOk result (λ frame. IsCut frame) }
 {
     if contents.len() != 4096 {
@@ -34,6 +68,21 @@ pub(crate) fn write(alloc: Global, contents: &Bytes) -> Result<Frame, Refusal>
             place: 0,
             contents: contents.clone()?,
         },
+    )
+}
+
+/// The frame of an acknowledgement of one block.
+fn acknowledgement(alloc: Global) -> Result<Frame, Refusal>
+    ensures { IfOk result (λ frame. IsCut frame) }
+{
+    spelled(
+        alloc,
+        &Packet::WriteAck(Acknowledgement {
+            first: Block(0),
+            number: 1,
+            count: 1,
+            place: 0,
+        }),
     )
 }
 

@@ -1,9 +1,9 @@
 //! What is measured.
 ghost use Rattle.std.specs.Prelude.{◌≡◌, None};
 
-use crate::links::frames::{receive, send, write};
+use crate::links::frames::{Sample, receive, send};
 use blocks::Refusal;
-use bytes::{Bytes, BytesMut};
+use bytes::BytesMut;
 use link::{FrameIn, FrameOut};
 use ruled_link::{PIECE_BYTES, RuledOut, ruled};
 use std::alloc::Global;
@@ -18,14 +18,20 @@ const FRAME_BYTES: usize = 4128;
 /// So many of the largest frames stand in the row, as by default.
 const LINK: u32 = 64;
 
-/// Writes the count of frames, and how fast they went.
-fn report(rt: &HostRuntime, what: &str, count: u32, time: Duration) -> anyhow::Result<()> {
+/// Writes the number of frames, and how fast they went; each has this many bytes.
+fn report(
+    rt: &HostRuntime,
+    what: &str,
+    count: u32,
+    bytes: usize,
+    time: Duration,
+) -> anyhow::Result<()> {
     println!(rt; "{what}: {count}")?;
     let micros = time.as_micros().max(1);
     eprintln!(rt;
         "{what}: {} ns each, {} MB/s",
         micros * 1000 / u128::from(count.max(1)),
-        u128::from(count) * FRAME_BYTES as u128 / micros
+        u128::from(count) * bytes as u128 / micros
     )?;
     Ok(())
 }
@@ -41,7 +47,7 @@ pub(crate) fn copied(rt: &HostRuntime, alloc: Global, count: u32) -> anyhow::Res
             buffer.extend_from_slice(piece)?;
         }
     }
-    report(rt, "copied", count, start.elapsed(rt)?)
+    report(rt, "copied", count, FRAME_BYTES, start.elapsed(rt)?)
 }
 
 /// The buffers that are made for so many frames, each for the longest one.
@@ -50,28 +56,29 @@ pub(crate) fn buffers(rt: &HostRuntime, alloc: Global, count: u32) -> anyhow::Re
     for _ in 0..count {
         let _ = BytesMut::with_capacity(alloc, 131_105)?;
     }
-    report(rt, "buffers", count, start.elapsed(rt)?)
-}
-
-fn contents(alloc: Global) -> anyhow::Result<Bytes> {
-    Ok(Bytes::copy_from_slice(alloc, &[0x5A; 4096])?)
+    report(rt, "buffers", count, FRAME_BYTES, start.elapsed(rt)?)
 }
 
 /// So many frames, encoded and dropped.
-pub(crate) fn encoded(rt: &HostRuntime, alloc: Global, count: u32) -> anyhow::Result<()> {
-    let contents = contents(alloc)?;
+pub(crate) fn encoded(
+    rt: &HostRuntime,
+    alloc: Global,
+    what: &str,
+    sample: &Sample,
+    count: u32,
+) -> anyhow::Result<()> {
     let start = Instant::now(rt)?;
     for _ in 0..count {
-        let _ = write(alloc, &contents)?;
+        let _ = sample.frame(alloc)?;
     }
-    report(rt, "encoded", count, start.elapsed(rt)?)
+    report(rt, what, count, sample.bytes(), start.elapsed(rt)?)
 }
 
 /// Sends a frame and takes it, so many times.
 fn both<R: Wait, O: FrameOut, I: FrameIn>(
     rt: &R,
     alloc: Global,
-    contents: &Bytes,
+    sample: &Sample,
     outward: &mut O,
     inward: &mut I,
     count: u32,
@@ -80,8 +87,8 @@ fn both<R: Wait, O: FrameOut, I: FrameIn>(
 {
     let mut taken: u32 = 0;
     for _ in 0..count {
-        send(rt, outward, write(alloc, contents)?);
-        if receive(rt, inward)?.as_slice().len() == FRAME_BYTES {
+        send(rt, outward, sample.frame(alloc)?);
+        if receive(rt, inward)?.as_slice().len() == sample.bytes() {
             taken = taken.saturating_add(1);
         }
     }
@@ -93,34 +100,41 @@ pub(crate) fn one_thread<R: Wait>(
     rt: &R,
     host: &HostRuntime,
     alloc: Global,
+    what: &str,
+    sample: &Sample,
     count: u32,
 ) -> anyhow::Result<()> {
-    let contents = contents(alloc)?;
     let (mut outward, mut inward) = ruled(rt, alloc, LINK)?;
     let start = Instant::now(host)?;
-    let taken = both(rt, alloc, &contents, &mut outward, &mut inward, count)?;
-    report(host, "one thread", taken, start.elapsed(host)?)
+    let taken = both(rt, alloc, sample, &mut outward, &mut inward, count)?;
+    report(host, what, taken, sample.bytes(), start.elapsed(host)?)
 }
 
 fn send_all<R: Wait, O: FrameOut>(
     rt: &R,
     alloc: Global,
-    contents: &Bytes,
+    sample: &Sample,
     end: &mut O,
     count: u32,
 ) -> Result<(), Refusal>
     requires { (O.state end.old).partly ≡ None }
 {
     for _ in 0..count {
-        send(rt, end, write(alloc, contents)?);
+        send(rt, end, sample.frame(alloc)?);
     }
     Ok(())
 }
 
-fn receive_all<R: Wait, I: FrameIn>(rt: &R, end: &mut I, count: u32) -> Result<u32, Refusal> {
+/// Takes this many frames, and returns how many of them have this length.
+fn receive_all<R: Wait, I: FrameIn>(
+    rt: &R,
+    bytes: usize,
+    end: &mut I,
+    count: u32,
+) -> Result<u32, Refusal> {
     let mut taken: u32 = 0;
     for _ in 0..count {
-        if receive(rt, end)?.as_slice().len() == FRAME_BYTES {
+        if receive(rt, end)?.as_slice().len() == bytes {
             taken = taken.saturating_add(1);
         }
     }
@@ -132,9 +146,11 @@ pub(crate) fn two_threads<R: Threads + Wait + Sync>(
     rt: &R,
     host: &HostRuntime,
     alloc: Global,
+    what: &str,
+    sample: Sample,
     count: u32,
 ) -> anyhow::Result<()> {
-    let contents = contents(alloc)?;
+    let bytes = sample.bytes();
     let (mut outward, mut inward) = ruled(rt, alloc, LINK)?;
     let start = Instant::now(host)?;
     let ((outward, sent), (inward, taken)) = thread::join(
@@ -142,16 +158,16 @@ pub(crate) fn two_threads<R: Threads + Wait + Sync>(
         move || -> (RuledOut<&R>, Result<(), Refusal>)
             requires { outward.partly ≡ None }
         {
-            let sent = send_all(rt, alloc, &contents, &mut outward, count);
+            let sent = send_all(rt, alloc, &sample, &mut outward, count);
             (outward, sent)
         },
         move || {
-            let taken = receive_all(rt, &mut inward, count);
+            let taken = receive_all(rt, bytes, &mut inward, count);
             (inward, taken)
         },
     );
     sent?;
-    report(host, "two threads", taken?, start.elapsed(host)?)?;
+    report(host, what, taken?, bytes, start.elapsed(host)?)?;
     let _ = (outward, inward);
     Ok(())
 }

@@ -1,6 +1,6 @@
 //! What is done to two nodes before they settle.
 
-use crate::tests::nodes::{Local, Peer, close, connect, submit, write};
+use crate::tests::nodes::{Local, Peer, close, connect, open_alone, submit, write};
 use crate::{Settled, settle};
 use blocks::Refusal;
 use primary::Receipt;
@@ -132,6 +132,14 @@ fn connections<R: Wait + Copy + Drop>(
         applied: 1,
         confirmed: 2,
         unmarked: 0,
+    };
+    is_twice(out, local, peer, receipts, wanted);
+    open_alone(rt, alloc, local, (6, 7))?;
+    local.close()?;
+    // Nothing went over a third connection, which the secondary did not open.
+    let wanted = Settled {
+        confirmed: 2,
+        ..NOTHING
     };
     is_twice(out, local, peer, receipts, wanted);
     Ok(())

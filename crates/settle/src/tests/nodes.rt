@@ -78,6 +78,18 @@ pub(super) fn connect<R: Wait + Copy + Drop>(
     Ok(())
 }
 
+/// The primary alone opens, over a new link.
+pub(super) fn open_alone<R: Wait + Copy + Drop>(
+    rt: R,
+    alloc: Global,
+    local: &mut Local<R>,
+    words: (u64, u64),
+) -> Result<(), Refusal> {
+    let (there, _) = ruled(rt, alloc, 4)?;
+    let (_, at_local) = ruled(rt, alloc, 4)?;
+    local.open(there, at_local, words.0, words.1)
+}
+
 /// Both nodes and their disks do what they can. A step that is refused has nothing to do now.
 pub(super) fn work<R: Wait + Drop>(local: &mut Local<R>, peer: &mut Peer<R>) {
     for _ in 0..TURNS {

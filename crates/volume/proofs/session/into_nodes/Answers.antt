@@ -3,7 +3,7 @@ use Rattle.primary.specs.State.{PrimaryView}
 use Rattle.secondary.specs.State.{SecondaryView}
 use Rattle.session_nodes.specs.Primaries.{PrimaryHas}
 use Rattle.session_nodes.specs.Secondaries.{SecondaryHas}
-use Rattle.volume.proofs.worker.Shared.into_nodes.Goals as goal
+use Rattle.volume.proofs.session.into_nodes.Goals as goal
 
 pub returns-clause-joined : goal.returns-clause-joined
 returns-clause-joined g c = λ p s had held.

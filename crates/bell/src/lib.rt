@@ -1,0 +1,127 @@
+//! A bell: what threads wait on that found nothing to do.
+#![tactic(auto)]
+
+use std::sync::atomic::{AtomicU64, Ordering};
+use std::sync::{Condvar, Mutex, Wait};
+use std::thread;
+use std::time::{Clock, Duration};
+
+/// How often a thread yields in one wait, as long as the bell does not ring.
+const YIELDS: u32 = 20;
+
+/// How often a thread that found nothing waits so, before it sleeps.
+const LOOKS: u32 = 30;
+
+/// The longest sleep, as a power of two in milliseconds: 16 ms. (A sleep ends at a ring.)
+const LONGEST_SLEEP: u32 = 4;
+
+/// What threads sleep on until there may be something for them. No promise rests on a ring: each sleep ends by
+/// itself, and whoever wakes looks again.
+#[derive(Drop)]
+pub struct Bell {
+    rings: AtomicU64,
+    sleepers: AtomicU64,
+    lock: Mutex<()>,
+    rung: Condvar,
+}
+
+impl Bell {
+    /// A bell that nobody sleeps on.
+    pub fn new() -> Bell {
+        Bell {
+            rings: AtomicU64::new(0),
+            sleepers: AtomicU64::new(0),
+            lock: Mutex::new(()),
+            rung: Condvar::new(),
+        }
+    }
+
+    /// How often it rang by now. Whoever looks for something to do asks this first, so that no ring is missed
+    /// that comes while it looks.
+    pub fn rings(&self) -> u64 {
+        self.rings.load(Ordering::SeqCst)
+    }
+
+    /// Wakes one sleeper.
+    pub fn ring_one<R: Wait>(&self, rt: &R) {
+        self.rings.fetch_add(1, Ordering::SeqCst);
+        if self.sleepers.load(Ordering::SeqCst) > 0 {
+            drop(self.lock.lock(rt));
+            self.rung.notify_one();
+        }
+    }
+
+    /// Wakes all sleepers.
+    pub fn ring_all<R: Wait>(&self, rt: &R) {
+        self.rings.fetch_add(1, Ordering::SeqCst);
+        if self.sleepers.load(Ordering::SeqCst) > 0 {
+            drop(self.lock.lock(rt));
+            self.rung.notify_all();
+        }
+    }
+
+    /// Waits a moment, or until it rings. It returns at once if it has rung since it was asked for `rings`. `looks` is
+    /// how often the thread has waited since it last found something: the first waits yield, the later ones sleep, from
+    /// a millisecond up. A thread that yields watches the bell alone, and keeps out of the way of the one that has the
+    /// lock.
+    pub fn wait<R: Wait + Clock>(&self, rt: &R, rings: u64, looks: u32) {
+        if looks < LOOKS {
+            self.yield_until_rung(rings);
+            return;
+        }
+        let power = (looks - LOOKS).min(LONGEST_SLEEP);
+        self.sleepers.fetch_add(1, Ordering::SeqCst);
+        let guard = self.lock.lock(rt);
+        if self.rings.load(Ordering::SeqCst) == rings {
+            let sleep = Duration::from_millis(1u64 << power);
+            let _ = self.rung.wait_timeout(rt, guard, sleep);
+        }
+        self.sleepers.fetch_sub(1, Ordering::SeqCst);
+    }
+
+    // Yields until it rings, `YIELDS` times at most.
+    fn yield_until_rung(&self, rings: u64) {
+        for _ in 0..YIELDS {
+            if self.rings() != rings {
+                break;
+            }
+            thread::yield_now();
+        }
+    }
+}
+
+#[cfg(test)]
+mod tests {
+    use super::Bell;
+    use std::process::Abort;
+    use std::sync::Wait;
+    use std::thread;
+    use std::thread::Threads;
+    use std::time::Clock;
+
+    /// Each wait ends: where it rang meanwhile, where it is time to yield, and after a sleep.
+    fn wait_and_ring<R: Wait + Clock>(rt: &R, bell: &Bell) {
+        let rings = bell.rings();
+        bell.wait(rt, rings, 0);
+        bell.wait(rt, rings, 24);
+        bell.ring_one(rt);
+        bell.ring_all(rt);
+        bell.wait(rt, rings, 24);
+    }
+
+    fn two_threads<R: Threads + Wait + Clock + Abort + Sync>(rt: &R) {
+        let bell = Bell::new();
+        let shared = &bell;
+        thread::join(
+            rt,
+            || wait_and_ring(rt, shared),
+            || wait_and_ring(rt, shared),
+        );
+        assert!(rt; bell.rings() == 4, "{} rings", bell.rings());
+    }
+
+    #[test]
+    fn two_threads_wait_and_ring(rt: HostRuntime) {
+        two_threads(&rt);
+    }
+}

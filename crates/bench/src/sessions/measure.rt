@@ -1,0 +1,65 @@
+//! What is measured of a session.
+use blocks::BLOCK_BYTES;
+use std::time::{Duration, Instant};
+
+/// Blocks of the device of a session, 32 MiB.
+pub(crate) const BLOCKS: u32 = 8_192;
+
+/// What a session came to, and how long its writers waited for their receipts.
+#[derive(Clone, Copy, Debug, PartialEq, Eq)]
+pub(crate) struct Report {
+    pub(crate) receipts: usize,
+    pub(crate) time: Duration,
+    /// Half of the writes waited no longer, in microseconds.
+    pub(crate) median_us: u64,
+    /// Of 100 writes 99 waited no longer, in microseconds.
+    pub(crate) slow_us: u64,
+}
+
+impl Report {
+    /// The report of a session that took this long, whose writes waited for these nanoseconds.
+    pub(crate) fn of(waits: Vec<u64>, time: Duration) -> Report {
+        let mut waits = waits;
+        waits.sort_unstable();
+        let count = waits.len();
+        Report {
+            receipts: count,
+            time,
+            median_us: at(&waits, count / 2) / 1000,
+            slow_us: at(&waits, (count - count / 100).saturating_sub(1)) / 1000,
+        }
+    }
+
+    /// Writes that had their receipts, in a second.
+    pub(crate) fn per_second(&self) -> u128 {
+        self.receipts as u128 * 1_000_000 / self.time.as_micros().max(1)
+    }
+}
+
+// The wait at this index, 0 if there is none.
+fn at(sorted: &Vec<u64>, index: usize) -> u64 {
+    match sorted.get(index) {
+        Some(wait) => *wait,
+        None => 0,
+    }
+}
+
+/// Copies the bytes of this many writes as often as a mirror must, into a frame, to the local disk and to the peer's, in
+/// one thread.
+pub(crate) fn copied(host: &HostRuntime, writes: u32) -> anyhow::Result<()> {
+    let alloc = host.alloc();
+    let block = [0x5Au8; BLOCK_BYTES];
+    let mut disks = Vec::from_elem(alloc, 0u8, 3 * BLOCKS as usize * BLOCK_BYTES)?;
+    let start = Instant::now(host)?;
+    let mut copies = 0u64;
+    for _ in 0..writes / BLOCKS + 1 {
+        for place in disks.chunks_exact_mut(BLOCK_BYTES) {
+            place.copy_from_slice(&block);
+            copies = copies.saturating_add(1);
+        }
+    }
+    let time = start.elapsed(host)?;
+    let rate = u128::from(copies / 3) * 1_000_000 / time.as_micros().max(1);
+    eprintln!(host; "copied in one thread: {rate} writes/s")?;
+    Ok(())
+}

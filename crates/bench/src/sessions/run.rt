@@ -1,0 +1,184 @@
+//! A session that is measured, from its start to its end.
+ghost use Rattle.std.specs.Prelude.{◌≡◌};
+ghost use Rattle.endpoint.specs.Calls.{IsNewIn, IsNewOut};
+ghost use Rattle.ruled_link.specs.Inward.{taking};
+ghost use Rattle.ruled_link.specs.Names.{row_of};
+ghost use Rattle.ruled_link.specs.Names as names;
+ghost use Rattle.ruled_link.specs.Outward.{sending};
+
+use super::measure::{BLOCKS, Report};
+use super::writers::write_all;
+use blocks::{MemStore, Protocol, Refusal, Settings, Tuple};
+use ruled_link::{RuledIn, RuledOut, ruled};
+use std::alloc::Global;
+use std::fmt::Display;
+use std::marker::Brand;
+use std::net::{Ipv4Addr, Net, TcpListener, TcpStream};
+use std::sync::Wait;
+use std::thread::Threads;
+use std::time::{Clock, Duration, Instant};
+use std::{fmt, io, thread};
+use volume::{Linked, Mirror, Parts, PrimaryHalf, SecondaryHalf, Session, Way, WireSession};
+
+/// The identifiers of disks that are alike.
+const ALIKE: Tuple = Tuple {
+    current: 1,
+    bitmap: 0,
+    first_historical: 0,
+    second_historical: 0,
+};
+
+/// How frames go from one node to the other.
+#[derive(Clone, Copy, Debug, PartialEq, Eq)]
+pub(crate) enum Path {
+    Link,
+    Sockets,
+}
+
+impl Display for Path {
+    fn fmt<W: fmt::Write>(&self, f: &mut fmt::Formatter<W>) -> fmt::Result {
+        f.write_str(match self {
+            Path::Link => "a link",
+            Path::Sockets => "sockets",
+        })
+    }
+}
+
+/// A session, the writes of each of its writers, and how long it is left alone after them.
+#[derive(Clone, Copy, Debug, PartialEq, Eq)]
+pub(crate) struct Plan {
+    pub(crate) path: Path,
+    pub(crate) protocol: Protocol,
+    pub(crate) writers: u32,
+    pub(crate) writes: u32,
+    pub(crate) rest: Duration,
+}
+
+/// Runs a session over two disks filled with zeros, and returns what its writers had.
+pub(crate) fn run<
+    R: Net<Listener = TcpListener, Stream = TcpStream>
+        + Threads
+        + Wait
+        + Clock
+        + Copy
+        + Drop
+        + Send
+        + Sync
+        + 'static,
+>(rt: R, alloc: Global, plan: Plan) -> anyhow::Result<Report> {
+    let settings = Settings {
+        protocol: plan.protocol,
+        blocks: BLOCKS,
+        ..Settings::STANDARD
+    };
+    settings.check()?;
+    let parts = Parts {
+        settings,
+        own: ALIKE,
+        peer: ALIKE,
+        marks: Vec::from_elem(alloc, false, BLOCKS as usize)?,
+        sync: 2,
+        loss: 3,
+    };
+    let disks = (
+        MemStore::zeroed(alloc, BLOCKS)?,
+        MemStore::zeroed(alloc, BLOCKS)?,
+    );
+    match plan.path {
+        Path::Link => {
+            let there = ruled(rt, alloc, settings.link)?;
+            let back = ruled(rt, alloc, settings.link)?;
+            Ok(run_named::<Brand, R>(rt, alloc, plan, there, back, disks, parts)?)
+        }
+        Path::Sockets => {
+            let listener = TcpListener::bind(&rt, (Ipv4Addr::LOCALHOST, 0))?;
+            let ways = (way(&rt, &listener)?, way(&rt, &listener)?);
+            Ok(run_over(rt, alloc, plan, ways, disks, parts)?)
+        }
+    }
+}
+
+// One direction over a socket of its own.
+fn way<R: Net<Listener = TcpListener, Stream = TcpStream>>(
+    rt: &R,
+    listener: &TcpListener,
+) -> io::Result<Way<TcpStream, TcpStream>> {
+    let writer = TcpStream::connect(rt, listener.local_addr()?)?;
+    writer.set_nodelay(true)?;
+    let (reader, _) = listener.accept()?;
+    Ok(Way { writer, reader })
+}
+
+// A session over a link, in one function over the link's name, which the caller picks.
+fn run_named<
+    L: Linked + Send + Sync + 'static,
+    R: Threads + Wait + Clock + Copy + Drop + Send + Sync + 'static,
+>(
+    rt: R,
+    alloc: Global,
+    plan: Plan,
+    there: (RuledOut<R>, RuledIn<R>),
+    back: (RuledOut<R>, RuledIn<R>),
+    disks: (MemStore, MemStore),
+    parts: Parts,
+) -> Result<Report, Refusal>
+    requires there { there.0.row ≡ row_of L.link names.There }
+    requires there_too { there.1.row ≡ row_of L.link names.There }
+    requires back { back.0.row ≡ row_of L.link names.Back }
+    requires back_too { back.1.row ≡ row_of L.link names.Back }
+    requires unused { IsNewOut (sending there.0) × IsNewIn (taking there.1) }
+    requires unused_too { IsNewOut (sending back.0) × IsNewIn (taking back.1) }
+{
+    let (local, peer) = disks;
+    let started = Session::<R, L, MemStore, MemStore>::start(
+        rt, alloc, there, back, local, peer, parts,
+    );
+    match started {
+        Ok(session) => {
+            let report = measured(&rt, alloc, session.mirror(), plan);
+            match session.finish() {
+                Ok(_) => report,
+                Err(refusal) => Err(refusal),
+            }
+        }
+        Err(refusal) => Err(refusal),
+    }
+}
+
+// A session over sockets.
+fn run_over<R: Threads + Wait + Clock + Copy + Drop + Send + Sync + 'static>(
+    rt: R,
+    alloc: Global,
+    plan: Plan,
+    ways: (Way<TcpStream, TcpStream>, Way<TcpStream, TcpStream>),
+    disks: (MemStore, MemStore),
+    parts: Parts,
+) -> Result<Report, Refusal> {
+    let (local, peer) = disks;
+    match WireSession::start_over(rt, alloc, local, peer, parts, ways) {
+        Ok(session) => {
+            let report = measured(&rt, alloc, session.mirror(), plan);
+            match session.finish() {
+                Ok(_) => report,
+                Err(refusal) => Err(refusal),
+            }
+        }
+        Err(refusal) => Err(refusal),
+    }
+}
+
+// Makes all writes of a session that runs, and leaves it alone after them.
+fn measured<
+    R: Threads + Wait + Clock + Copy + Drop + Send + Sync + 'static,
+    A: PrimaryHalf + Drop + Send + Sync + 'static,
+    B: SecondaryHalf + Drop + Send + Sync + 'static,
+>(rt: &R, alloc: Global, mirror: &Mirror<R, A, B>, plan: Plan) -> Result<Report, Refusal> {
+    let start = Instant::now(rt);
+    let waits = write_all(rt, alloc, mirror, plan)?;
+    let time = match start {
+        Ok(start) => start.elapsed(rt),
+        Err(error) => Err(error),
+    };
+    thread::sleep(rt, plan.rest);
+    Ok(Report::of(waits, time.unwrap_or(Duration::from_secs(0))))
+}

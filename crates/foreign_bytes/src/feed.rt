@@ -1,0 +1,174 @@
+//! Feeding a node with a stream through a pump.
+use crate::nodes::{
+    RowEnds, RowLocal, RowPeer, open_local, open_peer, submit, work_local, work_peer,
+};
+use bell::Bell;
+use blocks::{Done, Refusal};
+use pumps::{Buffer, PumpEnd, pump_in};
+use ruled_link::PIECE_BYTES;
+use std::alloc::Global;
+use std::sync::Wait;
+use std::sync::atomic::AtomicBool;
+use std::time::Clock;
+
+/// What came of a stream.
+#[derive(Clone, Copy, Debug, PartialEq, Eq)]
+pub(crate) struct Fed {
+    /// How many frames were taken, the refused one among them.
+    pub(crate) frames: u64,
+    /// Whether each reply was one that a frame may have, and the end is closed that refused one.
+    pub(crate) is_sound: bool,
+}
+
+impl Fed {
+    // Notes what a frame came to. Returns whether there may be another one.
+    fn note(&mut self, came: Came, is_closed: bool) -> bool {
+        self.is_sound &= came != Came::Strange && is_closed;
+        if came == Came::Taken || came == Came::Refused {
+            self.frames = self.frames.saturating_add(1);
+        }
+        came == Came::Taken
+    }
+}
+
+/// What a frame came to.
+#[derive(Clone, Copy, Debug, PartialEq, Eq)]
+enum Came {
+    /// It was taken.
+    Taken,
+    /// It was refused, and its end is to be closed from then on.
+    Refused,
+    /// There is none now; the node may have to do something first.
+    NotNow,
+    /// No frame may have this reply.
+    Strange,
+}
+
+// What a reply says of a frame.
+fn judged(reply: Result<Done, Refusal>) -> Came {
+    let Err(refusal) = reply else {
+        return Came::Taken;
+    };
+    match refusal.number() {
+        7 | 12 | 13 | 18 => Came::NotNow,
+        20..=25 | 30..=35 => Came::Refused,
+        _ => Came::Strange,
+    }
+}
+
+/// Feeds a secondary.
+pub(crate) fn feed_secondary<R: Wait + Clock + Copy + Drop>(
+    rt: R,
+    alloc: Global,
+    stream: &Vec<u8>,
+) -> Result<Fed, Refusal> {
+    match open_peer(rt, alloc) {
+        Ok(opened) => {
+            let (mut peer, mut rows) = opened;
+            let is_whole = pump(rt, alloc, &mut rows, stream)?;
+            Ok(take_all(&mut peer, &mut rows, stream.len(), is_whole))
+        }
+        Err(refusal) => Err(refusal),
+    }
+}
+
+// Has a secondary take frames as long as there are any: each has a byte at least.
+fn take_all<R: Wait + Drop>(
+    peer: &mut RowPeer<R>,
+    rows: &mut RowEnds<R>,
+    bytes: usize,
+    is_whole: bool,
+) -> Fed {
+    let mut fed = Fed {
+        frames: 0,
+        is_sound: is_whole,
+    };
+    for _ in 0..bytes {
+        work_peer(peer);
+        drop_sent(rows);
+        let came = judged(peer.receive());
+        if came == Came::NotNow && peer.has_unfinished() {
+            continue;
+        }
+        let is_closed = came != Came::Refused || peer.receive() == Err(Refusal::NotConnected);
+        if !fed.note(came, is_closed) {
+            break;
+        }
+    }
+    fed
+}
+
+/// Feeds a primary, which writes meanwhile.
+pub(crate) fn feed_primary<R: Wait + Clock + Copy + Drop>(
+    rt: R,
+    alloc: Global,
+    stream: &Vec<u8>,
+) -> Result<Fed, Refusal> {
+    match open_local(rt, alloc) {
+        Ok(opened) => {
+            let (mut local, mut rows) = opened;
+            let is_whole = pump(rt, alloc, &mut rows, stream)?;
+            take_acks(alloc, &mut local, &mut rows, stream.len(), is_whole)
+        }
+        Err(refusal) => Err(refusal),
+    }
+}
+
+// Has a primary write, and take frames as long as there are any.
+fn take_acks<R: Wait + Drop>(
+    alloc: Global,
+    local: &mut RowLocal<R>,
+    rows: &mut RowEnds<R>,
+    bytes: usize,
+    is_whole: bool,
+) -> Result<Fed, Refusal> {
+    let mut fed = Fed {
+        frames: 0,
+        is_sound: is_whole,
+    };
+    let mut write = 0u64;
+    for _ in 0..bytes {
+        // A frame is acknowledged only after it was sent.
+        for _ in 0..4 {
+            write = submit(alloc, local, write)?;
+            work_local(local);
+        }
+        drop_sent(rows);
+        let came = judged(local.ack_in());
+        let is_closed = came != Came::Refused || local.ack_in() == Err(Refusal::NotConnected);
+        if !fed.note(came, is_closed) {
+            break;
+        }
+    }
+    Ok(fed)
+}
+
+// Drops what a node sent.
+fn drop_sent<R: Wait + Drop>(rows: &mut RowEnds<R>) {
+    for _ in 0..u32::MAX {
+        if rows.sent.pop().is_none() {
+            break;
+        }
+    }
+}
+
+// Pumps a stream into a node's row. Returns whether the pump came to its end.
+fn pump<R: Wait + Clock + Drop>(
+    rt: R,
+    alloc: Global,
+    rows: &mut RowEnds<R>,
+    stream: &Vec<u8>,
+) -> Result<bool, Refusal> {
+    let mut buffer = Buffer::new(alloc)?;
+    let mut reader = stream.as_slice();
+    let stop = AtomicBool::new(false);
+    let end = pump_in(
+        &rt,
+        &mut rows.to_take,
+        &mut reader,
+        &mut buffer,
+        &stop,
+        &Bell::new(),
+    );
+    Ok(end == PumpEnd::EndOfInput)
+}

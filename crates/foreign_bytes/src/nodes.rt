@@ -1,0 +1,128 @@
+//! The two nodes, each at the ends of two rows.
+ghost use Rattle.std.specs.Prelude.{IfOk};
+ghost use Rattle.endpoint.specs.Calls.{IsNewIn, IsNewOut};
+ghost use Rattle.ruled_link.specs.Inward.{taking};
+ghost use Rattle.ruled_link.specs.Outward.{sending};
+
+use blocks::{BLOCK_BYTES, MemStore, Refusal, Settings, Tuple};
+use bytes::Bytes;
+use ruled_link::{PieceIn, PieceOut, RuledIn, RuledOut, row};
+use session_nodes::{Local, Peer};
+use std::alloc::Global;
+use std::sync::Wait;
+
+/// Pieces of a row: more than a recorded stream has.
+const PIECES: usize = 1_024;
+
+/// Writes of the session.
+const WRITES: u64 = 24;
+
+const SETTINGS: Settings = Settings {
+    blocks: 16,
+    max_epoch: 4,
+    ..Settings::STANDARD
+};
+
+/// The identifiers of the primary's disk.
+const OWN: Tuple = Tuple {
+    current: 1,
+    bitmap: 0,
+    first_historical: 0,
+    second_historical: 0,
+};
+
+/// The identifiers of a disk of which nothing is known: all blocks are copied.
+const UNKNOWN: Tuple = Tuple {
+    current: 0,
+    bitmap: 0,
+    first_historical: 0,
+    second_historical: 0,
+};
+
+/// A primary at the ends of two rows.
+pub(crate) type RowLocal<R> = Local<RuledOut<R>, RuledIn<R>, MemStore>;
+
+/// A secondary at the ends of two rows.
+pub(crate) type RowPeer<R> = Peer<RuledOut<R>, RuledIn<R>, MemStore>;
+
+/// The other ends of a node's two rows.
+#[derive(Drop)]
+pub(crate) struct RowEnds<R: Wait + Drop> {
+    /// What the node sent comes out here.
+    pub(crate) sent: PieceIn<R>,
+    /// What it is to take goes in here.
+    pub(crate) to_take: PieceOut<R>,
+}
+
+// Two rows: a node's ends, and the others.
+fn rows<R: Wait + Copy + Drop>(
+    rt: R,
+    alloc: Global,
+) -> Result<((RuledOut<R>, RuledIn<R>), RowEnds<R>), Refusal>
+    ensures { IfOk result (λ r. IsNewOut (sending r.0.0) × IsNewIn (taking r.0.1)) }
+{
+    let (pushed, sent) = row(rt, alloc, PIECES)?;
+    let (to_take, popped) = row(rt, alloc, PIECES)?;
+    match RuledIn::new(alloc, popped) {
+        Ok(incoming) => Ok(((RuledOut::new(pushed), incoming), RowEnds { sent, to_take })),
+        Err(refusal) => Err(refusal),
+    }
+}
+
+/// An opened primary over a disk filled with zeros.
+pub(crate) fn open_local<R: Wait + Copy + Drop>(
+    rt: R,
+    alloc: Global,
+) -> Result<(RowLocal<R>, RowEnds<R>), Refusal> {
+    let disk = MemStore::zeroed(alloc, SETTINGS.blocks)?;
+    let marks = Vec::from_elem(alloc, false, SETTINGS.blocks as usize)?;
+    let (ends, rows) = rows(rt, alloc)?;
+    match Local::open(alloc, SETTINGS, disk, OWN, marks, ends, (5, 7)) {
+        Ok(node) => Ok((node, rows)),
+        Err(refusal) => Err(refusal),
+    }
+}
+
+/// An opened secondary over a disk filled with zeros.
+pub(crate) fn open_peer<R: Wait + Copy + Drop>(
+    rt: R,
+    alloc: Global,
+) -> Result<(RowPeer<R>, RowEnds<R>), Refusal> {
+    let disk = MemStore::zeroed(alloc, SETTINGS.blocks)?;
+    let (ends, rows) = rows(rt, alloc)?;
+    match Peer::open(alloc, SETTINGS, disk, UNKNOWN, ends) {
+        Ok(node) => Ok((node, rows)),
+        Err(refusal) => Err(refusal),
+    }
+}
+
+/// Submits the write of this number, from 0, if there is one and it is accepted. Returns the number of the next one.
+pub(crate) fn submit<R: Wait + Drop>(
+    alloc: Global,
+    node: &mut RowLocal<R>,
+    write: u64,
+) -> Result<u64, Refusal> {
+    if write >= WRITES {
+        return Ok(write);
+    }
+    let blocks = (write % 4 + 1) as usize;
+    let bytes = Vec::from_elem(alloc, write as u8, blocks * BLOCK_BYTES)?;
+    let bytes = Bytes::copy_from_slice(alloc, bytes.as_slice())?;
+    match node.submit(write * 5 % 12, &bytes) {
+        Ok(_) => Ok(write + 1),
+        Err(_) => Ok(write),
+    }
+}
+
+/// Does what a primary can do without a frame. What has nothing to do is refused, and changes nothing.
+pub(crate) fn work_local<R: Wait + Drop>(node: &mut RowLocal<R>) {
+    let _ = node.write_next();
+    let _ = node.resync_next();
+    let _ = node.send();
+}
+
+/// Does what a secondary can do without a frame.
+pub(crate) fn work_peer<R: Wait + Drop>(node: &mut RowPeer<R>) {
+    let _ = node.apply_next();
+    let _ = node.ack_out();
+}

@@ -1,0 +1,99 @@
+//! The pump from a row to a writer.
+ghost use Rattle.std.specs.Prelude.{◌≡◌, ◌≢◌, ◌≤◌, List, ℕ, [], ◌++◌, length, take};
+ghost use Rattle.std.specs.Io.KnownBytes.{Appends};
+ghost use Rattle.ruled_link.specs.Moments.{WasEmpty};
+ghost use Rattle.pumps.specs.Carried.{IsCarriedOut, PopsBytes};
+
+use crate::{Buffer, PumpEnd};
+use bell::Bell;
+use ruled_link::{Moment, PIECE_BYTES, PieceIn};
+use std::io::{ErrorKind, Write};
+use std::sync::Wait;
+use std::sync::atomic::{AtomicBool, Ordering};
+use std::time::Clock;
+
+/// Writes the bytes of a row's pieces to a writer, in order, until it is stopped or a write fails. One write
+/// carries as many pieces as the row has, up to 64 KiB. It looks at `stop` only when all that it popped is
+/// written, and waits on `work` while the row is empty. It neither closes nor drops the writer: whoever runs
+/// it does, and tells of its end. It takes no memory.
+pub fn pump_out<R: Wait + Clock, M: Moment, W: Write>(
+    rt: &R,
+    row: &mut PieceIn<R, M>,
+    writer: &mut W,
+    buffer: &mut Buffer,
+    stop: &AtomicBool,
+    work: &Bell,
+) -> PumpEnd
+    ensures written { (rest : List ℕ) × IsCarriedOut row.old row.new (W.contents writer.old) (W.contents writer.new) rest }
+    ensures whole { result ≡ PumpEnd.Stopped → IsCarriedOut row.old row.new (W.contents writer.old) (W.contents writer.new) [] }
+    ensures ends { result ≢ PumpEnd.EndOfInput }
+{
+    let mut looks = 0u32;
+    for _ in rt.forever() {
+        if stop.load(Ordering::SeqCst) {
+            return PumpEnd::Stopped;
+        }
+        let rings = work.rings();
+        gather(row, buffer);
+        let bytes = buffer.bytes();
+        if bytes.is_empty() {
+            work.wait(rt, rings, looks);
+            looks = looks.saturating_add(1);
+            continue;
+        }
+        looks = 0;
+        if write_all(rt, writer, bytes) < bytes.len() {
+            return PumpEnd::Failed;
+        }
+    }
+    unreachable!()
+}
+
+/// Fills the buffer with the bytes of the pieces that the row has, while there is room for a whole one.
+fn gather<R: Wait, M: Moment>(row: &mut PieceIn<R, M>, buffer: &mut Buffer)
+    ensures popped { PopsBytes row.old row.new buffer.new }
+    ensures empty { buffer.new ≡ [] → WasEmpty M.holds row.new.pieces }
+{
+    buffer.clear();
+    while buffer.room() >= PIECE_BYTES {
+        let Some(piece) = row.pop() else {
+            return;
+        };
+        buffer.append(piece.bytes());
+    }
+}
+
+/// Writes the bytes, and returns how many it wrote: all, or fewer if a write failed.
+fn write_all<R: Wait, W: Write>(rt: &R, writer: &mut W, bytes: &[u8]) -> usize
+    ensures within { result ≤ length bytes.now }
+    ensures written { Appends (W.contents writer.old) (W.contents writer.new) (take result bytes.now) }
+{
+    let mut count = 0;
+    while count < bytes.len() {
+        let more = write_once(rt, writer, &bytes[count..]);
+        if more == 0 {
+            return count;
+        }
+        count += more;
+    }
+    count
+}
+
+/// Writes from the front of the bytes, and returns how many it wrote: none if the write failed. A write that a
+/// signal interrupts is tried again.
+fn write_once<R: Wait, W: Write>(rt: &R, writer: &mut W, bytes: &[u8]) -> usize
+    ensures within { result ≤ length bytes.now }
+    ensures written { Appends (W.contents writer.old) (W.contents writer.new) (take result bytes.now) }
+{
+    for _ in rt.forever() {
+        match writer.write(bytes) {
+            Ok(count) => return count,
+            Err(e) => {
+                if e.kind() != ErrorKind::Interrupted {
+                    return 0;
+                }
+            }
+        }
+    }
+    unreachable!()
+}

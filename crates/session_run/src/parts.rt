@@ -1,0 +1,47 @@
+//! What the session of a run starts from.
+ghost use Rattle.std.specs.Prelude.{◌≡◌, ◌<◌, IfOk};
+ghost use Rattle.blocks.specs.SettingsRange.{standard};
+
+use crate::options::Options;
+use blocks::{Refusal, Tuple};
+use std::alloc::Global;
+use volume::Parts;
+
+/// The identifiers of a disk that holds what it held when the pair was made.
+const FIRST: Tuple = Tuple {
+    current: 1,
+    bitmap: 0,
+    first_historical: 0,
+    second_historical: 0,
+};
+
+/// The identifiers of a disk of which nothing is known.
+const NONE: Tuple = Tuple {
+    current: 0,
+    bitmap: 0,
+    first_historical: 0,
+    second_historical: 0,
+};
+
+/// The parts of a session with these options over these images: no block is marked, and if the images differ, the
+/// peer's disk is one of which nothing is known. `BadSetting` (15) if a setting is out of its range, else `NoMemory`
+/// (7) if there is no room for the marks.
+pub(crate) fn parts(
+    alloc: Global,
+    options: &Options,
+    images: &(Vec<u8>, Vec<u8>),
+) -> Result<Parts, Refusal>
+    ensures settings { IfOk result (λ parts. parts.settings ≡ record standard { protocol = options.now.protocol; blocks = options.now.blocks }) }
+    ensures some_blocks { IfOk result (λ parts. 0 < options.now.blocks) }
+{
+    let settings = options.settings();
+    settings.check()?;
+    Ok(Parts {
+        settings,
+        own: FIRST,
+        peer: if images.0 == images.1 { FIRST } else { NONE },
+        marks: Vec::from_elem(alloc, false, settings.blocks as usize)?,
+        sync: 2,
+        loss: 3,
+    })
+}

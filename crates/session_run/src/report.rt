@@ -1,0 +1,73 @@
+//! What a session came to.
+ghost use Rattle.std.specs.Prelude.{◌≡◌, length, IfOk};
+
+use crate::options::Options;
+use blocks::{MemStore, Refusal};
+use link::{FrameIn, FrameOut};
+use primary::{Primary, Receipt};
+use secondary::Secondary;
+use settle::settle;
+use status::{primary_line, secondary_line};
+use std::alloc::Global;
+
+/// What a session came to, with both disks.
+#[derive(Drop)]
+pub(crate) struct Report {
+    /// Writes that were completed.
+    pub(crate) completed: u64,
+    /// Receipts that the settlement confirmed.
+    pub(crate) confirmed: u64,
+    /// Blocks without a mark on which the disks differ.
+    pub(crate) unmarked: u32,
+    /// The status lines of both nodes at the end, if they are wanted.
+    pub(crate) status: Option<(String, String)>,
+    pub(crate) local: MemStore,
+    pub(crate) peer: MemStore,
+}
+
+/// Settles two nodes that are at rest, with the receipts of all writes. The refusals are those of `settle`, and
+/// `NoMemory` (7) if there is no room for the status lines.
+pub(crate) fn bring_together<
+    O: FrameOut + Drop,
+    I: FrameIn + Drop,
+    P: FrameOut + Drop,
+    J: FrameIn + Drop,
+>(
+    alloc: Global,
+    options: &Options,
+    primary: Primary<O, I, MemStore>,
+    secondary: Secondary<P, J, MemStore>,
+    receipts: &[Receipt],
+) -> Result<Report, Refusal>
+    ensures { IfOk result (λ report. report.completed ≡ length receipts.now) }
+{
+    let (mut primary, mut secondary) = (primary, secondary);
+    let settled = settle(&mut primary, &mut secondary, receipts);
+    let status = status(alloc, options, &primary, &secondary);
+    let (local, peer) = (primary.into_store(), secondary.into_store());
+    let settled = settled?;
+    Ok(Report {
+        completed: receipts.len() as u64,
+        confirmed: settled.confirmed,
+        unmarked: settled.unmarked,
+        status: status?,
+        local,
+        peer,
+    })
+}
+
+// The status lines of both nodes, if they are wanted.
+fn status<O: FrameOut + Drop, I: FrameIn + Drop, P: FrameOut + Drop, J: FrameIn + Drop>(
+    alloc: Global,
+    options: &Options,
+    primary: &Primary<O, I, MemStore>,
+    secondary: &Secondary<P, J, MemStore>,
+) -> Result<Option<(String, String)>, Refusal> {
+    if !options.telling.status {
+        return Ok(None);
+    }
+    Ok(Some((
+        primary_line(alloc, primary)?,
+        secondary_line(alloc, secondary)?,
+    )))
+}

@@ -1,0 +1,369 @@
+//! What callers do with a session.
+use crate::disks::Signals;
+use crate::outcome::Answers;
+use blocks::{BLOCK_BYTES, Refusal};
+use bytes::Bytes;
+use primary::{Kind, Receipt};
+use std::alloc::Global;
+use std::sync::Wait;
+use std::sync::atomic::Ordering;
+use std::thread;
+use std::thread::Threads;
+use std::time::Clock;
+use volume::{Mirror, PrimaryHalf, SecondaryHalf};
+
+/// Writers of a session, and the writes of each.
+pub(crate) const WRITERS: usize = 4;
+
+pub(crate) const WRITES: u64 = 50;
+
+/// How often a caller looks again at what it waits for.
+const LOOKS: u32 = 1_000_000;
+
+/// What the callers of a session do.
+#[derive(Clone, Copy, Debug, PartialEq, Eq)]
+pub(crate) enum Work {
+    /// Four writers write fifty times each, to two blocks of their own, while the link is cut and reconnected so often.
+    Writers { cuts: u32 },
+    /// They all write to the same two blocks.
+    SharedBlocks,
+    /// One caller writes a thousand times, and cuts and reconnects the link after every tenth write.
+    CutEveryTenth,
+    /// One caller writes block 0 and, once the peer's disk has begun it, another one block 1. The second one's receipt
+    /// lets the first write end, if it is so told.
+    Gate { receipt_opens: bool },
+    /// Nothing is written, until the peer's disk was written so often.
+    Resync { writes: u64 },
+    /// One caller writes until the link has answered, on a first connection and on a second.
+    TwoConnections,
+    /// One caller writes once.
+    OneWrite,
+    /// One caller asks for a second connection, which is refused before and after a cut.
+    OneConnection,
+    /// One caller asks for what a session refuses, and complains of every other answer.
+    Refused,
+}
+
+/// Does it, and returns what the callers have then.
+pub(crate) fn carry_out<
+    R: Threads + Wait + Clock + Copy + Drop + Send + Sync + 'static,
+    A: PrimaryHalf + Drop + Send + Sync + 'static,
+    B: SecondaryHalf + Drop + Send + Sync + 'static,
+>(
+    rt: &R,
+    alloc: Global,
+    mirror: &Mirror<R, A, B>,
+    signals: &Signals,
+    work: Work,
+) -> Result<Answers, Refusal> {
+    match work {
+        Work::Writers { cuts } => all_writers(rt, alloc, mirror, cuts, false),
+        Work::SharedBlocks => all_writers(rt, alloc, mirror, 0, true),
+        Work::CutEveryTenth => cut_every_tenth(rt, alloc, mirror),
+        Work::Gate { receipt_opens } => gate(rt, alloc, mirror, signals, receipt_opens),
+        Work::Resync { writes } => resync(alloc, signals, writes),
+        Work::TwoConnections => two_connections(rt, alloc, mirror),
+        Work::OneWrite => one_write(alloc, mirror),
+        Work::OneConnection => one_connection(alloc, mirror),
+        Work::Refused => refused(alloc, mirror),
+    }
+}
+
+// No answers yet.
+fn nothing(alloc: Global) -> Answers {
+    Answers {
+        receipts: Vec::new(alloc),
+        local_faults: 0,
+        complaints: 0,
+    }
+}
+
+// Notes the answer of a write.
+fn note(answers: &mut Answers, answer: Result<Receipt, Refusal>) -> Result<(), Refusal> {
+    match answer {
+        Ok(receipt) => answers.receipts.push(receipt)?,
+        Err(Refusal::LocalFault) => {
+            answers.local_faults = answers.local_faults.saturating_add(1);
+        }
+        Err(_) => answers.complaints = answers.complaints.saturating_add(1),
+    }
+    Ok(())
+}
+
+// Writes a block filled with a byte.
+fn write<R: Wait + Clock + Drop, A: PrimaryHalf + Drop, B: SecondaryHalf + Drop>(
+    alloc: Global,
+    mirror: &Mirror<R, A, B>,
+    block: u64,
+    byte: u8,
+) -> Result<Receipt, Refusal> {
+    let bytes = Bytes::copy_from_slice(alloc, &[byte; BLOCK_BYTES])?;
+    mirror.write(block, &bytes)
+}
+
+// All writers, each in a thread of its own, and the one that cuts.
+fn all_writers<
+    R: Threads + Wait + Clock + Copy + Drop + Send + Sync + 'static,
+    A: PrimaryHalf + Drop + Send + Sync + 'static,
+    B: SecondaryHalf + Drop + Send + Sync + 'static,
+>(
+    rt: &R,
+    alloc: Global,
+    mirror: &Mirror<R, A, B>,
+    cuts: u32,
+    shared: bool,
+) -> Result<Answers, Refusal> {
+    let each = thread::map_indices(
+        rt,
+        alloc,
+        WRITERS + 1,
+        &|thread| {
+            if thread < WRITERS {
+                write_some(alloc, mirror, thread as u64, shared)
+            } else {
+                cut_some(rt, alloc, mirror, cuts)
+            }
+        },
+    )?;
+    let mut all = nothing(alloc);
+    for answers in each {
+        let mut answers = answers?;
+        all.receipts.append(&mut answers.receipts)?;
+        all.local_faults = all.local_faults.saturating_add(answers.local_faults);
+        all.complaints = all.complaints.saturating_add(answers.complaints);
+    }
+    Ok(all)
+}
+
+// The writes of one writer, which reads back the last of them if its blocks are its own.
+fn write_some<R: Wait + Clock + Drop, A: PrimaryHalf + Drop, B: SecondaryHalf + Drop>(
+    alloc: Global,
+    mirror: &Mirror<R, A, B>,
+    writer: u64,
+    shared: bool,
+) -> Result<Answers, Refusal> {
+    let mut answers = nothing(alloc);
+    let first = if shared { 0 } else { writer % 4 * 2 };
+    for turn in 0..WRITES {
+        let byte = (writer % 4 * 50 + turn) as u8;
+        let answer = write(alloc, mirror, first + turn % 2, byte);
+        note(&mut answers, answer)?;
+    }
+    let last = (writer % 4 * 50 + 49) as u8;
+    let read = mirror.read(first + 1, 1);
+    let is_back = match &read {
+        Ok(bytes) => bytes.as_slice() == [last; BLOCK_BYTES].as_slice(),
+        Err(_) => false,
+    };
+    if !shared && !is_back {
+        answers.complaints = answers.complaints.saturating_add(1);
+    }
+    Ok(answers)
+}
+
+// Cuts the link and reconnects it, so often.
+fn cut_some<R: Wait + Clock + Drop, A: PrimaryHalf + Drop, B: SecondaryHalf + Drop>(
+    rt: &R,
+    alloc: Global,
+    mirror: &Mirror<R, A, B>,
+    cuts: u32,
+) -> Result<Answers, Refusal> {
+    for round in 1..=cuts {
+        mirror.cut();
+        reconnect(rt, mirror, round)?;
+    }
+    Ok(nothing(alloc))
+}
+
+// Reconnects under the words of this round, once the secondary's disk has done its items.
+fn reconnect<R: Wait + Clock + Drop, A: PrimaryHalf + Drop, B: SecondaryHalf + Drop>(
+    rt: &R,
+    mirror: &Mirror<R, A, B>,
+    round: u32,
+) -> Result<u32, Refusal> {
+    let sync = 2 * u64::from(round) + 2;
+    for _ in rt.forever() {
+        match mirror.reconnect(sync, sync + 1) {
+            Err(Refusal::NotDrained) => thread::yield_now(),
+            answer => return answer,
+        }
+    }
+    unreachable!()
+}
+
+// A thousand writes of one caller, and a cut after every tenth.
+fn cut_every_tenth<R: Wait + Clock + Drop, A: PrimaryHalf + Drop, B: SecondaryHalf + Drop>(
+    rt: &R,
+    alloc: Global,
+    mirror: &Mirror<R, A, B>,
+) -> Result<Answers, Refusal> {
+    let mut answers = nothing(alloc);
+    for round in 1..=100u32 {
+        for turn in 0..10u32 {
+            let answer = write(alloc, mirror, u64::from(turn % 8), (round + turn) as u8);
+            note(&mut answers, answer)?;
+        }
+        mirror.cut();
+        reconnect(rt, mirror, round)?;
+    }
+    Ok(answers)
+}
+
+// Two callers, whose writes are under way at one time.
+fn gate<
+    R: Threads + Wait + Clock + Copy + Drop + Send + Sync + 'static,
+    A: PrimaryHalf + Drop + Send + Sync + 'static,
+    B: SecondaryHalf + Drop + Send + Sync + 'static,
+>(
+    rt: &R,
+    alloc: Global,
+    mirror: &Mirror<R, A, B>,
+    signals: &Signals,
+    receipt_opens: bool,
+) -> Result<Answers, Refusal> {
+    let both = thread::map_indices(
+        rt,
+        alloc,
+        2,
+        &|caller| {
+            if caller == 0 {
+                return write(alloc, mirror, 0, 0xAA);
+            }
+            wait_until_begun(signals);
+            let receipt = write(alloc, mirror, 1, 0xBB);
+            if receipt_opens && receipt.is_ok() {
+                signals.may_end.store(true, Ordering::SeqCst);
+            }
+            receipt
+        },
+    )?;
+    let mut answers = nothing(alloc);
+    for answer in both {
+        note(&mut answers, answer)?;
+    }
+    if signals.gave_up.load(Ordering::SeqCst) {
+        answers.complaints = answers.complaints.saturating_add(1);
+    }
+    Ok(answers)
+}
+
+// Looks until the peer's disk has begun the write of block 0.
+fn wait_until_begun(signals: &Signals) {
+    for _ in 0..LOOKS {
+        if signals.began.load(Ordering::SeqCst) {
+            break;
+        }
+        thread::yield_now();
+    }
+}
+
+// Looks until the peer's disk was written so often.
+fn resync(alloc: Global, signals: &Signals, writes: u64) -> Result<Answers, Refusal> {
+    let mut answers = nothing(alloc);
+    for _ in 0..LOOKS {
+        if signals.peer_writes.load(Ordering::SeqCst) >= writes {
+            return Ok(answers);
+        }
+        thread::yield_now();
+    }
+    answers.complaints = 1;
+    Ok(answers)
+}
+
+// Writes until the link has answered one, on each of two connections.
+fn two_connections<R: Wait + Clock + Drop, A: PrimaryHalf + Drop, B: SecondaryHalf + Drop>(
+    rt: &R,
+    alloc: Global,
+    mirror: &Mirror<R, A, B>,
+) -> Result<Answers, Refusal> {
+    let mut answers = nothing(alloc);
+    answers.receipts.push(linked(alloc, mirror, 1)?)?;
+    mirror.cut();
+    reconnect(rt, mirror, 1)?;
+    answers.receipts.push(linked(alloc, mirror, 2)?)?;
+    Ok(answers)
+}
+
+// The first linked receipt of this connection.
+fn linked<R: Wait + Clock + Drop, A: PrimaryHalf + Drop, B: SecondaryHalf + Drop>(
+    alloc: Global,
+    mirror: &Mirror<R, A, B>,
+    connection: u32,
+) -> Result<Receipt, Refusal> {
+    for _ in 0..100_000u32 {
+        let receipt = write(alloc, mirror, 0, 0xAA)?;
+        if let (Kind::Linked, Some((number, _))) = (receipt.kind(), receipt.home())
+            && number == connection
+        {
+            return Ok(receipt);
+        }
+    }
+    Err(Refusal::NotCompleted)
+}
+
+// One write of block 2.
+fn one_write<R: Wait + Clock + Drop, A: PrimaryHalf + Drop, B: SecondaryHalf + Drop>(
+    alloc: Global,
+    mirror: &Mirror<R, A, B>,
+) -> Result<Answers, Refusal> {
+    let mut answers = nothing(alloc);
+    let answer = write(alloc, mirror, 2, 0xAA);
+    note(&mut answers, answer)?;
+    Ok(answers)
+}
+
+// Whether a second connection is refused 12, whatever the words, before and after a cut.
+fn one_connection<R: Wait + Clock + Drop, A: PrimaryHalf + Drop, B: SecondaryHalf + Drop>(
+    alloc: Global,
+    mirror: &Mirror<R, A, B>,
+) -> Result<Answers, Refusal> {
+    let mut answers = nothing(alloc);
+    let before = number(mirror.reconnect(90, 91));
+    mirror.cut();
+    let after = number(mirror.reconnect(0, 0));
+    answers.complaints = u32::from(before != 12 || after != 12);
+    Ok(answers)
+}
+
+// Whether a session refuses what it should: writes and reads past the device, a write of part of a block, words that
+// are used, and a reconnection over an open link.
+fn refused<R: Wait + Clock + Drop, A: PrimaryHalf + Drop, B: SecondaryHalf + Drop>(
+    alloc: Global,
+    mirror: &Mirror<R, A, B>,
+) -> Result<Answers, Refusal> {
+    let mut answers = nothing(alloc);
+    let part = Bytes::copy_from_slice(alloc, &[0u8; 100])?;
+    let refusals = [
+        (number(write(alloc, mirror, 8, 0)), 1),
+        (number(mirror.write(0, &part)), 1),
+        (number(mirror.read(8, 1)), 1),
+        (number(mirror.read(0, 0)), 1),
+        (number(mirror.reconnect(90, 91)), 36),
+    ];
+    for (found, wanted) in refusals {
+        answers.complaints = answers
+            .complaints
+            .saturating_add(u32::from(found != wanted));
+    }
+    mirror.cut();
+    let again = [
+        (number(mirror.reconnect(90, 90)), 33),
+        (number(mirror.reconnect(1, 91)), 33),
+        (number(mirror.reconnect(0, 91)), 33),
+        (number(mirror.reconnect(90, 91)), 0),
+    ];
+    for (found, wanted) in again {
+        answers.complaints = answers
+            .complaints
+            .saturating_add(u32::from(found != wanted));
+    }
+    Ok(answers)
+}
+
+// The number of a refusal, 0 if there is none.
+fn number<X: Drop>(answer: Result<X, Refusal>) -> u8 {
+    match answer {
+        Ok(_) => 0,
+        Err(refusal) => refusal.number(),
+    }
+}

@@ -1,0 +1,209 @@
+//! Disks of the tests' own, which threads of a test watch.
+ghost use Rattle.std.specs.Prelude.{◌+◌, if◌then◌else◌, is_some};
+
+use blocks::{BLOCK_BYTES, Block, MemStore, Range, Refusal, Store, StoreFault};
+use std::alloc::Global;
+use std::sync::Arc;
+use std::sync::atomic::{AtomicBool, AtomicU64, Ordering};
+use std::thread;
+
+/// How often a disk that waits looks again before it gives up.
+const TURNS: u32 = 100_000;
+
+/// What threads of a test know of its disks.
+#[derive(Drop)]
+pub(crate) struct Signals {
+    /// Whether the peer's disk has begun a write of block 0.
+    pub(crate) began: AtomicBool,
+    /// Whether the write of block 0 may end that the peer's disk has begun.
+    pub(crate) may_end: AtomicBool,
+    /// Whether the peer's disk gave up waiting.
+    pub(crate) gave_up: AtomicBool,
+    /// How many writes the peer's disk has done.
+    pub(crate) peer_writes: AtomicU64,
+}
+
+impl Signals {
+    /// Nothing has happened.
+    pub(crate) fn new() -> Signals {
+        Signals {
+            began: AtomicBool::new(false),
+            may_end: AtomicBool::new(false),
+            gave_up: AtomicBool::new(false),
+            peer_writes: AtomicU64::new(0),
+        }
+    }
+}
+
+/// A disk in memory that fails one write and one read, where it is told to.
+#[derive(Drop)]
+pub(crate) struct FailingDisk {
+    memory: MemStore,
+    /// How many writes pass before the one that fails, and whether its blocks are new all the same; none if none fails
+    /// any more.
+    failing_write: Option<(u64, bool)>,
+    /// How many reads pass before the one that fails; none if none fails any more.
+    failing_read: Option<u64>,
+}
+
+impl FailingDisk {
+    /// A disk that fails these.
+    pub(crate) fn new(
+        memory: MemStore,
+        failing_write: Option<(u64, bool)>,
+        failing_read: Option<u64>,
+    ) -> FailingDisk {
+        FailingDisk {
+            memory,
+            failing_write,
+            failing_read,
+        }
+    }
+}
+
+impl Store for FailingDisk {
+    ghost contents = { λ s. s.memory };
+
+    ghost faults = { λ s. (if is_some s.failing_write then 0 else 1) + (if is_some s.failing_read then 0 else 1) };
+
+    fn blocks(&self) -> u32 {
+        self.memory.blocks()
+    }
+
+    fn write(&mut self, range: Range, bytes: &[u8]) -> Result<(), StoreFault> {
+        match self.failing_write {
+            Some((0, keeps)) => {
+                self.failing_write = None;
+                if keeps {
+                    self.memory.write(range, bytes)?;
+                }
+                return Err(StoreFault);
+            }
+            Some((passes, keeps)) => self.failing_write = Some((passes - 1, keeps)),
+            None => {}
+        }
+        self.memory.write(range, bytes)
+    }
+
+    fn read(&mut self, block: Block, buffer: &mut [u8]) -> Result<(), StoreFault> {
+        match self.failing_read {
+            Some(0) => {
+                self.failing_read = None;
+                return Err(StoreFault);
+            }
+            Some(passes) => self.failing_read = Some(passes - 1),
+            None => {}
+        }
+        self.memory.read(block, buffer)
+    }
+}
+
+/// A primary's disk in memory that tells when it has written block 1.
+#[derive(Drop)]
+pub(crate) struct TellingDisk {
+    memory: MemStore,
+    signals: Arc<Signals, Global>,
+    /// Whether the write of block 1 lets the peer's write of block 0 end.
+    opens: bool,
+}
+
+impl TellingDisk {
+    /// A disk over this memory.
+    pub(crate) fn new(memory: MemStore, signals: Arc<Signals, Global>, opens: bool) -> TellingDisk {
+        TellingDisk {
+            memory,
+            signals,
+            opens,
+        }
+    }
+}
+
+impl Store for TellingDisk {
+    ghost contents = { λ s. s.memory };
+
+    ghost faults = { λ s. 0 };
+
+    fn blocks(&self) -> u32 {
+        self.memory.blocks()
+    }
+
+    fn write(&mut self, range: Range, bytes: &[u8]) -> Result<(), StoreFault> {
+        self.memory.write(range, bytes)?;
+        if self.opens && range.first == Block(1) {
+            self.signals.may_end.store(true, Ordering::SeqCst);
+        }
+        Ok(())
+    }
+
+    fn read(&mut self, block: Block, buffer: &mut [u8]) -> Result<(), StoreFault> {
+        self.memory.read(block, buffer)
+    }
+}
+
+/// A secondary's disk in memory whose write of block 0 ends only once it may. Where it waits in vain it gives up, once,
+/// with a fault.
+#[derive(Drop)]
+pub(crate) struct GatedDisk {
+    memory: MemStore,
+    signals: Arc<Signals, Global>,
+    /// Set until it gave up, if it waits at all.
+    waits: Option<()>,
+}
+
+impl GatedDisk {
+    /// A disk over this memory.
+    pub(crate) fn new(memory: MemStore, signals: Arc<Signals, Global>, waits: bool) -> GatedDisk {
+        GatedDisk {
+            memory,
+            signals,
+            waits: if waits { Some(()) } else { None },
+        }
+    }
+
+    // Whether the write of block 0 may end in time.
+    fn may_end(&self) -> bool {
+        self.signals.began.store(true, Ordering::SeqCst);
+        for _ in 0..TURNS {
+            if self.signals.may_end.load(Ordering::SeqCst) {
+                return true;
+            }
+            thread::yield_now();
+        }
+        self.signals.gave_up.store(true, Ordering::SeqCst);
+        false
+    }
+}
+
+impl Store for GatedDisk {
+    ghost contents = { λ s. s.memory };
+
+    ghost faults = { λ s. if is_some s.waits then 0 else 1 };
+
+    fn blocks(&self) -> u32 {
+        self.memory.blocks()
+    }
+
+    fn write(&mut self, range: Range, bytes: &[u8]) -> Result<(), StoreFault> {
+        if self.waits.is_some() && range.first == Block(0) && !self.may_end() {
+            self.waits = None;
+            return Err(StoreFault);
+        }
+        self.memory.write(range, bytes)?;
+        self.signals.peer_writes.fetch_add(1, Ordering::SeqCst);
+        Ok(())
+    }
+
+    fn read(&mut self, block: Block, buffer: &mut [u8]) -> Result<(), StoreFault> {
+        self.memory.read(block, buffer)
+    }
+}
+
+/// A disk in memory of eight blocks, block `n` filled with `n + 1` if it is numbered, else all zeros.
+pub(crate) fn memory(alloc: Global, is_numbered: bool) -> Result<MemStore, Refusal> {
+    let mut bytes = Vec::with_capacity(alloc, 8 * BLOCK_BYTES)?;
+    for block in 0..8u8 {
+        let byte = if is_numbered { block + 1 } else { 0 };
+        bytes.extend_from_slice(&[byte; BLOCK_BYTES])?;
+    }
+    MemStore::from_image(bytes)
+}

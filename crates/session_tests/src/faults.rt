@@ -1,0 +1,115 @@
+//! Disks that fail while a session runs.
+use crate::callers::Work;
+use crate::disks::{FailingDisk, GatedDisk, Signals, memory};
+use crate::outcome::Outcome;
+use crate::session::{Case, UNKNOWN, run};
+use blocks::{Protocol, Refusal};
+use std::alloc::Global;
+use std::sync::{Arc, Wait};
+use std::test::*;
+use std::thread::Threads;
+use std::time::Clock;
+
+/// Which call of which disk fails.
+#[derive(Clone, Copy, Debug, PartialEq, Eq)]
+enum Fault {
+    /// The local disk fails a write after this many.
+    LocalWrite(u64),
+    /// The peer's disk fails a write after this many.
+    PeerWrite(u64),
+}
+
+// A session of four writers over disks one of which fails once. A write that fails is on the disk all the same, if its
+// number is odd.
+fn over_failing<R: Threads + Wait + Clock + Copy + Drop + Send + Sync + 'static>(
+    rt: R,
+    alloc: Global,
+    protocol: Protocol,
+    fault: Fault,
+) -> Result<Outcome, Refusal> {
+    let signals = Arc::new(alloc, Signals::new())?;
+    let (local, peer) = match fault {
+        Fault::LocalWrite(passes) => (Some((passes, passes % 2 == 1)), None),
+        Fault::PeerWrite(passes) => (None, Some((passes, passes % 2 == 1))),
+    };
+    let disks = (
+        FailingDisk::new(memory(alloc, false)?, local, None),
+        FailingDisk::new(memory(alloc, false)?, peer, None),
+    );
+    let case = Case::of(protocol, Work::Writers { cuts: 0 });
+    run(rt, alloc, case, disks, &signals)
+}
+
+// A session without writes that copies all eight blocks to its peer, over a local disk that fails one read of them.
+fn over_failing_reads<R: Threads + Wait + Clock + Copy + Drop + Send + Sync + 'static>(
+    rt: R,
+    alloc: Global,
+    passes: u64,
+) -> Result<Outcome, Refusal> {
+    let signals = Arc::new(alloc, Signals::new())?;
+    let disks = (
+        FailingDisk::new(memory(alloc, true)?, None, Some(passes)),
+        GatedDisk::new(memory(alloc, false)?, Arc::try_clone(&signals)?, false),
+    );
+    let case = Case {
+        peer: UNKNOWN,
+        ..Case::of(Protocol::C, Work::Resync { writes: 8 })
+    };
+    run(rt, alloc, case, disks, &signals)
+}
+
+#[test]
+fn a_local_fault_is_its_callers_alone(rt: HostRuntime) -> Result<(), Fail> {
+    for protocol in [Protocol::A, Protocol::B, Protocol::C] {
+        for passes in 0..10u64 {
+            let outcome = over_failing(rt, rt.alloc(), protocol, Fault::LocalWrite(passes)).map_err(
+                |_| "a session",
+            )?;
+            assert_eq!(rt;
+                (outcome.receipts, outcome.local_faults),
+                (199, 1),
+                "{protocol:?} {passes}"
+            );
+            assert_eq!(rt;
+                (outcome.settled.confirmed, outcome.settled.unmarked),
+                (199, 0),
+                "{protocol:?} {passes}"
+            );
+        }
+    }
+    Ok(())
+}
+
+#[test]
+fn a_peer_fault_leaves_no_difference_unmarked(rt: HostRuntime) -> Result<(), Fail> {
+    for protocol in [Protocol::A, Protocol::B, Protocol::C] {
+        for passes in 0..10u64 {
+            let outcome = over_failing(rt, rt.alloc(), protocol, Fault::PeerWrite(passes)).map_err(
+                |_| "a session",
+            )?;
+            assert_eq!(rt;
+                (outcome.receipts, outcome.local_faults),
+                (200, 0),
+                "{protocol:?} {passes}"
+            );
+            assert_eq!(rt;
+                (outcome.settled.confirmed, outcome.settled.unmarked),
+                (200, 0),
+                "{protocol:?} {passes}"
+            );
+        }
+    }
+    Ok(())
+}
+
+#[test]
+fn a_failed_read_of_a_resync_is_tried_again(rt: HostRuntime) -> Result<(), Fail> {
+    // The resync reads each of the eight blocks once.
+    for passes in 0..8u64 {
+        let outcome = over_failing_reads(rt, rt.alloc(), passes).map_err(|_| "a session")?;
+        assert_eq!(rt; (outcome.complaints, outcome.alike), (0, true), "{passes}");
+        assert_eq!(rt; outcome.peer_bytes, [1, 2, 3, 4, 5, 6, 7, 8], "{passes}");
+        assert_eq!(rt; outcome.settled.unmarked, 0, "{passes}");
+    }
+    Ok(())
+}

@@ -1,0 +1,73 @@
+//! Both disks work at one time, and a resync goes on by itself.
+use crate::callers::Work;
+use crate::disks::{GatedDisk, Signals, TellingDisk, memory};
+use crate::outcome::Outcome;
+use crate::session::{Case, UNKNOWN, run};
+use blocks::{Protocol, Refusal};
+use std::alloc::Global;
+use std::sync::{Arc, Wait};
+use std::test::*;
+use std::thread::Threads;
+use std::time::Clock;
+
+// A session over disks that tell of what they do. The peer's disk waits where the callers' work says so.
+fn over_watched<R: Threads + Wait + Clock + Copy + Drop + Send + Sync + 'static>(
+    rt: R,
+    alloc: Global,
+    case: Case,
+) -> Result<Outcome, Refusal> {
+    let signals = Arc::new(alloc, Signals::new())?;
+    let (waits, opens) = match case.work {
+        Work::Gate { receipt_opens } => (true, !receipt_opens),
+        _ => (false, false),
+    };
+    let is_resync = !waits;
+    let local = TellingDisk::new(memory(alloc, is_resync)?, Arc::try_clone(&signals)?, opens);
+    let peer = GatedDisk::new(memory(alloc, false)?, Arc::try_clone(&signals)?, waits);
+    run(rt, alloc, case, (local, peer), &signals)
+}
+
+#[test]
+fn a_write_ends_on_the_local_disk_while_the_peer_writes(rt: HostRuntime) -> Result<(), Fail> {
+    let under_c = Case::of(
+        Protocol::C,
+        Work::Gate {
+            receipt_opens: false,
+        },
+    );
+    let under_a = Case::of(
+        Protocol::A,
+        Work::Gate {
+            receipt_opens: true,
+        },
+    );
+    for wide in [under_c, under_a] {
+        for case in [wide, wide.over_one_frame()] {
+            let outcome = over_watched(rt, rt.alloc(), case).map_err(|_| "a session")?;
+            assert_eq!(rt; (outcome.receipts, outcome.linked), (2, 2), "{case:?}");
+            assert_eq!(rt; outcome.complaints, 0, "{case:?}");
+            assert_eq!(rt;
+                (outcome.settled.confirmed, outcome.settled.unmarked),
+                (2, 0),
+                "{case:?}"
+            );
+        }
+    }
+    Ok(())
+}
+
+#[test]
+fn every_block_of_an_unknown_peer_is_copied(rt: HostRuntime) -> Result<(), Fail> {
+    let wide = Case {
+        peer: UNKNOWN,
+        ..Case::of(Protocol::C, Work::Resync { writes: 8 })
+    };
+    for case in [wide, wide.over_one_frame()] {
+        let outcome = over_watched(rt, rt.alloc(), case).map_err(|_| "a session")?;
+        assert_eq!(rt; outcome.complaints, 0, "{case:?}");
+        assert_eq!(rt; outcome.peer_bytes, [1, 2, 3, 4, 5, 6, 7, 8], "{case:?}");
+        assert!(rt; outcome.alike, "{case:?}");
+        assert_eq!(rt; outcome.settled.unmarked, 0, "{case:?}");
+    }
+    Ok(())
+}

@@ -1,0 +1,78 @@
+//! What a session came to.
+use blocks::{BLOCK_BYTES, Block, Refusal, Store};
+use link::{FrameIn, FrameOut};
+use primary::{Kind, Primary, Receipt};
+use secondary::Secondary;
+use settle::{Settled, settle};
+
+/// What the callers of a session have at its end.
+#[derive(Drop)]
+pub(crate) struct Answers {
+    /// The receipts of all writes that were completed.
+    pub(crate) receipts: Vec<Receipt>,
+    /// How many writes were refused 8.
+    pub(crate) local_faults: u32,
+    /// How many callers were refused otherwise, or read back other bytes than they wrote last.
+    pub(crate) complaints: u32,
+}
+
+impl Answers {
+    /// How many receipts say that the peer answered.
+    pub(crate) fn linked(&self) -> u32 {
+        let mut linked = 0u32;
+        for receipt in &self.receipts {
+            linked = linked.saturating_add(u32::from(receipt.kind() == Kind::Linked));
+        }
+        linked
+    }
+}
+
+/// What a session came to.
+#[derive(Clone, Copy, Debug, PartialEq, Eq)]
+pub(crate) struct Outcome {
+    pub(crate) receipts: usize,
+    pub(crate) linked: u32,
+    pub(crate) local_faults: u32,
+    pub(crate) complaints: u32,
+    pub(crate) settled: Settled,
+    /// Whether both disks have the same blocks.
+    pub(crate) alike: bool,
+    /// The first byte of each of the eight blocks of the peer's disk.
+    pub(crate) peer_bytes: [u8; 8],
+}
+
+/// Settles two nodes at rest with the receipts that callers have, and compares their disks. If the callers failed, so
+/// does it.
+pub(crate) fn compare<
+    O: FrameOut + Drop,
+    I: FrameIn + Drop,
+    S: Store + Drop,
+    P: FrameOut + Drop,
+    J: FrameIn + Drop,
+    T: Store + Drop,
+>(
+    primary: &mut Primary<O, I, S>,
+    secondary: &mut Secondary<P, J, T>,
+    answers: Result<Answers, Refusal>,
+) -> Result<Outcome, Refusal> {
+    let answers = answers?;
+    let settled = settle(primary, secondary, answers.receipts.as_slice())?;
+    let mut alike = true;
+    let mut peer_bytes = [0u8; 8];
+    for number in 0..8usize {
+        let (mut local, mut peer) = ([0u8; BLOCK_BYTES], [0u8; BLOCK_BYTES]);
+        primary.read_block(Block(number as u64), &mut local)?;
+        secondary.read_block(Block(number as u64), &mut peer)?;
+        alike &= local == peer;
+        peer_bytes[number] = peer[0];
+    }
+    Ok(Outcome {
+        receipts: answers.receipts.len(),
+        linked: answers.linked(),
+        local_faults: answers.local_faults,
+        complaints: answers.complaints,
+        settled,
+        alike,
+        peer_bytes,
+    })
+}

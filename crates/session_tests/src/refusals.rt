@@ -1,0 +1,79 @@
+//! What a session refuses, at its start and while it runs.
+use crate::callers::Work;
+use crate::disks::{GatedDisk, Signals, TellingDisk, memory};
+use crate::outcome::Outcome;
+use crate::session::{ALIKE, Case, run};
+use blocks::{MemStore, Protocol, Refusal, Tuple};
+use std::alloc::Global;
+use std::sync::{Arc, Wait};
+use std::test::*;
+use std::thread::Threads;
+use std::time::Clock;
+
+const fn tuple(current: u64, bitmap: u64, first_historical: u64, second_historical: u64) -> Tuple {
+    Tuple {
+        current,
+        bitmap,
+        first_historical,
+        second_historical,
+    }
+}
+
+// What a session answers whose callers only ask for what it refuses, and whether its disks are gone then. The peer's
+// disk may be a block short.
+fn answer<R: Threads + Wait + Clock + Copy + Drop + Send + Sync + 'static>(
+    rt: R,
+    alloc: Global,
+    case: Case,
+    is_short: bool,
+) -> Result<(Result<Outcome, Refusal>, bool), Refusal> {
+    let signals = Arc::new(alloc, Signals::new())?;
+    let local = TellingDisk::new(memory(alloc, false)?, Arc::try_clone(&signals)?, false);
+    let peer = GatedDisk::new(
+        MemStore::zeroed(alloc, if is_short { 7 } else { 8 })?,
+        Arc::try_clone(&signals)?,
+        false,
+    );
+    let answer = run(rt, alloc, case, (local, peer), &signals);
+    Ok((answer, Arc::into_inner(signals).is_some()))
+}
+
+#[test]
+fn a_refused_start_leaves_nothing(rt: HostRuntime) -> Result<(), Fail> {
+    let plain = Case::of(Protocol::C, Work::Refused);
+    let with = |own: Tuple, peer: Tuple| Case { own, peer, ..plain };
+    let words = |sync: u64, loss: u64| Case {
+        words: (sync, loss),
+        ..plain
+    };
+    let cases = [
+        (plain, true, 15),
+        (with(tuple(0, 0, 0, 0), ALIKE), false, 15),
+        (words(0, 3), false, 33),
+        (words(5, 5), false, 33),
+        (words(1, 3), false, 33),
+        (with(ALIKE, tuple(4, 0, 2, 0)), false, 33),
+        (with(tuple(7, 1, 0, 0), tuple(9, 7, 1, 0)), false, 30),
+        (with(tuple(7, 1, 0, 0), tuple(8, 1, 0, 0)), false, 31),
+        (with(tuple(7, 1, 0, 0), tuple(20, 21, 22, 23)), false, 32),
+    ];
+    for (case, is_short, number) in cases {
+        let (answer, is_gone) = answer(rt, rt.alloc(), case, is_short).map_err(|_| "a disk")?;
+        let found = match answer {
+            Ok(_) => 0,
+            Err(refusal) => refusal.number(),
+        };
+        assert_eq!(rt; (found, is_gone), (number, true), "{case:?}");
+    }
+    Ok(())
+}
+
+#[test]
+fn a_running_session_refuses_what_it_should(rt: HostRuntime) -> Result<(), Fail> {
+    let case = Case::of(Protocol::C, Work::Refused);
+    let (answer, is_gone) = answer(rt, rt.alloc(), case, false).map_err(|_| "a disk")?;
+    let outcome = answer.map_err(|_| "a session")?;
+    assert_eq!(rt; (outcome.complaints, outcome.settled.unmarked), (0, 0));
+    assert!(rt; is_gone);
+    Ok(())
+}

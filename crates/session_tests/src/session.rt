@@ -1,0 +1,151 @@
+//! Running a session over two disks, from its start to its settlement.
+ghost use Rattle.std.specs.Prelude.{◌≡◌};
+ghost use Rattle.endpoint.specs.Calls.{IsNewIn, IsNewOut};
+ghost use Rattle.ruled_link.specs.Inward.{taking};
+ghost use Rattle.ruled_link.specs.Names.{row_of};
+ghost use Rattle.ruled_link.specs.Names as names;
+ghost use Rattle.ruled_link.specs.Outward.{sending};
+
+use crate::callers::{Work, carry_out};
+use crate::disks::Signals;
+use crate::outcome::{Outcome, compare};
+use blocks::{Protocol, Refusal, Settings, Store, Tuple};
+use ruled_link::{RuledIn, RuledOut, ruled};
+use std::alloc::Global;
+use std::marker::Brand;
+use std::sync::{Arc, Wait};
+use std::thread::Threads;
+use std::time::Clock;
+use volume::{Linked, Parts, Session};
+
+/// The identifiers of disks that are alike.
+pub(crate) const ALIKE: Tuple = Tuple {
+    current: 1,
+    bitmap: 0,
+    first_historical: 0,
+    second_historical: 0,
+};
+
+/// The identifiers of a disk of which nothing is known.
+pub(crate) const UNKNOWN: Tuple = Tuple {
+    current: 0,
+    bitmap: 0,
+    first_historical: 0,
+    second_historical: 0,
+};
+
+/// A session: how it is set, and what its callers do.
+#[derive(Clone, Copy, Debug, PartialEq, Eq)]
+pub(crate) struct Case {
+    pub(crate) protocol: Protocol,
+    /// How many frames each direction of the link has room for.
+    pub(crate) link: u32,
+    pub(crate) own: Tuple,
+    pub(crate) peer: Tuple,
+    /// The words of the first connection.
+    pub(crate) words: (u64, u64),
+    pub(crate) work: Work,
+}
+
+impl Case {
+    /// A session of the default settings, over disks that are alike.
+    pub(crate) fn of(protocol: Protocol, work: Work) -> Case {
+        Case {
+            protocol,
+            link: Settings::STANDARD.link,
+            own: ALIKE,
+            peer: ALIKE,
+            words: (2, 3),
+            work,
+        }
+    }
+
+    /// The same over the smallest link.
+    pub(crate) fn over_one_frame(self) -> Case {
+        Case { link: 1, ..self }
+    }
+}
+
+/// Runs a session over these disks, whose threads and callers share the signals.
+pub(crate) fn run<
+    R: Threads + Wait + Clock + Copy + Drop + Send + Sync + 'static,
+    S: Store + Drop + Send + 'static,
+    T: Store + Drop + Send + 'static,
+>(
+    rt: R,
+    alloc: Global,
+    case: Case,
+    disks: (S, T),
+    signals: &Arc<Signals, Global>,
+) -> Result<Outcome, Refusal> {
+    let settings = Settings {
+        protocol: case.protocol,
+        link: case.link,
+        ..Settings::STANDARD
+    };
+    settings.check()?;
+    let parts = Parts {
+        settings,
+        own: case.own,
+        peer: case.peer,
+        marks: Vec::from_elem(alloc, false, settings.blocks as usize)?,
+        sync: case.words.0,
+        loss: case.words.1,
+    };
+    let there = ruled(rt, alloc, settings.link)?;
+    let back = ruled(rt, alloc, settings.link)?;
+    run_named::<Brand, _, _, _>(rt, alloc, case.work, there, back, disks, parts, signals)
+}
+
+// Everything that a session is used for stands in one function over its link's name, which the caller picks.
+fn run_named<
+    L: Linked + Send + Sync + 'static,
+    R: Threads + Wait + Clock + Copy + Drop + Send + Sync + 'static,
+    S: Store + Drop + Send + 'static,
+    T: Store + Drop + Send + 'static,
+>(
+    rt: R,
+    alloc: Global,
+    work: Work,
+    there: (RuledOut<R>, RuledIn<R>),
+    back: (RuledOut<R>, RuledIn<R>),
+    disks: (S, T),
+    parts: Parts,
+    signals: &Arc<Signals, Global>,
+) -> Result<Outcome, Refusal>
+    requires there { there.0.row ≡ row_of L.link names.There }
+    requires there_too { there.1.row ≡ row_of L.link names.There }
+    requires back { back.0.row ≡ row_of L.link names.Back }
+    requires back_too { back.1.row ≡ row_of L.link names.Back }
+    requires unused { IsNewOut (sending there.0) × IsNewIn (taking there.1) }
+    requires unused_too { IsNewOut (sending back.0) × IsNewIn (taking back.1) }
+{
+    let (local, peer) = disks;
+    match Session::<R, L, S, T>::start(rt, alloc, there, back, local, peer, parts) {
+        Ok(session) => use_session(rt, alloc, work, session, signals),
+        Err(refusal) => Err(refusal),
+    }
+}
+
+// Lets the callers do their work, ends the session, and settles.
+fn use_session<
+    L: Linked + Send + Sync + 'static,
+    R: Threads + Wait + Clock + Copy + Drop + Send + Sync + 'static,
+    S: Store + Drop + Send + 'static,
+    T: Store + Drop + Send + 'static,
+>(
+    rt: R,
+    alloc: Global,
+    work: Work,
+    session: Session<R, L, S, T>,
+    signals: &Arc<Signals, Global>,
+) -> Result<Outcome, Refusal> {
+    let answers = carry_out(&rt, alloc, session.mirror(), signals, work);
+    match session.finish() {
+        Ok((primary, secondary)) => {
+            let (mut primary, mut secondary) = (primary, secondary);
+            compare(&mut primary, &mut secondary, answers)
+        }
+        Err(refusal) => Err(refusal),
+    }
+}

@@ -1,0 +1,205 @@
+//! Sessions over streams.
+use crate::callers::{Work, carry_out};
+use crate::disks::{Signals, memory};
+use crate::outcome::{Outcome, compare};
+use crate::pipes::{Fixed, pipe};
+use crate::session::Case;
+use blocks::{Protocol, Refusal, Settings};
+use std::alloc::Global;
+use std::io::{Read, Write};
+use std::sync::Wait;
+use std::test::*;
+use std::thread::Threads;
+use std::time::Clock;
+use volume::{Parts, Way, WireSession};
+
+/// No bytes at which a stream fails.
+const NEVER: u64 = u64::MAX;
+
+/// After how many bytes each end of the way to the secondary fails.
+#[derive(Clone, Copy, Debug, PartialEq, Eq)]
+struct Failing {
+    writer: u64,
+    reader: u64,
+}
+
+const WHOLE: Failing = Failing {
+    writer: NEVER,
+    reader: NEVER,
+};
+
+// A session over pipes.
+fn over_pipes<R: Threads + Wait + Clock + Copy + Drop + Send + Sync + 'static>(
+    rt: R,
+    alloc: Global,
+    case: Case,
+    failing: Failing,
+) -> Result<Outcome, Refusal> {
+    let (writer, reader) = pipe(rt, alloc, failing.writer, failing.reader)?;
+    let there = Way { writer, reader };
+    let (writer, reader) = pipe(rt, alloc, NEVER, NEVER)?;
+    let back = Way { writer, reader };
+    over_ways(rt, alloc, case, (there, back))
+}
+
+// A session over two ways.
+fn over_ways<
+    R: Threads + Wait + Clock + Copy + Drop + Send + Sync + 'static,
+    W: Write + Drop + Send + 'static,
+    D: Read + Drop + Send + 'static,
+    V: Write + Drop + Send + 'static,
+    E: Read + Drop + Send + 'static,
+>(rt: R, alloc: Global, case: Case, ways: (Way<W, D>, Way<V, E>)) -> Result<Outcome, Refusal> {
+    let settings = Settings {
+        protocol: case.protocol,
+        link: case.link,
+        ..Settings::STANDARD
+    };
+    let parts = Parts {
+        settings,
+        own: case.own,
+        peer: case.peer,
+        marks: Vec::from_elem(alloc, false, settings.blocks as usize)?,
+        sync: case.words.0,
+        loss: case.words.1,
+    };
+    let (local, peer) = (memory(alloc, false)?, memory(alloc, false)?);
+    let session = match WireSession::start_over(rt, alloc, local, peer, parts, ways) {
+        Ok(session) => session,
+        Err(refusal) => return Err(refusal),
+    };
+    let answers = carry_out(&rt, alloc, session.mirror(), &Signals::new(), case.work);
+    match session.finish() {
+        Ok((primary, secondary)) => {
+            let (mut primary, mut secondary) = (primary, secondary);
+            compare(&mut primary, &mut secondary, answers)
+        }
+        Err(refusal) => Err(refusal),
+    }
+}
+
+#[test]
+fn each_write_over_streams_has_its_receipt(rt: HostRuntime) -> Result<(), Fail> {
+    for protocol in [Protocol::A, Protocol::B, Protocol::C] {
+        let wide = Case::of(protocol, Work::Writers { cuts: 0 });
+        for case in [wide, wide.over_one_frame()] {
+            let outcome = over_pipes(rt, rt.alloc(), case, WHOLE).map_err(|_| "a session")?;
+            assert_eq!(rt; (outcome.receipts, outcome.linked), (200, 200), "{case:?}");
+            assert_eq!(rt; outcome.complaints, 0, "{case:?}");
+            assert_eq!(rt;
+                (outcome.settled.confirmed, outcome.settled.unmarked),
+                (200, 0),
+                "{case:?}"
+            );
+        }
+    }
+    Ok(())
+}
+
+#[test]
+fn a_session_over_streams_has_one_connection(rt: HostRuntime) -> Result<(), Fail> {
+    let case = Case::of(Protocol::C, Work::OneConnection);
+    let outcome = over_pipes(rt, rt.alloc(), case, WHOLE).map_err(|_| "a session")?;
+    assert_eq!(rt; (outcome.complaints, outcome.settled.unmarked), (0, 0));
+    Ok(())
+}
+
+// What a session comes to in which a stream fails: its hello ends with 12, or its one write has its receipt and no
+// difference is without a mark.
+fn is_sound<R: Threads + Wait + Clock + Copy + Drop + Send + Sync + 'static>(
+    rt: R,
+    alloc: Global,
+    failing: Failing,
+) -> bool {
+    match over_pipes(rt, alloc, Case::of(Protocol::C, Work::OneWrite), failing) {
+        Ok(outcome) => {
+            outcome.receipts == 1
+                && outcome.complaints == 0
+                && outcome.settled.confirmed == 1
+                && outcome.settled.unmarked == 0
+        }
+        Err(refusal) => refusal == Refusal::NotConnected,
+    }
+}
+
+// Whether a stream is made to fail after this many bytes: after each one of the hello and round the ends of the frames
+// behind it, and after every sixteenth one of the data.
+fn is_tried(bytes: u64) -> bool {
+    bytes <= 80 || bytes >= 4180 || bytes % 16 == 0
+}
+
+#[test]
+fn a_reader_that_fails_anywhere_loses_nothing(rt: HostRuntime) -> Result<(), Fail> {
+    for bytes in 0..=4212u64 {
+        if !is_tried(bytes) {
+            continue;
+        }
+        let failing = Failing {
+            reader: bytes,
+            ..WHOLE
+        };
+        assert!(rt; is_sound(rt, rt.alloc(), failing), "{bytes}");
+    }
+    Ok(())
+}
+
+#[test]
+fn a_writer_that_fails_anywhere_loses_nothing(rt: HostRuntime) -> Result<(), Fail> {
+    for bytes in 0..=4212u64 {
+        if !is_tried(bytes) {
+            continue;
+        }
+        let failing = Failing {
+            writer: bytes,
+            ..WHOLE
+        };
+        assert!(rt; is_sound(rt, rt.alloc(), failing), "{bytes}");
+    }
+    Ok(())
+}
+
+// The refusal of a start during whose hello these bytes come to the secondary.
+fn foreign<R: Threads + Wait + Clock + Copy + Drop + Send + Sync + 'static>(
+    rt: R,
+    alloc: Global,
+    bytes: &'static [u8],
+) -> Result<u8, Refusal> {
+    let (writer, _) = pipe(rt, alloc, NEVER, NEVER)?;
+    let there = Way {
+        writer,
+        reader: Fixed::new(bytes),
+    };
+    let (writer, reader) = pipe(rt, alloc, NEVER, NEVER)?;
+    let back = Way { writer, reader };
+    match over_ways(
+        rt,
+        alloc,
+        Case::of(Protocol::C, Work::OneWrite),
+        (there, back),
+    ) {
+        Ok(_) => Ok(0),
+        Err(refusal) => Ok(refusal.number()),
+    }
+}
+
+#[test]
+fn foreign_bytes_in_the_hello_are_refused(rt: HostRuntime) -> Result<(), Fail> {
+    let cases: [(&'static [u8], u8); 7] = [
+        (b"", 12),
+        (b"\x83\x5B\x00\x03\x00\x00\x00\x08", 20),
+        (b"\x83\x5A\x00\x07\x00\x00\x00\x00", 21),
+        (b"\x83\x5A\x00\x0B\x00\x00\x00\x05", 22),
+        (b"\x83\x5A\x00\x0B\x00\x00\x00\x04\x00\x00\x00\x04", 23),
+        (b"\x83\x5A\x00\x0B\x00\x00\x00\x04\x00\x00\x00\x01", 34),
+        (
+            b"\x83\x5A\x00\x0B\x00\x00\x00\x04\x00\x00\x00\x03\x83\x5A\x00\x0D\x00\x00\x00\x08\x00\x00\x00\x00\x00\x00\x00\x09",
+            35,
+        ),
+    ];
+    for (bytes, number) in cases {
+        let found = foreign(rt, rt.alloc(), bytes).map_err(|_| "memory")?;
+        // The input that ends after these bytes may close the end before it takes them.
+        assert!(rt; found == number || found == 12, "{number}: {found}");
+    }
+    Ok(())
+}

@@ -1,0 +1,125 @@
+//! Four writers, over whole and over cut links.
+use crate::callers::Work;
+use crate::disks::{Signals, memory};
+use crate::outcome::Outcome;
+use crate::session::{Case, run};
+use blocks::{Protocol, Refusal};
+use std::alloc::Global;
+use std::sync::{Arc, Wait};
+use std::test::*;
+use std::thread::Threads;
+use std::time::Clock;
+
+// A session over plain disks.
+fn over_memory<R: Threads + Wait + Clock + Copy + Drop + Send + Sync + 'static>(
+    rt: R,
+    alloc: Global,
+    case: Case,
+) -> Result<Outcome, Refusal> {
+    let signals = Arc::new(alloc, Signals::new())?;
+    run(
+        rt,
+        alloc,
+        case,
+        (memory(alloc, false)?, memory(alloc, false)?),
+        &signals,
+    )
+}
+
+#[test]
+fn each_write_of_four_writers_has_its_receipt(rt: HostRuntime) -> Result<(), Fail> {
+    for protocol in [Protocol::A, Protocol::B, Protocol::C] {
+        let wide = Case::of(protocol, Work::Writers { cuts: 0 });
+        for case in [wide, wide.over_one_frame()] {
+            let outcome = over_memory(rt, rt.alloc(), case).map_err(|_| "a session")?;
+            assert_eq!(rt; (outcome.receipts, outcome.linked), (200, 200), "{case:?}");
+            assert_eq!(rt; outcome.complaints, 0, "{case:?}");
+            assert_eq!(rt;
+                (outcome.settled.confirmed, outcome.settled.unmarked),
+                (200, 0),
+                "{case:?}"
+            );
+            // Under A and B the cut at the end may come before the peer's disk has done all.
+            assert!(rt;
+                protocol != Protocol::C || (outcome.settled.applied >= 200 && outcome.alike),
+                "{case:?}"
+            );
+        }
+    }
+    Ok(())
+}
+
+#[test]
+fn writers_of_the_same_blocks_take_turns(rt: HostRuntime) -> Result<(), Fail> {
+    let wide = Case::of(Protocol::C, Work::SharedBlocks);
+    for case in [wide, wide.over_one_frame()] {
+        let outcome = over_memory(rt, rt.alloc(), case).map_err(|_| "a session")?;
+        assert_eq!(rt;
+            (outcome.receipts, outcome.complaints),
+            (200, 0),
+            "{case:?}"
+        );
+        assert_eq!(rt;
+            (outcome.settled.confirmed, outcome.settled.unmarked),
+            (200, 0),
+            "{case:?}"
+        );
+        assert!(rt; outcome.alike, "{case:?}");
+    }
+    Ok(())
+}
+
+#[test]
+fn writers_go_on_while_the_link_is_cut(rt: HostRuntime) -> Result<(), Fail> {
+    for protocol in [Protocol::A, Protocol::B, Protocol::C] {
+        let wide = Case::of(protocol, Work::Writers { cuts: 10 });
+        for case in [wide, wide.over_one_frame()] {
+            let outcome = over_memory(rt, rt.alloc(), case).map_err(|_| "a session")?;
+            assert_eq!(rt;
+                (outcome.receipts, outcome.complaints),
+                (200, 0),
+                "{case:?}"
+            );
+            assert_eq!(rt;
+                (outcome.settled.confirmed, outcome.settled.unmarked),
+                (200, 0),
+                "{case:?}"
+            );
+        }
+    }
+    Ok(())
+}
+
+#[test]
+fn a_cut_after_every_tenth_write_loses_none(rt: HostRuntime) -> Result<(), Fail> {
+    for protocol in [Protocol::A, Protocol::B, Protocol::C] {
+        let case = Case::of(protocol, Work::CutEveryTenth);
+        let outcome = over_memory(rt, rt.alloc(), case).map_err(|_| "a session")?;
+        assert_eq!(rt;
+            (outcome.receipts, outcome.complaints),
+            (1000, 0),
+            "{case:?}"
+        );
+        assert_eq!(rt;
+            (outcome.settled.confirmed, outcome.settled.unmarked),
+            (1000, 0),
+            "{case:?}"
+        );
+    }
+    Ok(())
+}
+
+#[test]
+fn receipts_of_two_connections_are_confirmed(rt: HostRuntime) -> Result<(), Fail> {
+    let wide = Case::of(Protocol::C, Work::TwoConnections);
+    for case in [wide, wide.over_one_frame()] {
+        let outcome = over_memory(rt, rt.alloc(), case).map_err(|_| "a session")?;
+        assert_eq!(rt; (outcome.receipts, outcome.linked), (2, 2), "{case:?}");
+        assert_eq!(rt;
+            (outcome.settled.confirmed, outcome.settled.unmarked),
+            (2, 0),
+            "{case:?}"
+        );
+    }
+    Ok(())
+}

@@ -1,0 +1,214 @@
+//! The pumps of a session over streams, each in a thread of its own, and the thread that hears of their ends.
+ghost use Rattle.std.specs.Prelude.{◌<◌, IfOk};
+ghost use Rattle.endpoint.specs.Calls.{IsNewIn, IsNewOut};
+ghost use Rattle.ruled_link.specs.Inward.{taking};
+ghost use Rattle.ruled_link.specs.Outward.{sending};
+
+use crate::shared::Shared;
+use crate::workers::Workers;
+use crate::{PrimaryHalf, SecondaryHalf};
+use blocks::Refusal;
+use crossbeam_channel::{Receiver, Sender, bounded};
+use pumps::{Buffer, PumpEnd, pump_in, pump_out};
+use ruled_link::{PieceIn, PieceOut, RuledIn, RuledOut, row};
+use std::alloc::Global;
+use std::io::{Read, Write};
+use std::sync::{Arc, Wait};
+use std::thread;
+use std::thread::Threads;
+use std::time::Clock;
+
+/// Pieces of the longest frame.
+const FRAME_PIECES: usize = 94;
+
+/// The pumps of a session.
+const PUMPS: usize = 4;
+
+/// The pumps' ends of the two rows of a half.
+#[derive(Drop)]
+pub(crate) struct PumpEnds<R: Wait + Drop> {
+    /// The pieces that the node sends leave here.
+    pub(crate) leaving: PieceIn<R>,
+    /// The pieces that it takes come in here.
+    pub(crate) coming: PieceOut<R>,
+}
+
+/// The two rows of a half: the node's ends, and the pumps'. Each row has room for `link` of the longest frames.
+/// `NoMemory` (7) if there is no room for them.
+pub(crate) fn half_rows<R: Wait + Copy + Drop>(
+    rt: R,
+    alloc: Global,
+    link: u32,
+) -> Result<((RuledOut<R>, RuledIn<R>), PumpEnds<R>), Refusal>
+    requires { 0 < link }
+    ensures unused { IfOk result (λ r. IsNewOut (sending r.0.0) × IsNewIn (taking r.0.1)) }
+{
+    let (pushed, leaving) = row(rt, alloc, FRAME_PIECES * link as usize)?;
+    let (coming, popped) = row(rt, alloc, FRAME_PIECES * link as usize)?;
+    match RuledIn::new(alloc, popped) {
+        Ok(incoming) => Ok((
+            (RuledOut::new(pushed), incoming),
+            PumpEnds { leaving, coming },
+        )),
+        Err(refusal) => Err(refusal),
+    }
+}
+
+/// Which half a pump works for.
+#[derive(Clone, Copy, Debug, PartialEq, Eq)]
+pub(crate) enum Side {
+    Local,
+    Peer,
+}
+
+/// Starts pumps, and gives each the means to tell of its end.
+#[derive(Drop)]
+pub(crate) struct Carrier {
+    alloc: Global,
+    told: Sender<PumpEnd, Global>,
+}
+
+impl Carrier {
+    /// A carrier, and a thread that closes both ends of the link whenever a pump has ended, until none is left.
+    /// `NoMemory` (7) if there is no memory, and if the thread cannot be started.
+    pub(crate) fn start<
+        R: Threads + Wait + Clock + Drop + Send + Sync + 'static,
+        A: PrimaryHalf + Drop + Send + Sync + 'static,
+        B: SecondaryHalf + Drop + Send + Sync + 'static,
+    >(
+        alloc: Global,
+        workers: &mut Workers,
+        shared: &Arc<Shared<R, A, B>, Global>,
+    ) -> Result<Carrier, Refusal> {
+        let (told, notices) = bounded(alloc, PUMPS)?;
+        workers.handles.try_reserve(1)?;
+        let listener = Arc::try_clone(shared)?;
+        let Ok(handle) = thread::spawn(&shared.rt, move || listener.listen(&notices)) else {
+            return Err(Refusal::NoMemory);
+        };
+        workers.handles.push(handle)?;
+        Ok(Carrier { alloc, told })
+    }
+
+    /// Starts the pump that writes what a node sends.
+    pub(crate) fn start_out<
+        R: Threads + Wait + Clock + Drop + Send + Sync + 'static,
+        A: PrimaryHalf + Drop + Send + Sync + 'static,
+        B: SecondaryHalf + Drop + Send + Sync + 'static,
+        W: Write + Drop + Send + 'static,
+    >(
+        &self,
+        workers: &mut Workers,
+        shared: &Arc<Shared<R, A, B>, Global>,
+        side: Side,
+        row: PieceIn<R>,
+        writer: W,
+    ) -> Result<(), Refusal> {
+        let buffer = Buffer::new(self.alloc)?;
+        let told = self.told.clone()?;
+        workers.handles.try_reserve(1)?;
+        let pump = Arc::try_clone(shared)?;
+        let Ok(handle) = thread::spawn(&shared.rt, move || {
+            pump.carry_out(side, row, writer, buffer, told)
+        }) else {
+            return Err(Refusal::NoMemory);
+        };
+        workers.handles.push(handle)?;
+        Ok(())
+    }
+
+    /// Starts the pump that reads what a node takes.
+    pub(crate) fn start_in<
+        R: Threads + Wait + Clock + Drop + Send + Sync + 'static,
+        A: PrimaryHalf + Drop + Send + Sync + 'static,
+        B: SecondaryHalf + Drop + Send + Sync + 'static,
+        D: Read + Drop + Send + 'static,
+    >(
+        &self,
+        workers: &mut Workers,
+        shared: &Arc<Shared<R, A, B>, Global>,
+        side: Side,
+        row: PieceOut<R>,
+        reader: D,
+    ) -> Result<(), Refusal> {
+        let buffer = Buffer::new(self.alloc)?;
+        let told = self.told.clone()?;
+        workers.handles.try_reserve(1)?;
+        let pump = Arc::try_clone(shared)?;
+        let Ok(handle) = thread::spawn(&shared.rt, move || {
+            pump.carry_in(side, row, reader, buffer, told)
+        }) else {
+            return Err(Refusal::NoMemory);
+        };
+        workers.handles.push(handle)?;
+        Ok(())
+    }
+}
+
+impl<R: Wait + Clock + Drop, A: PrimaryHalf + Drop, B: SecondaryHalf + Drop> Shared<R, A, B> {
+    // Closes both ends whenever a pump has ended, until none is left.
+    fn listen(&self, notices: &Receiver<PumpEnd, Global>) {
+        for _ in notices.iter(&self.rt) {
+            self.cut();
+        }
+    }
+
+    // Runs the pump that writes what a node sends, drops its writer, and tells of its end.
+    fn carry_out<W: Write + Drop>(
+        &self,
+        side: Side,
+        row: PieceIn<R>,
+        writer: W,
+        buffer: Buffer,
+        told: Sender<PumpEnd, Global>,
+    ) {
+        let (mut row, mut writer, mut buffer) = (row, writer, buffer);
+        let sent = match side {
+            Side::Local => self.local.sent(),
+            Side::Peer => self.peer.sent(),
+        };
+        let end = pump_out(
+            &self.rt,
+            &mut row,
+            &mut writer,
+            &mut buffer,
+            &self.stop,
+            sent,
+        );
+        drop(writer);
+        self.tell(&told, end);
+    }
+
+    // Runs the pump that reads what a node takes, drops its reader, and tells of its end.
+    fn carry_in<D: Read + Drop>(
+        &self,
+        side: Side,
+        row: PieceOut<R>,
+        reader: D,
+        buffer: Buffer,
+        told: Sender<PumpEnd, Global>,
+    ) {
+        let (mut row, mut reader, mut buffer) = (row, reader, buffer);
+        let work = match side {
+            Side::Local => self.local.work(),
+            Side::Peer => self.peer.work(),
+        };
+        let end = pump_in(
+            &self.rt,
+            &mut row,
+            &mut reader,
+            &mut buffer,
+            &self.stop,
+            work,
+        );
+        drop(reader);
+        self.tell(&told, end);
+    }
+
+    // Tells that a pump has ended. If nobody hears it, both ends close here.
+    fn tell(&self, told: &Sender<PumpEnd, Global>, end: PumpEnd) {
+        if told.send(&self.rt, end).is_err() {
+            self.cut();
+        }
+    }
+}

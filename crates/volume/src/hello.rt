@@ -1,0 +1,83 @@
+//! The hello of a session.
+use crate::shared::Shared;
+use crate::{PrimaryHalf, SecondaryHalf};
+use blocks::{Done, Refusal};
+use std::sync::Wait;
+use std::time::Clock;
+
+/// The steps that a frame each way takes, in order.
+#[derive(Clone, Copy, Debug, PartialEq, Eq)]
+enum Step {
+    Send,
+    Receive,
+    AckOut,
+    AckIn,
+}
+
+const STEPS: [Step; 4] = [Step::Send, Step::Receive, Step::AckOut, Step::AckIn];
+
+/// Frames of the hello each way.
+const FRAMES: u32 = 3;
+
+impl<R: Wait + Drop, A: PrimaryHalf + Drop, B: SecondaryHalf + Drop> Shared<R, A, B> {
+    /// Exchanges the hellos of both ends over a link. Stops at the first refusal.
+    pub(crate) fn greet(&self) -> Result<(), Refusal> {
+        for _ in 0..FRAMES {
+            for step in STEPS {
+                self.step(step)?;
+            }
+        }
+        Ok(())
+    }
+
+    // A step of the hello.
+    fn step(&self, step: Step) -> Result<Done, Refusal> {
+        match step {
+            Step::Send => self.local.send(),
+            Step::Receive => self.peer.receive(),
+            Step::AckOut => self.peer.ack_out(),
+            Step::AckIn => self.local.ack_in(),
+        }
+    }
+}
+
+impl<R: Wait + Clock + Drop, A: PrimaryHalf + Drop, B: SecondaryHalf + Drop> Shared<R, A, B> {
+    /// Exchanges the hellos of both ends while pumps carry their frames: waits for each. Stops at the first refusal
+    /// other than `LinkFull` (11) and `NothingThere` (13).
+    pub(crate) fn greet_over_ways(&self) -> Result<(), Refusal> {
+        for _ in 0..FRAMES {
+            for step in STEPS {
+                self.await_step(step)?;
+            }
+        }
+        Ok(())
+    }
+
+    // A step of the hello, once it can be done.
+    fn await_step(&self, step: Step) -> Result<(), Refusal> {
+        let (bell, sent) = match step {
+            Step::Send => (self.local.work(), Some(self.local.sent())),
+            Step::Receive => (self.peer.work(), None),
+            Step::AckOut => (self.peer.work(), Some(self.peer.sent())),
+            Step::AckIn => (self.local.work(), None),
+        };
+        let mut looks = 0u32;
+        for _ in self.rt.forever() {
+            let rings = bell.rings();
+            match self.step(step) {
+                Err(Refusal::LinkFull | Refusal::NothingThere) => {
+                    bell.wait(&self.rt, rings, looks);
+                    looks = looks.saturating_add(1);
+                }
+                Err(refusal) => return Err(refusal),
+                Ok(_) => {
+                    if let Some(sent) = sent {
+                        sent.ring_one(&self.rt);
+                    }
+                    return Ok(());
+                }
+            }
+        }
+        unreachable!()
+    }
+}

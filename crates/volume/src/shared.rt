@@ -1,0 +1,149 @@
+//! What both halves of a session share while their threads run, and the loop of each thread.
+use crate::{PrimaryHalf, SecondaryHalf};
+use session_nodes::{LocalRole, PeerRole, Turn};
+use std::sync::atomic::{AtomicBool, Ordering};
+use std::sync::{Mutex, Wait};
+use std::time::Clock;
+
+/// How the frames of a session go from one half to the other.
+#[derive(Clone, Copy, Debug, PartialEq, Eq)]
+pub(crate) enum Path {
+    /// Through the rows of one link, over any number of connections.
+    Link,
+    /// By pumps, over one connection.
+    Wire,
+}
+
+/// Both halves. No thread holds the locks of both nodes. Whoever opens or closes a connection takes the door
+/// before any node's lock.
+#[derive(Drop)]
+pub(crate) struct Shared<R: Wait + Drop, A: PrimaryHalf + Drop, B: SecondaryHalf + Drop> {
+    pub(crate) rt: R,
+    pub(crate) local: A,
+    pub(crate) peer: B,
+    pub(crate) path: Path,
+    pub(crate) door: Mutex<()>,
+    pub(crate) stop: AtomicBool,
+}
+
+impl<R: Wait + Drop, A: PrimaryHalf + Drop, B: SecondaryHalf + Drop> Shared<R, A, B> {
+    /// Two halves whose threads do not run yet.
+    pub(crate) fn new(rt: R, local: A, peer: B, path: Path) -> Shared<R, A, B> {
+        Shared {
+            rt,
+            local,
+            peer,
+            path,
+            door: Mutex::new(()),
+            stop: AtomicBool::new(false),
+        }
+    }
+
+    /// Whether the threads are to stop.
+    pub(crate) fn is_over(&self) -> bool {
+        self.stop.load(Ordering::SeqCst)
+    }
+
+    /// Closes both ends.
+    pub(crate) fn cut(&self) {
+        let _door = self.door.lock(&self.rt);
+        self.local.close();
+        self.peer.close();
+    }
+
+    /// Wakes all threads, which then see whether they are to stop.
+    pub(crate) fn ring(&self) {
+        self.local.work().ring_all(&self.rt);
+        self.local.writers().ring_all(&self.rt);
+        self.local.sent().ring_all(&self.rt);
+        self.peer.work().ring_all(&self.rt);
+        self.peer.sent().ring_all(&self.rt);
+    }
+
+    /// Does a turn at the primary, and tells the secondary's half of it.
+    pub(crate) fn turn_local(&self, role: LocalRole) -> Turn {
+        let turn = self.local.turn(role);
+        if turn.pushed {
+            match self.path {
+                Path::Link => self.peer.work().ring_one(&self.rt),
+                Path::Wire => self.local.sent().ring_one(&self.rt),
+            }
+        }
+        if let Some(connection) = turn.closed {
+            let _door = self.door.lock(&self.rt);
+            self.peer.close_lost(connection);
+        }
+        turn
+    }
+
+    /// Does a turn at the secondary, and tells the primary's half of it.
+    pub(crate) fn turn_peer(&self, role: PeerRole) -> Turn {
+        let turn = self.peer.turn(role);
+        if turn.pushed {
+            match self.path {
+                Path::Link => {
+                    self.local.work().ring_one(&self.rt);
+                    self.local.writers().ring_one(&self.rt);
+                }
+                Path::Wire => self.peer.sent().ring_one(&self.rt),
+            }
+        }
+        if let Some(connection) = turn.closed {
+            let _door = self.door.lock(&self.rt);
+            self.local.close_lost(connection);
+        }
+        turn
+    }
+}
+
+impl<R: Wait + Clock + Drop, A: PrimaryHalf + Drop, B: SecondaryHalf + Drop> Shared<R, A, B> {
+    /// The loop of a thread of the primary's half.
+    pub(crate) fn work_local(&self, role: LocalRole) {
+        let mut looks = 0u32;
+        for _ in self.rt.forever() {
+            if self.is_over() {
+                break;
+            }
+            let rings = self.local.work().rings();
+            if self.turn_local(role).worked {
+                looks = 0;
+            } else {
+                self.local.work().wait(&self.rt, rings, looks);
+                looks = looks.saturating_add(1);
+            }
+        }
+    }
+
+    /// The loop of a thread of the secondary's half.
+    pub(crate) fn work_peer(&self, role: PeerRole) {
+        let mut looks = 0u32;
+        for _ in self.rt.forever() {
+            if self.is_over() {
+                break;
+            }
+            let rings = self.peer.work().rings();
+            if self.turn_peer(role).worked {
+                looks = 0;
+            } else {
+                self.peer.work().wait(&self.rt, rings, looks);
+                looks = looks.saturating_add(1);
+            }
+        }
+    }
+
+    /// Lets both disks end all that is unfinished, at closed ends.
+    pub(crate) fn drain(&self) {
+        for _ in self.rt.forever() {
+            if !self.local.has_unfinished() {
+                break;
+            }
+            self.turn_local(LocalRole::Disk);
+        }
+        for _ in self.rt.forever() {
+            if !self.peer.has_unfinished() {
+                break;
+            }
+            self.turn_peer(PeerRole::Disk);
+        }
+    }
+}

@@ -1,0 +1,193 @@
+//! A session whose frames go over streams of bytes, as sockets are.
+ghost use Rattle.std.specs.Prelude.{◌≤◌, IfOk};
+ghost use Rattle.session_nodes.specs.Primaries.{PrimaryIsHad};
+ghost use Rattle.session_nodes.specs.Secondaries.{SecondaryIsHad};
+
+use crate::Mirror;
+use crate::carriers::{Carrier, PumpEnds, Side, half_rows};
+use crate::halves::{LocalHalf, PeerHalf};
+use crate::session::{Parts, local_half, peer_half};
+use crate::shared::{Path, Shared};
+use crate::workers::Workers;
+use blocks::{Refusal, Store};
+use primary::Primary;
+use ruled_link::{RuledIn, RuledOut};
+use secondary::Secondary;
+use std::alloc::Global;
+use std::io::{Read, Write};
+use std::sync::{Arc, Wait};
+use std::thread::Threads;
+use std::time::Clock;
+
+/// One direction of a session's link: what the writer is given comes out of the reader.
+#[derive(Drop)]
+pub struct Way<W: Write + Drop, D: Read + Drop> {
+    pub writer: W,
+    pub reader: D,
+}
+
+/// The primary's half of a session over streams.
+pub type WireLocal<R, S> = LocalHalf<R, RuledOut<R>, RuledIn<R>, S>;
+
+/// The secondary's half of a session over streams.
+pub type WirePeer<R, T> = PeerHalf<R, RuledOut<R>, RuledIn<R>, T>;
+
+/// What any number of threads may share of a session over streams.
+pub type WireMirror<R, S, T> = Mirror<R, WireLocal<R, S>, WirePeer<R, T>>;
+
+/// The primary of a session over streams.
+pub type WirePrimary<R, S> = Primary<RuledOut<R>, RuledIn<R>, S>;
+
+/// The secondary of a session over streams.
+pub type WireSecondary<R, T> = Secondary<RuledOut<R>, RuledIn<R>, T>;
+
+/// A running session over streams: the mirror that callers share, and its threads. It has one connection.
+#[derive(Drop)]
+pub struct WireSession<R: Threads + Wait + Drop, S: Store + Drop, T: Store + Drop> {
+    mirror: WireMirror<R, S, T>,
+    workers: Workers,
+}
+
+impl<
+    R: Threads + Wait + Clock + Copy + Drop + Send + Sync + 'static,
+    S: Store + Drop + Send + 'static,
+    T: Store + Drop + Send + 'static,
+> WireSession<R, S, T> {
+    /// Starts a session over two disks and two ways, one for each direction of its link: starts a pump at each end of
+    /// a way, does the hello, and starts the threads. A pump that ends drops its writer or reader, and then both ends
+    /// of the link close.
+    ///
+    /// `BadSetting` (15), `UsedIdentifier` (33) and the refusals of the hello (30 to 33) come as for the nodes;
+    /// `NotConnected` (12) if a way ends during the hello; 20 to 25, 34 or 35 if foreign bytes come in it;
+    /// `NoMemory` (7) if there is no memory, and if a thread cannot be started. Then nothing runs, and all that was
+    /// handed over is dropped.
+    pub fn start_over<
+        W: Write + Drop + Send + 'static,
+        D: Read + Drop + Send + 'static,
+        V: Write + Drop + Send + 'static,
+        E: Read + Drop + Send + 'static,
+    >(
+        rt: R,
+        alloc: Global,
+        local: S,
+        peer: T,
+        parts: Parts,
+        ways: (Way<W, D>, Way<V, E>),
+    ) -> Result<WireSession<R, S, T>, Refusal> {
+        parts.settings.check()?;
+        let link = parts.settings.link;
+        let (local_ends, local_rows) = half_rows(rt, alloc, link)?;
+        let (peer_ends, peer_rows) = half_rows(rt, alloc, link)?;
+        let local = local_half(
+            rt,
+            alloc,
+            parts.settings,
+            local,
+            parts.own,
+            parts.marks,
+            local_ends,
+            (parts.sync, parts.loss),
+        )?;
+        match peer_half(rt, alloc, parts.settings, peer, parts.peer, peer_ends) {
+            Ok(peer) => { WireSession::over(rt, alloc, local, peer, (local_rows, peer_rows), ways) }
+            Err(refusal) => Err(refusal),
+        }
+    }
+
+    // The session of two halves that have said nothing yet, and of the rows that their pumps carry.
+    fn over<
+        W: Write + Drop + Send + 'static,
+        D: Read + Drop + Send + 'static,
+        V: Write + Drop + Send + 'static,
+        E: Read + Drop + Send + 'static,
+    >(
+        rt: R,
+        alloc: Global,
+        local: WireLocal<R, S>,
+        peer: WirePeer<R, T>,
+        rows: (PumpEnds<R>, PumpEnds<R>),
+        ways: (Way<W, D>, Way<V, E>),
+    ) -> Result<WireSession<R, S, T>, Refusal> {
+        let shared = Arc::new(alloc, Shared::new(rt, local, peer, Path::Wire))?;
+        let mut session = WireSession {
+            mirror: Mirror { alloc, shared },
+            workers: Workers::new(alloc),
+        };
+        match session.begin(rows, ways) {
+            Ok(()) => Ok(session),
+            Err(refusal) => {
+                session.workers.stop(&session.mirror.shared);
+                Err(refusal)
+            }
+        }
+    }
+
+    // Starts the pumps, does the hello, and starts the threads of both nodes.
+    fn begin<
+        W: Write + Drop + Send + 'static,
+        D: Read + Drop + Send + 'static,
+        V: Write + Drop + Send + 'static,
+        E: Read + Drop + Send + 'static,
+    >(
+        &mut self,
+        rows: (PumpEnds<R>, PumpEnds<R>),
+        ways: (Way<W, D>, Way<V, E>),
+    ) -> Result<(), Refusal> {
+        let (there, back) = ways;
+        let (local, peer) = rows;
+        let carrier = Carrier::start(self.mirror.alloc, &mut self.workers, &self.mirror.shared)?;
+        let shared = &self.mirror.shared;
+        let workers = &mut self.workers;
+        carrier.start_out(workers, shared, Side::Local, local.leaving, there.writer)?;
+        carrier.start_in(workers, shared, Side::Peer, peer.coming, there.reader)?;
+        carrier.start_out(workers, shared, Side::Peer, peer.leaving, back.writer)?;
+        carrier.start_in(workers, shared, Side::Local, local.coming, back.reader)?;
+        drop(carrier);
+        shared.greet_over_ways()?;
+        workers.start(shared)
+    }
+}
+
+impl<R: Threads + Wait + Clock + Drop, S: Store + Drop, T: Store + Drop> WireSession<R, S, T> {
+    /// What any number of threads may share.
+    pub fn mirror(&self) -> &WireMirror<R, S, T> {
+        &self.mirror
+    }
+
+    /// Ends the session: closes both ends, lets the disks end all that is unfinished, stops the threads, and gives
+    /// both nodes back. `NotDrained` (36) if a node cannot be had back, which needs a thread that still shares it.
+    ///
+    /// Each node has a history whose connections all went over its own ends. Whether what one took begins what the
+    /// other pushed is the streams' affair, of which no contract can speak. No connection of the secondary has a
+    /// number above the primary's last one, or 36 is returned, which no session brings about.
+    pub fn finish(self) -> Result<(WirePrimary<R, S>, WireSecondary<R, T>), Refusal>
+        ensures had { IfOk result (λ nodes. PrimaryIsHad nodes.0 × SecondaryIsHad nodes.1) }
+        ensures numbered { IfOk result (λ nodes. nodes.1.core.number ≤ nodes.0.core.connections) }
+    {
+        let mut session = self;
+        session.mirror.shared.cut();
+        session.mirror.shared.drain();
+        session.workers.stop(&session.mirror.shared);
+        let WireSession { mirror, workers } = session;
+        drop(workers);
+        let shared = Arc::into_inner(mirror.shared).ok_or(Refusal::NotDrained)?;
+        let (primary, secondary) = apart(shared);
+        if secondary.number() > primary.connections() {
+            return Err(Refusal::NotDrained);
+        }
+        Ok((primary, secondary))
+    }
+}
+
+// Both nodes of a session over streams, out of their locks.
+fn apart<R: Wait + Drop, S: Store + Drop, T: Store + Drop>(
+    shared: Shared<R, WireLocal<R, S>, WirePeer<R, T>>,
+) -> (WirePrimary<R, S>, WireSecondary<R, T>)
+    ensures { PrimaryIsHad result.0 × SecondaryIsHad result.1 }
+{
+    let Shared { local, peer, .. } = shared;
+    (
+        local.node.into_inner().into_node(),
+        peer.node.into_inner().into_node(),
+    )
+}

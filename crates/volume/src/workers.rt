@@ -1,0 +1,76 @@
+//! The threads of a session.
+use crate::shared::Shared;
+use crate::{PrimaryHalf, SecondaryHalf};
+use blocks::Refusal;
+use session_nodes::{LocalRole, PeerRole};
+use std::alloc::Global;
+use std::sync::atomic::Ordering;
+use std::sync::{Arc, Wait};
+use std::thread;
+use std::thread::{JoinHandle, Threads};
+use std::time::Clock;
+
+const LOCAL_ROLES: [LocalRole; 4] = [
+    LocalRole::Sender,
+    LocalRole::Receiver,
+    LocalRole::Disk,
+    LocalRole::Resync,
+];
+
+const PEER_ROLES: [PeerRole; 3] = [PeerRole::Receiver, PeerRole::Sender, PeerRole::Disk];
+
+/// The threads of a session that run. A thread's handle cannot be shared, so these stand apart from what is.
+#[derive(Drop)]
+pub(crate) struct Workers {
+    pub(crate) handles: Vec<JoinHandle<()>>,
+}
+
+impl Workers {
+    /// No threads yet.
+    pub(crate) fn new(alloc: Global) -> Workers {
+        Workers {
+            handles: Vec::new(alloc),
+        }
+    }
+
+    /// Starts a thread for each role of both nodes. `NoMemory` (7) if there is no memory, and if a thread cannot be
+    /// started; those that were started run then.
+    pub(crate) fn start<
+        R: Threads + Wait + Clock + Drop + Send + Sync + 'static,
+        A: PrimaryHalf + Drop + Send + Sync + 'static,
+        B: SecondaryHalf + Drop + Send + Sync + 'static,
+    >(&mut self, shared: &Arc<Shared<R, A, B>, Global>) -> Result<(), Refusal> {
+        self.handles
+            .try_reserve(LOCAL_ROLES.len() + PEER_ROLES.len())?;
+        for role in LOCAL_ROLES {
+            let worker = Arc::try_clone(shared)?;
+            let Ok(handle) = thread::spawn(&shared.rt, move || worker.work_local(role)) else {
+                return Err(Refusal::NoMemory);
+            };
+            self.handles.push(handle)?;
+        }
+        for role in PEER_ROLES {
+            let worker = Arc::try_clone(shared)?;
+            let Ok(handle) = thread::spawn(&shared.rt, move || worker.work_peer(role)) else {
+                return Err(Refusal::NoMemory);
+            };
+            self.handles.push(handle)?;
+        }
+        Ok(())
+    }
+
+    /// Stops the threads that run, and waits for their ends.
+    pub(crate) fn stop<R: Threads + Wait + Drop, A: PrimaryHalf + Drop, B: SecondaryHalf + Drop>(
+        &mut self,
+        shared: &Shared<R, A, B>,
+    ) {
+        shared.stop.store(true, Ordering::SeqCst);
+        shared.ring();
+        for _ in 0..self.handles.len() {
+            let Some(worker) = self.handles.pop() else {
+                break;
+            };
+            worker.join(&shared.rt);
+        }
+    }
+}

@@ -1,0 +1,115 @@
+//! A secondary takes the frames that arrived as a whole, wherever the connection is lost.
+use crate::ends::{LostReader, LostWriter};
+use crate::receiver::{open_peer, take_frames};
+use crate::sender::sent_bytes;
+use bell::Bell;
+use blocks::Refusal;
+use pumps::{Buffer, PumpEnd, pump_in, pump_out};
+use ruled_link::{RuledOut, row};
+use std::alloc::Global;
+use std::io::Read;
+use std::process::Abort;
+use std::sync::Wait;
+use std::sync::atomic::AtomicBool;
+use std::time::Clock;
+
+/// The bytes of a hello (12, 16 and 40), of a write of one block (4,128) and of a barrier (16).
+const ALL_BYTES: usize = 4_212;
+
+/// The frames that are whole within so many bytes.
+fn whole_frames(count: usize) -> u32 {
+    match count {
+        0..12 => 0,
+        12..28 => 1,
+        28..68 => 2,
+        68..4_196 => 3,
+        4_196..4_212 => 4,
+        _ => 5,
+    }
+}
+
+/// A secondary that gets what a reader gives takes so many frames, and there is no more.
+fn takes<R: Wait + Clock + Copy + Drop + Abort, D: Read>(
+    rt: R,
+    buffer: &mut Buffer,
+    alloc: Global,
+    reader: &mut D,
+    wanted: (PumpEnd, Result<u32, Refusal>),
+) -> Result<(), Refusal> {
+    let (back, _) = row(rt, alloc, 1)?;
+    let (mut outward, mut peer) = open_peer(rt, alloc, RuledOut::new(back))?;
+    let stop = AtomicBool::new(false);
+    let end = pump_in(&rt, &mut outward, reader, buffer, &stop, &Bell::new());
+    assert_eq!(&rt; (end, take_frames(&mut peer)), wanted);
+    Ok(())
+}
+
+/// What arrives of these bytes over a connection that is lost after so many.
+fn arrived<R: Wait + Clock + Copy + Drop + Abort>(
+    rt: R,
+    buffer: &mut Buffer,
+    alloc: Global,
+    bytes: &[u8],
+    left: usize,
+) -> Result<Vec<u8>, Refusal> {
+    let (mut outward, mut inward) = row(rt, alloc, 8)?;
+    let stop = AtomicBool::new(false);
+    let work = Bell::new();
+    let mut all = bytes;
+    let _ = pump_in(&rt, &mut outward, &mut all, buffer, &stop, &work);
+    let mut writer = LostWriter {
+        stop: &stop,
+        left,
+        got: Vec::new(alloc),
+    };
+    let _ = pump_out(&rt, &mut inward, &mut writer, buffer, &stop, &work);
+    assert!(&rt; writer.got.len() == left && bytes.starts_with(&writer.got));
+    Ok(writer.got)
+}
+
+/// The reader of the secondary's pump fails after each byte.
+fn reading_is_lost<R: Wait + Clock + Copy + Drop + Abort>(
+    rt: R,
+    alloc: Global,
+) -> Result<(), Refusal> {
+    let sent = sent_bytes(rt, alloc)?;
+    let bytes = sent.as_slice();
+    assert_eq!(&rt; bytes.len(), ALL_BYTES);
+    let mut buffer = Buffer::new(alloc)?;
+    for count in 0..=bytes.len() {
+        let mut reader = LostReader {
+            rest: &bytes[..count],
+        };
+        let wanted = (PumpEnd::Failed, Ok(whole_frames(count)));
+        takes(rt, &mut buffer, alloc, &mut reader, wanted)?;
+    }
+    Ok(())
+}
+
+/// The writer of the primary's pump fails after each byte.
+fn writing_is_lost<R: Wait + Clock + Copy + Drop + Abort>(
+    rt: R,
+    alloc: Global,
+) -> Result<(), Refusal> {
+    let sent = sent_bytes(rt, alloc)?;
+    let bytes = sent.as_slice();
+    assert_eq!(&rt; bytes.len(), ALL_BYTES);
+    let mut buffer = Buffer::new(alloc)?;
+    for count in 0..=bytes.len() {
+        let got = arrived(rt, &mut buffer, alloc, bytes, count)?;
+        let mut reader = got.as_slice();
+        let wanted = (PumpEnd::EndOfInput, Ok(whole_frames(count)));
+        takes(rt, &mut buffer, alloc, &mut reader, wanted)?;
+    }
+    Ok(())
+}
+
+#[test]
+fn a_read_fails_after_each_byte(rt: HostRuntime) -> Result<(), Refusal> {
+    reading_is_lost(rt, rt.alloc())
+}
+
+#[test]
+fn a_write_fails_after_each_byte(rt: HostRuntime) -> Result<(), Refusal> {
+    writing_is_lost(rt, rt.alloc())
+}
