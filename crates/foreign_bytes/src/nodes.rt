@@ -31,7 +31,7 @@ const OWN: Tuple = Tuple {
     second_historical: 0,
 };
 
-/// The identifiers of a disk of which nothing is known: all blocks are copied.
+/// The identifiers of a fresh disk, to which all blocks are copied.
 const UNKNOWN: Tuple = Tuple {
     current: 0,
     bitmap: 0,

@@ -28,7 +28,7 @@ const WRITE: [u8; 28] = [
     0x10, 0,
 ];
 
-/// A READ of the blocks 15 and 16, of which the device has only the first.
+/// A READ of the blocks 15 and 16. The device ends with block 15.
 const READ_PAST_END: [u8; 28] = [
     0x25, 0x60, 0x95, 0x13, 0, 0, 0, 0, 0, 0, 0, 0, 0, 0, 0, 9, 0, 0, 0, 0, 0, 0, 0xF0, 0, 0, 0,
     0x20, 0,
@@ -152,7 +152,7 @@ fn closes_at_garbage(rt: HostRuntime) -> Result<(), Fail> {
     Ok(())
 }
 
-/// Feeds so many zeros, a piece of 64 KiB after another.
+/// Feeds zeros, in pieces of 64 KiB.
 fn feed_zeros(connection: &mut Connection, count: u64, out: &mut Output) -> Result<(), Refusal> {
     let zeros = [0; 65536];
     for _ in 0..count / 65536 {

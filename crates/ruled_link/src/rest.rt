@@ -23,7 +23,7 @@ impl Model for Rest {
 }
 
 impl Rest {
-    /// What is left of a piece behind so many of its bytes.
+    /// What is left of a piece after its first `used` bytes.
     #[cold]
     pub(crate) fn behind(piece: &Piece, used: usize) -> Rest
         requires { used ≤ length piece.now.bytes }
