@@ -1,0 +1,22 @@
+//! A handle that makes an image durable.
+use std::fs::OpenFile;
+use std::io;
+
+/// A second handle on an image file, which makes the file durable while another thread has the store. It is
+/// shared among threads where the file's type may be.
+#[derive(Drop)]
+pub struct SyncHandle<F> {
+    file: F,
+}
+
+impl<F: OpenFile> SyncHandle<F> {
+    pub(crate) fn new(file: F) -> SyncHandle<F> {
+        SyncHandle { file }
+    }
+
+    /// Returns once the medium has each write that the store answered before this call began, or with the system's
+    /// error. Of a write that is under way meanwhile nothing is said.
+    pub fn sync(&self) -> io::Result<()> {
+        self.file.sync_data()
+    }
+}
