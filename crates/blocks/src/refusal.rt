@@ -30,7 +30,7 @@ pub enum Refusal {
     NothingToDo,
     #[error("the link is full")]
     LinkFull,
-    #[error("this end is not connected")]
+    #[error("this end is closed, or the stream has not begun and no write may go without a connection")]
     NotConnected,
     #[error("there is nothing to send, to take or to hand out")]
     NothingThere,

@@ -1,57 +1,46 @@
 -- What goes at the ends of a row.
-use Rattle.std.proofs.Common.{ℕ, zero, suc, ◌≡◌, ◌+◌, ◌≤◌, Bool, true, false, List, [], ◌∷◌, ◌++◌, length, Option, Some, None, refl, sym, ◌∙◌, ap, arith, nat_le, get_or, drop, add-one}
+use Rattle.std.proofs.Common.{ℕ, zero, suc, ◌≡◌, ◌+◌, ◌≤◌, Bool, true, false, List, [], ◌∷◌, ◌++◌, length, Option, Some, None, refl, sym, ◌∙◌, ap, arith, nat_le, get_or}
 use Rattle.std.specs.Prelude.{filter, is_some}
 use Rattle.std.specs.Int.{from_bool}
 use Rattle.std.specs.List.{AllByRecursion}
 use Rattle.std.proofs.lemmas.Bool.Decides.{nat_tests}
 use Rattle.peerdisk.specs.Pending.{Pending}
-use Rattle.peerdisk.specs.Slots.{AreInOrder, begins_taken, of_entry, pending_from, stays}
-use Rattle.peerdisk.specs.declared.disk.Entry.{Entry}
+use Rattle.peerdisk.specs.Slots.{AreInOrder, of_filled, pending_from, Filled}
 
--- A hole at the front goes.
-pub hole-drop : {X : Type 0} (first : ℕ) (x : Option (Entry X)) (slots : List (Option (Entry X))) → x ≡ get_or slots 0 x → x ≡ None → pending_from (first + 1) (drop 1 slots) ≡ pending_from first slots
-hole-drop first x [] read is = refl
-hole-drop first x (None ∷ slots) read is = rw add-one refl
-hole-drop first x (Some e ∷ slots) read is = cc
-
-pub begins : {X : Type 0} (x : Option (Entry X)) (slots : List (Option (Entry X))) → x ≡ get_or slots 0 x → is_some x ≡ true → begins_taken slots ≡ true
-begins x [] read is = refl
-begins x (None ∷ slots) read is = cc
-begins x (Some e ∷ slots) read is = refl
-
-pub begins-none : {X : Type 0} (slots : List (Option (Entry X))) → length slots ≡ 0 → begins_taken slots ≡ true
-begins-none [] none = refl
-begins-none (x ∷ slots) none = absurd (omega arith)
+-- whether a slot has an item of no later epoch
+abbrev pub early : {X : Type 0} → ℕ → Option (Filled X) → Bool
+early epoch None = false
+early epoch (Some e) = nat_le e.epoch epoch
 
 -- The order is the same whatever place is first.
-all-shift : {X : Type 0} (epoch first other : ℕ) (slots : List (Option (Entry X))) → AllByRecursion (λ later. epoch ≤ later.epoch) (pending_from first slots)
+all-shift : {X : Type 0} (epoch first other : ℕ) (slots : List (Option (Filled X))) → AllByRecursion (λ later. epoch ≤ later.epoch) (pending_from first slots)
     → AllByRecursion (λ later. epoch ≤ later.epoch) (pending_from other slots)
 all-shift epoch first other [] all = tt
 all-shift epoch first other (None ∷ slots) all = all-shift epoch (suc first) (suc other) slots all
 all-shift epoch first other (Some e ∷ slots) all = (all.0, all-shift epoch (suc first) (suc other) slots all.1)
 
-pub order-shift : {X : Type 0} (first other : ℕ) (slots : List (Option (Entry X))) → AreInOrder (pending_from first slots) → AreInOrder (pending_from other slots)
+pub order-shift : {X : Type 0} (first other : ℕ) (slots : List (Option (Filled X))) → AreInOrder (pending_from first slots) → AreInOrder (pending_from other slots)
 order-shift first other [] order = tt
 order-shift first other (None ∷ slots) order = order-shift (suc first) (suc other) slots order
 order-shift first other (Some e ∷ slots) order = (all-shift e.epoch (suc first) (suc other) slots order.0, order-shift (suc first) (suc other) slots order.1)
 
 -- The last slot goes.
-all-init : {X : Type 0} (epoch first : ℕ) (x : Option (Entry X)) (slots : List (Option (Entry X))) → AllByRecursion (λ later. epoch ≤ later.epoch) (pending_from first (slots ++ x ∷ []))
+all-init : {X : Type 0} (epoch first : ℕ) (x : Option (Filled X)) (slots : List (Option (Filled X))) → AllByRecursion (λ later. epoch ≤ later.epoch) (pending_from first (slots ++ x ∷ []))
     → AllByRecursion (λ later. epoch ≤ later.epoch) (pending_from first slots)
 all-init epoch first x [] all = tt
 all-init epoch first x (None ∷ slots) all = all-init epoch (suc first) x slots all
 all-init epoch first x (Some e ∷ slots) all = (all.0, all-init epoch (suc first) x slots all.1)
 
-pub order-init : {X : Type 0} (first : ℕ) (x : Option (Entry X)) (slots : List (Option (Entry X))) → AreInOrder (pending_from first (slots ++ x ∷ [])) → AreInOrder (pending_from first slots)
+pub order-init : {X : Type 0} (first : ℕ) (x : Option (Filled X)) (slots : List (Option (Filled X))) → AreInOrder (pending_from first (slots ++ x ∷ [])) → AreInOrder (pending_from first slots)
 order-init first x [] order = tt
 order-init first x (None ∷ slots) order = order-init (suc first) x slots order
 order-init first x (Some e ∷ slots) order = (all-init e.epoch (suc first) x slots order.0, order-init (suc first) x slots order.1)
 
 -- how many items a slot has
-abbrev pub items_in : {X : Type 0} → Option (Entry X) → ℕ
+abbrev pub items_in : {X : Type 0} → Option X → ℕ
 items_in x = from_bool (is_some x)
 
-pub length-last : {X : Type 0} (first : ℕ) (x : Option (Entry X)) (slots : List (Option (Entry X))) → length (pending_from first (slots ++ x ∷ [])) ≡ length (pending_from first slots) + items_in x
+pub length-last : {X : Type 0} (first : ℕ) (x : Option (Filled X)) (slots : List (Option (Filled X))) → length (pending_from first (slots ++ x ∷ [])) ≡ length (pending_from first slots) + items_in x
 length-last first None [] = refl
 length-last first (Some e) [] = refl
 length-last first x (None ∷ slots) = length-last (suc first) x slots
@@ -60,27 +49,27 @@ length-last first x (Some e ∷ slots) = let more = length-last (suc first) x sl
 abbrev pub kept : {X : Type 0} → ℕ → List (Pending X) → List (Pending X)
 kept epoch ps = filter (λ p. nat_le p.epoch epoch) ps
 
-pub kept-last : {X : Type 0} (epoch first : ℕ) (x : Option (Entry X)) (slots : List (Option (Entry X))) → stays epoch x ≡ false → kept epoch (pending_from first (slots ++ x ∷ [])) ≡ kept epoch (pending_from first slots)
+pub kept-last : {X : Type 0} (epoch first : ℕ) (x : Option (Filled X)) (slots : List (Option (Filled X))) → early epoch x ≡ false → kept epoch (pending_from first (slots ++ x ∷ [])) ≡ kept epoch (pending_from first slots)
 kept-last epoch first None [] late = refl
 kept-last epoch first (Some e) [] late = rw late refl
 kept-last epoch first x (None ∷ slots) late = kept-last epoch (suc first) x slots late
 kept-last {X} epoch first x (Some e ∷ slots) late = go (kept-last epoch (suc first) x slots late) (nat_le e.epoch epoch) refl
   where
     go : kept epoch (pending_from (suc first) (slots ++ x ∷ [])) ≡ kept epoch (pending_from (suc first) slots) → (b : Bool) → nat_le e.epoch epoch ≡ b
-        → kept epoch (of_entry first e ∷ pending_from (suc first) (slots ++ x ∷ [])) ≡ kept epoch (of_entry first e ∷ pending_from (suc first) slots)
-    go rest true is = rw is (ap (λ ps. of_entry first e ∷ ps) rest)
+        → kept epoch (of_filled first e ∷ pending_from (suc first) (slots ++ x ∷ [])) ≡ kept epoch (of_filled first e ∷ pending_from (suc first) slots)
+    go rest true is = rw is (ap (λ ps. of_filled first e ∷ ps) rest)
     go rest false is = rw is rest
 
 -- Where the last slot stays, all do.
-last_of_all : {X : Type 0} (low epoch first i : ℕ) (x : Option (Entry X)) (slots : List (Option (Entry X))) → AllByRecursion (λ later. low ≤ later.epoch) (pending_from first slots)
-    → x ≡ get_or slots i None → stays epoch x ≡ true → low ≤ epoch
+last_of_all : {X : Type 0} (low epoch first i : ℕ) (x : Option (Filled X)) (slots : List (Option (Filled X))) → AllByRecursion (λ later. low ≤ later.epoch) (pending_from first slots)
+    → x ≡ get_or slots i None → early epoch x ≡ true → low ≤ epoch
 last_of_all low epoch first i x [] all read is = cc
 last_of_all low epoch first zero x (None ∷ slots) all read is = cc
 last_of_all low epoch first zero x (Some e ∷ slots) all read is = let early : nat_le e.epoch epoch ≡ true = cc in grind (arith, nat_tests, all.0, early)
 last_of_all low epoch first (suc i) x (None ∷ slots) all read is = last_of_all low epoch (suc first) i x slots all read is
 last_of_all low epoch first (suc i) x (Some e ∷ slots) all read is = last_of_all low epoch (suc first) i x slots all.1 read is
 
-pub kept-all : {X : Type 0} (epoch first i : ℕ) (x : Option (Entry X)) (slots : List (Option (Entry X))) → i + 1 ≡ length slots → x ≡ get_or slots i None → stays epoch x ≡ true → AreInOrder (pending_from first slots)
+pub kept-all : {X : Type 0} (epoch first i : ℕ) (x : Option (Filled X)) (slots : List (Option (Filled X))) → i + 1 ≡ length slots → x ≡ get_or slots i None → early epoch x ≡ true → AreInOrder (pending_from first slots)
     → pending_from first slots ≡ kept epoch (pending_from first slots)
 kept-all epoch first i x [] long read is order = refl
 kept-all epoch first zero x (None ∷ slots) long read is order = cc
@@ -90,27 +79,19 @@ kept-all epoch first (suc i) x (None ∷ slots) long read is order = kept-all ep
 kept-all epoch first (suc i) x (Some e ∷ slots) long read is order =
     let low : e.epoch ≤ epoch = last_of_all e.epoch epoch (suc first) i x slots order.0 read is in
     let early : nat_le e.epoch epoch ≡ true = grind (arith, nat_tests) in
-    rw early (ap (λ ps. of_entry first e ∷ ps) (kept-all epoch (suc first) i x slots (omega arith) read is order.1))
+    rw early (ap (λ ps. of_filled first e ∷ ps) (kept-all epoch (suc first) i x slots (omega arith) read is order.1))
 
-pub kept-none : {X : Type 0} (epoch first : ℕ) (slots : List (Option (Entry X))) → length slots ≡ 0 → pending_from first slots ≡ kept epoch (pending_from first slots)
+pub kept-none : {X : Type 0} (epoch first : ℕ) (slots : List (Option (Filled X))) → length slots ≡ 0 → pending_from first slots ≡ kept epoch (pending_from first slots)
 kept-none epoch first [] none = refl
 kept-none epoch first (x ∷ slots) none = absurd (omega arith)
 
--- an item of a slot is one of the row's
-pub items-within : {X : Type 0} (first i : ℕ) (x : Option (Entry X)) (slots : List (Option (Entry X))) → x ≡ get_or slots i None → items_in x ≤ length (pending_from first slots)
-items-within first i x [] read = let same : items_in x ≡ 0 = ap items_in read in omega (arith, same)
-items-within first zero x (None ∷ slots) read = let same : items_in x ≡ 0 = ap items_in read in omega (arith, same)
-items-within first zero x (Some e ∷ slots) read = let same : items_in x ≡ 1 = ap items_in read in omega (arith, same)
-items-within first (suc i) x (None ∷ slots) read = items-within (suc first) i x slots read
-items-within first (suc i) x (Some e ∷ slots) read = let more = items-within (suc first) i x slots read in omega (arith, more)
-
 -- The last slot has an item of a later epoch, or is a hole: it goes.
-pub record LastGone {X : Type 0} (epoch dropped one : ℕ) (new before : List (Option (Entry X))) : Type 0 where
+pub record LastGone {X : Type 0} (epoch dropped one : ℕ) (new before : List (Option (Filled X))) : Type 0 where
   pub order : AreInOrder (pending_from 0 new)
   pub items : (first : ℕ) → kept epoch (pending_from first new) ≡ kept epoch (pending_from first before)
   pub count : (first : ℕ) → dropped + one + length (pending_from first new) ≡ length (pending_from first before)
 
-pub last-gone : {X : Type 0} (epoch dropped one : ℕ) (x : Option (Entry X)) (slots new before : List (Option (Entry X))) → slots ≡ new ++ x ∷ [] → stays epoch x ≡ false → one ≡ items_in x
+pub last-gone : {X : Type 0} (epoch dropped one : ℕ) (x : Option (Filled X)) (slots new before : List (Option (Filled X))) → slots ≡ new ++ x ∷ [] → early epoch x ≡ false → one ≡ items_in x
     → AreInOrder (pending_from 0 slots) → ((first : ℕ) → kept epoch (pending_from first slots) ≡ kept epoch (pending_from first before))
     → ((first : ℕ) → dropped + length (pending_from first slots) ≡ length (pending_from first before)) → LastGone epoch dropped one new before
 last-gone epoch dropped one x slots new before was late is order items count = record {

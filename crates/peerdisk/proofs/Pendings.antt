@@ -73,11 +73,6 @@ put-room limit reach p ps room =
 pub start-none : {X : Type 0} (k : ℕ) (ps : List (Pending X)) → at_place k ps ≡ None → start k ps ≡ Err UnknownJob
 start-none k ps none = rw none refl
 
--- nothing is pending, so nothing is at a place
-pub start-nothing : {X : Type 0} (k : ℕ) (ps : List (Pending X)) → option_map (λ p. p.epoch) (slice_get ps 0) ≡ None → start k ps ≡ Err UnknownJob
-start-nothing k [] none = refl
-start-nothing k (p ∷ ps) none = absurd (cc)
-
 -- The lowest place has the oldest epoch.
 none_earlier : {X : Type 0} (first epoch : ℕ) (ps : List (Pending X)) → AllByRecursion (λ later. first ≤ later.epoch) ps → epoch ≤ first → list_any (λ q. nat_lt q.epoch epoch) ps ≡ false
 none_earlier first epoch [] all old = refl

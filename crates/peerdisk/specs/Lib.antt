@@ -1,3 +1,4 @@
 pub mod Blocks
+pub mod Items
 pub mod Pending
 pub mod Slots

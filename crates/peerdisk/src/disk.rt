@@ -1,21 +1,20 @@
 //! The items that wait for the secondary's disk.
-ghost use Rattle.std.specs.Prelude.{◌≡◌, ◌+◌, ◌-◌, ◌<◌, ◌≤◌, [], true, false, nat_eq, length, get_or, All, None, Some, Ok, Err, OnOk, OnErr, IsOk, IfErr, is_some, option_map, slice_get, MatchResult};
-ghost use Rattle.std.specs.Option.{option_copied};
+ghost use Rattle.std.specs.Prelude.{◌≡◌, ◌+◌, ◌-◌, ◌<◌, ◌≤◌, [], true, false, nat_eq, length, get_or, All, None, Some, Ok, Err, OnOk, OnErr, IsOk, IfOk, IfErr, is_some, option_map, slice_get, MatchResult};
 ghost use Rattle.blocks.specs.declared.refusal.Refusal.TheVariants.{NoMemory};
 ghost use Rattle.peerdisk.specs.Pending.{after_fault, at_place, epoch_at, is_pending, is_starved, item_at, next, put, start, without};
-ghost use Rattle.peerdisk.specs.Slots.{of_entry};
 
-use crate::slots::{drop_holes, drop_later, put_holes};
+use crate::slots::{drop_holes, drop_later, put_holes, take_item};
 use blocks::Refusal;
+use slab::Slab;
 use std::alloc::Global;
 use std::collections::VecDeque;
 use std::marker::Model;
 
-/// An item, and the epoch that it belongs to.
+/// The epoch that an item belongs to, and the item's key in the slab.
 #[derive(Drop)]
-pub(crate) struct Entry<T> {
+pub(crate) struct Entry {
     pub(crate) epoch: u32,
-    pub(crate) item: T,
+    pub(crate) key: usize,
 }
 
 /// The items of a stream that a secondary has taken and not applied, by their places in the stream. A
@@ -23,15 +22,17 @@ pub(crate) struct Entry<T> {
 /// not applied (this project's rule, after DRBD's write barriers).
 ///
 /// A place has its slot in a row, so an item is found by subtraction; an applied one leaves a hole until all
-/// before it are gone, and so do places that have no item. Each call takes constant time, but `put` for the
-/// places that it skips, `done` for the holes that it frees, and `fault` for the slots from the end down to
-/// the epoch that stays. What takes memory is `reserve`, now and then in time for the whole row.
+/// before it are gone, and so do places that have no item. The items lie in a slab, and a slot holds a key, so
+/// that a hole costs no item's memory. Each call takes constant time, but `put` for the places that it skips,
+/// `done` for the holes that it frees, and `fault` for the slots from the end down to the epoch that stays.
+/// What takes memory is `new`, for all items, and `reserve`, now and then in time for the whole row.
 #[derive(Drop)]
 pub struct PeerDisk<T> {
     limit: usize,
     // The place of the first slot, which is no hole.
     first: u64,
-    slots: VecDeque<Option<Entry<T>>>,
+    slots: VecDeque<Option<Entry>>,
+    items: Slab<T>,
     count: usize,
 }
 
@@ -42,24 +43,28 @@ impl<T> Model for PeerDisk<T> {
 
     ghost Value = { PeerDiskState T };
 
-    ghost use Rattle.peerdisk.specs.Slots.{pending_from, IsRow};
+    ghost use Rattle.peerdisk.specs.Slots.{pending_from};
+    ghost use Rattle.peerdisk.specs.Items.{filled, IsStored};
 
-    ghost view = { λ d. record { limit = d.limit; pending = pending_from d.first d.slots.items; reach = d.first + deque_capacity d.slots } };
+    ghost view = { λ d. record { limit = d.limit; pending = pending_from d.first (filled d.items d.slots.items); reach = d.first + deque_capacity d.slots } };
 
-    ghost invariant = { λ d. IsRow d.first d.slots.items d.count (deque_len d.slots) (deque_capacity d.slots) };
+    ghost invariant = { λ d. IsStored d.items d.first d.slots.items d.count (deque_len d.slots) (deque_capacity d.slots) d.limit };
 }
 
 impl<T: Drop> PeerDisk<T> {
-    /// Nothing is pending, and no more than `limit` items may be. It takes no memory.
-    pub fn new(alloc: Global, limit: u32) -> PeerDisk<T>
-        ensures { result ≡ record { limit = limit; pending = []; reach = result.reach } }
+    /// Nothing is pending, and no more than `limit` items may be. Room for that many items is made here, and
+    /// `NoMemory` (7) comes where there is none.
+    pub fn new(alloc: Global, limit: u32) -> Result<PeerDisk<T>, Refusal>
+        ensures empty { IfOk result (λ d. d ≡ record { limit = limit; pending = []; reach = d.reach }) }
+        ensures refused { IfErr result (λ e. e ≡ NoMemory) }
     {
-        PeerDisk {
+        Ok(PeerDisk {
             limit: limit as usize,
             first: 0,
             slots: VecDeque::new(alloc),
+            items: Slab::with_capacity(alloc, limit as usize)?,
             count: 0,
-        }
+        })
     }
 
     /// Makes room for an item of this place, which lies after all that are pending.
@@ -107,7 +112,8 @@ impl<T: Drop> PeerDisk<T> {
         }
         let index = (place - self.first) as usize;
         put_holes(&mut self.slots, index);
-        self.slots.push_back_reserved(Some(Entry { epoch, item }));
+        let key = self.items.insert_reserved(item);
+        self.slots.push_back_reserved(Some(Entry { epoch, key }));
         self.count += 1;
         Ok(())
     }
@@ -132,13 +138,13 @@ impl<T: Drop> PeerDisk<T> {
         let Some(first) = self.first_epoch() else {
             return Err(Refusal::UnknownJob);
         };
-        let Some(entry) = self.entry(place) else {
+        let Some((epoch, item)) = self.entry(place) else {
             return Err(Refusal::UnknownJob);
         };
-        if first < entry.epoch {
+        if first < epoch {
             return Err(Refusal::EpochOpen);
         }
-        Ok(&entry.item)
+        Ok(item)
     }
 
     /// The item of a pending place is applied: gives it, and it is pending no more. It takes no memory.
@@ -149,9 +155,7 @@ impl<T: Drop> PeerDisk<T> {
         ensures reach { self.old.reach ≤ self.new.reach }
     {
         let index = (u64::from(place) - self.first) as usize;
-        let Some(Entry { epoch: _, item }) = self.slots[index].take() else {
-            unreachable!()
-        };
+        let (_, item) = take_item(&mut self.slots, &mut self.items, index);
         self.count -= 1;
         self.first = drop_holes(&mut self.slots, self.first);
         item
@@ -166,13 +170,11 @@ impl<T: Drop> PeerDisk<T> {
         ensures reach { self.old.reach ≤ self.new.reach }
     {
         let index = (u64::from(place) - self.first) as usize;
-        let Some(failed) = self.slots[index].take() else {
-            unreachable!()
-        };
+        let (epoch, _) = take_item(&mut self.slots, &mut self.items, index);
         self.count -= 1;
-        self.count -= drop_later(&mut self.slots, failed.epoch);
+        self.count -= drop_later(&mut self.slots, &mut self.items, epoch);
         self.first = drop_holes(&mut self.slots, self.first);
-        failed.epoch
+        epoch
     }
 
     /// Whether nothing is pending.
@@ -197,9 +199,9 @@ impl<T: Drop> PeerDisk<T> {
         Some(first.epoch)
     }
 
-    // What is pending at a place.
-    fn entry(&self, place: u32) -> Option<&Entry<T>>
-        ensures { option_map (of_entry place) (option_copied result) ≡ at_place place self.now.pending }
+    // What is pending at a place: its epoch, and the item.
+    fn entry(&self, place: u32) -> Option<(u32, &T)>
+        ensures { option_map (λ found. record { place = place; epoch = found.0; item = found.1.now }) result ≡ at_place place self.now.pending }
     {
         let place = u64::from(place);
         if place < self.first {
@@ -209,6 +211,7 @@ impl<T: Drop> PeerDisk<T> {
         if index >= self.slots.len() {
             return None;
         }
-        self.slots[index].as_ref()
+        let entry = self.slots[index].as_ref()?;
+        Some((entry.epoch, &self.items[entry.key]))
     }
 }

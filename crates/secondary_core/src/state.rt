@@ -65,7 +65,7 @@ impl SecondaryCore {
             is_consistent: tuple.current != 0,
             number: 0,
             taken: Taken::new(alloc, settings.blocks)?,
-            disk: PeerDisk::new(alloc, settings.pending),
+            disk: PeerDisk::new(alloc, settings.pending)?,
             items_applied: 0,
             failed: None,
             is_open: false,

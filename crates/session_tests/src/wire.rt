@@ -7,8 +7,10 @@ use crate::session::Case;
 use blocks::{Protocol, Refusal, Settings};
 use std::alloc::Global;
 use std::io::{Read, Write};
+use std::ops::Range;
 use std::sync::Wait;
 use std::test::*;
+use std::thread;
 use std::thread::Threads;
 use std::time::Clock;
 use volume::{Parts, Way, WireSession};
@@ -21,6 +23,29 @@ const NEVER: u64 = u64::MAX;
 struct Failing {
     writer: u64,
     reader: u64,
+}
+
+/// An end of the way to the secondary.
+#[derive(Clone, Copy, Debug, PartialEq, Eq)]
+enum End {
+    Writer,
+    Reader,
+}
+
+impl End {
+    // This end fails after so many bytes.
+    fn after(self, bytes: u64) -> Failing {
+        match self {
+            End::Writer => Failing {
+                writer: bytes,
+                ..WHOLE
+            },
+            End::Reader => Failing {
+                reader: bytes,
+                ..WHOLE
+            },
+        }
+    }
 }
 
 const WHOLE: Failing = Failing {
@@ -122,39 +147,100 @@ fn is_sound<R: Threads + Wait + Clock + Copy + Drop + Send + Sync + 'static>(
     }
 }
 
-// Whether a stream is made to fail after this many bytes: after each one of the hello and round the ends of the frames
-// behind it, and after every sixteenth one of the data.
-fn is_tried(bytes: u64) -> bool {
-    bytes <= 80 || bytes >= 4180 || bytes % 16 == 0
+// How many sessions run at a time, each in a thread that does one after another.
+const LANES: usize = 16;
+
+// For how many of these numbers of bytes a session is sound in which a stream fails after so many.
+fn count_sound<R: Threads + Wait + Clock + Copy + Drop + Send + Sync + 'static>(
+    rt: R,
+    alloc: Global,
+    bytes: Range<u64>,
+    end: End,
+) -> Result<u32, Refusal> {
+    let each = thread::map_indices(
+        &rt,
+        alloc,
+        LANES,
+        &|lane| {
+            let mut sound = 0u32;
+            for count in bytes.start..bytes.end {
+                if count % LANES as u64 == lane as u64 && is_sound(rt, alloc, end.after(count)) {
+                    sound = sound.saturating_add(1);
+                }
+            }
+            sound
+        },
+    )?;
+    let mut all = 0u32;
+    for sound in each {
+        all = all.saturating_add(sound);
+    }
+    Ok(all)
 }
 
+// The hello, the DATA frame of one block and a barrier are 4,212 bytes. A stream fails after each number of them, by quarters.
+
 #[test]
-fn a_reader_that_fails_anywhere_loses_nothing(rt: HostRuntime) -> Result<(), Fail> {
-    for bytes in 0..=4212u64 {
-        if !is_tried(bytes) {
-            continue;
-        }
-        let failing = Failing {
-            reader: bytes,
-            ..WHOLE
-        };
-        assert!(rt; is_sound(rt, rt.alloc(), failing), "{bytes}");
-    }
+fn a_reader_that_fails_in_the_first_quarter_loses_nothing(rt: HostRuntime) -> Result<(), Fail> {
+    let end = End::Reader;
+    let sound = count_sound(rt, rt.alloc(), 0..1054, end).map_err(|_| "memory")?;
+    assert_eq!(rt; sound, 1054);
     Ok(())
 }
 
 #[test]
-fn a_writer_that_fails_anywhere_loses_nothing(rt: HostRuntime) -> Result<(), Fail> {
-    for bytes in 0..=4212u64 {
-        if !is_tried(bytes) {
-            continue;
-        }
-        let failing = Failing {
-            writer: bytes,
-            ..WHOLE
-        };
-        assert!(rt; is_sound(rt, rt.alloc(), failing), "{bytes}");
-    }
+fn a_reader_that_fails_in_the_second_quarter_loses_nothing(rt: HostRuntime) -> Result<(), Fail> {
+    let end = End::Reader;
+    let sound = count_sound(rt, rt.alloc(), 1054..2108, end).map_err(|_| "memory")?;
+    assert_eq!(rt; sound, 1054);
+    Ok(())
+}
+
+#[test]
+fn a_reader_that_fails_in_the_third_quarter_loses_nothing(rt: HostRuntime) -> Result<(), Fail> {
+    let end = End::Reader;
+    let sound = count_sound(rt, rt.alloc(), 2108..3162, end).map_err(|_| "memory")?;
+    assert_eq!(rt; sound, 1054);
+    Ok(())
+}
+
+#[test]
+fn a_reader_that_fails_in_the_last_quarter_loses_nothing(rt: HostRuntime) -> Result<(), Fail> {
+    let end = End::Reader;
+    let sound = count_sound(rt, rt.alloc(), 3162..4213, end).map_err(|_| "memory")?;
+    assert_eq!(rt; sound, 1051);
+    Ok(())
+}
+
+#[test]
+fn a_writer_that_fails_in_the_first_quarter_loses_nothing(rt: HostRuntime) -> Result<(), Fail> {
+    let end = End::Writer;
+    let sound = count_sound(rt, rt.alloc(), 0..1054, end).map_err(|_| "memory")?;
+    assert_eq!(rt; sound, 1054);
+    Ok(())
+}
+
+#[test]
+fn a_writer_that_fails_in_the_second_quarter_loses_nothing(rt: HostRuntime) -> Result<(), Fail> {
+    let end = End::Writer;
+    let sound = count_sound(rt, rt.alloc(), 1054..2108, end).map_err(|_| "memory")?;
+    assert_eq!(rt; sound, 1054);
+    Ok(())
+}
+
+#[test]
+fn a_writer_that_fails_in_the_third_quarter_loses_nothing(rt: HostRuntime) -> Result<(), Fail> {
+    let end = End::Writer;
+    let sound = count_sound(rt, rt.alloc(), 2108..3162, end).map_err(|_| "memory")?;
+    assert_eq!(rt; sound, 1054);
+    Ok(())
+}
+
+#[test]
+fn a_writer_that_fails_in_the_last_quarter_loses_nothing(rt: HostRuntime) -> Result<(), Fail> {
+    let end = End::Writer;
+    let sound = count_sound(rt, rt.alloc(), 3162..4213, end).map_err(|_| "memory")?;
+    assert_eq!(rt; sound, 1051);
     Ok(())
 }
 

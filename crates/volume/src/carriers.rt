@@ -6,7 +6,7 @@ ghost use Rattle.ruled_link.specs.Outward.{sending};
 
 use crate::shared::Shared;
 use crate::workers::Workers;
-use crate::{PrimaryHalf, SecondaryHalf};
+use crate::{PrimaryHalf, SecondaryHalf, Way};
 use blocks::Refusal;
 use crossbeam_channel::{Receiver, Sender, bounded};
 use pumps::{Buffer, PumpEnd, pump_in, pump_out};
@@ -61,6 +61,11 @@ pub(crate) enum Side {
     Peer,
 }
 
+/// From which half to which one a way goes.
+pub(crate) const LOCAL_TO_PEER: (Side, Side) = (Side::Local, Side::Peer);
+
+pub(crate) const PEER_TO_LOCAL: (Side, Side) = (Side::Peer, Side::Local);
+
 /// Starts pumps, and gives each the means to tell of its end.
 #[derive(Drop)]
 pub(crate) struct Carrier {
@@ -90,8 +95,29 @@ impl Carrier {
         Ok(Carrier { alloc, told })
     }
 
-    /// Starts the pump that writes what a node sends.
-    pub(crate) fn start_out<
+    /// Starts both pumps of a way, at the rows of the half that sends and of the one that takes.
+    pub(crate) fn start_way<
+        R: Threads + Wait + Clock + Drop + Send + Sync + 'static,
+        A: PrimaryHalf + Drop + Send + Sync + 'static,
+        B: SecondaryHalf + Drop + Send + Sync + 'static,
+        W: Write + Drop + Send + 'static,
+        D: Read + Drop + Send + 'static,
+    >(
+        &self,
+        workers: &mut Workers,
+        shared: &Arc<Shared<R, A, B>, Global>,
+        sides: (Side, Side),
+        rows: (PieceIn<R>, PieceOut<R>),
+        way: Way<W, D>,
+    ) -> Result<(), Refusal> {
+        let (leaving, coming) = rows;
+        let Way { writer, reader } = way;
+        self.start_out(workers, shared, sides.0, leaving, writer)?;
+        self.start_in(workers, shared, sides.1, coming, reader)
+    }
+
+    // Starts the pump that writes what a node sends.
+    fn start_out<
         R: Threads + Wait + Clock + Drop + Send + Sync + 'static,
         A: PrimaryHalf + Drop + Send + Sync + 'static,
         B: SecondaryHalf + Drop + Send + Sync + 'static,
@@ -117,8 +143,8 @@ impl Carrier {
         Ok(())
     }
 
-    /// Starts the pump that reads what a node takes.
-    pub(crate) fn start_in<
+    // Starts the pump that reads what a node takes.
+    fn start_in<
         R: Threads + Wait + Clock + Drop + Send + Sync + 'static,
         A: PrimaryHalf + Drop + Send + Sync + 'static,
         B: SecondaryHalf + Drop + Send + Sync + 'static,

@@ -47,6 +47,9 @@ pub trait PrimaryHalf {
     /// every epoch is acknowledged.
     fn is_quiet(&self) -> bool;
 
+    /// Whether the peer has acknowledged every epoch, or the end is closed.
+    fn is_acknowledged(&self) -> bool;
+
     /// How many blocks are marked.
     fn marks(&self) -> u32;
 
@@ -201,6 +204,12 @@ impl<R: Wait + Drop, O: FrameOut + Drop, I: FrameIn + Drop, S: Store + Drop> Pri
         let local = self.node.lock(&self.rt);
         let node = local.node();
         !node.is_open() || (node.stands() && node.marks() == 0 && node.open_epochs() == 0)
+    }
+
+    fn is_acknowledged(&self) -> bool {
+        let local = self.node.lock(&self.rt);
+        let node = local.node();
+        !node.is_open() || node.open_epochs() == 0
     }
 
     fn marks(&self) -> u32 {

@@ -22,4 +22,10 @@ impl<R: Wait + Drop, A: PrimaryHalf + Drop, B: SecondaryHalf + Drop> Mirror<R, A
     pub fn is_quiet(&self) -> bool {
         self.shared.local.is_quiet()
     }
+
+    /// Whether the peer has acknowledged every epoch, so that its disk has all that was written, or the primary's end is
+    /// closed.
+    pub fn is_acknowledged(&self) -> bool {
+        self.shared.local.is_acknowledged()
+    }
 }

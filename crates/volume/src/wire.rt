@@ -4,7 +4,7 @@ ghost use Rattle.session_nodes.specs.Primaries.{PrimaryIsHad};
 ghost use Rattle.session_nodes.specs.Secondaries.{SecondaryIsHad};
 
 use crate::Mirror;
-use crate::carriers::{Carrier, PumpEnds, Side, half_rows};
+use crate::carriers::{Carrier, LOCAL_TO_PEER, PEER_TO_LOCAL, PumpEnds, half_rows};
 use crate::halves::{LocalHalf, PeerHalf};
 use crate::session::{Parts, local_half, peer_half};
 use crate::shared::{Path, Shared};
@@ -138,10 +138,10 @@ impl<
         let carrier = Carrier::start(self.mirror.alloc, &mut self.workers, &self.mirror.shared)?;
         let shared = &self.mirror.shared;
         let workers = &mut self.workers;
-        carrier.start_out(workers, shared, Side::Local, local.leaving, there.writer)?;
-        carrier.start_in(workers, shared, Side::Peer, peer.coming, there.reader)?;
-        carrier.start_out(workers, shared, Side::Peer, peer.leaving, back.writer)?;
-        carrier.start_in(workers, shared, Side::Local, local.coming, back.reader)?;
+        let outward = (local.leaving, peer.coming);
+        let inward = (peer.leaving, local.coming);
+        carrier.start_way(workers, shared, LOCAL_TO_PEER, outward, there)?;
+        carrier.start_way(workers, shared, PEER_TO_LOCAL, inward, back)?;
         drop(carrier);
         shared.greet_over_ways()?;
         workers.start(shared)

@@ -4,7 +4,7 @@ use std::test::Fail;
 
 #[test]
 fn items_start_epoch_by_epoch(rt: HostRuntime) -> Result<(), Fail> {
-    let mut disk = PeerDisk::new(rt.alloc(), 3);
+    let mut disk = PeerDisk::new(rt.alloc(), 3)?;
     assert!(rt; disk.is_empty());
     disk.put(0, 1, 'a')?;
     disk.put(1, 1, 'b')?;

@@ -1,101 +1,93 @@
-use Rattle.std.proofs.Common.{◌≡◌, ◌∙◌, ◌+◌, ◌-◌, ◌<◌, Option, None, true, is_some, length, refl, sym, ap, arith, get_or, nat_le, unwrap_or}
+use Rattle.std.proofs.Common.{◌≡◌, ◌∙◌, ◌+◌, ◌-◌, Option, None, is_some, length, refl, sym, ap, arith, get_or, nat_le, unwrap_or}
 use Rattle.std.specs.Prelude.{filter, option_map}
-use Rattle.std.proofs.Math.ListN.{set}
-use Rattle.std.proofs.lemmas.List.{get_or_read}
+use Rattle.peerdisk.specs.Items.{filled}
 use Rattle.peerdisk.specs.Pending.{Pending, epoch_at, without}
-use Rattle.peerdisk.specs.Slots.{AreInOrder, of_entry, pending_from}
+use Rattle.peerdisk.specs.Slots.{AreInOrder, of_filled, pending_from}
 use Rattle.peerdisk.proofs.Pendings.{order-filter, order-without}
-use Rattle.peerdisk.proofs.InSlots.{Within, at-slot, length-removed, within, without-slot}
+use Rattle.peerdisk.proofs.InSlots.{at-slot, length-removed, without-slot}
 use Rattle.peerdisk.proofs.Ends.{kept, order-shift}
+use Rattle.peerdisk.proofs.Filled.{held-trimmed}
+use Rattle.peerdisk.proofs.Stored.{WithinRow, left-trimmed, row-trimmed, within-row}
 use Rattle.peerdisk.proofs.disk.PeerDisk.fault.Goals as goal
 
 pub overflow_sub-index : goal.overflow_sub-index
 overflow_sub-index g c =
     let s = c.self.inside in
-    let there : Within c.args.place s.first s.slots.items = within c.args.place s.first s.slots.items (rw (ap (λ s. s.pending) c.self.view_is) c.requires) in
+    let there : WithinRow c.args.place s.first s.slots.items = within-row c.args.place s.first s.items s.slots.items c.self.invariant.held (rw (ap (λ s. s.pending) c.self.view_is) c.requires) in
     omega (arith, there.from, c.from.ensures)
 
-pub index_mut-requires : goal.index_mut-requires
-index_mut-requires g c =
+pub take_item-epoch-requires-clause-taken : goal.take_item-epoch-requires-clause-taken
+take_item-epoch-requires-clause-taken g c =
     let s = c.self.inside in
-    let there : Within c.args.place s.first s.slots.items = within c.args.place s.first s.slots.items (rw (ap (λ s. s.pending) c.self.view_is) c.requires) in
-    omega (arith, there.from, there.to, c.from.ensures, s.slots.ok)
+    let there : WithinRow c.args.place s.first s.slots.items = within-row c.args.place s.first s.items s.slots.items c.self.invariant.held (rw (ap (λ s. s.pending) c.self.view_is) c.requires) in
+    ap (λ n. is_some (get_or s.slots.items (n - s.first) None)) c.from.ensures ∙ there.taken
 
-pub unreachable-requires : goal.unreachable-requires
-unreachable-requires g c =
+pub drop_later-requires-clause-order : goal.drop_later-requires-clause-order
+drop_later-requires-clause-order g c =
     let s = c.self.inside in
+    let row = filled s.items s.slots.items in
+    let t = c.take_item-epoch in
     let i = c.from.result - s.first in
-    let there : Within c.args.place s.first s.slots.items = within c.args.place s.first s.slots.items (rw (ap (λ s. s.pending) c.self.view_is) c.requires) in
-    let inside : i < length s.slots.items = omega (arith, there.from, there.to, c.from.ensures) in
+    let after = filled t.new.items t.new.slots.items in
+    let there : WithinRow c.args.place s.first s.slots.items = within-row c.args.place s.first s.items s.slots.items c.self.invariant.held (rw (ap (λ s. s.pending) c.self.view_is) c.requires) in
     let at : c.args.place ≡ s.first + i = omega (arith, there.from, c.from.ensures) in
-    let hole = sym (get_or_read s.slots.items i c.index_mut.result.now inside c.index_mut.ensures.value None) ∙ (sym c.take.ensures.value ∙ c.in_default.is) in
-    let taken : is_some (get_or s.slots.items i None) ≡ true = ap (λ n. is_some (get_or s.slots.items (n - s.first) None)) c.from.ensures ∙ there.taken in
-    let none = ap is_some hole in
-    cc
-
-pub drop_later-requires : goal.drop_later-requires
-drop_later-requires g c =
-    let s = c.self.inside in
-    let i = c.from.result - s.first in
-    let there : Within c.args.place s.first s.slots.items = within c.args.place s.first s.slots.items (rw (ap (λ s. s.pending) c.self.view_is) c.requires) in
-    let inside : i < length s.slots.items = omega (arith, there.from, there.to, c.from.ensures) in
-    let at : c.args.place ≡ s.first + i = omega (arith, there.from, c.from.ensures) in
-    let order : AreInOrder (pending_from s.first (set s.slots.items i None)) = rw (without-slot c.args.place s.first i s.slots.items at) (order-without c.args.place _ c.self.invariant.order) in
-    rw c.take.ensures.after (order-shift s.first 0 (set s.slots.items i None) order)
-
-pub overflow_sub-self-2 : goal.overflow_sub-self-2
-overflow_sub-self-2 g c =
-    let s = c.self.inside in
-    let i = c.from.result - s.first in
-    let there : Within c.args.place s.first s.slots.items = within c.args.place s.first s.slots.items (rw (ap (λ s. s.pending) c.self.view_is) c.requires) in
-    let inside : i < length s.slots.items = omega (arith, there.from, there.to, c.from.ensures) in
-    let at : c.args.place ≡ s.first + i = omega (arith, there.from, c.from.ensures) in
-    let is = sym (get_or_read s.slots.items i c.index_mut.result.now inside c.index_mut.ensures.value None) ∙ (sym c.take.ensures.value ∙ c.in-Some.is) in
-    let count = rw c.take.ensures.after at c.drop_later.ensures.count s.first in
-    omega (arith, count, length-removed s.first i c.in-Some.failed s.slots.items is, c.self.invariant.counted)
+    let left : pending_from s.first after ≡ without c.args.place (pending_from s.first row) = ap (pending_from s.first) t.ensures.left ∙ without-slot c.args.place s.first i row at in
+    order-shift s.first 0 after (rw left (order-without c.args.place _ c.self.invariant.row.order))
 
 pub invariant_of-self : goal.invariant_of-self
 invariant_of-self g c =
     let s = c.self.inside in
+    let row = filled s.items s.slots.items in
+    let t = c.take_item-epoch in
     let i = c.from.result - s.first in
-    let there : Within c.args.place s.first s.slots.items = within c.args.place s.first s.slots.items (rw (ap (λ s. s.pending) c.self.view_is) c.requires) in
-    let inside : i < length s.slots.items = omega (arith, there.from, there.to, c.from.ensures) in
+    let l = c.drop_later in
+    let d = c.drop_holes-self-inside in
+    let epoch = t.result.0 in
+    let after = filled t.new.items t.new.slots.items in
+    let kept_row = filled l.new.items l.new.slots.items in
+    let there : WithinRow c.args.place s.first s.slots.items = within-row c.args.place s.first s.items s.slots.items c.self.invariant.held (rw (ap (λ s. s.pending) c.self.view_is) c.requires) in
     let at : c.args.place ≡ s.first + i = omega (arith, there.from, c.from.ensures) in
-    let is = sym (get_or_read s.slots.items i c.index_mut.result.now inside c.index_mut.ensures.value None) ∙ (sym c.take.ensures.value ∙ c.in-Some.is) in
-    let epoch = c.in-Some.failed.epoch in
-    let later = rw c.take.ensures.after at c.drop_later.ensures.items s.first in
-    let left = c.drop_holes-self-inside.ensures.items ∙ (later ∙ ap (kept epoch) (without-slot c.args.place s.first i s.slots.items at)) in
-    let count = rw c.take.ensures.after at c.drop_later.ensures.count s.first in
+    let left : pending_from s.first after ≡ without c.args.place (pending_from s.first row) = ap (pending_from s.first) t.ensures.left ∙ without-slot c.args.place s.first i row at in
+    let later : pending_from s.first kept_row ≡ kept epoch (without c.args.place (pending_from s.first row)) = l.ensures.items s.first ∙ ap (kept epoch) left in
+    let order : AreInOrder (pending_from s.first kept_row) =
+    rw later (order-filter (λ p. nat_le p.epoch epoch) (without c.args.place (pending_from s.first row)) (order-without c.args.place _ c.self.invariant.row.order)) in
+    let fewer = length-removed s.first i _ row t.ensures.item in
+    let gone = rw t.ensures.left at (l.ensures.count s.first) in
+    let counted : s.count - 1 - l.result ≡ length (pending_from s.first kept_row) = omega (arith, gone, fewer, c.self.invariant.row.counted) in
+    let end = d.ensures.end in
     record {
-      order = rw left (order-filter (λ p. nat_le p.epoch epoch) (without c.args.place (pending_from s.first s.slots.items)) (order-without c.args.place _ c.self.invariant.order));
-      counted = rw c.drop_holes-self-inside.ensures.items (omega (arith, count, length-removed s.first i c.in-Some.failed s.slots.items is, c.self.invariant.counted));
-      begins = c.drop_holes-self-inside.ensures.begins;
-      small = omega (arith, c.drop_holes-self-inside.ensures.end, c.drop_later.ensures.len, c.self.invariant.small);
-      begun = λ from. omega (arith, c.drop_holes-self-inside.ensures.capacity, c.drop_later.ensures.capacity, inside, s.slots.ok, s.slots.ring_fits);
+      row = row-trimmed d.result s.first l.new.items l.new.slots.items d.new.slots.items (s.count - 1 - l.result) _ _ l.ensures.held d.ensures.slots (omega (arith, end, d.new.slots.ok, l.new.slots.ok)) order counted
+          (omega (arith, end, l.ensures.len, t.ensures.len, c.self.invariant.row.small)) (λ from. omega (arith, d.ensures.capacity, l.ensures.capacity, t.ensures.capacity, there.to, s.slots.ok, s.slots.ring_fits));
+      held = rw d.ensures.slots (held-trimmed l.new.items l.new.slots.items l.ensures.held);
+      many = omega (arith, l.ensures.many, t.ensures.many, c.self.invariant.many);
+      room = omega (arith, l.ensures.room, t.ensures.room, c.self.invariant.room);
     }
 
 pub returns-clause-left : goal.returns-clause-left
 returns-clause-left g c =
     let s = c.self.inside in
+    let row = filled s.items s.slots.items in
+    let t = c.take_item-epoch in
     let i = c.from.result - s.first in
-    let there : Within c.args.place s.first s.slots.items = within c.args.place s.first s.slots.items (rw (ap (λ s. s.pending) c.self.view_is) c.requires) in
-    let inside : i < length s.slots.items = omega (arith, there.from, there.to, c.from.ensures) in
+    let l = c.drop_later in
+    let d = c.drop_holes-self-inside in
+    let epoch = t.result.0 in
+    let after = filled t.new.items t.new.slots.items in
+    let there : WithinRow c.args.place s.first s.slots.items = within-row c.args.place s.first s.items s.slots.items c.self.invariant.held (rw (ap (λ s. s.pending) c.self.view_is) c.requires) in
     let at : c.args.place ≡ s.first + i = omega (arith, there.from, c.from.ensures) in
-    let is = sym (get_or_read s.slots.items i c.index_mut.result.now inside c.index_mut.ensures.value None) ∙ (sym c.take.ensures.value ∙ c.in-Some.is) in
-    let epoch = c.in-Some.failed.epoch in
-    let later = rw c.take.ensures.after at c.drop_later.ensures.items s.first in
-    let left = c.drop_holes-self-inside.ensures.items ∙ (later ∙ ap (kept epoch) (without-slot c.args.place s.first i s.slots.items at)) in
-    let at_epoch : epoch_at c.args.place (pending_from s.first s.slots.items) ≡ epoch =
-    ap (λ (o : Option (Pending _)). unwrap_or (option_map (λ p. p.epoch) o) 0) (at-slot c.args.place s.first i s.slots.items at ∙ ap (option_map (of_entry c.args.place)) is) in
-    let all = left ∙ ap (λ n. filter (λ p. nat_le p.epoch n) (without c.args.place (pending_from s.first s.slots.items))) (sym at_epoch) in
+    let left : pending_from s.first after ≡ without c.args.place (pending_from s.first row) = ap (pending_from s.first) t.ensures.left ∙ without-slot c.args.place s.first i row at in
+    let trim = left-trimmed d.result s.first l.new.items l.new.slots.items d.new.slots.items d.ensures.slots (omega (arith, d.ensures.end, d.new.slots.ok, l.new.slots.ok)) in
+    let at_epoch : epoch_at c.args.place (pending_from s.first row) ≡ epoch =
+    ap (λ (o : Option (Pending _)). unwrap_or (option_map (λ p. p.epoch) o) 0) (at-slot c.args.place s.first i row at ∙ ap (option_map (of_filled c.args.place)) t.ensures.item) in
+    let all = trim ∙ (l.ensures.items s.first ∙ (ap (kept epoch) left ∙ ap (λ n. filter (λ p. nat_le p.epoch n) (without c.args.place (pending_from s.first row))) (sym at_epoch))) in
     rw (← c.self.view_is) (rw all refl)
 
 pub returns-clause-epoch : goal.returns-clause-epoch
 returns-clause-epoch g c =
     let s = c.self.inside in
+    let row = filled s.items s.slots.items in
+    let t = c.take_item-epoch in
     let i = c.from.result - s.first in
-    let there : Within c.args.place s.first s.slots.items = within c.args.place s.first s.slots.items (rw (ap (λ s. s.pending) c.self.view_is) c.requires) in
-    let inside : i < length s.slots.items = omega (arith, there.from, there.to, c.from.ensures) in
+    let there : WithinRow c.args.place s.first s.slots.items = within-row c.args.place s.first s.items s.slots.items c.self.invariant.held (rw (ap (λ s. s.pending) c.self.view_is) c.requires) in
     let at : c.args.place ≡ s.first + i = omega (arith, there.from, c.from.ensures) in
-    let is = sym (get_or_read s.slots.items i c.index_mut.result.now inside c.index_mut.ensures.value None) ∙ (sym c.take.ensures.value ∙ c.in-Some.is) in
-    rw (← c.self.view_is) (sym (ap (λ (o : Option (Pending _)). unwrap_or (option_map (λ p. p.epoch) o) 0) (at-slot c.args.place s.first i s.slots.items at ∙ ap (option_map (of_entry c.args.place)) is)))
+    rw (← c.self.view_is) (sym (ap (λ (o : Option (Pending _)). unwrap_or (option_map (λ p. p.epoch) o) 0) (at-slot c.args.place s.first i row at ∙ ap (option_map (of_filled c.args.place)) t.ensures.item)))
