@@ -97,6 +97,14 @@ row_is (Some c) len h e =
     let p = passed (is_length c len) (record { command = c; len = len }) h BadLength e in
     (ap (λ (x : Header). Some x.command) p.1, ap (λ (x : Header). x.len) p.1)
 
+-- the number of the command of a header that is read
+pub header_number : (bytes : List ℕ) (h : Header) → header_at bytes ≡ Ok h → number_of h.command ≡ number_in 2 2 bytes
+unfolding header_at
+header_number bytes h e =
+    let p = passed_on (eqb (number_in 2 0 bytes) magic) (row_at (command_at (number_in 2 2 bytes)) (number_in 4 4 bytes)) h BadMagic e in
+    let r = row_is (command_at (number_in 2 2 bytes)) (number_in 4 4 bytes) h p.1 in
+    command_number (number_in 2 2 bytes) h.command r.0
+
 -- a header that is read is spelled so
 header_takes : (bytes : List ℕ) (h : Header) → IsBytes bytes → 8 ≤ length bytes → header_at bytes ≡ Ok h → take 8 bytes ≡ header_bytes h.command h.len
 unfolding header_at

@@ -4,10 +4,12 @@ pub mod Digits
 pub mod Frames
 pub mod Hellos
 pub mod Lengths
+pub mod Named
 pub mod Payloads
 pub mod Readings
 pub mod Rows
 pub mod Shorts
 pub mod Steps
 pub mod Widths
+pub mod Words
 pub mod Written

@@ -1,10 +1,9 @@
 -- A packet without blocks is spelled in at most 40 bytes.
-use Rattle.std.proofs.Common.{◌≡◌, ◌≤◌, ◌+◌, ◌++◌, false, ℕ, List, length, sym, ◌∙◌, ap, subst, arith}
+use Rattle.std.proofs.Common.{◌≡◌, ◌≤◌, ◌+◌, false, ℕ, List, length, ◌∙◌, ap, arith}
 use Rattle.std.proofs.lemmas.List.{length-append}
 use Rattle.packets.specs.declared.packet.Packet.{Packet}
 use Rattle.packets.specs.declared.packet.Packet.TheVariants as packet
-use Rattle.packets.specs.Numbers.{number_bytes}
-use Rattle.packets.specs.Table.{magic, number_of, command_of, has_blocks}
+use Rattle.packets.specs.Table.{has_blocks}
 use Rattle.packets.specs.Spelling.{Spells, payload, spelling}
 use Rattle.packets.proofs.Widths.{number_bytes_length}
 use Rattle.packets.proofs.Lengths.{payload_bytes, payload_length}

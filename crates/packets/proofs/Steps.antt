@@ -83,22 +83,30 @@ answers_payload frame h (Err e) fits long judged said =
 
 -- ---- what a refusal may be
 
-row_fault : (b : Bool) (h : Header) (e : Refusal) → cond b (Ok h) (Err BadLength) ≡ Err e → is_fault e ≡ true
-row_fault true h e is = absurd cc
-row_fault false h e is = let same : BadLength ≡ e = cc in ap is_fault (sym same)
+row_has : (P : Refusal → Type 0) (b : Bool) (h : Header) (e : Refusal) → P BadLength → cond b (Ok h) (Err BadLength) ≡ Err e → P e
+row_has P true h e len is = absurd cc
+row_has P false h e len is = let same : BadLength ≡ e = cc in subst P same len
 
-length_fault : (o : Option Command) (len : ℕ) (e : Refusal) → row_at o len ≡ Err e → is_fault e ≡ true
-length_fault None len e is = let same : BadCommand ≡ e = cc in ap is_fault (sym same)
-length_fault (Some c) len e is = row_fault (is_length c len) (record { command = c; len = len }) e is
+length_has : (P : Refusal → Type 0) (o : Option Command) (len : ℕ) (e : Refusal) → P BadCommand → P BadLength → row_at o len ≡ Err e → P e
+length_has P None len e command length is = let same : BadCommand ≡ e = cc in subst P same command
+length_has P (Some c) len e command length is = row_has P (is_length c len) (record { command = c; len = len }) e length is
 
-magic_fault : (b : Bool) (r : Result Header Refusal) (e : Refusal) → (r ≡ Err e → is_fault e ≡ true) → cond b r (Err BadMagic) ≡ Err e → is_fault e ≡ true
-magic_fault true r e next is = next is
-magic_fault false r e next is = let same : BadMagic ≡ e = cc in ap is_fault (sym same)
+magic_has : (P : Refusal → Type 0) (b : Bool) (r : Result Header Refusal) (e : Refusal) → P BadMagic → (r ≡ Err e → P e) → cond b r (Err BadMagic) ≡ Err e → P e
+magic_has P true r e first next is = next is
+magic_has P false r e first next is = let same : BadMagic ≡ e = cc in subst P same first
+
+-- what holds of the three faults of a header holds of the one that is met
+header_has : (P : Refusal → Type 0) (bytes : List ℕ) (e : Refusal) → P BadMagic → P BadCommand → P BadLength → header_at bytes ≡ Err e → P e
+unfolding header_at
+header_has P bytes e first second third is =
+    magic_has P (eqb (number_in 2 0 bytes) magic) (row_at (command_at (number_in 2 2 bytes)) (number_in 4 4 bytes)) e first (length_has P (command_at (number_in 2 2 bytes)) (number_in 4 4 bytes) e second third) is
 
 pub header_fault : (bytes : List ℕ) (e : Refusal) → header_at bytes ≡ Err e → is_fault e ≡ true
-unfolding header_at
-header_fault bytes e is =
-    magic_fault (eqb (number_in 2 0 bytes) magic) (row_at (command_at (number_in 2 2 bytes)) (number_in 4 4 bytes)) e (length_fault (command_at (number_in 2 2 bytes)) (number_in 4 4 bytes) e) is
+header_fault bytes e is = header_has (λ (x : Refusal). is_fault x ≡ true) bytes e refl refl refl is
+
+-- it comes before the fields
+pub header_no_field : (bytes : List ℕ) (e : Refusal) → header_at bytes ≡ Err e → e ≡ BadField → ⊥
+header_no_field bytes e is = header_has (λ (x : Refusal). x ≡ BadField → ⊥) bytes e (λ same. cc) (λ same. cc) (λ same. cc) is
 
 after_known : (r : Result Header Refusal) (frame : List ℕ) (e : Refusal) → ((x : Refusal) → r ≡ Err x → is_fault x ≡ true) → IsFaultAfter r frame e → is_fault e ≡ true
 after_known (Err fault) frame e known is = ap is_fault is ∙ known fault refl

@@ -1,5 +1,6 @@
 pub mod Cutting
 pub mod Frames
+pub mod Headed
 pub mod Held
 pub mod Numbers
 pub mod Reading

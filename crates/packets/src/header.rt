@@ -3,8 +3,9 @@
 ghost use Rattle.std.specs.Prelude.{◌≡◌, ℕ, ◌<◌, ◌≤◌, length, slice_index};
 ghost use Rattle.packets.specs.Table.{number_of, command_at, is_blocks, is_length};
 ghost use Rattle.packets.specs.Reading.{header_at};
+ghost use Rattle.packets.specs.Numbers.{number_in};
 
-use crate::numbers::{u16_at, u32_at};
+use crate::numbers::u64_at;
 use blocks::{BLOCK_BYTES, Command, MAX_RANGE, Refusal};
 
 /// What each frame begins with. The header is that of DRBD's large packets, `p_header95`, with its
@@ -37,17 +38,41 @@ impl Header {
         // A slice of bytes holds numbers below 256.
         ensures bytes { (i : ℕ) → slice_index bytes.now i < 256 }
     {
-        if u16_at(bytes, 0) != MAGIC {
+        let numbers = header_numbers(bytes);
+        if numbers.magic != MAGIC {
             return Err(Refusal::BadMagic);
         }
-        let Some(command) = command_with(u16_at(bytes, 2)) else {
+        let Some(command) = command_with(numbers.command) else {
             return Err(Refusal::BadCommand);
         };
-        let len = u32_at(bytes, 4);
+        let len = numbers.len;
         if !may_have(command, len) {
             return Err(Refusal::BadLength);
         }
         Ok(Header { command, len })
+    }
+}
+
+/// The numbers of a header, before they are judged.
+#[derive(Clone, Copy)]
+struct HeaderNumbers {
+    magic: u16,
+    command: u16,
+    len: u32,
+}
+
+/// The numbers in the first 8 bytes, which are read once, as one word.
+fn header_numbers(bytes: &[u8]) -> HeaderNumbers
+    requires { 8 ≤ length bytes.now }
+    ensures magic { result.magic ≡ number_in 2 0 bytes.now }
+    ensures command { result.command ≡ number_in 2 2 bytes.now }
+    ensures len { result.len ≡ number_in 4 4 bytes.now }
+{
+    let word = u64_at(bytes, 0);
+    HeaderNumbers {
+        magic: (word >> 48) as u16,
+        command: ((word >> 32) % 0x1_0000) as u16,
+        len: (word % 0x1_0000_0000) as u32,
     }
 }
 

@@ -5,15 +5,6 @@ ghost use Rattle.packets.specs.Numbers.{number_in, number_bytes};
 use crate::short::Short;
 use byteorder::{BigEndian, ByteOrder};
 
-/// The number in the two bytes at a place.
-#[tactic(auto, unfolding(crate::specs::Numbers::number_in))]
-pub(crate) fn u16_at(bytes: &[u8], place: usize) -> u16
-    requires { place + 2 ≤ length bytes.now }
-    ensures { result ≡ number_in 2 place bytes.now }
-{
-    BigEndian::read_u16(&bytes[place..])
-}
-
 /// The number in the four bytes at a place.
 #[tactic(auto, unfolding(crate::specs::Numbers::number_in))]
 pub(crate) fn u32_at(bytes: &[u8], place: usize) -> u32

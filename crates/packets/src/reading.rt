@@ -1,15 +1,16 @@
 //! From bytes to packets.
-ghost use Rattle.std.specs.Prelude.{◌≡◌, ◌≢◌, ◌+◌, ◌<◌, ◌≤◌, true, false, length, drop, Ok, IfOk, IfErr};
+ghost use Rattle.std.specs.Prelude.{◌≡◌, ◌≢◌, ◌+◌, ◌<◌, ◌≤◌, true, false, length, drop, Ok, Err, IfOk, IfErr};
 ghost use Rattle.packets.specs.Spelling.{IsSpellable, Spells};
-ghost use Rattle.packets.specs.Frames.{Answers, IsFrameFault, frame_read, in_hello, is_fault, is_named, fault_in_hello};
+ghost use Rattle.packets.specs.Frames.{IsFrameFault, frame_read, in_hello, is_fault, fault_in_hello};
 ghost use Rattle.packets.specs.Table.{has_blocks, is_length};
-ghost use Rattle.packets.specs.Reading.{checked, payload_at, protocol_at, uuids_at, data_at, rs_data_at, barrier_at, acknowledgement_at, names_write, names_resync};
+ghost use Rattle.packets.specs.Headed.{IsHeaded, is_awaited, named};
+ghost use Rattle.packets.specs.Reading.{payload_at, protocol_at, uuids_at, data_at, rs_data_at, barrier_at, acknowledgement_at, names_write, names_resync};
 ghost use Rattle.packets.specs.declared.packet.Packet.{Packet};
 ghost use Rattle.packets.specs.declared.packet.Packet.TheVariants as packet;
-ghost use Rattle.blocks.specs.declared.refusal.Refusal.TheVariants.{NoMemory};
+ghost use Rattle.blocks.specs.declared.refusal.Refusal.TheVariants.{BadField, NoMemory};
 
 use crate::header::{DATA_NUMBERS, HEADER_BYTES, Header, command_number, is_whole_blocks};
-use crate::numbers::{u16_at, u32_at, u64_at};
+use crate::numbers::{u32_at, u64_at};
 use crate::{Acknowledgement, Frame, Packet};
 use blocks::{BLOCK_BYTES, Block, Command, Protocol, Refusal, Tuple};
 use bytes::Bytes;
@@ -33,7 +34,8 @@ pub fn decode(frame: Frame) -> Result<Packet, Refusal>
     ensures fault { IfErr result (λ e. IsFrameFault frame e) }
     ensures takes_no_memory { IfErr result (λ e. e ≢ NoMemory) }
 {
-    packet_in(frame)
+    let header = whole_header(&frame)?;
+    packet_of(header, frame)
 }
 
 /// The packet that one whole frame spells, as [`decode`] reads it; but while a hello expects a frame of one
@@ -46,19 +48,22 @@ pub fn read(frame: Frame, hello: Option<Command>) -> Result<Packet, Refusal>
     // One without blocks stands in a short frame.
     ensures short { IfOk result (λ p. has_blocks p ≡ false → length frame ≤ 40) }
 {
-    let is_expected = hello.is_none_or(|command| is_named(command, &frame));
-    match packet_in(frame) {
+    // A fault that comes before the fields is the answer, whatever command a hello expects.
+    let header = whole_header(&frame)?;
+    match packet_of(header, frame) {
         Ok(packet) => Ok(packet),
-        Err(fault) => Err(fault_in_hello(is_expected, fault)),
+        Err(fault) => Err(fault_in_hello(is_awaited(hello, header.command), fault)),
     }
 }
 
-/// Whether a frame's header has the number of this command.
-fn is_named(command: Command, frame: &Frame) -> bool
-    ensures { result ≡ is_named command frame.now }
+/// Whether a hello goes on that expects this command, or none goes on.
+fn is_awaited(hello: Option<Command>, command: Command) -> bool
+    ensures { result ≡ is_awaited hello command }
 {
-    let bytes = frame.as_slice();
-    bytes.len() >= 4 && u16_at(bytes, 2) == command_number(command)
+    match hello {
+        None => true,
+        Some(expected) => command_number(command) == command_number(expected),
+    }
 }
 
 /// A frame's fault, while a hello goes on or none: that the frame is not the expected one comes before a
@@ -72,11 +77,13 @@ fn fault_in_hello(is_expected: bool, fault: Refusal) -> Refusal
     }
 }
 
-/// The packet that a frame spells, or the frame's first fault.
+/// The header of a frame that is as long as its header says, or the frame's first fault before its fields.
 #[tactic(auto, unfolding(crate::specs::Frames::frame_read))]
-fn packet_in(frame: Frame) -> Result<Packet, Refusal>
-    ensures answers { Answers frame result }
-    ensures is { result ≡ frame_read frame }
+fn whole_header(frame: &Frame) -> Result<Header, Refusal>
+    ensures headed { IfOk result (λ header. IsHeaded header frame.now) }
+    ensures fault { IfErr result (λ e. IsFrameFault frame.now e) }
+    ensures is { IfErr result (λ e. frame_read frame.now ≡ Err e) }
+    ensures before_fields { IfErr result (λ e. e ≢ BadField) }
 {
     let bytes = frame.as_slice();
     if bytes.len() < HEADER_BYTES {
@@ -86,7 +93,7 @@ fn packet_in(frame: Frame) -> Result<Packet, Refusal>
     if bytes.len() - HEADER_BYTES != header.len as usize {
         return Err(Refusal::BadLength);
     }
-    packet_of(header, frame)
+    Ok(header)
 }
 
 /// What the payload of a frame says that is as long as its header says.
@@ -109,18 +116,9 @@ pub(crate) fn packet_of(header: Header, frame: Frame) -> Result<Packet, Refusal>
         Command::SyncUuid => Ok(Packet::SyncUuid {
             word: u64_at(bytes, 0),
         }),
-        Command::RecvAck => checked(
-            names_write(bytes),
-            Packet::RecvAck(acknowledgement_of(bytes)),
-        ),
-        Command::WriteAck => checked(
-            names_write(bytes),
-            Packet::WriteAck(acknowledgement_of(bytes)),
-        ),
-        Command::RsWriteAck => checked(
-            names_resync(bytes),
-            Packet::RsWriteAck(acknowledgement_of(bytes)),
-        ),
+        Command::RecvAck => Ok(Packet::RecvAck(write_named(bytes)?)),
+        Command::WriteAck => Ok(Packet::WriteAck(write_named(bytes)?)),
+        Command::RsWriteAck => Ok(Packet::RsWriteAck(resync_named(bytes)?)),
         Command::BarrierAck => Ok(Packet::BarrierAck {
             number: u32_at(bytes, 0),
             size: u32_at(bytes, 4),
@@ -136,17 +134,6 @@ fn payload_of(frame: Frame) -> Bytes
     let mut bytes = frame.into_bytes();
     bytes.advance(HEADER_BYTES);
     bytes
-}
-
-/// A packet, if its fields are as they have to be.
-fn checked(fields: bool, packet: Packet) -> Result<Packet, Refusal>
-    ensures { result ≡ checked fields packet }
-{
-    if fields {
-        Ok(packet)
-    } else {
-        Err(Refusal::BadField)
-    }
 }
 
 fn protocol_of(number: u32) -> Result<Packet, Refusal>
@@ -228,38 +215,42 @@ fn barrier_of(bytes: &[u8]) -> Result<Packet, Refusal>
     })
 }
 
-/// What an acknowledgement names.
-#[tactic(auto, unfolding(crate::specs::Reading::acknowledgement_at))]
-fn acknowledgement_of(bytes: &[u8]) -> Acknowledgement
+/// The write that an acknowledgement names. `BadField` (23) where its fields may name none.
+#[tactic(auto, unfolding(crate::specs::Reading::names_write, crate::specs::Reading::acknowledgement_at))]
+fn write_named(bytes: &[u8]) -> Result<Acknowledgement, Refusal>
     requires { 24 ≤ length bytes.now }
-    ensures { result ≡ acknowledgement_at bytes.now }
+    ensures { result ≡ named (names_write bytes.now) (acknowledgement_at bytes.now) }
 {
-    Acknowledgement {
-        first: Block(u64_at(bytes, 0) / BLOCK_SECTORS),
-        number: u64_at(bytes, 8),
-        count: u32_at(bytes, 16) / BLOCK_BYTES as u32,
-        place: u32_at(bytes, 20),
+    let sector = u64_at(bytes, 0);
+    let number = u64_at(bytes, 8);
+    let size = u32_at(bytes, 16);
+    if sector % BLOCK_SECTORS != 0 || number == 0 || !is_whole_blocks(size) {
+        return Err(Refusal::BadField);
     }
+    Ok(Acknowledgement {
+        first: Block(sector / BLOCK_SECTORS),
+        number,
+        count: size / BLOCK_BYTES as u32,
+        place: u32_at(bytes, 20),
+    })
 }
 
-/// Whether the fields of an acknowledgement may name a write.
-#[tactic(auto, unfolding(crate::specs::Reading::names_write))]
-fn names_write(bytes: &[u8]) -> bool
+/// The block of a resync that an acknowledgement names. `BadField` (23) where its fields may name none.
+#[tactic(auto, unfolding(crate::specs::Reading::names_resync, crate::specs::Reading::acknowledgement_at))]
+fn resync_named(bytes: &[u8]) -> Result<Acknowledgement, Refusal>
     requires { 24 ≤ length bytes.now }
-    ensures { result ≡ names_write bytes.now }
+    ensures { result ≡ named (names_resync bytes.now) (acknowledgement_at bytes.now) }
 {
-    u64_at(bytes, 0) % BLOCK_SECTORS == 0
-        && u64_at(bytes, 8) != 0
-        && is_whole_blocks(u32_at(bytes, 16))
-}
-
-/// Whether the fields of an acknowledgement may name a block of a resync.
-#[tactic(auto, unfolding(crate::specs::Reading::names_resync))]
-fn names_resync(bytes: &[u8]) -> bool
-    requires { 24 ≤ length bytes.now }
-    ensures { result ≡ names_resync bytes.now }
-{
-    u64_at(bytes, 0) % BLOCK_SECTORS == 0
-        && u64_at(bytes, 8) == 0
-        && u32_at(bytes, 16) == BLOCK_BYTES as u32
+    let sector = u64_at(bytes, 0);
+    let number = u64_at(bytes, 8);
+    let size = u32_at(bytes, 16);
+    if sector % BLOCK_SECTORS != 0 || number != 0 || size != BLOCK_BYTES as u32 {
+        return Err(Refusal::BadField);
+    }
+    Ok(Acknowledgement {
+        first: Block(sector / BLOCK_SECTORS),
+        number,
+        count: size / BLOCK_BYTES as u32,
+        place: u32_at(bytes, 20),
+    })
 }
