@@ -12,17 +12,17 @@ nothing. The commands, each with what it may print:
   open S L             opens both ends, and no more       open ok
   submit FIRST N HH    writes N blocks of HH from FIRST   submit ok 1
   local W              the primary's disk does write W    local ok
-  localfail W K        it fails it after K blocks         localfail ok
+  localfail W K        the primary's disk fails write W   localfail ok
   send                 the primary sends its next frame   send ok DATA 0
-  receive              the secondary takes the next one   receive ok DATA 0
-  peer P               its disk does the item at place P  peer ok
-  peerfail P K         it fails it after K blocks         peerfail ok
-  ackout               it sends its next acknowledgement  ackout ok WRITE_ACK
-  ackin                the primary takes the next one     ackin ok WRITE_ACK
+  receive              the secondary takes a frame        receive ok DATA 0
+  peer P               the secondary's disk does item P   peer ok
+  peerfail P K         the secondary's disk fails item P  peerfail ok
+  ackout               the secondary acknowledges         ackout ok WRITE_ACK
+  ackin                the primary takes that             ackin ok WRITE_ACK
   resync               the primary reads the next block   resync ok 3 1
-  resyncfail           its disk fails that read           resyncfail refused 14
-  close primary        closes that end                    close ok 0
-  close secondary      closes that end                    close ok
+  resyncfail           the primary's disk fails the read  resyncfail refused 14
+  close primary        closes the primary's end           close ok 0
+  close secondary      closes the secondary's end         close ok
   marks                which blocks are marked            marks 3 6
   diff                 on which blocks the disks differ   diff none
   tuples               both nodes' identifiers            tuples 1,0,0,0 1,0,0,0
@@ -31,13 +31,31 @@ nothing. The commands, each with what it may print:
 
 pair comes first, and once; no key stands twice. S and L are two fresh numbers,
 the identifiers of a resync and of a loss. N is at most 64, and HH two
-hexadecimal digits. One space parts words. close primary counts the writes that
-it completes, resync tells the block and its place, and ackin of UUIDS adds the
-decision; marks and diff may print none, and read mixed. A line that is no
-command stops the script, and so does each one after a pair that is refused.
+hexadecimal digits. A failed write or item has its first K blocks written. One
+space parts words: a line with a tab, a CR or two spaces in a row is no command.
+Such a line stops the script, and so does each one after a pair that is refused.
+
+A place P is the number of an item in the stream of its connection, from 0: a
+write, a barrier or a block of a resync. An epoch is the writes between two
+barriers; the secondary's disk does those of one epoch in any order, and begins
+none of the next before. connect, and ackin of UUIDS, tell the decision over the
+identifiers: NoSync (nothing is copied), BitmapSync (the marked blocks are) or
+FullSync (all blocks are). close primary counts the writes that it completes,
+and resync tells the block and its place; marks and diff may print none, and
+read mixed.
 
 A line may end in completed W (write W is), barrier E (epoch E ended), and
 synced (the resync is over).
+
+The words of the status lines, the primary's first:
+  cs                   its end: StandAlone (closed), WFReportParams (in the
+                       hello), Connected, SyncSource or SyncTarget (a resync)
+  ro, ds               role and data of this node, and of the other
+  pr                   the protocol
+  pe, ap               writes without the peer's answer, and not completed
+  ep, oos              epochs not acknowledged, and KiB out of sync
+  pending              items that wait for the secondary's disk
+  use, whole           whether its data may be used, and up to which epoch
 
 Keys of pair, with their defaults and ranges:
   protocol=C           A, B or C
@@ -62,8 +80,12 @@ The script of one write, and what it prints:
   ackin             => ackin ok WRITE_ACK completed 1 barrier 1
   tuples            => tuples 1,0,0,0 1,0,0,0
 
-A command that is refused prints its first word, refused and a number; 2 is
-followed by the number of the write in its way, which is 1 below.
+A command that is refused prints its first word, refused and a number. It
+changes nothing, but a refused hello (30 to 33) closes that end. 2 is followed
+by the number of the write in its way:
+  submit 2 1 BB     => submit refused 2 1
+Let write 1 be completed, as above, and submit again. A script does not meet the
+refusals that are marked * below.
 ";
 
 /// The exit statuses of a script.
@@ -130,6 +152,42 @@ A refused start or write prints refused R on standard error, and none of the
 three lines; then no image is changed. R is one of these:
 ";
 
+/// What a server does, and what it prints.
+const SERVE: &str = "\
+The server mirrors two image files of the same length, and serves them as one
+export to clients of the network block device protocol: qemu, nbd-client,
+nbdcopy, fio. Any number of clients may be connected. Each write goes to both
+images, to the peer's over a link, and is answered once it is completed as the
+protocol says:
+  A                    once it is in the local image and was sent
+  B                    once it is in the local image and the peer has it
+  C                    once it is in both images
+A flush has the system put both images on stable storage. If the images differ
+at the start, the peer's is made like the local one. Both lie in memory, too:
+the server takes twice the device's size.
+
+  drbdpair serve --local a.img --peer b.img
+  nbdcopy disk.img nbd://127.0.0.1
+
+A line quit on standard input ends the server: it waits until its clients are
+answered and the disks are alike, and prints three lines:
+  completed X          ranges of at most 32 blocks that clients wrote
+  settled X            those of them that the primary's journal confirms
+  unmarked 0           blocks that differ and have no mark
+The end of standard input does not end it. If it is killed, both images have
+each write that was answered under C while the link was up.
+
+With --cut-every S the link is cut every S seconds, and reconnected: the blocks
+that clients write meanwhile are marked, and copied at the next connection.
+
+With --status PORT a page tells of both nodes: the status lines, of which
+drbdpair script --help says what they mean, and the same as JSON.
+  curl http://127.0.0.1:PORT/
+  curl http://127.0.0.1:PORT/status.json
+
+A refused start prints refused R on standard error. R is one of these:
+";
+
 /// The refusals in the order of their numbers.
 const REFUSALS: [Refusal; 32] = [
     Refusal::BadRange,
@@ -175,10 +233,20 @@ pub(crate) struct RunHelp;
 /// The text below the usage of `tcp`.
 pub(crate) struct TcpHelp;
 
+/// The text below the usage of `serve`.
+pub(crate) struct ServeHelp;
+
 impl Display for ScriptHelp {
     fn fmt<W: fmt::Write>(&self, f: &mut fmt::Formatter<W>) -> fmt::Result {
         f.write_str(COMMANDS)?;
-        write_refusals(f)?;
+        for refusal in REFUSALS {
+            let mark = if is_met_by_scripts(&refusal) {
+                ' '
+            } else {
+                '*'
+            };
+            writeln!(f, " {mark}{:>2}  {refusal}", refusal.number())?;
+        }
         f.write_str(SCRIPT_STATUSES)
     }
 }
@@ -197,6 +265,32 @@ impl Display for TcpHelp {
         write_refusals(f)?;
         f.write_str(RUN_STATUSES)
     }
+}
+
+impl Display for ServeHelp {
+    fn fmt<W: fmt::Write>(&self, f: &mut fmt::Formatter<W>) -> fmt::Result {
+        f.write_str(SERVE)?;
+        write_refusals(f)?;
+        f.write_str(RUN_STATUSES)
+    }
+}
+
+// Whether a command of a script can be refused so. Its frames are those that the other node made, it asks for no receipt, and
+// both nodes of a pair have the same settings.
+fn is_met_by_scripts(refusal: &Refusal) -> bool {
+    !matches!(
+        refusal,
+        Refusal::NotCompleted
+            | Refusal::StrangeReceipt
+            | Refusal::BadMagic
+            | Refusal::BadCommand
+            | Refusal::BadLength
+            | Refusal::BadField
+            | Refusal::BadBarrierAck
+            | Refusal::UnknownAck
+            | Refusal::OtherProtocol
+            | Refusal::OtherSize
+    )
 }
 
 // A line for each refusal.

@@ -4,6 +4,7 @@
 
 mod help;
 mod program;
+mod serve;
 mod session;
 #[cfg(test)]
 mod tests;
@@ -25,7 +26,7 @@ fn main(rt: HostRuntime) -> io::Result<ExitCode> {
     let status = program::run_on(
         &rt,
         words.as_slice(),
-        &mut rt.stdin(),
+        rt.stdin(),
         &mut rt.stdout(),
         &mut rt.stderr(),
     );

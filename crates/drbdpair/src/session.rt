@@ -21,8 +21,8 @@ pub(crate) fn run<'a>(alloc: Global, help: &'a str) -> Result<Command<'a>, Error
         "How often the link is cut and reconnected",
         0,
         100,
-        "0",
-    );
+    )
+    .default_value("0");
     let command = Command::new(alloc, "run").about(RUN_ABOUT).after_help(help);
     with_options(alloc, command.arg(cuts)?)
 }
@@ -37,40 +37,26 @@ pub(crate) fn tcp<'a>(alloc: Global, help: &'a str) -> Result<Command<'a>, Error
 
 // The command with the options that `run` and `tcp` have alike.
 fn with_options<'a>(alloc: Global, command: Command<'a>) -> Result<Command<'a>, Error> {
-    let protocol = option(
-        alloc,
-        "protocol",
-        "P",
-        "When a write is completed: A, B or C",
-    )
-    .value_parser(ValueParser::Names(&PROTOCOLS))
-    .default_value("C");
     let status = Arg::new(alloc, "status")
         .long("status")
         .action(ArgAction::SetTrue)
         .help(
             "Shows the status lines of both nodes on standard error, once a second and at the end",
         );
+    let blocks = number(
+        alloc,
+        "blocks",
+        "N",
+        "Blocks of the device, of 4 KiB",
+        1,
+        i64::from(MAX_BLOCKS),
+    );
     Ok(
         command
-            .arg(number(
-                alloc,
-                "blocks",
-                "N",
-                "Blocks of the device, of 4 KiB",
-                1,
-                i64::from(MAX_BLOCKS),
-                "8",
-            ))?
-            .arg(protocol)?
-            .arg(number(alloc, "writers", "W", "Threads that write", 1, 16, "2"))?
-            .arg(number(
-                alloc,
-                "writes",
-                "K",
-                "Writes of each writer",
-                1,
-                10_000,
+            .arg(blocks.default_value("8"))?
+            .arg(protocol_option(alloc))?
+            .arg(number(alloc, "writers", "W", "Threads that write", 1, 16).default_value("2"))?
+            .arg(number(alloc, "writes", "K", "Writes of each writer", 1, 10_000).default_value(
                 "10",
             ))?
             .arg(option(alloc, "local", "FILE", "The image of the local disk"))?
@@ -107,7 +93,20 @@ pub(crate) fn images<'a>(words: &ArgMatches<'a>) -> Images<'a> {
     }
 }
 
-fn protocol(words: &ArgMatches<'_>) -> Protocol {
+/// The option that says when a write is completed.
+pub(crate) fn protocol_option<'a>(alloc: Global) -> Arg<'a> {
+    option(
+        alloc,
+        "protocol",
+        "P",
+        "When a write is completed: A, B or C",
+    )
+    .value_parser(ValueParser::Names(&PROTOCOLS))
+    .default_value("C")
+}
+
+/// The protocol that was asked for.
+pub(crate) fn protocol(words: &ArgMatches<'_>) -> Protocol {
     match words.get_str("protocol") {
         Some("A") => Protocol::A,
         Some("B") => Protocol::B,
@@ -115,25 +114,22 @@ fn protocol(words: &ArgMatches<'_>) -> Protocol {
     }
 }
 
-// An option with a value.
-fn option<'a>(alloc: Global, name: &'a str, value: &'a str, help: &'a str) -> Arg<'a> {
+/// An option with a value.
+pub(crate) fn option<'a>(alloc: Global, name: &'a str, value: &'a str, help: &'a str) -> Arg<'a> {
     Arg::new(alloc, name)
         .long(name)
         .value_name(value)
         .help(help)
 }
 
-// An option whose value is a number in this range.
-fn number<'a>(
+/// An option whose value is a number in this range.
+pub(crate) fn number<'a>(
     alloc: Global,
     name: &'a str,
     value: &'a str,
     help: &'a str,
     least: i64,
     most: i64,
-    standard: &'a str,
 ) -> Arg<'a> {
-    option(alloc, name, value, help)
-        .value_parser(value_parser!(u32).range(least..=most))
-        .default_value(standard)
+    option(alloc, name, value, help).value_parser(value_parser!(u32).range(least..=most))
 }

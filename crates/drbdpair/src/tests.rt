@@ -4,6 +4,7 @@ use std::alloc::Global;
 use std::io::{IsTerminal, Write};
 use std::net::{Net, TcpListener, TcpStream};
 use std::process::Abort;
+use std::random::RandomSource;
 use std::rt::Files;
 use std::sync::Wait;
 use std::test::Fail;
@@ -76,11 +77,12 @@ impl IsTerminal for Said {
 fn runs<
     H: Abort
         + AllocGlobal
-        + Files
+        + Files<File = File>
         + Net<Listener = TcpListener, Stream = TcpStream>
         + Threads
         + Wait
         + Clock
+        + RandomSource
         + Copy
         + Drop
         + Send
@@ -90,8 +92,7 @@ fn runs<
     let alloc = rt.alloc();
     let mut written = Vec::new(alloc);
     let mut said = Said::new(alloc);
-    let mut input = ONE_WRITE.as_bytes();
-    let answer = run_on(rt, words, &mut input, &mut written, &mut said);
+    let answer = run_on(rt, words, ONE_WRITE.as_bytes(), &mut written, &mut said);
     assert_eq!(rt; answer, status);
     assert_eq!(rt; written.as_slice(), out.as_bytes());
     assert_eq!(rt; said.bytes.is_empty(), status == 0);
@@ -117,7 +118,7 @@ fn a_file_is_run(rt: HostRuntime) -> Result<(), Fail> {
     let mut written = Vec::new(rt.alloc());
     let mut said = Said::new(rt.alloc());
     let words = ["drbdpair", "script", "one_write"];
-    let status = run_on(&rt, &words, &mut b"".as_slice(), &mut written, &mut said);
+    let status = run_on(&rt, &words, b"".as_slice(), &mut written, &mut said);
     let lines = said.bytes.iter().filter(|byte| **byte == b'\n').count();
     assert_eq!(rt; (status, lines, written.is_empty()), (1, 1, true));
     Ok(())
@@ -133,7 +134,7 @@ fn help_is_asked_for(rt: HostRuntime) -> Result<(), Fail> {
     ] {
         let mut written = Vec::new(alloc);
         let mut said = Said::new(alloc);
-        let status = run_on(&rt, words, &mut b"".as_slice(), &mut written, &mut said);
+        let status = run_on(&rt, words, b"".as_slice(), &mut written, &mut said);
         assert_eq!(rt; status, 0);
         assert!(rt; said.bytes.is_empty());
         let text = std::str::from_utf8(&written).unwrap_or("");
@@ -141,6 +142,8 @@ fn help_is_asked_for(rt: HostRuntime) -> Result<(), Fail> {
         assert!(rt; text.contains("\n  status               both nodes' status lines"));
         assert!(rt; text.contains("\n  protocol=C           A, B or C\n"));
         assert!(rt; text.contains("\n   1  not 1 to 32 whole blocks inside the device"));
+        assert!(rt; text.contains("\n *20  the frame does not begin with the magic number\n"));
+        assert!(rt; text.contains("\n  12  this end is closed, or the stream has not begun"));
         assert!(rt; text.contains("\n  36  an end is still open, or items are left to apply\n"));
         assert!(rt; text.contains("\nExit statuses: 0 done"));
     }
@@ -283,7 +286,7 @@ fn images_have_the_length_of_their_blocks(rt: HostRuntime) -> Result<(), Fail> {
     let status = run_on(
         &rt,
         &words,
-        &mut b"".as_slice(),
+        b"".as_slice(),
         &mut Vec::new(rt.alloc()),
         &mut said,
     );
@@ -356,7 +359,7 @@ fn status_lines_are_shown(rt: HostRuntime) -> Result<(), Fail> {
     let mut written = Vec::new(rt.alloc());
     let mut said = Said::new(rt.alloc());
     let words = ["drbdpair", "run", "--status"];
-    let status = run_on(&rt, &words, &mut b"".as_slice(), &mut written, &mut said);
+    let status = run_on(&rt, &words, b"".as_slice(), &mut written, &mut said);
     assert_eq!(rt; status, 0);
     assert_eq!(rt;
         written.as_slice(),

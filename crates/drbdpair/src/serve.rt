@@ -1,0 +1,74 @@
+//! The words of `serve`.
+use crate::session::{number, option, protocol, protocol_option};
+use blocks::MAX_BLOCKS;
+use clap::{ArgMatches, Command, Error};
+use serving::ServeOptions;
+use std::alloc::Global;
+use std::net::SocketAddr;
+
+const ABOUT: &str = "Serves two mirrored images to clients of the network block device protocol";
+
+/// The command `serve`, with this help below its usage.
+pub(crate) fn serve<'a>(alloc: Global, help: &'a str) -> Result<Command<'a>, Error> {
+    let command = Command::new(alloc, "serve")
+        .about(ABOUT)
+        .after_help(help)
+        .arg(option(alloc, "local", "FILE", "The image of the local disk").required(true))?
+        .arg(option(alloc, "peer", "FILE", "The image of the peer's disk").required(true))?
+        .arg(option(alloc, "listen", "ADDR:PORT", "Where clients connect").default_value(
+            "127.0.0.1:10809",
+        ))?
+        .arg(protocol_option(alloc))?
+        .arg(number(
+            alloc,
+            "blocks",
+            "N",
+            "Blocks of the device, of 4 KiB; the local image's if none are given",
+            1,
+            i64::from(MAX_BLOCKS),
+        ))?
+        .arg(number(
+            alloc,
+            "status",
+            "PORT",
+            "The port of a status page on 127.0.0.1",
+            1,
+            65_535,
+        ))?
+        .arg(number(
+            alloc,
+            "cut-every",
+            "SECONDS",
+            "Cuts the link after every so many seconds, and reconnects it",
+            1,
+            3600,
+        ))?;
+    Ok(command)
+}
+
+/// What the server is to do; none if where it is to listen is no address with a port.
+pub(crate) fn options<'a>(words: &ArgMatches<'a>) -> Option<ServeOptions<'a>> {
+    let Ok(listen) = SocketAddr::parse_ascii(listen(words).as_bytes()) else {
+        return None;
+    };
+    Some(ServeOptions {
+        local: words.get_str("local").unwrap_or(""),
+        peer: words.get_str("peer").unwrap_or(""),
+        blocks: words.get_one("blocks"),
+        protocol: protocol(words),
+        listen,
+        status: status(words),
+        cut_every: words.get_one("cut-every"),
+    })
+}
+
+/// Where the server is to listen, as it was given.
+pub(crate) fn listen<'a>(words: &ArgMatches<'a>) -> &'a str {
+    words.get_str("listen").unwrap_or("")
+}
+
+// The port of the status page, if there is to be one.
+fn status(words: &ArgMatches<'_>) -> Option<u16> {
+    let port: u32 = words.get_one("status")?;
+    u16::try_from(port).ok()
+}

@@ -1,0 +1,5 @@
+use Rattle.handover.proofs.Leaving.{leaves_an_opening}
+use Rattle.handover.proofs.law.what_is_left.Goals as goal
+
+pub returns : goal.returns
+returns c = record { opening = leaves_an_opening }

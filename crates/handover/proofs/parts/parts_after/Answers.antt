@@ -1,0 +1,41 @@
+use Rattle.std.proofs.Common.{◌≡◌, Bool, true, not, sym, ◌∙◌, ap}
+use Rattle.std.specs.Prelude.{if◌then◌else◌, is_some}
+use Rattle.std.proofs.lemmas.Bool.{both_ways, not-false}
+use Rattle.blocks.specs.declared.settings.Settings.{Settings}
+use Rattle.handover.specs.Next.{unknown}
+use Rattle.handover.proofs.Alike.{are_alike, alike-same, same-alike}
+use Rattle.handover.proofs.Handing.{at-rest, reached-leave, marks-left, parts-sound}
+use Rattle.model.specs.Primary.{outward}
+use Rattle.model.specs.Secondary.{inward}
+use Rattle.model.specs.Settlement.{is_at_rest}
+use Rattle.handover.proofs.parts.parts_after.Goals as goal
+use Rattle.handover.proofs.parts.parts_after.Goals.{then-is_consistent, else-is_consistent}
+
+-- what is alike is not told to differ
+not-both : (alike other : Bool) → alike ≡ true → other ≡ not alike → other ≡ true → ⊥
+not-both alike other is told differs = both_ways other (told ∙ ap not is) differs
+
+pub returns-then-ne-clause-settings : goal.returns-then-ne-clause-settings
+returns-then-ne-clause-settings g c = λ p s hp hs is same.
+    let alike : are_alike c.settings.result c.settings-settings.result ≡ true = same-alike _ _ (c.settings.ensures s hs ∙ sym same ∙ sym (c.settings-settings.ensures p hp)) in
+    not-both (are_alike c.settings.result c.settings-settings.result) c.ne.result alike c.ne.ensures c.if-ne.true
+
+pub returns-clause-left : goal.returns-clause-left
+returns-clause-left g c = λ p s hp hs. record {
+  settings = c.settings-settings.ensures p hp;
+  own = c.tuple.ensures p hp;
+  peer = elim c.if-is_consistent.branch [
+    | then-is_consistent w ↦ w.peer-is ∙ w.tuple-peer.ensures s hs ∙ ap (λ (b : Bool). if b then s.tuple else unknown) (sym w.if-is_consistent.true ∙ c.is_consistent.ensures s hs)
+    | else-is_consistent w ↦ w.peer-is ∙ ap (λ (b : Bool). if b then s.tuple else unknown) (sym w.if-is_consistent.false ∙ c.is_consistent.ensures s hs)
+  ];
+  marks = marks-left p c.in_ok-marks.marks.items c.settings-settings.result.blocks (ap (λ (x : Settings). x.blocks) (c.settings-settings.ensures p hp)) (c.in_ok-marks.ensures.marks p hp);
+}
+
+pub returns-clause-sound : goal.returns-clause-sound
+returns-clause-sound g c = λ p s hp hs joined honest grounded.
+    let rest : is_at_rest p s ≡ true = at-rest p s
+    (not-false (outward p).closed (sym (c.is_open.ensures p hp) ∙ c.if-is_open.false)) (not-false (inward s).closed (sym (c.is_open-else-is_open.ensures s hs) ∙ c.if-is_open-2.false))
+    (sym (c.is_drained.ensures s hs) ∙ c.if-not-is_drained.false) (ap is_some (sym (c.next_local.ensures p hp)) ∙ sym c.is_some.ensures ∙ c.if-is_some.false) in
+    let alike : are_alike c.settings.result c.settings-settings.result ≡ true = not-false _ (sym c.ne.ensures ∙ c.if-ne.false) in
+    let same : p.settings ≡ s.settings = sym (c.settings-settings.ensures p hp) ∙ sym (alike-same _ _ alike) ∙ c.settings.ensures s hs in
+    parts-sound _ p s (returns-clause-left g c p s hp hs) same (reached-leave p s hp.reached hs.reached honest joined grounded rest c.if-is_consistent.peer)

@@ -1,0 +1,26 @@
+-- What two nodes leave when they are brought together at rest, as an opening of the next session.
+use Rattle.std.specs.Prelude.{◌≡◌, true}
+use Rattle.blocks.specs.declared.tuple.Tuple.{Tuple}
+use Rattle.model.specs.Headline.{IsGrounded}
+use Rattle.model.specs.Primary.{PrimaryHistory, local_map}
+use Rattle.model.specs.Secondary.{SecondaryHistory, secondary_map}
+use Rattle.model.specs.Settlement.{is_at_rest}
+use Rattle.model.specs.Theorems.{Opening, IsSoundOpening, JoinedRuns}
+
+-- Both disks as they are, the primary's identifiers and its marks; and the identifiers that the peer's disk is given.
+abbrev pub left_by : PrimaryHistory → SecondaryHistory → Tuple → Opening
+left_by p s peer = record {
+  settings = p.settings;
+  peer_settings = s.settings;
+  local = local_map p;
+  peer = secondary_map s;
+  own = p.tuple;
+  peer_tuple = peer;
+  marks = p.marks;
+}
+
+-- After a grounded history this opening is sound whatever identifiers the peer's disk is given: the marks cover every block on
+-- which the disks differ.
+abbrev pub JoinedRunsLeaveAnOpening : Type 0
+JoinedRunsLeaveAnOpening =
+    JoinedRuns IsSoundOpening (λ p s. IsGrounded p s → is_at_rest p s ≡ true → (peer : Tuple) → IsSoundOpening (left_by p s peer))

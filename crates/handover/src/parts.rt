@@ -1,0 +1,104 @@
+//! The parts of the next session.
+ghost use Rattle.std.specs.Prelude.{◌≡◌, ◌⊎◌, ◌↔◌, false, map, Err, IfErr, IfOk};
+ghost use Rattle.blocks.specs.Ranges.{below};
+ghost use Rattle.blocks.specs.declared.refusal.Refusal.TheVariants.{BadSetting, NoMemory, NotDrained};
+ghost use Rattle.handover.specs.Next.{IsLeft, opening_of};
+ghost use Rattle.model.specs.Headline.{IsGrounded, IsJoined, is_marked};
+ghost use Rattle.model.specs.Primary.{PrimaryHistory, local_map};
+ghost use Rattle.model.specs.Secondary.{SecondaryHistory, secondary_map};
+ghost use Rattle.model.specs.Settlement.{is_at_rest};
+ghost use Rattle.model.specs.Theorems.{IsSoundOpening};
+ghost use Rattle.primary.specs.State.{node as primary_node};
+ghost use Rattle.primary_steps.specs.Node.{NodeHas as PrimaryHas};
+ghost use Rattle.secondary.specs.State.{node as secondary_node};
+ghost use Rattle.secondary_steps.specs.Node.{NodeHas as SecondaryHas};
+ghost use Rattle.settle.specs.Settled.{WereHonest};
+
+use blocks::{Block, Refusal, Store, Tuple};
+use link::{FrameIn, FrameOut};
+use primary::Primary;
+use secondary::Secondary;
+use std::alloc::Global;
+use volume::Parts;
+
+/// The identifiers of a disk of which nothing is known.
+const UNKNOWN: Tuple = Tuple {
+    current: 0,
+    bitmap: 0,
+    first_historical: 0,
+    second_historical: 0,
+};
+
+/// What the next session over the disks of these two nodes starts from, under two fresh words: the settings, the primary's
+/// identifiers and its marks, and the secondary's identifiers, if its disk is consistent. If it is not, nothing is known of
+/// that disk, and it is copied whole.
+///
+/// Returns `NotDrained` (36) unless both ends are closed, nothing is pending at the secondary, and the primary's disk has
+/// done or failed every write; else `BadSetting` (15) if the nodes have different settings; else `NoMemory` (7) if there is no
+/// room for the marks.
+pub fn parts_after<
+    O: FrameOut + Drop,
+    I: FrameIn + Drop,
+    S: Store + Drop,
+    P: FrameOut + Drop,
+    J: FrameIn + Drop,
+    T: Store + Drop,
+>(
+    alloc: Global,
+    primary: &Primary<O, I, S>,
+    secondary: &Secondary<P, J, T>,
+    words: (u64, u64),
+) -> Result<Parts, Refusal>
+    ensures left { IfOk result (λ parts. (p : PrimaryHistory) (s : SecondaryHistory) → PrimaryHas (primary_node primary.now) p → SecondaryHas (secondary_node secondary.now) s
+        → IsLeft parts p s) }
+    ensures words { IfOk result (λ parts. (parts.sync ≡ words.0) × (parts.loss ≡ words.1)) }
+    ensures sound { IfOk result (λ parts. (p : PrimaryHistory) (s : SecondaryHistory) → PrimaryHas (primary_node primary.now) p → SecondaryHas (secondary_node secondary.now) s
+        → IsJoined p s → WereHonest p s → IsGrounded p s → IsSoundOpening (opening_of parts (local_map p) (secondary_map s))) }
+    ensures rest { (p : PrimaryHistory) (s : SecondaryHistory) → PrimaryHas (primary_node primary.now) p → SecondaryHas (secondary_node secondary.now) s
+        → (result ≡ Err NotDrained) ↔ (is_at_rest p s ≡ false) }
+    ensures settings { (p : PrimaryHistory) (s : SecondaryHistory) → PrimaryHas (primary_node primary.now) p → SecondaryHas (secondary_node secondary.now) s
+        → result ≡ Err BadSetting → p.settings ≡ s.settings → ⊥ }
+    ensures refused { IfErr result (λ e. (e ≡ NotDrained) ⊎ ((e ≡ BadSetting) ⊎ (e ≡ NoMemory))) }
+{
+    if primary.is_open()
+        || secondary.is_open()
+        || !secondary.is_drained()
+        || primary.next_local().is_some()
+    {
+        return Err(Refusal::NotDrained);
+    }
+    let settings = primary.settings();
+    if secondary.settings() != settings {
+        return Err(Refusal::BadSetting);
+    }
+    let marks = marks_of(alloc, primary, settings.blocks)?;
+    let peer = if secondary.is_consistent() {
+        secondary.tuple()
+    } else {
+        UNKNOWN
+    };
+    Ok(Parts {
+        settings,
+        own: primary.tuple(),
+        peer,
+        marks,
+        sync: words.0,
+        loss: words.1,
+    })
+}
+
+// Which blocks are marked, one truth value for each block of the device. `NoMemory` (7) if there is no room for them.
+fn marks_of<O: FrameOut + Drop, I: FrameIn + Drop, S: Store + Drop>(
+    alloc: Global,
+    primary: &Primary<O, I, S>,
+    blocks: u32,
+) -> Result<Vec<bool>, Refusal>
+    ensures marks { IfOk result (λ marks. (p : PrimaryHistory) → PrimaryHas (primary_node primary.now) p → marks.items ≡ map (is_marked p) (below blocks)) }
+    ensures refused { IfErr result (λ e. e ≡ NoMemory) }
+{
+    let mut marks = Vec::with_capacity(alloc, blocks as usize)?;
+    for block in 0..blocks {
+        marks.push(primary.is_marked(Block(u64::from(block))))?;
+    }
+    Ok(marks)
+}

@@ -1,0 +1,2 @@
+-- What a request's receipts are.
+pub mod Appending

@@ -1,0 +1,10 @@
+use Rattle.std.proofs.Common.{◌≡◌, ◌++◌, map}
+use Rattle.nbd.specs.Pieces.{pair_of}
+use Rattle.serving.specs.Receipts.{HasReceipts}
+use Rattle.serving.proofs.answer.write.Given as goal
+
+abbrev pub invariant-loop-range : goal.invariant-loop-range
+invariant-loop-range g l = record {
+  done : HasReceipts (map pair_of l.yielded) l.fn.receipts.items l.receipts.items;
+  left : map pair_of l.yielded ++ l.range-iterator ≡ l.fn.ranges;
+}

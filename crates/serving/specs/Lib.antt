@@ -1,0 +1,3 @@
+-- What a server writes, and over which link.
+pub mod Links
+pub mod Receipts

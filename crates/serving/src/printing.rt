@@ -1,0 +1,220 @@
+//! A server, from its images to its lines.
+ghost use Rattle.std.specs.Prelude.{◌<◌, ◌≤◌, IfOk};
+
+use crate::doors::Doors;
+use crate::fault::Fault;
+use crate::options::ServeOptions;
+use crate::rest::{Disks, Tally};
+use crate::service::Service;
+use crate::sessions::run_sessions;
+use crate::threads::start_threads;
+use blocks::{BLOCK_BYTES, MAX_BLOCKS, Refusal};
+use image_store::{ImageStore, OpenFault, SyncHandle};
+use std::alloc::{AllocError, Global};
+use std::fs::File;
+use std::io::{Read, Write};
+use std::net::{Net, TcpListener, TcpStream};
+use std::random::RandomSource;
+use std::rt::Files;
+use std::sync::{Arc, Wait};
+use std::thread::Threads;
+use std::time::Clock;
+use std::{fs, io};
+
+/// An opened image, and the handle by which it is synced.
+type Opened = (ImageStore<File>, SyncHandle<File>);
+
+/// Serves both images to block clients until `input` has a line `quit`, and prints `completed X`, `settled X` and
+/// `unmarked 0`, X being the number of ranges that clients wrote. Returns the exit status: 0 if all is done; 1 if a
+/// file, an address, the output, memory or a thread failed; 3 for any other refusal. Then a line on `err` tells of
+/// it. The end of `input` is no order to end.
+pub fn serve<
+    H: Files<File = File>
+        + AllocGlobal
+        + Net<Listener = TcpListener, Stream = TcpStream>
+        + Threads
+        + Wait
+        + Clock
+        + RandomSource
+        + Copy
+        + Drop
+        + Send
+        + Sync
+        + 'static,
+    I: Read + Drop + Send + 'static,
+    W: Write,
+    E: Write,
+>(rt: &H, options: &ServeOptions<'_>, input: I, out: &mut W, err: &mut E) -> u8
+    ensures { result ≤ 3 }
+{
+    let served = match serve_images(rt, options, input, err) {
+        Ok(tally) => print(&tally, out),
+        Err(fault) => Err(fault),
+    };
+    match served {
+        Ok(()) => 0,
+        Err(fault) => {
+            let _ = writeln!(err, "{fault}");
+            fault.status()
+        }
+    }
+}
+
+// Serves both images. Returns what the sessions have come to.
+fn serve_images<
+    'a,
+    H: Files<File = File>
+        + AllocGlobal
+        + Net<Listener = TcpListener, Stream = TcpStream>
+        + Threads
+        + Wait
+        + Clock
+        + RandomSource
+        + Copy
+        + Drop
+        + Send
+        + Sync
+        + 'static,
+    I: Read + Drop + Send + 'static,
+    E: Write,
+>(rt: &H, options: &ServeOptions<'a>, input: I, err: &mut E) -> Result<Tally, Fault<'a>> {
+    let blocks = blocks_of(rt, options)?;
+    let doors = Doors::open(rt, options)?;
+    match open_both(rt, options, blocks) {
+        Ok(((local, local_sync), (peer, peer_sync))) => {
+            match begin(
+                rt,
+                options,
+                blocks,
+                (local_sync, peer_sync),
+                doors,
+                input,
+                err,
+            ) {
+                Ok(service) => finish(rt, &service, options, (local, peer)),
+                Err(fault) => Err(fault),
+            }
+        }
+        Err(fault) => Err(fault),
+    }
+}
+
+// Starts the threads of a server of so many blocks, and says where it is.
+fn begin<
+    'a,
+    H: AllocGlobal
+        + Net<Listener = TcpListener, Stream = TcpStream>
+        + Threads
+        + Wait
+        + Clock
+        + RandomSource
+        + Copy
+        + Drop
+        + Send
+        + Sync
+        + 'static,
+    I: Read + Drop + Send + 'static,
+    E: Write,
+>(
+    rt: &H,
+    options: &ServeOptions<'a>,
+    blocks: u32,
+    syncs: (SyncHandle<File>, SyncHandle<File>),
+    doors: Doors,
+    input: I,
+    err: &mut E,
+) -> Result<Arc<Service, Global>, Fault<'a>> {
+    let (local, peer) = syncs;
+    let service = shared(Service::new(rt.alloc(), blocks, options.protocol, local, peer)?)?;
+    let (clients, page) = (doors.clients.address, doors.page_address());
+    start_threads(rt, &service, doors, input)?;
+    let _ = writeln!(err, "{clients} is an export of {blocks} blocks");
+    if let Some(page) = page {
+        let _ = writeln!(err, "http://{page}/ tells its status");
+    }
+    Ok(service)
+}
+
+// Runs the sessions of a server until it ends.
+fn finish<'a, H: Threads + Wait + Clock + Copy + Drop + Send + Sync + 'static>(
+    rt: &H,
+    service: &Service,
+    options: &ServeOptions<'a>,
+    disks: Disks,
+) -> Result<Tally, Fault<'a>> {
+    match run_sessions(*rt, service, options.cut_every, disks) {
+        Ok(rest) => Ok(rest.tally),
+        Err(refusal) => Err(Fault::Refused(refusal)),
+    }
+}
+
+// How many blocks the device has: as many as are asked for, else those of the local image.
+fn blocks_of<'a, H: Files>(rt: &H, options: &ServeOptions<'a>) -> Result<u32, Fault<'a>>
+    ensures { IfOk result (λ blocks. (0 < blocks) × (blocks ≤ 262144)) }
+{
+    let blocks = match options.blocks {
+        Some(blocks) => u64::from(blocks),
+        None => match fs::metadata(rt, options.local) {
+            Ok(metadata) => metadata.len() / BLOCK_BYTES as u64,
+            Err(error) => return Err(Fault::Unopened(options.local, OpenFault::Unread(error))),
+        },
+    };
+    if blocks == 0 || blocks > u64::from(MAX_BLOCKS) {
+        return Err(Fault::Refused(Refusal::BadSetting));
+    }
+    Ok(blocks as u32)
+}
+
+// Opens both images as disks of so many blocks, the local one first.
+fn open_both<'a, H: Files<File = File> + AllocGlobal>(
+    rt: &H,
+    options: &ServeOptions<'a>,
+    blocks: u32,
+) -> Result<(Opened, Opened), Fault<'a>>
+    requires { (0 < blocks) × (blocks ≤ 262144) }
+{
+    match open(rt, options.local, blocks) {
+        Ok(local) => match open(rt, options.peer, blocks) {
+            Ok(peer) => Ok((local, peer)),
+            Err(fault) => Err(fault),
+        },
+        Err(fault) => Err(fault),
+    }
+}
+
+// Opens an image as a disk of so many blocks.
+fn open<'a, H: Files<File = File> + AllocGlobal>(
+    rt: &H,
+    file: &'a str,
+    blocks: u32,
+) -> Result<Opened, Fault<'a>>
+    requires { (0 < blocks) × (blocks ≤ 262144) }
+{
+    match ImageStore::open(rt, file, blocks) {
+        Ok(opened) => Ok(opened),
+        Err(fault) => Err(Fault::Unopened(file, fault)),
+    }
+}
+
+// What all threads share, in memory of its own.
+fn shared(service: Service) -> Result<Arc<Service, Global>, AllocError> {
+    match Arc::new(service.alloc, service) {
+        Ok(service) => Ok(service),
+        Err(failed) => Err(AllocError::from(failed)),
+    }
+}
+
+// Prints the three lines.
+fn print<'a, W: Write>(tally: &Tally, out: &mut W) -> Result<(), Fault<'a>> {
+    match print_lines(tally, out) {
+        Ok(()) => Ok(()),
+        Err(error) => Err(Fault::Unwritten(error)),
+    }
+}
+
+fn print_lines<W: Write>(tally: &Tally, out: &mut W) -> io::Result<()> {
+    writeln!(out, "completed {}", tally.completed)?;
+    writeln!(out, "settled {}", tally.confirmed)?;
+    writeln!(out, "unmarked {}", tally.unmarked)?;
+    out.flush()
+}

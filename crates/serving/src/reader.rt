@@ -1,0 +1,72 @@
+//! The thread of a client, which takes its requests.
+use crate::client::Client;
+use crate::request::Job;
+use crate::service::Service;
+use blocks::Refusal;
+use nbd::{Connection, Export, Output, greeting};
+use std::alloc::Global;
+use std::io::ErrorKind;
+use std::sync::{Arc, Wait};
+
+/// How many bytes are read at once: a request for the longest range and its payload.
+const BUFFER_BYTES: usize = 132 * 1024;
+
+/// Takes the requests of a client until it leaves or the server ends. All that it asked for is answered when this
+/// returns.
+pub(crate) fn serve_client<R: Wait>(
+    rt: &R,
+    service: &Service,
+    client: &Arc<Client, Global>,
+) -> Result<(), Refusal> {
+    let alloc = service.alloc;
+    let mut buffer = Vec::from_elem(alloc, 0u8, BUFFER_BYTES)?;
+    let export = Export::new(String::new(alloc), service.blocks);
+    let mut connection = Connection::new(alloc, export);
+    client.send(rt, greeting().as_slice());
+    for _ in rt.forever() {
+        if service.is_over() {
+            break;
+        }
+        let count = match client.read(&mut buffer) {
+            Ok(count) => count,
+            Err(error) if is_passing(error.kind()) => continue,
+            Err(_) => break,
+        };
+        if count == 0 || !take(rt, service, client, &mut connection, &buffer[..count])? {
+            break;
+        }
+    }
+    client.places.take_all(rt);
+    Ok(())
+}
+
+// Takes the client's next bytes. Returns whether the connection goes on.
+fn take<R: Wait>(
+    rt: &R,
+    service: &Service,
+    client: &Arc<Client, Global>,
+    connection: &mut Connection,
+    bytes: &[u8],
+) -> Result<bool, Refusal> {
+    let mut out = Output::new(service.alloc);
+    connection.feed(bytes, &mut out)?;
+    if !out.bytes.is_empty() {
+        client.send(rt, out.bytes.as_slice());
+    }
+    for request in out.requests {
+        let client = Arc::try_clone(client)?;
+        client.places.take(rt);
+        if service.jobs.send(rt, Job { request, client }).is_err() {
+            return Ok(false);
+        }
+    }
+    Ok(!connection.is_closed())
+}
+
+// Whether a read that failed so is tried again.
+fn is_passing(kind: ErrorKind) -> bool {
+    matches!(
+        kind,
+        ErrorKind::WouldBlock | ErrorKind::TimedOut | ErrorKind::Interrupted
+    )
+}

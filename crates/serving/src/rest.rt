@@ -1,0 +1,105 @@
+//! What a session leaves, from which the next one starts.
+use crate::service::Service;
+use blocks::{Refusal, Store, Tuple};
+use handover::parts_after;
+use image_store::ImageStore;
+use link::{FrameIn, FrameOut};
+use primary::{Primary, Receipt};
+use secondary::Secondary;
+use settle::settle;
+use std::fs::File;
+use volume::Parts;
+
+/// The disks of both nodes.
+pub(crate) type Disks = (ImageStore<File>, ImageStore<File>);
+
+/// The identifiers of a disk of which nothing is known.
+pub(crate) const NONE: Tuple = Tuple {
+    current: 0,
+    bitmap: 0,
+    first_historical: 0,
+    second_historical: 0,
+};
+
+/// What the sessions of a server have come to.
+#[derive(Clone, Copy, Debug, PartialEq, Eq)]
+pub(crate) struct Tally {
+    /// Writes that were completed.
+    pub(crate) completed: u64,
+    /// Receipts that the settlements confirmed.
+    pub(crate) confirmed: u64,
+    /// Blocks without a mark on which the disks differed, after the last session.
+    pub(crate) unmarked: u32,
+}
+
+impl Tally {
+    /// No session has come to anything.
+    pub(crate) const NOTHING: Tally = Tally {
+        completed: 0,
+        confirmed: 0,
+        unmarked: 0,
+    };
+
+    /// What these sessions and one more have come to.
+    fn and(&self, completed: usize, confirmed: u64, unmarked: u32) -> Tally {
+        Tally {
+            completed: self.completed.saturating_add(completed as u64),
+            confirmed: self.confirmed.saturating_add(confirmed),
+            unmarked,
+        }
+    }
+}
+
+/// What a session leaves.
+#[derive(Drop)]
+pub(crate) struct Rest {
+    pub(crate) disks: Disks,
+    pub(crate) parts: Parts,
+    pub(crate) tally: Tally,
+}
+
+/// Settles two nodes that are at rest, and takes from them what the next session starts from. The refusals are those of
+/// `settle` and `parts_after`.
+pub(crate) fn bring_together<
+    O: FrameOut + Drop,
+    I: FrameIn + Drop,
+    P: FrameOut + Drop,
+    J: FrameIn + Drop,
+>(
+    service: &Service,
+    tally: Tally,
+    primary: Primary<O, I, ImageStore<File>>,
+    secondary: Secondary<P, J, ImageStore<File>>,
+    receipts: &[Receipt],
+) -> Result<Rest, Refusal> {
+    let (mut primary, mut secondary) = (primary, secondary);
+    match compare(service, tally, &mut primary, &mut secondary, receipts) {
+        Ok((parts, tally)) => Ok(Rest {
+            disks: (primary.into_store(), secondary.into_store()),
+            parts,
+            tally,
+        }),
+        Err(refusal) => Err(refusal),
+    }
+}
+
+// Settles both nodes. Returns the parts of the next session, and what the sessions have come to.
+fn compare<
+    O: FrameOut + Drop,
+    I: FrameIn + Drop,
+    S: Store + Drop,
+    P: FrameOut + Drop,
+    J: FrameIn + Drop,
+    T: Store + Drop,
+>(
+    service: &Service,
+    tally: Tally,
+    primary: &mut Primary<O, I, S>,
+    secondary: &mut Secondary<P, J, T>,
+    receipts: &[Receipt],
+) -> Result<(Parts, Tally), Refusal> {
+    let settled = settle(primary, secondary, receipts)?;
+    let parts = parts_after(service.alloc, primary, secondary, service.words())?;
+    let tally = tally.and(receipts.len(), settled.confirmed, settled.unmarked);
+    Ok((parts, tally))
+}

@@ -1,0 +1,91 @@
+//! One session after another, over the same disks.
+use crate::rest::{Disks, NONE, Rest, Tally};
+use crate::service::Service;
+use crate::session::run_session;
+use blocks::{BLOCK_BYTES, Block, Refusal, Settings, Store, Tuple};
+use std::sync::Wait;
+use std::thread::Threads;
+use std::time::Clock;
+use volume::Parts;
+
+/// The identifiers of a disk at the start.
+const FIRST: Tuple = Tuple {
+    current: 1,
+    bitmap: 0,
+    first_historical: 0,
+    second_historical: 0,
+};
+
+/// Runs sessions over these disks until the server ends, and returns what the last one leaves. If the disks differ at
+/// the start, the peer's is one of which nothing is known, and is made like the local one.
+pub(crate) fn run_sessions<R: Threads + Wait + Clock + Copy + Drop + Send + Sync + 'static>(
+    rt: R,
+    service: &Service,
+    cut_every: Option<u32>,
+    disks: Disks,
+) -> Result<Rest, Refusal> {
+    let mut rest = first_rest(service, disks)?;
+    for _ in rt.forever() {
+        service.forget_writes();
+        rest = run_session(rt, service, cut_every, rest)?;
+        if service.is_over() {
+            break;
+        }
+    }
+    Ok(rest)
+}
+
+// What the first session starts from.
+fn first_rest(service: &Service, disks: Disks) -> Result<Rest, Refusal> {
+    let mut disks = disks;
+    let same = are_alike(&mut disks);
+    match first_parts(service, if same { FIRST } else { NONE }) {
+        Ok(parts) => Ok(Rest {
+            disks,
+            parts,
+            tally: Tally::NOTHING,
+        }),
+        Err(refusal) => Err(refusal),
+    }
+}
+
+// The parts of the first session, over a peer with these identifiers.
+fn first_parts(service: &Service, peer: Tuple) -> Result<Parts, Refusal> {
+    let settings = Settings {
+        protocol: service.protocol,
+        blocks: service.blocks,
+        ..Settings::STANDARD
+    };
+    settings.check()?;
+    let marks = Vec::from_elem(service.alloc, false, service.blocks as usize)?;
+    let (sync, loss) = service.words();
+    Ok(Parts {
+        settings,
+        own: FIRST,
+        peer,
+        marks,
+        sync,
+        loss,
+    })
+}
+
+// Whether both disks have the same blocks.
+fn are_alike(disks: &mut Disks) -> bool {
+    let blocks = disks.0.blocks();
+    for number in 0..blocks {
+        if !is_alike(&mut disks.0, &mut disks.1, Block(u64::from(number))) {
+            return false;
+        }
+    }
+    disks.1.blocks() == blocks
+}
+
+// Whether both disks have this block, with the same bytes.
+fn is_alike<S: Store, T: Store>(local: &mut S, peer: &mut T, block: Block) -> bool {
+    if block.0 >= u64::from(local.blocks()) || block.0 >= u64::from(peer.blocks()) {
+        return false;
+    }
+    let mut ours = [0u8; BLOCK_BYTES];
+    let mut theirs = [0u8; BLOCK_BYTES];
+    local.read(block, &mut ours).is_ok() && peer.read(block, &mut theirs).is_ok() && ours == theirs
+}

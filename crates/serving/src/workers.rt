@@ -1,0 +1,106 @@
+//! The threads that do requests over one session.
+use crate::answer::answer;
+use crate::keeper::keep;
+use crate::service::Service;
+use blocks::Refusal;
+use primary::Receipt;
+use std::sync::Wait;
+use std::sync::atomic::{AtomicBool, Ordering};
+use std::thread;
+use std::thread::Threads;
+use std::time::{Clock, Duration};
+use volume::{Mirror, PrimaryHalf, SecondaryHalf};
+
+/// How many requests of all clients are done at a time.
+const WORKERS: usize = 64;
+
+/// How long a thread waits for a request before it looks whether the session ends, in milliseconds.
+const LOOK_MS: u64 = 100;
+
+/// After how many writes a session ends, and the next one begins: a session has room for 1,048,576, and each of the
+/// requests that are under way then has at most 8,192 blocks in some 300 ranges.
+const SESSION_WRITES: u64 = 1_000_000;
+
+/// Does the requests of clients over this mirror until the server ends or the session has accepted about a million
+/// writes, and returns the receipts of all their writes. When it returns, both disks are alike and the link has
+/// nothing left to do, or the server ends.
+pub(crate) fn work<
+    R: Threads + Wait + Clock + Copy + Drop + Send + Sync + 'static,
+    A: PrimaryHalf + Drop + Send + Sync + 'static,
+    B: SecondaryHalf + Drop + Send + Sync + 'static,
+>(
+    rt: &R,
+    service: &Service,
+    mirror: &Mirror<R, A, B>,
+    cut_every: Option<u32>,
+) -> Result<Vec<Receipt>, Refusal> {
+    let over = AtomicBool::new(false);
+    let (_, done) = thread::join(
+        rt,
+        || { keep(rt, service, mirror, cut_every, &over) },
+        || -> Result<Vec<Receipt>, Refusal> {
+            let done = do_requests(rt, service, mirror);
+            rest(rt, service, mirror);
+            over.store(true, Ordering::SeqCst);
+            done
+        },
+    );
+    done
+}
+
+// Does requests in all threads, and gathers the receipts.
+fn do_requests<
+    R: Threads + Wait + Clock + Copy + Drop + Send + Sync + 'static,
+    A: PrimaryHalf + Drop + Send + Sync + 'static,
+    B: SecondaryHalf + Drop + Send + Sync + 'static,
+>(rt: &R, service: &Service, mirror: &Mirror<R, A, B>) -> Result<Vec<Receipt>, Refusal> {
+    let each = thread::map_indices(
+        rt,
+        service.alloc,
+        WORKERS,
+        &|_| -> Vec<Receipt> { do_some(rt, service, mirror) },
+    )?;
+    let mut all = Vec::new(service.alloc);
+    for receipts in each {
+        let mut receipts = receipts;
+        all.append(&mut receipts)?;
+    }
+    Ok(all)
+}
+
+// Does one request after another.
+fn do_some<R: Wait + Clock + Drop, A: PrimaryHalf + Drop, B: SecondaryHalf + Drop>(
+    rt: &R,
+    service: &Service,
+    mirror: &Mirror<R, A, B>,
+) -> Vec<Receipt> {
+    let mut receipts = Vec::new(service.alloc);
+    for _ in rt.forever() {
+        if service.writes() >= SESSION_WRITES {
+            break;
+        }
+        match service
+            .queue
+            .recv_timeout(rt, Duration::from_millis(LOOK_MS))
+        {
+            Ok(job) => answer(rt, service, mirror, job, &mut receipts),
+            Err(_) if service.is_over() && service.clients() == 0 => break,
+            Err(_) => {}
+        }
+    }
+    receipts
+}
+
+// Waits until both disks are alike and the link has nothing left to do, or the server ends and the link is down.
+fn rest<R: Wait + Clock + Drop, A: PrimaryHalf + Drop, B: SecondaryHalf + Drop>(
+    rt: &R,
+    service: &Service,
+    mirror: &Mirror<R, A, B>,
+) {
+    for _ in rt.forever() {
+        if mirror.is_quiet() && (mirror.marks() == 0 || service.is_over()) {
+            break;
+        }
+        thread::sleep(rt, Duration::from_millis(LOOK_MS));
+    }
+}

@@ -1,0 +1,12 @@
+//! The status of a running server over HTTP: the status lines of both nodes as text, and the same as JSON.
+#![tactic(auto)]
+
+mod json;
+mod page;
+mod report;
+
+pub use page::answer_one;
+pub use report::{Report, Resync};
+
+#[cfg(test)]
+mod tests;

@@ -1,0 +1,87 @@
+//! The page itself: one client of it, over any reader and writer.
+use crate::Report;
+use bytes::{BufMut, Bytes};
+use http::{HeaderValue, Method, Request, StatusCode, header};
+use http_server::{Config, Connection, Response, Service, serve};
+use std::alloc::{AllocError, Global};
+use std::hash::RandomState;
+use std::io;
+use std::io::{Read, Write};
+
+/// What a client of the page is told: a report, or none if there is none now.
+#[derive(Drop)]
+struct Page<'a> {
+    alloc: Global,
+    report: Option<&'a Report>,
+}
+
+impl Service for Page<'_> {
+    ghost answers = { λ old request response new. Unit {0} };
+
+    fn call(
+        &mut self,
+        request: &Request<Bytes>,
+        response: &mut Response,
+    ) -> Result<(), AllocError> {
+        response.add_header(header::CONNECTION, HeaderValue::from_static("close"))?;
+        if *request.method() != Method::GET && *request.method() != Method::HEAD {
+            response.status = StatusCode::METHOD_NOT_ALLOWED;
+            return response.add_header(header::ALLOW, HeaderValue::from_static("GET, HEAD"));
+        }
+        let Some(report) = self.report else {
+            response.status = StatusCode::SERVICE_UNAVAILABLE;
+            return fill(
+                response,
+                HeaderValue::from_static("text/plain; charset=utf-8"),
+                b"between two sessions\n",
+            );
+        };
+        match request.uri().path() {
+            "/" => {
+                let text = report.text(self.alloc)?;
+                fill(
+                    response,
+                    HeaderValue::from_static("text/plain; charset=utf-8"),
+                    text.as_bytes(),
+                )
+            }
+            "/status.json" => {
+                let text = report.json(self.alloc)?;
+                fill(
+                    response,
+                    HeaderValue::from_static("application/json"),
+                    text.as_bytes(),
+                )
+            }
+            _ => {
+                response.status = StatusCode::NOT_FOUND;
+                fill(
+                    response,
+                    HeaderValue::from_static("text/plain; charset=utf-8"),
+                    b"/ and /status.json\n",
+                )
+            }
+        }
+    }
+}
+
+// Gives a response its body and the body's type.
+fn fill(response: &mut Response, kind: HeaderValue, body: &[u8]) -> Result<(), AllocError> {
+    response.add_header(header::CONTENT_TYPE, kind)?;
+    response.body.put_slice(body)?;
+    Ok(())
+}
+
+/// Answers one request of a client with this report: the status lines at `/`, the same as JSON at `/status.json`. Then the
+/// connection is to be closed. With no report it is told that there is none now (503).
+pub fn answer_one<R: Read, W: Write>(
+    alloc: Global,
+    keys: RandomState,
+    report: Option<&Report>,
+    reader: &mut R,
+    writer: &mut W,
+) -> io::Result<()> {
+    let mut page = Page { alloc, report };
+    let mut connection = Connection::new(alloc, keys, Config::default());
+    serve(&mut connection, &mut page, reader, writer)
+}
