@@ -1,6 +1,7 @@
 //! The program's words.
 use crate::program::run_on;
 use std::alloc::Global;
+use std::fs::File;
 use std::io::{IsTerminal, Write};
 use std::net::{Net, TcpListener, TcpStream};
 use std::process::Abort;

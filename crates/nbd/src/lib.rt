@@ -34,6 +34,3 @@ pub use ranges::Ranges;
 pub use reply::{REPLY_BYTES, Reply};
 pub use request::Request;
 pub use short::Short;
-
-#[cfg(test)]
-mod tests;

@@ -24,6 +24,3 @@ mod workers;
 
 pub use options::ServeOptions;
 pub use printing::serve;
-
-#[cfg(test)]
-mod tests;

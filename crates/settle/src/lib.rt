@@ -4,7 +4,5 @@
 
 mod compare;
 mod settlement;
-#[cfg(test)]
-mod tests;
 
 pub use settlement::{Settled, settle};

@@ -1,9 +1,9 @@
 //! What is done to two nodes before they settle.
 
-use crate::tests::nodes::{Local, Peer, close, connect, open_alone, submit, write};
-use crate::{Settled, settle};
+use crate::nodes::{Local, Peer, close, connect, open_alone, submit, write};
 use blocks::Refusal;
 use primary::Receipt;
+use settle::{Settled, settle};
 use std::alloc::Global;
 use std::process::Abort;
 use std::sync::Wait;

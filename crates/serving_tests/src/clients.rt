@@ -1,6 +1,6 @@
 //! A client over a socket. Its bytes and the server's are written out by hand from the protocol document.
-use crate::{ServeOptions, serve};
 use blocks::Protocol;
+use serving::{ServeOptions, serve};
 use std::alloc::Global;
 use std::fs::File;
 use std::io::{Read, Write};
@@ -216,9 +216,8 @@ fn serve_one<
         cut_every: None,
     };
     let mut err = Vec::new(alloc);
-    let (status, is_right) = thread::join(
+    let (is_right, status) = thread::join(
         &rt,
-        || -> u8 { serve(&rt, &options, order, out, &mut err) },
         || -> io::Result<bool> {
             let answer = match connect(&rt, address) {
                 Ok(mut stream) => talk(alloc, &mut stream),
@@ -231,6 +230,7 @@ fn serve_one<
             is_done.store(true, Ordering::SeqCst);
             Ok(answer? && told?)
         },
+        || -> u8 { serve(&rt, &options, order, out, &mut err) },
     );
     Ok((status, is_right?))
 }

@@ -1,7 +1,7 @@
 //! Two nodes settle to what was sent, taken, applied and confirmed, and are refused.
 
-use crate::tests::cases::{Case, goes};
-use crate::tests::nodes::{Local, disk, larger_disk, local, peer};
+use crate::cases::{Case, goes};
+use crate::nodes::{Local, disk, larger_disk, local, peer};
 use blocks::{FaultStore, Refusal};
 use primary::Receipt;
 use std::alloc::Global;

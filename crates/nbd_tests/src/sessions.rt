@@ -1,6 +1,6 @@
 //! Whole sessions, with bytes written out by hand from the protocol document.
-use crate::{Command, Connection, Errno, Export, Output, Reply, Request, RequestHeader, greeting};
 use blocks::Refusal;
+use nbd::{Command, Connection, Errno, Export, Output, Reply, Request, RequestHeader, greeting};
 use std::alloc::{AllocError, Global};
 use std::process::Abort;
 use std::test::Fail;
