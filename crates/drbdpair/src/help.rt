@@ -180,8 +180,8 @@ each write that was answered under C while the link was up.
 With --cut-every S the link is cut every S seconds, and reconnected: the blocks
 that clients write meanwhile are marked, and copied at the next connection.
 
-With --status PORT a page tells of both nodes: the status lines, of which
-drbdpair script --help says what they mean, and the same as JSON.
+With --status PORT a page tells of both nodes: the status lines, as
+drbdpair script --help explains them, and the same as JSON.
   curl http://127.0.0.1:PORT/
   curl http://127.0.0.1:PORT/status.json
 

@@ -1,3 +1,2 @@
--- What a server writes, and over which link.
+-- Over which link a server's sessions go.
 pub mod Links
-pub mod Receipts

@@ -14,7 +14,7 @@ const LOOK_MS: u64 = 20;
 /// How many looks make a second.
 const LOOKS_A_SECOND: u64 = 50;
 
-/// Reconnects the link whenever it is down, cuts it after every so many seconds if it is to, and gives reports, until the
+/// Reconnects the link whenever it is down, cuts it every `cut_every` seconds if that is set, and gives reports, until the
 /// session is over.
 pub(crate) fn keep<R: Wait + Clock + Drop, A: PrimaryHalf + Drop, B: SecondaryHalf + Drop>(
     rt: &R,

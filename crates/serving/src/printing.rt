@@ -10,6 +10,7 @@ use crate::sessions::run_sessions;
 use crate::threads::start_threads;
 use blocks::{BLOCK_BYTES, MAX_BLOCKS, Refusal};
 use image_store::{ImageStore, OpenFault, SyncHandle};
+use requests::Requests;
 use std::alloc::{AllocError, Global};
 use std::fs::File;
 use std::io::{Read, Write};
@@ -99,7 +100,7 @@ fn serve_images<
     }
 }
 
-// Starts the threads of a server of so many blocks, and says where it is.
+// Starts the threads of a server of `blocks` blocks, and says where it is.
 fn begin<
     'a,
     H: AllocGlobal
@@ -125,7 +126,8 @@ fn begin<
     err: &mut E,
 ) -> Result<Arc<Service, Global>, Fault<'a>> {
     let (local, peer) = syncs;
-    let service = shared(Service::new(rt.alloc(), blocks, options.protocol, local, peer)?)?;
+    let requests = Requests::new(rt.alloc(), options.protocol, local, peer);
+    let service = shared(Service::new(rt.alloc(), blocks, options.protocol, requests)?)?;
     let (clients, page) = (doors.clients.address, doors.page_address());
     start_threads(rt, &service, doors, input)?;
     let _ = writeln!(err, "{clients} is an export of {blocks} blocks");
@@ -165,7 +167,7 @@ fn blocks_of<'a, H: Files>(rt: &H, options: &ServeOptions<'a>) -> Result<u32, Fa
     Ok(blocks as u32)
 }
 
-// Opens both images as disks of so many blocks, the local one first.
+// Opens both images as disks of `blocks` blocks, the local one first.
 fn open_both<'a, H: Files<File = File> + AllocGlobal>(
     rt: &H,
     options: &ServeOptions<'a>,
@@ -182,7 +184,7 @@ fn open_both<'a, H: Files<File = File> + AllocGlobal>(
     }
 }
 
-// Opens an image as a disk of so many blocks.
+// Opens an image as a disk of `blocks` blocks.
 fn open<'a, H: Files<File = File> + AllocGlobal>(
     rt: &H,
     file: &'a str,

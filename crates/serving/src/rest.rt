@@ -13,7 +13,7 @@ use volume::Parts;
 /// The disks of both nodes.
 pub(crate) type Disks = (ImageStore<File>, ImageStore<File>);
 
-/// The identifiers of a disk of which nothing is known.
+/// The identifiers of a disk that nothing is known of.
 pub(crate) const NONE: Tuple = Tuple {
     current: 0,
     bitmap: 0,

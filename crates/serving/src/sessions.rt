@@ -17,7 +17,7 @@ const FIRST: Tuple = Tuple {
 };
 
 /// Runs sessions over these disks until the server ends, and returns what the last one leaves. If the disks differ at
-/// the start, the peer's is one of which nothing is known, and is made like the local one.
+/// the start, nothing counts as known of the peer's, which is made like the local one.
 pub(crate) fn run_sessions<R: Threads + Wait + Clock + Copy + Drop + Send + Sync + 'static>(
     rt: R,
     service: &Service,
@@ -26,7 +26,7 @@ pub(crate) fn run_sessions<R: Threads + Wait + Clock + Copy + Drop + Send + Sync
 ) -> Result<Rest, Refusal> {
     let mut rest = first_rest(service, disks)?;
     for _ in rt.forever() {
-        service.forget_writes();
+        service.requests.forget_writes();
         rest = run_session(rt, service, cut_every, rest)?;
         if service.is_over() {
             break;

@@ -4,8 +4,8 @@ use crate::keeper::keep;
 use crate::service::Service;
 use blocks::Refusal;
 use primary::Receipt;
-use std::sync::Wait;
 use std::sync::atomic::{AtomicBool, Ordering};
+use std::sync::{Mutex, Wait};
 use std::thread;
 use std::thread::Threads;
 use std::time::{Clock, Duration};
@@ -16,6 +16,9 @@ const WORKERS: usize = 64;
 
 /// How long a thread waits for a request before it looks whether the session ends, in milliseconds.
 const LOOK_MS: u64 = 100;
+
+/// How many receipts a session can give: one for each write that it has room for.
+const MOST_RECEIPTS: usize = 1_048_576;
 
 /// After how many writes a session ends, and the next one begins: a session has room for 1,048,576, and each of the
 /// requests that are under way then has at most 8,192 blocks in some 300 ranges.
@@ -48,42 +51,48 @@ pub(crate) fn work<
     done
 }
 
-// Does requests in all threads, and gathers the receipts.
+// Does requests in all threads, and gathers the receipts. Their room is made at once: if it grew, the memory of a session
+// would depend on those before it.
 fn do_requests<
     R: Threads + Wait + Clock + Copy + Drop + Send + Sync + 'static,
     A: PrimaryHalf + Drop + Send + Sync + 'static,
     B: SecondaryHalf + Drop + Send + Sync + 'static,
 >(rt: &R, service: &Service, mirror: &Mirror<R, A, B>) -> Result<Vec<Receipt>, Refusal> {
-    let each = thread::map_indices(
+    let gathered = Mutex::new(Vec::with_capacity(service.alloc, MOST_RECEIPTS)?);
+    let left = thread::map_indices(
         rt,
         service.alloc,
         WORKERS,
-        &|_| -> Vec<Receipt> { do_some(rt, service, mirror) },
+        &|_| -> Vec<Receipt> { do_some(rt, service, mirror, &gathered) },
     )?;
-    let mut all = Vec::new(service.alloc);
-    for receipts in each {
+    let mut all = gathered.into_inner();
+    for receipts in left {
         let mut receipts = receipts;
         all.append(&mut receipts)?;
     }
     Ok(all)
 }
 
-// Does one request after another.
+// Does one request after another. Returns the receipts for which there was no room among those that are gathered.
 fn do_some<R: Wait + Clock + Drop, A: PrimaryHalf + Drop, B: SecondaryHalf + Drop>(
     rt: &R,
     service: &Service,
     mirror: &Mirror<R, A, B>,
+    gathered: &Mutex<Vec<Receipt>>,
 ) -> Vec<Receipt> {
     let mut receipts = Vec::new(service.alloc);
     for _ in rt.forever() {
-        if service.writes() >= SESSION_WRITES {
+        if service.requests.writes() >= SESSION_WRITES {
             break;
         }
         match service
             .queue
             .recv_timeout(rt, Duration::from_millis(LOOK_MS))
         {
-            Ok(job) => answer(rt, service, mirror, job, &mut receipts),
+            Ok(job) => {
+                answer(rt, service, mirror, job, &mut receipts);
+                let _ = gathered.lock(rt).append(&mut receipts);
+            }
             Err(_) if service.is_over() && service.clients() == 0 => break,
             Err(_) => {}
         }

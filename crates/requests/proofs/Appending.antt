@@ -3,7 +3,7 @@ use Rattle.std.proofs.Common.{ℕ, ◌≡◌, List, [], ◌∷◌, ◌++◌, map
 use Rattle.std.proofs.lemmas.List.{map_push, map-append}
 use Rattle.blocks.specs.declared.range.Range.{Range}
 use Rattle.nbd.specs.Pieces.{pair_of}
-use Rattle.serving.specs.Receipts.{HasReceipts, range_of}
+use Rattle.requests.specs.Receipts.{HasReceipts, range_of}
 use Rattle.model.specs.Settlement.{Receipt}
 
 -- those of some ranges, and then those of some more

@@ -1,5 +1,5 @@
-use Rattle.serving.proofs.Appending.{one-more, left-one}
-use Rattle.serving.proofs.answer.write.Goals as goal
+use Rattle.requests.proofs.Appending.{one-more, left-one}
+use Rattle.requests.proofs.perform.write_zeroes.Goals as goal
 
 pub loop-range-preserved : goal.loop-range-preserved
 loop-range-preserved g c = record {

@@ -1,7 +1,7 @@
 use Rattle.std.proofs.Common.{◌≡◌, ◌++◌, map}
 use Rattle.nbd.specs.Pieces.{pair_of}
-use Rattle.serving.specs.Receipts.{HasReceipts}
-use Rattle.serving.proofs.answer.write.Given as goal
+use Rattle.requests.specs.Receipts.{HasReceipts}
+use Rattle.requests.proofs.perform.write_zeroes.Given as goal
 
 abbrev pub invariant-loop-range : goal.invariant-loop-range
 invariant-loop-range g l = record {

@@ -1,0 +1,2 @@
+-- What a request writes.
+pub mod Receipts
