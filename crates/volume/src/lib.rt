@@ -2,18 +2,12 @@
 //! and brought together at its end.
 #![tactic(auto)]
 
-mod carriers;
-mod halves;
-mod hello;
-mod mirror;
-mod observed;
 mod session;
-mod shared;
 mod wire;
-mod workers;
 
-pub use halves::{LocalHalf, PeerHalf, PrimaryHalf, SecondaryHalf};
-pub use mirror::Mirror;
+pub use halves::{PrimaryHalf, SecondaryHalf};
+pub use locked_halves::{LocalHalf, PeerHalf};
 pub use session::{Parts, Session, SessionLocal, SessionMirror, SessionPeer};
 pub use session_link::{Back, Linked, SessionPrimary, SessionSecondary, There};
-pub use wire::{Way, WireLocal, WireMirror, WirePeer, WirePrimary, WireSecondary, WireSession};
+pub use session_threads::{Mirror, Way};
+pub use wire::{WireLocal, WireMirror, WirePeer, WirePrimary, WireSecondary, WireSession};

@@ -1,4 +1,4 @@
-//! A session from its start to its end.
+//! A session over a link in this process.
 ghost use Rattle.std.specs.Prelude.{◌≡◌, ◌≤◌, IfOk};
 ghost use Rattle.endpoint.specs.Calls.{IsNewIn, IsNewOut};
 ghost use Rattle.model.specs.Headline.{IsJoined};
@@ -11,17 +11,13 @@ ghost use Rattle.ruled_link.specs.Outward.{sending};
 ghost use Rattle.session_nodes.specs.Primaries.{PrimaryHas, PrimaryIsHad};
 ghost use Rattle.session_nodes.specs.Secondaries.{SecondaryHas, SecondaryIsHad};
 
-use crate::Mirror;
-use crate::halves::{LocalHalf, PeerHalf};
-use crate::shared::{Path, Shared};
-use crate::workers::Workers;
 use blocks::{Refusal, Settings, Store, Tuple};
-use link::{FrameIn, FrameOut};
+use locked_halves::{LocalHalf, PeerHalf};
 use ruled_link::{NamedIn, NamedOut, RuledIn, RuledOut};
 use session_link::{Back, Linked, SessionPrimary, SessionSecondary, There, join_nodes};
-use session_nodes::{Local, Peer};
+use session_threads::{Mirror, Running};
 use std::alloc::Global;
-use std::sync::{Arc, Wait};
+use std::sync::Wait;
 use std::thread::Threads;
 use std::time::Clock;
 
@@ -46,11 +42,10 @@ pub struct Parts {
     pub loss: u64,
 }
 
-/// A running session over a link: the mirror that callers share, and its threads.
+/// A running session over a link.
 #[derive(Drop)]
 pub struct Session<R: Threads + Wait + Drop, L: Linked, S: Store + Drop, T: Store + Drop> {
-    mirror: SessionMirror<R, L, S, T>,
-    workers: Workers,
+    running: Running<R, SessionLocal<R, L, S>, SessionPeer<R, L, T>>,
 }
 
 impl<
@@ -83,7 +78,7 @@ impl<
     {
         let (out, taken) = there;
         let (answers, acks) = back;
-        let local = local_half(
+        let local = LocalHalf::open(
             rt,
             alloc,
             parts.settings,
@@ -93,7 +88,7 @@ impl<
             (out.named::<There<L>>(), acks.named::<Back<L>>()),
             (parts.sync, parts.loss),
         )?;
-        match peer_half(
+        match PeerHalf::open(
             rt,
             alloc,
             parts.settings,
@@ -113,24 +108,10 @@ impl<
         local: SessionLocal<R, L, S>,
         peer: SessionPeer<R, L, T>,
     ) -> Result<Session<R, L, S, T>, Refusal> {
-        let shared = Arc::new(alloc, Shared::new(rt, local, peer, Path::Link))?;
-        let mut session = Session {
-            mirror: Mirror { alloc, shared },
-            workers: Workers::new(alloc),
-        };
-        match session.begin() {
-            Ok(()) => Ok(session),
-            Err(refusal) => {
-                session.workers.stop(&session.mirror.shared);
-                Err(refusal)
-            }
+        match Running::start(rt, alloc, local, peer) {
+            Ok(running) => Ok(Session { running }),
+            Err(refusal) => Err(refusal),
         }
-    }
-
-    // Does the hello, and starts the threads.
-    fn begin(&mut self) -> Result<(), Refusal> {
-        self.mirror.shared.greet()?;
-        self.workers.start(&self.mirror.shared)
     }
 }
 
@@ -142,7 +123,7 @@ impl<R: Threads + Wait + Clock + Drop, L: Linked, S: Store + Drop, T: Store + Dr
 > {
     /// What any number of threads may share.
     pub fn mirror(&self) -> &SessionMirror<R, L, S, T> {
-        &self.mirror
+        self.running.mirror()
     }
 
     /// Ends the session: cuts the link, lets the disks end all that is unfinished, stops the threads, and gives
@@ -157,14 +138,9 @@ impl<R: Threads + Wait + Clock + Drop, L: Linked, S: Store + Drop, T: Store + Dr
         ensures joined { IfOk result (λ nodes. (p : PrimaryHistory) (s : SecondaryHistory) → PrimaryHas nodes.0 p → SecondaryHas nodes.1 s → IsJoined p s) }
         ensures numbered { IfOk result (λ nodes. nodes.1.core.number ≤ nodes.0.core.connections) }
     {
-        let mut session = self;
-        session.mirror.shared.cut();
-        session.mirror.shared.drain();
-        session.workers.stop(&session.mirror.shared);
-        let Session { mirror, workers } = session;
-        drop(workers);
-        let shared = Arc::into_inner(mirror.shared).ok_or(Refusal::NotDrained)?;
-        let (primary, secondary) = into_nodes(shared);
+        let Session { running } = self;
+        let (local, peer) = running.finish()?;
+        let (primary, secondary) = into_nodes(local, peer);
         if secondary.number() > primary.connections() {
             return Err(Refusal::NotDrained);
         }
@@ -174,52 +150,11 @@ impl<R: Threads + Wait + Clock + Drop, L: Linked, S: Store + Drop, T: Store + Dr
 
 // Both nodes of a session over a link, out of their locks and brought together.
 fn into_nodes<R: Wait + Drop, L: Linked, S: Store + Drop, T: Store + Drop>(
-    shared: Shared<R, SessionLocal<R, L, S>, SessionPeer<R, L, T>>,
+    local: SessionLocal<R, L, S>,
+    peer: SessionPeer<R, L, T>,
 ) -> (SessionPrimary<R, L, S>, SessionSecondary<R, L, T>)
     ensures had { PrimaryIsHad result.0 × SecondaryIsHad result.1 }
     ensures joined { (p : PrimaryHistory) (s : SecondaryHistory) → PrimaryHas result.0 p → SecondaryHas result.1 s → IsJoined p s }
 {
-    let Shared { local, peer, .. } = shared;
-    join_nodes(
-        local.node.into_inner().into_node(),
-        peer.node.into_inner().into_node(),
-    )
-}
-
-// The primary's half, opened over unused ends.
-pub(crate) fn local_half<R: Wait + Drop, O: FrameOut + Drop, I: FrameIn + Drop, S: Store + Drop>(
-    rt: R,
-    alloc: Global,
-    settings: Settings,
-    store: S,
-    tuple: Tuple,
-    marks: Vec<bool>,
-    link: (O, I),
-    words: (u64, u64),
-) -> Result<LocalHalf<R, O, I, S>, Refusal>
-    requires outward { IsNewOut (O.state link.0) }
-    requires inward { IsNewIn (I.state link.1) }
-{
-    match Local::open(alloc, settings, store, tuple, marks, link, words) {
-        Ok(node) => Ok(LocalHalf::new(rt, node)),
-        Err(refusal) => Err(refusal),
-    }
-}
-
-// The secondary's half, opened over unused ends.
-pub(crate) fn peer_half<R: Wait + Drop, O: FrameOut + Drop, I: FrameIn + Drop, S: Store + Drop>(
-    rt: R,
-    alloc: Global,
-    settings: Settings,
-    store: S,
-    tuple: Tuple,
-    link: (O, I),
-) -> Result<PeerHalf<R, O, I, S>, Refusal>
-    requires outward { IsNewOut (O.state link.0) }
-    requires inward { IsNewIn (I.state link.1) }
-{
-    match Peer::open(alloc, settings, store, tuple, link) {
-        Ok(node) => Ok(PeerHalf::new(rt, node)),
-        Err(refusal) => Err(refusal),
-    }
+    join_nodes(local.into_node(), peer.into_node())
 }

@@ -3,28 +3,18 @@ ghost use Rattle.std.specs.Prelude.{◌≤◌, IfOk};
 ghost use Rattle.session_nodes.specs.Primaries.{PrimaryIsHad};
 ghost use Rattle.session_nodes.specs.Secondaries.{SecondaryIsHad};
 
-use crate::Mirror;
-use crate::carriers::{Carrier, LOCAL_TO_PEER, PEER_TO_LOCAL, PumpEnds, half_rows};
-use crate::halves::{LocalHalf, PeerHalf};
-use crate::session::{Parts, local_half, peer_half};
-use crate::shared::{Path, Shared};
-use crate::workers::Workers;
+use crate::session::Parts;
 use blocks::{Refusal, Store};
+use locked_halves::{LocalHalf, PeerHalf};
 use primary::Primary;
 use ruled_link::{RuledIn, RuledOut};
 use secondary::Secondary;
+use session_threads::{Mirror, PumpEnds, Running, Way, half_rows};
 use std::alloc::Global;
 use std::io::{Read, Write};
-use std::sync::{Arc, Wait};
+use std::sync::Wait;
 use std::thread::Threads;
 use std::time::Clock;
-
-/// One direction of a session's link: what the writer is given comes out of the reader.
-#[derive(Drop)]
-pub struct Way<W: Write + Drop, D: Read + Drop> {
-    pub writer: W,
-    pub reader: D,
-}
 
 /// The primary's half of a session over streams.
 pub type WireLocal<R, S> = LocalHalf<R, RuledOut<R>, RuledIn<R>, S>;
@@ -41,11 +31,10 @@ pub type WirePrimary<R, S> = Primary<RuledOut<R>, RuledIn<R>, S>;
 /// The secondary of a session over streams.
 pub type WireSecondary<R, T> = Secondary<RuledOut<R>, RuledIn<R>, T>;
 
-/// A running session over streams: the mirror that callers share, and its threads. It has one connection.
+/// A running session over streams. It has one connection.
 #[derive(Drop)]
 pub struct WireSession<R: Threads + Wait + Drop, S: Store + Drop, T: Store + Drop> {
-    mirror: WireMirror<R, S, T>,
-    workers: Workers,
+    running: Running<R, WireLocal<R, S>, WirePeer<R, T>>,
 }
 
 impl<
@@ -78,7 +67,7 @@ impl<
         let link = parts.settings.link;
         let (local_ends, local_rows) = half_rows(rt, alloc, link)?;
         let (peer_ends, peer_rows) = half_rows(rt, alloc, link)?;
-        let local = local_half(
+        let local = LocalHalf::open(
             rt,
             alloc,
             parts.settings,
@@ -88,7 +77,7 @@ impl<
             local_ends,
             (parts.sync, parts.loss),
         )?;
-        match peer_half(rt, alloc, parts.settings, peer, parts.peer, peer_ends) {
+        match PeerHalf::open(rt, alloc, parts.settings, peer, parts.peer, peer_ends) {
             Ok(peer) => { WireSession::over(rt, alloc, local, peer, (local_rows, peer_rows), ways) }
             Err(refusal) => Err(refusal),
         }
@@ -108,50 +97,17 @@ impl<
         rows: (PumpEnds<R>, PumpEnds<R>),
         ways: (Way<W, D>, Way<V, E>),
     ) -> Result<WireSession<R, S, T>, Refusal> {
-        let shared = Arc::new(alloc, Shared::new(rt, local, peer, Path::Wire))?;
-        let mut session = WireSession {
-            mirror: Mirror { alloc, shared },
-            workers: Workers::new(alloc),
-        };
-        match session.begin(rows, ways) {
-            Ok(()) => Ok(session),
-            Err(refusal) => {
-                session.workers.stop(&session.mirror.shared);
-                Err(refusal)
-            }
+        match Running::start_over(rt, alloc, local, peer, rows, ways) {
+            Ok(running) => Ok(WireSession { running }),
+            Err(refusal) => Err(refusal),
         }
-    }
-
-    // Starts the pumps, does the hello, and starts the threads of both nodes.
-    fn begin<
-        W: Write + Drop + Send + 'static,
-        D: Read + Drop + Send + 'static,
-        V: Write + Drop + Send + 'static,
-        E: Read + Drop + Send + 'static,
-    >(
-        &mut self,
-        rows: (PumpEnds<R>, PumpEnds<R>),
-        ways: (Way<W, D>, Way<V, E>),
-    ) -> Result<(), Refusal> {
-        let (there, back) = ways;
-        let (local, peer) = rows;
-        let carrier = Carrier::start(self.mirror.alloc, &mut self.workers, &self.mirror.shared)?;
-        let shared = &self.mirror.shared;
-        let workers = &mut self.workers;
-        let outward = (local.leaving, peer.coming);
-        let inward = (peer.leaving, local.coming);
-        carrier.start_way(workers, shared, LOCAL_TO_PEER, outward, there)?;
-        carrier.start_way(workers, shared, PEER_TO_LOCAL, inward, back)?;
-        drop(carrier);
-        shared.greet_over_ways()?;
-        workers.start(shared)
     }
 }
 
 impl<R: Threads + Wait + Clock + Drop, S: Store + Drop, T: Store + Drop> WireSession<R, S, T> {
     /// What any number of threads may share.
     pub fn mirror(&self) -> &WireMirror<R, S, T> {
-        &self.mirror
+        self.running.mirror()
     }
 
     /// Ends the session: closes both ends, lets the disks end all that is unfinished, stops the threads, and gives
@@ -164,14 +120,9 @@ impl<R: Threads + Wait + Clock + Drop, S: Store + Drop, T: Store + Drop> WireSes
         ensures had { IfOk result (λ nodes. PrimaryIsHad nodes.0 × SecondaryIsHad nodes.1) }
         ensures numbered { IfOk result (λ nodes. nodes.1.core.number ≤ nodes.0.core.connections) }
     {
-        let mut session = self;
-        session.mirror.shared.cut();
-        session.mirror.shared.drain();
-        session.workers.stop(&session.mirror.shared);
-        let WireSession { mirror, workers } = session;
-        drop(workers);
-        let shared = Arc::into_inner(mirror.shared).ok_or(Refusal::NotDrained)?;
-        let (primary, secondary) = apart(shared);
+        let WireSession { running } = self;
+        let (local, peer) = running.finish()?;
+        let (primary, secondary) = apart(local, peer);
         if secondary.number() > primary.connections() {
             return Err(Refusal::NotDrained);
         }
@@ -181,13 +132,10 @@ impl<R: Threads + Wait + Clock + Drop, S: Store + Drop, T: Store + Drop> WireSes
 
 // Both nodes of a session over streams, out of their locks.
 fn apart<R: Wait + Drop, S: Store + Drop, T: Store + Drop>(
-    shared: Shared<R, WireLocal<R, S>, WirePeer<R, T>>,
+    local: WireLocal<R, S>,
+    peer: WirePeer<R, T>,
 ) -> (WirePrimary<R, S>, WireSecondary<R, T>)
     ensures { PrimaryIsHad result.0 × SecondaryIsHad result.1 }
 {
-    let Shared { local, peer, .. } = shared;
-    (
-        local.node.into_inner().into_node(),
-        peer.node.into_inner().into_node(),
-    )
+    (local.into_node(), peer.into_node())
 }

@@ -1,7 +1,7 @@
 //! The threads of a session.
 use crate::shared::Shared;
-use crate::{PrimaryHalf, SecondaryHalf};
 use blocks::Refusal;
+use halves::{PrimaryHalf, SecondaryHalf};
 use session_nodes::{LocalRole, PeerRole};
 use std::alloc::Global;
 use std::sync::atomic::Ordering;

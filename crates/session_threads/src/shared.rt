@@ -1,5 +1,5 @@
 //! What both halves of a session share while their threads run, and the loop of each thread.
-use crate::{PrimaryHalf, SecondaryHalf};
+use halves::{PrimaryHalf, SecondaryHalf};
 use session_nodes::{LocalRole, PeerRole, Turn};
 use std::sync::atomic::{AtomicBool, Ordering};
 use std::sync::{Mutex, Wait};

@@ -1,7 +1,7 @@
 //! The hello of a session.
 use crate::shared::Shared;
-use crate::{PrimaryHalf, SecondaryHalf};
 use blocks::{Done, Refusal};
+use halves::{PrimaryHalf, SecondaryHalf};
 use std::sync::Wait;
 use std::time::Clock;
 

@@ -5,10 +5,11 @@ ghost use Rattle.ruled_link.specs.Inward.{taking};
 ghost use Rattle.ruled_link.specs.Outward.{sending};
 
 use crate::shared::Shared;
+use crate::way::Way;
 use crate::workers::Workers;
-use crate::{PrimaryHalf, SecondaryHalf, Way};
 use blocks::Refusal;
 use crossbeam_channel::{Receiver, Sender, bounded};
+use halves::{PrimaryHalf, SecondaryHalf};
 use pumps::{Buffer, PumpEnd, pump_in, pump_out};
 use ruled_link::{PieceIn, PieceOut, RuledIn, RuledOut, row};
 use std::alloc::Global;
@@ -26,16 +27,16 @@ const PUMPS: usize = 4;
 
 /// The pumps' ends of the two rows of a half.
 #[derive(Drop)]
-pub(crate) struct PumpEnds<R: Wait + Drop> {
-    /// The pieces that the node sends leave here.
+pub struct PumpEnds<R: Wait + Drop> {
+    // The pieces that the node sends leave here.
     pub(crate) leaving: PieceIn<R>,
-    /// The pieces that it takes come in here.
+    // The pieces that it takes come in here.
     pub(crate) coming: PieceOut<R>,
 }
 
 /// The two rows of a half: the node's ends, and the pumps'. Each row has room for `link` of the longest frames.
 /// `NoMemory` (7) if there is no room for them.
-pub(crate) fn half_rows<R: Wait + Copy + Drop>(
+pub fn half_rows<R: Wait + Copy + Drop>(
     rt: R,
     alloc: Global,
     link: u32,

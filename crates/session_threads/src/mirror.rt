@@ -2,9 +2,9 @@
 ghost use Rattle.std.specs.Prelude.{◌≡◌, ◌*◌, length, true, IfOk};
 
 use crate::shared::{Path, Shared};
-use crate::{PrimaryHalf, SecondaryHalf};
 use blocks::{BLOCK_BYTES, Refusal};
 use bytes::Bytes;
+use halves::{PrimaryHalf, SecondaryHalf};
 use primary::Receipt;
 use session_nodes::LocalRole;
 use std::alloc::Global;

@@ -1,6 +1,7 @@
 //! What a running session tells of its nodes.
-use crate::{Mirror, PrimaryHalf, SecondaryHalf};
+use crate::Mirror;
 use blocks::Refusal;
+use halves::{PrimaryHalf, SecondaryHalf};
 use std::sync::Wait;
 
 impl<R: Wait + Drop, A: PrimaryHalf + Drop, B: SecondaryHalf + Drop> Mirror<R, A, B> {

@@ -1,0 +1,42 @@
+//! The secondary's half.
+use bell::Bell;
+use blocks::{Done, Refusal};
+use session_nodes::{PeerRole, Turn};
+use std::alloc::Global;
+
+/// The secondary's half of a session, over whichever link and disk it has. Each call takes the node's lock, does
+/// what it says, and lets the lock go. Its refusals are those of the node's call of that name.
+pub trait SecondaryHalf {
+    /// Takes the next frame.
+    fn receive(&self) -> Result<Done, Refusal>;
+
+    /// Sends the next frame.
+    fn ack_out(&self) -> Result<Done, Refusal>;
+
+    /// Does a turn of a thread.
+    fn turn(&self, role: PeerRole) -> Turn;
+
+    /// Closes the end, if it is open.
+    fn close(&self);
+
+    /// Closes the end, if its connection is this one or an earlier one.
+    fn close_lost(&self, connection: u32);
+
+    /// Whether the end may open again.
+    fn may_reopen(&self) -> Result<(), Refusal>;
+
+    /// Opens the end anew under the connection's number.
+    fn reopen(&self, number: u32) -> Result<(), Refusal>;
+
+    /// Whether the disk has an item to do.
+    fn has_unfinished(&self) -> bool;
+
+    /// The node's status line, without a newline. `NoMemory` (7) if there is no room for it.
+    fn status_line(&self, alloc: Global) -> Result<String, Refusal>;
+
+    /// What the threads of the half wait on.
+    fn work(&self) -> &Bell;
+
+    /// What a pump waits on that carries away what the node sends.
+    fn sent(&self) -> &Bell;
+}

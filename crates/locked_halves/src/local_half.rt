@@ -1,0 +1,146 @@
+//! The primary under its lock.
+ghost use Rattle.endpoint.specs.Calls.{IsNewIn, IsNewOut};
+ghost use Rattle.session_nodes.specs.Primaries.{PrimaryIsHad};
+
+use bell::Bell;
+use blocks::{Done, Refusal, Settings, Store, Tuple};
+use bytes::Bytes;
+use halves::PrimaryHalf;
+use link::{FrameIn, FrameOut};
+use primary::{Primary, Receipt};
+use session_nodes::{Local, LocalRole, Turn};
+use status::primary_line;
+use std::alloc::Global;
+use std::sync::{Mutex, Wait};
+
+/// The primary under its lock.
+#[derive(Drop)]
+pub struct LocalHalf<R: Wait + Drop, O: FrameOut + Drop, I: FrameIn + Drop, S: Store + Drop> {
+    rt: R,
+    node: Mutex<Local<O, I, S>>,
+    work: Bell,
+    writers: Bell,
+    sent: Bell,
+}
+
+impl<R: Wait + Drop, O: FrameOut + Drop, I: FrameIn + Drop, S: Store + Drop> LocalHalf<R, O, I, S> {
+    /// The half of a primary over this disk, opened over unused ends of a link under two words. The refusals are those of
+    /// `Local::open`.
+    pub fn open(
+        rt: R,
+        alloc: Global,
+        settings: Settings,
+        store: S,
+        tuple: Tuple,
+        marks: Vec<bool>,
+        link: (O, I),
+        words: (u64, u64),
+    ) -> Result<LocalHalf<R, O, I, S>, Refusal>
+        requires outward { IsNewOut (O.state link.0) }
+        requires inward { IsNewIn (I.state link.1) }
+    {
+        match Local::open(alloc, settings, store, tuple, marks, link, words) {
+            Ok(node) => Ok(LocalHalf {
+                rt,
+                node: Mutex::new(node),
+                work: Bell::new(),
+                writers: Bell::new(),
+                sent: Bell::new(),
+            }),
+            Err(refusal) => Err(refusal),
+        }
+    }
+
+    /// The node, out of its lock. It has a history whose connections all went over its ends.
+    pub fn into_node(self) -> Primary<O, I, S>
+        ensures { PrimaryIsHad result }
+    {
+        self.node.into_inner().into_node()
+    }
+}
+
+impl<R: Wait + Drop, O: FrameOut + Drop, I: FrameIn + Drop, S: Store + Drop> PrimaryHalf
+    for LocalHalf<R, O, I, S> {
+    fn submit(&self, first: u64, bytes: &Bytes) -> Result<u64, Refusal> {
+        let (number, _) = self.node.lock(&self.rt).submit(first, bytes)?;
+        Ok(number)
+    }
+
+    fn take_completed(&self, number: u64) -> Result<Receipt, Refusal> {
+        self.node.lock(&self.rt).take_completed(number)
+    }
+
+    fn read(&self, alloc: Global, first: u64, count: u64) -> Result<Vec<u8>, Refusal> {
+        self.node.lock(&self.rt).read(alloc, first, count)
+    }
+
+    fn send(&self) -> Result<Done, Refusal> {
+        self.node.lock(&self.rt).send()
+    }
+
+    fn ack_in(&self) -> Result<Done, Refusal> {
+        self.node.lock(&self.rt).ack_in()
+    }
+
+    fn turn(&self, role: LocalRole) -> Turn {
+        let turn = self.node.lock(&self.rt).turn(role);
+        if turn.told {
+            self.writers.ring_all(&self.rt);
+        }
+        turn
+    }
+
+    fn close(&self) {
+        let _ = self.node.lock(&self.rt).close();
+        self.writers.ring_all(&self.rt);
+    }
+
+    fn close_lost(&self, connection: u32) {
+        let mut node = self.node.lock(&self.rt);
+        if node.node().connections() <= connection {
+            let _ = node.close();
+        }
+        drop(node);
+        self.writers.ring_all(&self.rt);
+    }
+
+    fn reopen(&self, sync: u64, loss: u64) -> Result<u32, Refusal> {
+        self.node.lock(&self.rt).reopen(sync, loss)
+    }
+
+    fn has_unfinished(&self) -> bool {
+        self.node.lock(&self.rt).has_unfinished()
+    }
+
+    fn is_quiet(&self) -> bool {
+        let local = self.node.lock(&self.rt);
+        let node = local.node();
+        !node.is_open() || (node.stands() && node.marks() == 0 && node.open_epochs() == 0)
+    }
+
+    fn is_acknowledged(&self) -> bool {
+        let local = self.node.lock(&self.rt);
+        let node = local.node();
+        !node.is_open() || node.open_epochs() == 0
+    }
+
+    fn marks(&self) -> u32 {
+        self.node.lock(&self.rt).node().marks()
+    }
+
+    fn status_line(&self, alloc: Global) -> Result<String, Refusal> {
+        primary_line(alloc, self.node.lock(&self.rt).node())
+    }
+
+    fn work(&self) -> &Bell {
+        &self.work
+    }
+
+    fn writers(&self) -> &Bell {
+        &self.writers
+    }
+
+    fn sent(&self) -> &Bell {
+        &self.sent
+    }
+}

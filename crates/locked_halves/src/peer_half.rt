@@ -1,0 +1,104 @@
+//! The secondary under its lock.
+ghost use Rattle.endpoint.specs.Calls.{IsNewIn, IsNewOut};
+ghost use Rattle.session_nodes.specs.Secondaries.{SecondaryIsHad};
+
+use bell::Bell;
+use blocks::{Done, Refusal, Settings, Store, Tuple};
+use halves::SecondaryHalf;
+use link::{FrameIn, FrameOut};
+use secondary::Secondary;
+use session_nodes::{Peer, PeerRole, Turn};
+use status::secondary_line;
+use std::alloc::Global;
+use std::sync::{Mutex, Wait};
+
+/// The secondary under its lock.
+#[derive(Drop)]
+pub struct PeerHalf<R: Wait + Drop, O: FrameOut + Drop, I: FrameIn + Drop, S: Store + Drop> {
+    rt: R,
+    node: Mutex<Peer<O, I, S>>,
+    work: Bell,
+    sent: Bell,
+}
+
+impl<R: Wait + Drop, O: FrameOut + Drop, I: FrameIn + Drop, S: Store + Drop> PeerHalf<R, O, I, S> {
+    /// The half of a secondary over this disk, opened over unused ends of a link. The refusals are those of `Peer::open`.
+    pub fn open(
+        rt: R,
+        alloc: Global,
+        settings: Settings,
+        store: S,
+        tuple: Tuple,
+        link: (O, I),
+    ) -> Result<PeerHalf<R, O, I, S>, Refusal>
+        requires outward { IsNewOut (O.state link.0) }
+        requires inward { IsNewIn (I.state link.1) }
+    {
+        match Peer::open(alloc, settings, store, tuple, link) {
+            Ok(node) => Ok(PeerHalf {
+                rt,
+                node: Mutex::new(node),
+                work: Bell::new(),
+                sent: Bell::new(),
+            }),
+            Err(refusal) => Err(refusal),
+        }
+    }
+
+    /// The node, out of its lock. It has a history whose connections all went over its ends.
+    pub fn into_node(self) -> Secondary<O, I, S>
+        ensures { SecondaryIsHad result }
+    {
+        self.node.into_inner().into_node()
+    }
+}
+
+impl<R: Wait + Drop, O: FrameOut + Drop, I: FrameIn + Drop, S: Store + Drop> SecondaryHalf
+    for PeerHalf<R, O, I, S> {
+    fn receive(&self) -> Result<Done, Refusal> {
+        self.node.lock(&self.rt).receive()
+    }
+
+    fn ack_out(&self) -> Result<Done, Refusal> {
+        self.node.lock(&self.rt).ack_out()
+    }
+
+    fn turn(&self, role: PeerRole) -> Turn {
+        self.node.lock(&self.rt).turn(role)
+    }
+
+    fn close(&self) {
+        let _ = self.node.lock(&self.rt).close();
+    }
+
+    fn close_lost(&self, connection: u32) {
+        let mut node = self.node.lock(&self.rt);
+        if node.node().number() <= connection {
+            let _ = node.close();
+        }
+    }
+
+    fn may_reopen(&self) -> Result<(), Refusal> {
+        self.node.lock(&self.rt).may_reopen()
+    }
+
+    fn reopen(&self, number: u32) -> Result<(), Refusal> {
+        self.node.lock(&self.rt).reopen(number)
+    }
+
+    fn has_unfinished(&self) -> bool {
+        self.node.lock(&self.rt).has_unfinished()
+    }
+
+    fn status_line(&self, alloc: Global) -> Result<String, Refusal> {
+        secondary_line(alloc, self.node.lock(&self.rt).node())
+    }
+
+    fn work(&self) -> &Bell {
+        &self.work
+    }
+
+    fn sent(&self) -> &Bell {
+        &self.sent
+    }
+}

@@ -1,0 +1,17 @@
+//! The threads of a session, whatever its halves are: what callers share, the loop of each thread, the hello, and the
+//! pumps of a session over streams.
+#![tactic(auto)]
+
+mod carriers;
+mod hello;
+mod mirror;
+mod observed;
+mod running;
+mod shared;
+mod way;
+mod workers;
+
+pub use carriers::{PumpEnds, half_rows};
+pub use mirror::Mirror;
+pub use running::Running;
+pub use way::Way;

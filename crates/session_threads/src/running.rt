@@ -1,0 +1,146 @@
+//! A session from its start to its end.
+use crate::Mirror;
+use crate::carriers::{Carrier, LOCAL_TO_PEER, PEER_TO_LOCAL, PumpEnds};
+use crate::shared::{Path, Shared};
+use crate::way::Way;
+use crate::workers::Workers;
+use blocks::Refusal;
+use halves::{PrimaryHalf, SecondaryHalf};
+use std::alloc::Global;
+use std::io::{Read, Write};
+use std::sync::{Arc, Wait};
+use std::thread::Threads;
+use std::time::Clock;
+
+/// A running session: the mirror that callers share, and its threads.
+#[derive(Drop)]
+pub struct Running<R: Threads + Wait + Drop, A: PrimaryHalf + Drop, B: SecondaryHalf + Drop> {
+    mirror: Mirror<R, A, B>,
+    workers: Workers,
+}
+
+impl<
+    R: Threads + Wait + Clock + Drop + Send + Sync + 'static,
+    A: PrimaryHalf + Drop + Send + Sync + 'static,
+    B: SecondaryHalf + Drop + Send + Sync + 'static,
+> Running<R, A, B> {
+    /// Starts a session of two halves over one link that have said nothing yet: does the hello, and starts the threads.
+    ///
+    /// The refusals are those of the hello (30 to 33), and `NoMemory` (7) if there is no memory, or if a thread cannot be
+    /// started. Then nothing runs, and both halves are dropped.
+    pub fn start(rt: R, alloc: Global, local: A, peer: B) -> Result<Running<R, A, B>, Refusal> {
+        let mut running = Running::idle(rt, alloc, local, peer, Path::Link)?;
+        match running.begin() {
+            Ok(()) => Ok(running),
+            Err(refusal) => {
+                running.stop();
+                Err(refusal)
+            }
+        }
+    }
+
+    /// Starts a session of two halves whose rows these pumps' ends carry over two ways: starts a pump at each end of a way,
+    /// does the hello, and starts the threads. A pump that ends drops its writer or reader, and then both ends of the
+    /// link close.
+    ///
+    /// The refusals are those of `start`, `NotConnected` (12) if a way ends during the hello, and 20 to 25, 34 or 35 if
+    /// foreign bytes come in it. Then nothing runs, and all that was handed over is dropped.
+    pub fn start_over<
+        W: Write + Drop + Send + 'static,
+        D: Read + Drop + Send + 'static,
+        V: Write + Drop + Send + 'static,
+        E: Read + Drop + Send + 'static,
+    >(
+        rt: R,
+        alloc: Global,
+        local: A,
+        peer: B,
+        rows: (PumpEnds<R>, PumpEnds<R>),
+        ways: (Way<W, D>, Way<V, E>),
+    ) -> Result<Running<R, A, B>, Refusal> {
+        let mut running = Running::idle(rt, alloc, local, peer, Path::Wire)?;
+        match running.begin_over(rows, ways) {
+            Ok(()) => Ok(running),
+            Err(refusal) => {
+                running.stop();
+                Err(refusal)
+            }
+        }
+    }
+
+    // Both halves, without a thread.
+    fn idle(
+        rt: R,
+        alloc: Global,
+        local: A,
+        peer: B,
+        path: Path,
+    ) -> Result<Running<R, A, B>, Refusal> {
+        let shared = Arc::new(alloc, Shared::new(rt, local, peer, path))?;
+        Ok(Running {
+            mirror: Mirror { alloc, shared },
+            workers: Workers::new(alloc),
+        })
+    }
+
+    // Does the hello, and starts the threads.
+    fn begin(&mut self) -> Result<(), Refusal> {
+        self.mirror.shared.greet()?;
+        self.workers.start(&self.mirror.shared)
+    }
+
+    // Starts the pumps, does the hello, and starts the threads of both nodes.
+    fn begin_over<
+        W: Write + Drop + Send + 'static,
+        D: Read + Drop + Send + 'static,
+        V: Write + Drop + Send + 'static,
+        E: Read + Drop + Send + 'static,
+    >(
+        &mut self,
+        rows: (PumpEnds<R>, PumpEnds<R>),
+        ways: (Way<W, D>, Way<V, E>),
+    ) -> Result<(), Refusal> {
+        let (there, back) = ways;
+        let (local, peer) = rows;
+        let carrier = Carrier::start(self.mirror.alloc, &mut self.workers, &self.mirror.shared)?;
+        let shared = &self.mirror.shared;
+        let workers = &mut self.workers;
+        let outward = (local.leaving, peer.coming);
+        let inward = (peer.leaving, local.coming);
+        carrier.start_way(workers, shared, LOCAL_TO_PEER, outward, there)?;
+        carrier.start_way(workers, shared, PEER_TO_LOCAL, inward, back)?;
+        drop(carrier);
+        shared.greet_over_ways()?;
+        workers.start(shared)
+    }
+}
+
+impl<R: Threads + Wait + Clock + Drop, A: PrimaryHalf + Drop, B: SecondaryHalf + Drop> Running<
+    R,
+    A,
+    B,
+> {
+    /// What any number of threads may share.
+    pub fn mirror(&self) -> &Mirror<R, A, B> {
+        &self.mirror
+    }
+
+    /// Ends the session: closes both ends, lets the disks end all that is unfinished, stops the threads, and gives both
+    /// halves back. `NotDrained` (36) if they cannot be had back, which needs a thread that still shares them.
+    pub fn finish(self) -> Result<(A, B), Refusal> {
+        let mut running = self;
+        running.mirror.shared.cut();
+        running.mirror.shared.drain();
+        running.stop();
+        let Running { mirror, workers } = running;
+        drop(workers);
+        let shared = Arc::into_inner(mirror.shared).ok_or(Refusal::NotDrained)?;
+        let Shared { local, peer, .. } = shared;
+        Ok((local, peer))
+    }
+
+    // Stops the threads that run, and waits for their ends.
+    fn stop(&mut self) {
+        self.workers.stop(&self.mirror.shared);
+    }
+}
