@@ -1,17 +1,8 @@
-//! The script language: scripts over a pair, and what they print, byte for byte.
+//! The script language: scripts that loops make, bytes that are no text, and streams that fail or count.
 
-mod epoch_rows;
+mod decisions;
 mod faults;
-mod hello;
 mod keys;
-mod limits;
-mod local_faults;
-mod loss;
-mod protocols;
-mod released;
-mod resyncing;
+mod pieces;
 mod rows;
-mod status_lines;
 mod usage;
-mod words;
-mod writes;

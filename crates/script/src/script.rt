@@ -10,7 +10,7 @@ use numbers::Status;
 use pair::Pair;
 use std::alloc::Global;
 use std::fmt;
-use std::io::{self, Read, Write};
+use std::io::{self, BufWriter, Read, Write};
 
 /// Why a script stopped. A line is named by its number, from 1.
 #[derive(Drop)]
@@ -67,13 +67,21 @@ pub fn script_on<R: Read, W: Write, E: Write>(
         let _ = writeln!(err, "the script is not UTF-8");
         return Status::Failed.code();
     };
-    match run_lines(alloc, text, out) {
+    match run_text(alloc, text, out) {
         Ok(()) => Status::Done.code(),
         Err(stop) => {
             let _ = writeln!(err, "{stop}");
             stop.status().code()
         }
     }
+}
+
+/// Runs the lines, and writes what they print in large pieces: all of it, also if a line stops the script.
+fn run_text<W: Write>(alloc: Global, text: &str, out: &mut W) -> Result<(), Stop> {
+    let mut pieces = BufWriter::new(alloc, out)?;
+    let ran = run_lines(alloc, text, &mut pieces);
+    pieces.flush()?;
+    ran
 }
 
 /// Runs the lines up to the first command, which makes the pair, and then the rest over it.

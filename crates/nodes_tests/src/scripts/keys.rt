@@ -108,23 +108,3 @@ fn a_key_has_a_name_and_a_value(rt: HostRuntime) -> Result<(), Fail> {
         ],
     )
 }
-
-#[test]
-fn a_protocol_is_named_by_its_letter(rt: HostRuntime) -> Result<(), Fail> {
-    prints(
-        &rt,
-        "\
-pair protocol=C
-connect 5 7
-status
-",
-        "\
-pair ok
-connect ok NoSync
-cs:Connected ro:Primary/Secondary ds:UpToDate/UpToDate pr:C pe:0 ap:0 ep:0 oos:0
-cs:Connected ro:Secondary/Primary ds:UpToDate/UpToDate pr:C pending:0 use:Yes whole:0
-",
-        "",
-        0,
-    )
-}

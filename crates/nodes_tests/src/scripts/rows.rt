@@ -3,16 +3,6 @@ use script::script_on;
 use std::process::Abort;
 use std::test::Fail;
 
-/// Commands, and the lines that they print.
-pub(crate) type Part = (&'static str, &'static str);
-
-/// A script of parts, which run one after another to the script's end.
-pub(crate) struct Script {
-    /// What it is about.
-    pub(crate) name: &'static str,
-    pub(crate) parts: &'static [Part],
-}
-
 /// Runs a script and compares what it prints, what it says on standard error, and its status.
 pub(crate) fn prints(
     rt: &(impl Abort + AllocGlobal),
@@ -21,21 +11,12 @@ pub(crate) fn prints(
     err: &str,
     status: u8,
 ) -> Result<(), Fail> {
-    judged(rt, "a script", script, (out, err, status))
-}
-
-fn judged(
-    rt: &(impl Abort + AllocGlobal),
-    name: &str,
-    script: &str,
-    expected: (&str, &str, u8),
-) -> Result<(), Fail> {
     let alloc = rt.alloc();
     let mut written = Vec::new(alloc);
     let mut said = Vec::new(alloc);
     let mut input = script.as_bytes();
-    let status = script_on(alloc, &mut input, &mut written, &mut said);
-    assert_eq!(rt; (text(&written), text(&said), status), expected, "{name}");
+    let answer = script_on(alloc, &mut input, &mut written, &mut said);
+    assert_eq!(rt; (text(&written), text(&said), answer), (out, err, status));
     Ok(())
 }
 
@@ -49,24 +30,6 @@ pub(crate) fn is_one_line(rt: &impl Abort, said: &[u8]) {
 /// What was written, so that a failed comparison shows lines.
 fn text(written: &[u8]) -> &str {
     std::str::from_utf8(written).unwrap_or("what was written is not UTF-8")
-}
-
-/// Runs scripts, each of which goes to its end.
-pub(crate) fn each_runs(rt: &(impl Abort + AllocGlobal), scripts: &[Script]) -> Result<(), Fail> {
-    for script in scripts {
-        runs(rt, script)?;
-    }
-    Ok(())
-}
-
-fn runs(rt: &(impl Abort + AllocGlobal), script: &Script) -> Result<(), Fail> {
-    let mut commands = String::new(rt.alloc());
-    let mut out = String::new(rt.alloc());
-    for (given, printed) in script.parts {
-        commands.push_str(given)?;
-        out.push_str(printed)?;
-    }
-    judged(rt, script.name, commands.as_str(), (out.as_str(), "", 0))
 }
 
 /// A script of one line, `pair` with some keys.

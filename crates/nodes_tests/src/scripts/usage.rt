@@ -34,57 +34,6 @@ fn are_no_text(rt: &(impl Abort + AllocGlobal), script: &[u8]) -> Result<(), Fai
     Ok(())
 }
 
-/// Scripts: what each prints, what it says on standard error, and its status.
-const SCRIPTS: &[(&str, &str, &str, u8)] = &[
-    ("", "", "", 0),
-    ("\n", "", "", 0),
-    ("#", "", "", 0),
-    ("\n# pair\n\n#pair\n", "", "", 0),
-    ("pair", "pair ok\n", "", 0),
-    ("pair\nmarks", "pair ok\nmarks none\n", "", 0),
-    ("pair\n# marks", "pair ok\n", "", 0),
-    (
-        "# größer\n\npair\n\n#\nsent\nmarks\n",
-        "pair ok\n",
-        "line 6: not a command\n",
-        2,
-    ),
-    ("sent\npair\n", "", "line 1: not a command\n", 2),
-    ("pair\npair", "pair ok\n", "line 2: second pair\n", 2),
-    (
-        "pair\nsend\n\npair blocks=0\nsend\n",
-        "pair ok\nsend refused 12\n",
-        "line 4: second pair\n",
-        2,
-    ),
-    (
-        "pair\npair blocks\n",
-        "pair ok\n",
-        "line 2: not a command\n",
-        2,
-    ),
-    (
-        "pair slots=0\npair\n",
-        "pair refused 15\n",
-        "line 2: no pair\n",
-        2,
-    ),
-    (
-        "pair slots=0\n#\n\nsent\n",
-        "pair refused 15\n",
-        "line 4: not a command\n",
-        2,
-    ),
-];
-
-#[test]
-fn scripts_are_run_or_stopped(rt: HostRuntime) -> Result<(), Fail> {
-    for (script, out, err, status) in SCRIPTS {
-        prints(&rt, script, out, err, *status)?;
-    }
-    Ok(())
-}
-
 #[test]
 fn a_thousand_empty_lines_are_counted(rt: HostRuntime) -> Result<(), Fail> {
     let mut script = String::new(rt.alloc());

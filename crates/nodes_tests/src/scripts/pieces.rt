@@ -1,0 +1,52 @@
+//! How output is written: in large pieces, and all of it.
+use script::script_on;
+use std::io::{self, Write};
+use std::test::Fail;
+
+/// An output that counts how often it is written to.
+#[derive(Drop)]
+struct Output {
+    bytes: Vec<u8>,
+    calls: u32,
+}
+
+impl Write for Output {
+    fn write(&mut self, bytes: &[u8]) -> io::Result<usize> {
+        self.calls = self.calls.saturating_add(1);
+        self.bytes.write(bytes)
+    }
+
+    fn flush(&mut self) -> io::Result<()> {
+        Ok(())
+    }
+}
+
+/// A pair, 300 commands that are refused, and a last line.
+fn long_script(rt: &impl AllocGlobal, last: &str) -> Result<String, Fail> {
+    let mut script = String::from_str(rt.alloc(), "pair\n")?;
+    for _ in 0..300 {
+        script.push_str("send\n")?;
+    }
+    script.push_str(last)?;
+    Ok(script)
+}
+
+#[test]
+fn output_is_written_in_large_pieces(rt: HostRuntime) -> Result<(), Fail> {
+    let alloc = rt.alloc();
+    // The last line stops the second script. What was printed before is all there.
+    for (last, wanted, calls) in [("", 0, 1), ("sent\n", 2, 1)] {
+        let script = long_script(&rt, last)?;
+        let mut out = Output {
+            bytes: Vec::new(alloc),
+            calls: 0,
+        };
+        let mut said = Vec::new(alloc);
+        let mut input = script.as_str().as_bytes();
+        let status = script_on(alloc, &mut input, &mut out, &mut said);
+        let lines = out.bytes.iter().filter(|byte| **byte == b'\n').count();
+        assert_eq!(rt; (status, lines, out.calls), (wanted, 301, calls));
+        assert!(rt; out.bytes.ends_with(b"send refused 12\n"));
+    }
+    Ok(())
+}

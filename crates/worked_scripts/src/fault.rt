@@ -1,0 +1,24 @@
+//! Why a script's files cannot be used.
+use std::{fmt, io};
+
+/// Why the files of a script cannot be used, with the script's name.
+#[derive(Drop)]
+pub(crate) enum Fault<'a> {
+    /// The file of this name with this ending cannot be read.
+    Unread(&'a str, &'static str, io::Error),
+    /// The file `NAME.status` has no number from 0 to 255.
+    NoStatus(&'a str),
+}
+
+impl fmt::Display for Fault<'_> {
+    fn fmt<W: fmt::Write>(&self, f: &mut fmt::Formatter<W>) -> fmt::Result {
+        match self {
+            Fault::Unread(name, ending, error) => {
+                write!(f, "{name}: {name}.{ending} could not be read: {error}")
+            }
+            Fault::NoStatus(name) => {
+                write!(f, "{name}: {name}.status has no number from 0 to 255")
+            }
+        }
+    }
+}
