@@ -20,7 +20,7 @@ use Rattle.model.specs.Primary.{PrimaryHistory, outward, next_local, local_map}
 use Rattle.model.specs.Secondary.{SecondaryHistory, inward, is_drained, secondary_map}
 use Rattle.model.specs.Settlement.{is_at_rest}
 use Rattle.model.specs.Theorems.{Opening, IsSoundOpening, primary_at, marks_at}
-use Rattle.primary_steps.proofs.Marks.{length-marks, marked-in}
+use Rattle.primary_steps.proofs.Common.Marks.{length-marks, marked-in}
 use Rattle.primary_steps.specs.Steps as primary
 use Rattle.secondary_steps.specs.Node as secondary
 use Rattle.settle.specs.Settled.{WereHonest}

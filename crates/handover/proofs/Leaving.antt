@@ -8,7 +8,7 @@ use Rattle.blocks.specs.declared.settings.Settings.{Settings}
 use Rattle.handover.specs.Left.{JoinedRunsLeaveAnOpening}
 use Rattle.handover.proofs.Known.{current-above}
 use Rattle.handover.proofs.Sized.{local-disk, peer-disk}
-use Rattle.laws.proofs.Headlines.{joined_headline}
+use Rattle.laws.proofs.Theorems.JoinedHeadline.{joined_headline}
 use Rattle.laws.proofs.Joining.Openings.{HasOpening, HasOpeningToo, kept-opening-primary, kept-opening-secondary}
 use Rattle.model.specs.Contents.{IsDisk}
 use Rattle.model.specs.Headline.{Cover, is_marked}

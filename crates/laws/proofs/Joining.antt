@@ -7,5 +7,6 @@ pub mod OpeningDisks
 pub mod Openings
 pub mod Promises
 pub mod Receiving
+pub mod Settlement
 pub mod SureApplied
 pub mod Taking

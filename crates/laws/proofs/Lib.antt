@@ -1,14 +1,14 @@
--- Theorems over the definitions of a primary, of a secondary and of the pair, by the statement that they serve.
+-- Theorems over the definitions of a primary, of a secondary and of the pair. Lowest first: a file cites those of its own folder
+-- and of the folders before it.
 pub mod Lists
+pub mod Blocks
 pub mod Streams
 pub mod Primary
-pub mod Blocks
 pub mod Tracked
+pub mod Releases
 pub mod Accounted
 pub mod Secondary
 pub mod Joining
 pub mod Pair
-pub mod Settling
 pub mod WriteOrder
-pub mod Headlines
-pub mod Examples
+pub mod Theorems

@@ -1,9 +1,9 @@
 -- The pair: its runs are runs of two nodes that are joined.
 pub mod Honest
 pub mod Links
+pub mod LostConnections
 pub mod Primary
-pub mod Runs
-pub mod Secondary
 pub mod Refused
 pub mod RefusedFrames
-pub mod LostConnections
+pub mod Runs
+pub mod Secondary

@@ -5,14 +5,12 @@ pub mod ExtentsMoves
 pub mod Homes
 pub mod HomesFollowing
 pub mod HomesMoves
-pub mod InOrder
-pub mod InOrderMoves
 pub mod Journal
 pub mod LastEpoch
 pub mod LastOpen
 pub mod LawfulMoves
 pub mod Met
 pub mod Moves
-pub mod Releases
 pub mod Sendable
 pub mod StaysClosed
+pub mod Writes

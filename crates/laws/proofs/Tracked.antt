@@ -6,7 +6,6 @@ pub mod Moves
 pub mod Numbers
 pub mod Outcomes
 pub mod Quiet
-pub mod Released
 use Rattle.std.proofs.Common.{ℕ, ◌≡◌, ◌+◌, ◌<◌, ◌≤◌, true, false, List, length, Some, slice_get}
 use Rattle.std.specs.Prelude.{is_some}
 use Rattle.model.specs.Contents.{Write, covers}

@@ -17,5 +17,4 @@ pub mod SpanRuns
 pub mod SpanSteps
 pub mod SpanSubmits
 pub mod Spans
-pub mod Theorem
 pub mod Turns

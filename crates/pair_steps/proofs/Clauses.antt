@@ -9,8 +9,9 @@ use Rattle.model.specs.Secondary.{SecondaryHistory}
 use Rattle.model.specs.Theorems.{pair_at, marks_at, IsSoundOpening}
 use Rattle.model.specs.Headline.{TakesABeginning, StaysClosed, StaysClosedToo, HoldsEarlierEpochs, KeepsPromises, MarksDifferences, CoversDifferences, Cover, opening_marked}
 use Rattle.model.specs.WriteOrder.{KeepsWriteOrder, IsUnharmed}
-use Rattle.laws.proofs.Headlines.{every_beginning, every_epochs, every_promises, every_marks, every_cover, every_close}
-use Rattle.laws.proofs.WriteOrder.Theorem.{every_write_order}
+use Rattle.laws.proofs.Theorems.Headline.{every_beginning, every_epochs, every_promises, every_marks, every_close}
+use Rattle.laws.proofs.Theorems.Cover.{every_cover}
+use Rattle.laws.proofs.Theorems.WriteOrder.{every_write_order}
 use Rattle.pair_steps.specs.State.{IsRun, WasHonest}
 use Rattle.pair_steps.proofs.Honest.{opens-here, opens-there, honest-kept}
 use Rattle.pair_steps.proofs.Grounded.{grounded-kept}

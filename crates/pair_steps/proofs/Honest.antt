@@ -6,7 +6,7 @@ use Rattle.model.specs.Contents.{BlockMap}
 use Rattle.model.specs.Headline.{IsHonest}
 use Rattle.model.specs.Pair.{Event, PairHistory, step, run}
 use Rattle.model.specs.Theorems.{Opening}
-use Rattle.laws.proofs.Headlines.{every_run_is_joined}
+use Rattle.laws.proofs.Theorems.PairIsJoined.{every_run_is_joined}
 use Rattle.laws.proofs.Joining.Openings.{HasOpening, HasOpeningToo, kept-opening-primary, kept-opening-secondary}
 use Rattle.pair_steps.specs.State.{IsRun, WasHonest}
 use Rattle.pair_steps.proofs.Stepping.{is-run-more, same-opening}

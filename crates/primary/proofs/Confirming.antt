@@ -17,9 +17,9 @@ use Rattle.primary_steps.specs.Core.{Fate, Open, Failed, Completed, Entry, Prima
 use Rattle.primary_steps.specs.Leaves.{Leaves, entry_of, fate_in, is_linked}
 use Rattle.primary_steps.specs.Steps.{IsReached}
 use Rattle.primary_steps.specs.Transitions.{entry_at}
-use Rattle.primary_steps.proofs.Known.{reached-ordered}
-use Rattle.primary_steps.proofs.Numbers.{any-some, get-map}
-use Rattle.primary_steps.proofs.Telling.{IsNumbered, failed-open, entry-is, write-is}
+use Rattle.primary_steps.proofs.Common.Reached.{reached-ordered}
+use Rattle.primary_steps.proofs.Common.Numbers.{any-some, get-map}
+use Rattle.primary_steps.proofs.Receipts.Journal.{IsNumbered, failed-open, entry-is, write-is}
 use Rattle.primary_core.specs.Entries.{is_unconfirmed}
 use Rattle.primary.specs.Receipts.{is_entry_of, is_found, is_home, kind_of}
 

@@ -24,7 +24,7 @@ use Rattle.primary_steps.specs.Core.{EndState, PrimaryState, tested}
 use Rattle.primary_steps.specs.Transitions.{copying, resync_fault, resync_next, resync_tests}
 use Rattle.primary_steps.specs.Node.{NodeIsHad, NodeSteps, NodeState}
 use Rattle.primary_steps.specs.Steps.{replied}
-use Rattle.primary_steps.proofs.Marks.{length-marks}
+use Rattle.primary_steps.proofs.Common.Marks.{length-marks}
 use Rattle.primary_steps.proofs.Node.Disk.{disk-size}
 use Rattle.primary_steps.proofs.Node.Disks.{KeepsNode, copies-kept, held_in, node-copies, node-copy-fails, stays-kept}
 use Rattle.primary.specs.Calls.{CopiesOne}

@@ -35,7 +35,7 @@ use Rattle.laws.proofs.Primary.StaysClosed.{primary_stays_closed}
 use Rattle.laws.proofs.Joining.Ends.{outward-there}
 use Rattle.primary_steps.specs.Steps.{IsReached, plainly, replied}
 use Rattle.primary_steps.specs.Node.{NodeHas, NodeSteps, primary_step}
-use Rattle.primary_steps.proofs.Known.{reached-ordered}
+use Rattle.primary_steps.proofs.Common.Reached.{reached-ordered}
 use Rattle.primary_steps.proofs.Node.Keeps.{Change, Keeps, unchanged, keeps-self, keeps-following, submits-keeps, writes-keeps, fails-keeps, resyncs-keeps, closes-keeps, receipts-keeps}
 use Rattle.primary_steps.proofs.Node.Runs.{opens-to, refused-same}
 use Rattle.primary_steps.proofs.Node.Takes.{takes-keep}

@@ -14,7 +14,7 @@ use Rattle.model.specs.Refusals.{first_refusal}
 use Rattle.model.specs.Secondary.{Inward, SecondaryHistory, no_inward, inward, inward_at, items_taken}
 use Rattle.model.specs.Settlement.{Receipt, Settlement, applied_items, has_strange, is_at_rest, settlement, settle, unmarked_differences}
 use Rattle.model.specs.Theorems.{Opening, primary_at, secondary_at, marks_at, IsSoundOpening, Settles, SettlesAnyhow}
-use Rattle.laws.proofs.Headlines.{joined_settles, joined_settles_anyhow}
+use Rattle.laws.proofs.Theorems.Joined.{joined_settles, joined_settles_anyhow}
 use Rattle.laws.proofs.Joining.Openings.{kept-opening-primary, kept-opening-secondary}
 use Rattle.laws.proofs.Lists.Elements.{same-at}
 use Rattle.laws.proofs.Lists.Last.{last-at}

@@ -11,7 +11,7 @@ use Rattle.model.specs.Stream.{Item, WriteItem, ResyncItem, BarrierItem, SyncUui
 use Rattle.model.specs.Frames.{Received, RecvAckFrame, WriteAckFrame, RsWriteAckFrame, BarrierAckFrame, Acknowledged, naming}
 use Rattle.model.specs.Identifiers.{are_fresh, sync_end}
 use Rattle.model.specs.Marks.{marking, clearing}
-use Rattle.model.specs.Primary.{LocalOutcome, Waiting, OnDisk, Failed, Accepted, Outward, PrimaryHistory, primary_opening, no_outward, outward, last_index, change_last, with_outward, stands, in_resync, is_waiting, free_block, resync_runs, is_resync, was_resynced, open_writes, local_map, is_rs_write_ack, under_way, same_naming, items_sent, is_open, is_completed, is_failed, is_on_disk}
+use Rattle.model.specs.Primary.{OnDisk, Failed, Accepted, Outward, PrimaryHistory, primary_opening, no_outward, outward, last_index, change_last, with_outward, stands, in_resync, free_block, resync_runs, is_resync, was_resynced, open_writes, local_map, is_rs_write_ack, under_way, same_naming, items_sent}
 use Rattle.model.specs.PrimarySteps.{known_tuples, with_completions, epoch_is_over, appending, resync_is_over, ending_resync, follows, opened, is_unfinished, with_outcome, faulted, accepted_at}
 use Rattle.laws.specs.Reflections.{touches, is_sure}
 use Rattle.laws.proofs.Lists.Beginnings.{begins-self}
@@ -28,7 +28,8 @@ use Rattle.laws.proofs.Accounted.{sure-last, IsAccounted, Carries, KeepsBegun}
 use Rattle.laws.proofs.Accounted.Moves.{settled-carries, waiting-carries, first-carries}
 use Rattle.laws.proofs.Accounted.Turns.{account-submits, account-closes, account-refuses}
 use Rattle.laws.proofs.Accounted.Begins.{account-begins}
-use Rattle.laws.proofs.Accounted.Steps.{KeepsEnd, KeepsWrites, keeps-writes, keeps-outcome, carries-change, begun-change, accounted-carries, accounted-change, accounted-still, keeps-pushed, keeps-taken, open-plain, begun-at, accounted-appending}
+use Rattle.laws.proofs.Accounted.Steps.{KeepsEnd, carries-change, begun-change, accounted-carries, accounted-change, accounted-still, keeps-pushed, keeps-taken, open-plain, begun-at, accounted-appending}
+use Rattle.laws.proofs.Primary.Writes.{KeepsWrites, keeps-writes, keeps-outcome}
 use Rattle.laws.proofs.Lists.Elements.{get-left, get-more}
 use Rattle.laws.proofs.Blocks.Ranges.{touches-nothing}
 use Rattle.laws.proofs.Primary.Ends.{stands-parts, accepted-all}
@@ -100,16 +101,6 @@ resynced-now h ack contents plain same =
     let test = is_rs_write_ack (naming ack.place (ResyncItem ack.first contents)) in
     ap (list_any test) (accepted-all (with_frame (Ok (RsWriteAckFrame ack)) (outward h)) plain)
     ∙ (list_any-append test (outward h).taken (Ok (RsWriteAckFrame ack) ∷ []) ∙ or_right (list_any test (outward h).taken) (same_naming (naming ack.place (ResyncItem ack.first contents)) ack || false) (or_left (same_naming (naming ack.place (ResyncItem ack.first contents)) ack) false same))
-
--- a write that waits for the local disk is open
-pub waits-open : (h : PrimaryHistory) → IsKnown h → (i : ℕ) (a : Accepted) → slice_get h.writes i ≡ Some a → is_waiting a.outcome ≡ true → is_open h a ≡ true
-waits-open h known i a at waits = go (is_completed h a.write.number) refl a.outcome refl
-  where
-    go : (b : Bool) → is_completed h a.write.number ≡ b → (o : LocalOutcome) → a.outcome ≡ o → (not b && not (is_failed o)) ≡ true
-    go b is OnDisk o = absurd (both_ways (is_waiting a.outcome) (ap is_waiting o) waits)
-    go b is (Failed offsets) o = absurd (both_ways (is_waiting a.outcome) (ap is_waiting o) waits)
-    go true is Waiting o = absurd (let done = known.tracked.on_disk i a at is in both_ways (is_on_disk a.outcome) (ap is_on_disk o) done)
-    go false is Waiting o = refl
 
 -- What follows a step's effect.
 account-completions : (h : PrimaryHistory) → IsAccounted h → IsAccounted (with_completions h)

@@ -1,5 +1,5 @@
 -- A primary's half of the cover, of every run of it.
-use Rattle.std.proofs.Common.{ℕ, ◌≡◌, ◌<◌, ◌⊎◌, inl, inr, true, false, not, ◌&&◌, ◌||◌, [], Option, Some, None, slice_get, refl, sym, ◌∙◌, ap, subst, arith, nat_lt}
+use Rattle.std.proofs.Common.{ℕ, ◌≡◌, ◌<◌, ◌⊎◌, inl, inr, true, false, not, ◌&&◌, ◌||◌, Option, Some, None, slice_get, refl, sym, ◌∙◌, ap, subst, arith, nat_lt}
 use Rattle.std.specs.List.{list_any}
 use Rattle.std.proofs.lemmas.Bool.{cases_Bool, both_ways, or_parts, or_cases, or_right, and_from, not-true, lt-ltb, cases_lt, le-ltb}
 use Rattle.model.specs.Contents.{covers}
@@ -12,8 +12,8 @@ use Rattle.laws.proofs.Blocks.LatestPlaces.{latest-at, latest-none, latest-last}
 use Rattle.laws.proofs.Blocks.Overlays.{settled-is-local}
 use Rattle.laws.proofs.Tracked.Moves.{beyond-the-end}
 use Rattle.laws.proofs.Lists.Picks.{pick-any, pick-filtered}
-use Rattle.laws.proofs.Primary.Homes.{alone-homeless, HasHomes, alone-at}
-use Rattle.laws.proofs.Primary.LastOpen.{open-is-last, IsLastOpen}
+use Rattle.laws.proofs.Primary.Homes.{HasHomes}
+use Rattle.laws.proofs.Primary.LastOpen.{IsLastOpen, alone-at-rest}
 use Rattle.laws.proofs.Accounted.{IsAccounted, held-covers}
 use Rattle.laws.proofs.Accounted.Steps.{covered-inside}
 use Rattle.laws.proofs.Lists.Elements.{same-at}
@@ -79,27 +79,6 @@ reflected h block a clean = elim (cases_lt block h.settings.blocks) [
                       sure.same next i (omega arith) (subst (λ (x : Outward). slice_get x.stream next ≡ Some i) end stands) touched ∙ last
                 ];
               })
-        ]
-
--- no stream stands: each home is on a closed connection
-pub alone-at-rest : (h : PrimaryHistory) → HasHomes h → IsLastOpen h → stands (outward h) ≡ false → (i : ℕ) (w : Accepted) → slice_get h.writes i ≡ Some w → is_alone h w ≡ true
-alone-at-rest h homes closed resting i w at = go w.home refl
-  where
-    go : (v : Option (ℕ × ℕ)) → w.home ≡ v → is_alone h w ≡ true
-    go None is = alone-homeless h w is
-    go (Some home) is =
-        let was = homes.housed i home.0 home.1 w at is in
-        alone-at h w home was.0 is was.1 ∙ elim (cases_Bool was.0.closed) [
-          | inl shut ↦ shut
-          | inr unshut ↦ absurd (
-              let end : was.0 ≡ outward h = (open-is-last h home.0 was.0 closed was.1 unshut).1 in
-              let fresh : was.0.begun ≡ false = elim (cases_Bool was.0.begun) [
-                | inr new ↦ new
-                | inl begun ↦ absurd (both_ways (stands (outward h)) resting (subst (λ (c : Outward). stands c ≡ true) end (and_from (not was.0.closed) was.0.begun (subst (λ b. not b ≡ true) (sym unshut) refl) begun)))
-              ] in
-              let empty : was.0.stream ≡ [] = homes.empty home.0 was.0 was.1 fresh in
-              let item = was.2 in
-              cc (empty, item))
         ]
 
 -- Where no stream stands, an unreleased write waits without a connection, so its blocks are marked.

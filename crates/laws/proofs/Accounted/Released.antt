@@ -17,12 +17,12 @@ use Rattle.laws.proofs.Lists.Elements.{same-at}
 use Rattle.laws.proofs.Blocks.Latest.{Touch, latest}
 use Rattle.laws.proofs.Blocks.LatestPlaces.{latest-none}
 use Rattle.laws.proofs.Primary.Moves.{IsKeptByReleases, both-kept, keeps-run}
-use Rattle.laws.proofs.Primary.InOrder.{IsInOrder}
-use Rattle.laws.proofs.Primary.InOrderMoves.{Ordered, OrderedAfter, in-order-kept}
-use Rattle.laws.proofs.Primary.Releases.{IsRelease, IsCleared, done-releases, confirmed-releases, release-clears}
+use Rattle.laws.proofs.Releases.InOrder.{IsInOrder}
+use Rattle.laws.proofs.Releases.InOrderMoves.{Ordered, OrderedAfter, in-order-kept}
+use Rattle.laws.proofs.Releases.Cleared.{IsRelease, IsCleared, done-releases, confirmed-releases, release-clears}
 use Rattle.laws.proofs.Tracked.Kept.{IsKnown}
 use Rattle.laws.proofs.Tracked.Outcomes.{waiting-not-done}
-use Rattle.laws.proofs.Tracked.Released.{sent-since, latest-since, ordered-release, ordered-opening}
+use Rattle.laws.proofs.Releases.Runs.{sent-since, latest-since, ordered-release, ordered-opening}
 use Rattle.laws.proofs.Accounted.{IsSure, IsAccounted, KeepsBegun}
 use Rattle.laws.proofs.Accounted.Steps.{began-carries}
 use Rattle.laws.proofs.Accounted.Kept.{accounted-kept, accounted-opening}

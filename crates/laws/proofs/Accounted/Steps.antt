@@ -1,21 +1,19 @@
 -- The moves that neither accept a write nor begin, clear or close anything keep the account of unmarked blocks.
-use Rattle.std.proofs.Common.{ℕ, ◌≡◌, ◌-◌, ◌+◌, ◌<◌, ◌⊎◌, inl, inr, Bool, true, false, List, [], ◌∷◌, ◌++◌, length, map, Option, Some, None, slice_get, refl, sym, ◌∙◌, ap, subst, arith, ◌==◌, nat_lt, nat_le}
-use Rattle.std.specs.Prelude.{if◌then◌else◌, option_map}
+use Rattle.std.proofs.Common.{ℕ, ◌≡◌, ◌-◌, ◌+◌, ◌<◌, ◌⊎◌, inl, inr, Bool, true, false, List, [], ◌∷◌, ◌++◌, length, Some, None, slice_get, refl, sym, ◌∙◌, ap, subst, arith, nat_lt, nat_le}
+use Rattle.std.specs.Prelude.{if◌then◌else◌}
 use Rattle.std.proofs.lemmas.Bool.{cases_Bool, both_ways, and_parts, ltb-true}
-use Rattle.std.proofs.lemmas.Option.{slice_get-map}
 use Rattle.blocks.specs.declared.settings.Settings.{Settings}
 use Rattle.blocks.specs.declared.outcome.Decision.{Decision}
 use Rattle.blocks.specs.declared.outcome.Decision.TheVariants.{FullSync}
 use Rattle.model.specs.Contents.{covers}
 use Rattle.model.specs.Stream.{Item, IsBeginning}
 use Rattle.model.specs.Frames.{Received}
-use Rattle.model.specs.Primary.{LocalOutcome, Accepted, Outward, PrimaryHistory, no_outward, last_of, last_index, outward, change_last, accepted_frames, is_waiting}
-use Rattle.model.specs.PrimarySteps.{set_outcome}
+use Rattle.model.specs.Primary.{Accepted, Outward, PrimaryHistory, no_outward, last_of, last_index, outward, change_last, accepted_frames, is_waiting}
 use Rattle.laws.specs.Reflections.{touches, NoneBegan, FirstBegan}
 use Rattle.laws.proofs.Lists.Beginnings.{begins-self}
 use Rattle.laws.proofs.Lists.Last.{get-change, get-change-back, change-none, last-at}
 use Rattle.laws.proofs.Primary.Moves.{with_frame, pushing}
-use Rattle.laws.proofs.Primary.Homes.{HasHomes, Grows, grows-self, AllGrow, open-at, outcome-write, outcome-home}
+use Rattle.laws.proofs.Primary.Homes.{HasHomes, Grows, grows-self, AllGrow, open-at}
 use Rattle.laws.proofs.Blocks.Latest.{latest}
 use Rattle.laws.proofs.Blocks.LatestMoves.{latest-same-last, latest-appended}
 use Rattle.laws.proofs.Blocks.LatestPlaces.{latest-at}
@@ -23,47 +21,13 @@ use Rattle.laws.proofs.Tracked.Kept.{IsKnown}
 use Rattle.laws.proofs.Accounted.{IsAccounted, Carries, KeepsBegun}
 use Rattle.laws.proofs.Accounted.Moves.{ComeFrom, settled-carries, waiting-carries, none-carries, first-carries}
 use Rattle.laws.proofs.Primary.Ends.{not-refused, frames-taking}
+use Rattle.laws.proofs.Primary.Writes.{KeepsWrites, keeps-writes}
 
 -- What a move has to keep of the connection that it changes.
 pub record KeepsEnd (c d : Outward) : Type 0 where
   pub grows : Grows c d
   pub closed : d.closed ≡ true → c.closed ≡ true
   pub taken : IsBeginning c.taken d.taken
-
--- Writes that stay, in both directions.
-pub record KeepsWrites (ws vs : List Accepted) : Type 0 where
-  pub forward : (i : ℕ) (a : Accepted) → slice_get ws i ≡ Some a → (b : Accepted) × (slice_get vs i ≡ Some b) × (b.write ≡ a.write) × (b.home ≡ a.home) × (is_waiting a.outcome ≡ false → is_waiting b.outcome ≡ false)
-  pub back : (i : ℕ) (b : Accepted) → slice_get vs i ≡ Some b → (a : Accepted) × (slice_get ws i ≡ Some a) × (b.write ≡ a.write) × (b.home ≡ a.home) × (is_waiting b.outcome ≡ true → is_waiting a.outcome ≡ true)
-
--- writes that stay as they are are kept
-pub keeps-writes : (ws : List Accepted) → KeepsWrites ws ws
-keeps-writes ws = record { forward = λ i a at. (a, at, refl, refl, λ w. w); back = λ i b at. (b, at, refl, refl, λ w. w) }
-
--- the local disk has done or failed the write of a number
-pub keeps-outcome : (number : ℕ) (outcome : LocalOutcome) (ws : List Accepted) → is_waiting outcome ≡ false → KeepsWrites ws (map (set_outcome number outcome) ws)
-keeps-outcome number outcome ws done = record {
-  forward =
-      λ i a at. (set_outcome number outcome a, slice_get-map (set_outcome number outcome) ws i ∙ ap (option_map (set_outcome number outcome)) at, outcome-write number outcome a, outcome-home number outcome a, set-done a);
-  back = λ i b at. go i (slice_get ws i) refl b (sym (slice_get-map (set_outcome number outcome) ws i) ∙ at);
-}
-  where
-    set-done : (a : Accepted) → is_waiting a.outcome ≡ false → is_waiting (set_outcome number outcome a).outcome ≡ false
-    set-done a was = elim (a.write.number == number) as (λ b. is_waiting (if b then record a { outcome = outcome } else a).outcome ≡ false) [ true ↦ done | false ↦ was ]
-
-    set-back : (a : Accepted) → is_waiting (set_outcome number outcome a).outcome ≡ true → is_waiting a.outcome ≡ true
-    set-back a waits = elim (cases_Bool (is_waiting a.outcome)) [ inl is ↦ is | inr not_so ↦ absurd (both_ways (is_waiting (set_outcome number outcome a).outcome) (set-done a not_so) waits) ]
-
-    go : (i : ℕ) (v : Option Accepted) → slice_get ws i ≡ v → (b : Accepted) → option_map (set_outcome number outcome) v ≡ Some b
-        → (a : Accepted) × (slice_get ws i ≡ Some a) × (b.write ≡ a.write) × (b.home ≡ a.home) × (is_waiting b.outcome ≡ true → is_waiting a.outcome ≡ true)
-    go i None is b there = absurd (cc)
-    go i (Some a) is b there =
-        let same : set_outcome number outcome a ≡ b = cc in (
-          a,
-          is,
-          ap (λ (x : Accepted). x.write) (sym same) ∙ outcome-write number outcome a,
-          ap (λ (x : Accepted). x.home) (sym same) ∙ outcome-home number outcome a,
-          λ waits. set-back a (ap (λ (x : Accepted). is_waiting x.outcome) same ∙ waits),
-        )
 
 -- each write is still there, and does not wait again
 abbrev pub StayThere : List Accepted → List Accepted → Type 0

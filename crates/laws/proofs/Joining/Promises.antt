@@ -1,7 +1,7 @@
 -- What a completion over the link promises, of a primary and a secondary that ran by themselves and whose frames are joined.
-use Rattle.std.proofs.Common.{ℕ, zero, suc, ◌≡◌, ◌-◌, ◌<◌, Bool, true, false, ◌&&◌, List, [], ◌∷◌, length, take, map, Some, slice_get, Ok, Err, refl, sym, ◌∙◌, ap, subst, arith, ◌==◌}
+use Rattle.std.proofs.Common.{ℕ, zero, suc, ◌≡◌, ◌-◌, ◌<◌, Bool, true, false, List, [], ◌∷◌, length, take, map, Some, slice_get, Ok, Err, refl, sym, ◌∙◌, ap, subst}
 use Rattle.std.specs.Prelude.{if◌then◌else◌}
-use Rattle.std.proofs.lemmas.Bool.{and_parts, eqb-true, ltb-true}
+use Rattle.std.proofs.lemmas.Bool.{ltb-true}
 use Rattle.std.proofs.lemmas.Option.{slice_get_within}
 use Rattle.blocks.specs.declared.settings.Settings.{Settings}
 use Rattle.blocks.specs.declared.settings.Protocol.{Protocol}
@@ -9,18 +9,17 @@ use Rattle.blocks.specs.declared.settings.Protocol.TheVariants as protocol
 use Rattle.model.specs.Contents.{Write}
 use Rattle.model.specs.Stream.{Item, WriteItem, IsBeginning, is_whole}
 use Rattle.model.specs.Frames.{Packet, DataFrame, RsDataReplyFrame, BarrierFrame, ProtocolFrame, UuidsFrame, SizesFrame, SyncUuidFrame, RecvAckFrame, WriteAckFrame, RsWriteAckFrame, BarrierAckFrame, Acknowledged, Received, naming}
-use Rattle.model.specs.Primary.{Accepted, Outward, PrimaryHistory, items_sent, accepted_frames, same_naming, is_recv_ack, is_write_ack, is_answered_by, outward_at}
+use Rattle.model.specs.Primary.{Outward, PrimaryHistory, items_sent, accepted_frames, same_naming, is_recv_ack, is_write_ack, is_answered_by, outward_at}
 use Rattle.model.specs.Secondary.{Inward, SecondaryHistory, items_taken, answers_due, inward_at}
 use Rattle.model.specs.LocalRuns.{primary_run, secondary_run}
 use Rattle.model.specs.Headline.{Promise}
 use Rattle.model.specs.Theorems.{primary_at, secondary_at}
-use Rattle.laws.specs.Statements.{JoinedRunsKeepPromises, PrimaryWritesOnce}
+use Rattle.laws.specs.Statements.{JoinedRunsKeepPromises}
 use Rattle.laws.proofs.Lists.Beginnings.{begins-take, begins-self, begins-trans, get-beginning}
-use Rattle.laws.proofs.Secondary.TrueAnswers.{IsTruthful, all-run, truthful-none}
+use Rattle.laws.proofs.Secondary.TrueAnswers.{IsTruthful, all-run, truthful-none, same-place}
 use Rattle.laws.proofs.Primary.Moves.{keeps-run}
 use Rattle.laws.proofs.Primary.Homes.{HasHomes, IsLinked}
 use Rattle.laws.proofs.Primary.HomesMoves.{homes-kept, homes-released, homes-opening}
-use Rattle.laws.proofs.Lists.Elements.{same-at}
 use Rattle.laws.proofs.Lists.Picks.{pick-any}
 use Rattle.laws.proofs.Joining.Taking.{takes_a_beginning, read}
 use Rattle.laws.proofs.Lists.Each.{Each, each-get}
@@ -54,12 +53,6 @@ write-ack of (Ok (RecvAckFrame ack)) h = absurd (cc)
 write-ack of (Ok (WriteAckFrame ack)) h = (ack, refl, h)
 write-ack of (Ok (RsWriteAckFrame ack)) h = absurd (cc)
 write-ack of (Ok (BarrierAckFrame number size)) h = absurd (cc)
-
--- what names an item names its place
-pub same-place : (of ack : Acknowledged) → same_naming of ack ≡ true → of.place ≡ ack.place
-same-place of ack h =
-    let last = (and_parts ((of.first == ack.first) && (of.number == ack.number)) ((of.count == ack.count) && (of.place == ack.place)) h).1 in
-    eqb-true of.place ack.place (and_parts (of.count == ack.count) (of.place == ack.place) last).1
 
 -- a frame that was read is the one that was pushed
 pub read-back : (packets : List Packet) (n : ℕ) (packet : Packet) → slice_get (map read packets) n ≡ Some (Ok packet) → slice_get packets n ≡ Some packet
@@ -138,20 +131,3 @@ keeps_promises o here there any joined =
           (joined.back (suc k)) (takes_a_beginning p s joined (suc k)) item answered;
       home = λ n entry at linked. let l : IsLinked p.settings.protocol p.connections entry = homes.journal n entry at linked in (l.connection, l.place, l.end, l.home, l.there, l.item);
     }
-
--- A write has one place.
-pub writes_once : PrimaryWritesOnce
-writes_once o events k l place other c d a b atc atd ina inb number =
-    let p : PrimaryHistory = primary_run events (primary_at o) in
-    let homes : HasHomes p = keeps-run HasHomes HasHomes homes-kept homes-released events (primary_at o) (homes-opening o.settings o.local o.own o.marks) in
-    let x = homes.homed k place c a atc ina in
-    let y = homes.homed l other d b atd inb in
-    let nx : a.number ≡ suc x.0 = ap (λ (w : Write). w.number) (sym x.3) ∙ homes.numbered x.0 x.1 x.2 in
-    let ny : b.number ≡ suc y.0 = ap (λ (w : Write). w.number) (sym y.3) ∙ homes.numbered y.0 y.1 y.2 in
-    let index : x.0 ≡ y.0 = omega arith in
-    let same : x.1 ≡ y.1 = same-at p.writes y.0 x.1 y.1 (subst (λ n. slice_get p.writes n ≡ Some x.1) index x.2) y.2 in
-    let one : ℕ × ℕ = (k, place) in
-    let two : ℕ × ℕ = (l, other) in
-    let homes : Some one ≡ Some two = sym x.4 ∙ (ap (λ (z : Accepted). z.home) same ∙ y.4) in
-    let pairs : one ≡ two = cc in
-    (ap (λ (z : ℕ × ℕ). z.0) pairs, ap (λ (z : ℕ × ℕ). z.1) pairs)

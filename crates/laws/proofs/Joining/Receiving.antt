@@ -1,8 +1,8 @@
 -- The secondary accepts each frame that the primary pushed: a frame of the hello in its turn, and then the stream's items, each
 -- of which may stand where it stands.
-use Rattle.std.proofs.Common.{ℕ, zero, suc, ◌≡◌, ◌+◌, ◌-◌, ◌≤◌, ◌<◌, Bool, true, false, cond, List, [], ◌∷◌, ◌++◌, length, take, drop, Some, slice_get, Ok, Err, refl, sym, ◌∙◌, ap, subst, arith, ◌==◌, nat_lt}
+use Rattle.std.proofs.Common.{ℕ, zero, suc, ◌≡◌, ◌+◌, ◌-◌, ◌<◌, Bool, true, false, cond, List, [], ◌∷◌, ◌++◌, length, take, Some, slice_get, Ok, Err, refl, sym, ◌∙◌, ap, subst, arith, ◌==◌, nat_lt}
 use Rattle.std.proofs.lemmas.Bool.{and_from, eqb-true, eq-eqb, lt-ltb, ltb-true, ltb-false, false_from_ne_true, both_ways, not_from_false}
-use Rattle.std.proofs.lemmas.List.{length-take-le, take-append-drop}
+use Rattle.std.proofs.lemmas.List.{length-take-le}
 use Rattle.std.proofs.lemmas.Option.{slice_get_within}
 use Rattle.blocks.specs.declared.refusal.Refusal.{Refusal}
 use Rattle.blocks.specs.declared.outcome.What.{What}
@@ -17,9 +17,9 @@ use Rattle.model.specs.SecondarySteps.{Checked, checking_hello, checking_item, c
 use Rattle.laws.specs.Statements.{is_protocol_error}
 use Rattle.laws.proofs.Lists.Fronts.{get-front, all-get}
 use Rattle.laws.proofs.Lists.Picks.{pick-any, pick-filtered}
-use Rattle.laws.proofs.Streams.Places.{epoch-grows}
 use Rattle.laws.proofs.Streams.Sendable.{MayStand}
 use Rattle.laws.proofs.Joining.HonestEnds.{AreHonestEnds, protocol-self, get-frames, items-front}
+use Rattle.laws.proofs.Streams.Places.{epoch-front}
 
 -- a frame that is accepted, or refused but not as a protocol error
 abbrev pub IsFine : Checked → Type 0
@@ -64,12 +64,6 @@ get-of-epoch items epoch n entry at =
     let index : 0 + found.0 ≡ found.0 = omega arith in
     let is : entry ≡ (found.0, there.0) = there.2 ∙ ap (λ (m : ℕ). (m, there.0)) index in
     (found.0, there.0, is, there.1, subst (λ (e : ℕ × Item). epoch_of items e.0 ≡ epoch) is (eqb-true (epoch_of items entry.0) epoch found.2))
-
--- a place of a front keeps its epoch
-pub epoch-front : (items : List Item) (n place : ℕ) → place < n → n ≤ length items → epoch_of (take n items) place ≡ epoch_of items place
-epoch-front items n place less within =
-    let size : length (take n items) ≡ n = length-take-le n items within in
-    sym (epoch-grows (take n items) (drop n items) place (omega arith)) ∙ ap (λ (l : List Item). epoch_of l place) (take-append-drop n items)
 
 -- an item of a lawful stream shares no block with those of its epoch before it
 apart-front : (max_epoch : ℕ) (stream : List Item) (m : ℕ) (item : Item) → IsLawful max_epoch stream → slice_get stream m ≡ Some item → is_apart item (take m stream) ≡ true

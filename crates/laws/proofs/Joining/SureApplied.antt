@@ -14,7 +14,8 @@ use Rattle.laws.specs.Reflections.{is_sure}
 use Rattle.laws.proofs.Lists.Beginnings.{begins-take, begins-trans, get-beginning, begins-self}
 use Rattle.laws.proofs.Streams.Parts.{whole-from}
 use Rattle.laws.proofs.Streams.Places.{epoch-grows, epoch-behind, get-grows}
-use Rattle.laws.proofs.Joining.Promises.{same-place, was-due}
+use Rattle.laws.proofs.Secondary.TrueAnswers.{same-place}
+use Rattle.laws.proofs.Joining.Promises.{was-due}
 use Rattle.laws.proofs.Secondary.TrueBarriers.{barrier_is_applied, resynced_is_applied}
 use Rattle.laws.proofs.Lists.Elements.{same-at}
 use Rattle.laws.proofs.Lists.Picks.{pick-any}

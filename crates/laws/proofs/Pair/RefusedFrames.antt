@@ -1,5 +1,5 @@
 -- An end that refuses a frame has all effects of a close: its step leaves what the close leaves once the frame counts as taken.
-use Rattle.std.proofs.Common.{◌+◌, ◌-◌, ◌⊎◌, drop, take, filter, arith}
+use Rattle.std.proofs.Common.{◌+◌, ◌-◌, ◌⊎◌, drop, take, filter, arith, ℕ, zero, suc, ◌≡◌, Bool, true, false, not, ◌&&◌, ◌||◌, List, [], ◌∷◌, ◌++◌, length, Option, Some, None, Result, Ok, Err, refl, ap, inl, inr, sym, ◌∙◌, nat_le}
 use Rattle.std.specs.Prelude.{filter_map}
 use Rattle.std.proofs.Math.Seq.{take-append_seam}
 use Rattle.std.proofs.lemmas.List.{length-append}
@@ -7,7 +7,6 @@ use Rattle.model.specs.Contents.{overlay}
 use Rattle.model.specs.Stream.{Item, placed, layers_of}
 use Rattle.model.specs.Frames.{counting}
 use Rattle.model.specs.Secondary.{received_item, items_taken, is_pending, map_of}
-use Rattle.std.proofs.Common.{ℕ, zero, suc, ◌≡◌, Bool, true, false, not, ◌&&◌, ◌||◌, List, [], ◌∷◌, ◌++◌, length, Option, Some, None, Result, Ok, Err, refl, ap, inl, inr, sym, ◌∙◌, nat_le}
 use Rattle.std.specs.Prelude.{if◌then◌else◌}
 use Rattle.std.proofs.lemmas.Bool.{both_ways}
 use Rattle.blocks.specs.declared.tuple.Tuple.{Tuple}

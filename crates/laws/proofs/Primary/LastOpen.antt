@@ -1,17 +1,18 @@
 -- Of a primary's connections the last one alone may be open.
-use Rattle.std.proofs.Common.{ℕ, suc, ◌≡◌, ◌+◌, ◌-◌, ◌<◌, inl, inr, Bool, true, false, List, [], ◌∷◌, ◌++◌, length, Option, Some, None, slice_get, sym, ◌∙◌, ap, subst, arith, length-append}
-use Rattle.std.proofs.lemmas.Bool.{both_ways, cases_lt}
+use Rattle.std.proofs.Common.{ℕ, suc, ◌≡◌, ◌+◌, ◌-◌, ◌<◌, inl, inr, Bool, true, false, List, [], ◌∷◌, ◌++◌, length, Option, Some, None, slice_get, sym, ◌∙◌, ap, subst, arith, length-append, not, refl}
+use Rattle.std.proofs.lemmas.Bool.{both_ways, cases_lt, cases_Bool, and_from}
 use Rattle.std.proofs.lemmas.Option.{slice_get_within}
 use Rattle.blocks.specs.declared.outcome.Decision.{Decision}
 use Rattle.blocks.specs.declared.outcome.Decision.TheVariants.{NoSync, BitmapSync, FullSync}
 use Rattle.model.specs.Stream.{WriteItem, within}
 use Rattle.model.specs.Marks.{marking}
-use Rattle.model.specs.Primary.{Waiting, Failed, Accepted, Outward, PrimaryHistory, no_outward, outward, last_index, change_last, stands}
+use Rattle.model.specs.Primary.{Waiting, Failed, Accepted, Outward, PrimaryHistory, no_outward, outward, last_index, change_last, stands, is_alone}
 use Rattle.model.specs.PrimarySteps.{appending, submission, submitted, opened, with_outcome, faulted, accepted_at}
 use Rattle.model.specs.Acknowledgements.{begun_with}
 use Rattle.laws.proofs.Lists.Last.{get-change-back, last-at, length-change}
 use Rattle.laws.proofs.Primary.Moves.{following-from, IsKeptByMoves}
 use Rattle.laws.proofs.Lists.Elements.{get-more, same-at}
+use Rattle.laws.proofs.Primary.Homes.{alone-homeless, HasHomes, alone-at}
 
 -- every connection before the last one is closed
 abbrev pub IsLastOpen : PrimaryHistory → Type 0
@@ -30,6 +31,27 @@ open-is-last h k c all at unshut =
             | inr ends ↦ (index, same-at h.connections (last_index h.connections) c (outward h) (subst (λ (n : ℕ). slice_get h.connections n ≡ Some c) index at) ends)
           ]
     ]
+
+-- no stream stands: each home is on a closed connection
+pub alone-at-rest : (h : PrimaryHistory) → HasHomes h → IsLastOpen h → stands (outward h) ≡ false → (i : ℕ) (w : Accepted) → slice_get h.writes i ≡ Some w → is_alone h w ≡ true
+alone-at-rest h homes closed resting i w at = go w.home refl
+  where
+    go : (v : Option (ℕ × ℕ)) → w.home ≡ v → is_alone h w ≡ true
+    go None is = alone-homeless h w is
+    go (Some home) is =
+        let was = homes.housed i home.0 home.1 w at is in
+        alone-at h w home was.0 is was.1 ∙ elim (cases_Bool was.0.closed) [
+          | inl shut ↦ shut
+          | inr unshut ↦ absurd (
+              let end : was.0 ≡ outward h = (open-is-last h home.0 was.0 closed was.1 unshut).1 in
+              let fresh : was.0.begun ≡ false = elim (cases_Bool was.0.begun) [
+                | inr new ↦ new
+                | inl begun ↦ absurd (both_ways (stands (outward h)) resting (subst (λ (c : Outward). stands c ≡ true) end (and_from (not was.0.closed) was.0.begun (subst (λ b. not b ≡ true) (sym unshut) refl) begun)))
+              ] in
+              let empty : was.0.stream ≡ [] = homes.empty home.0 was.0 was.1 fresh in
+              let item = was.2 in
+              cc (empty, item))
+        ]
 
 -- a change of the last connection keeps it
 pub changes : (cs : List Outward) (f : Outward → Outward) → ((k : ℕ) (c : Outward) → slice_get cs k ≡ Some c → suc k < length cs → c.closed ≡ true)

@@ -2,7 +2,7 @@
 use Rattle.std.proofs.Common.{ℕ, ◌≡◌, ◌<◌, inl, inr, Bool, true, false, cond, ◌&&◌, ◌||◌, List, [], ◌∷◌, ◌++◌, length, Option, Some, None, slice_get, Ok, refl, sym, ◌∙◌, ap, subst, arith, ◌==◌, nat_le, nat_lt, filter}
 use Rattle.std.specs.Prelude.{unwrap_or}
 use Rattle.std.specs.List.{list_any}
-use Rattle.std.proofs.lemmas.Bool.{both_ways, and_parts, and_right, or_from, ne_eqb, leb-true, false_from_ne_true}
+use Rattle.std.proofs.lemmas.Bool.{both_ways, and_parts, and_right, or_from, leb-true, false_from_ne_true}
 use Rattle.std.proofs.lemmas.List.Folds.{list_any-append}
 use Rattle.blocks.specs.declared.settings.Settings.{Settings}
 use Rattle.blocks.specs.declared.tuple.Tuple.{Tuple}
@@ -24,7 +24,7 @@ use Rattle.laws.proofs.Primary.Moves.{following-from, IsKeptByMoves, IsKeptByRel
 use Rattle.laws.proofs.Primary.Homes.{HasHomes}
 use Rattle.laws.proofs.Primary.HomesMoves.{homes-kept, homes-marks, homes-opening}
 use Rattle.laws.proofs.Primary.StaysClosed.{open-stands, over-stands}
-use Rattle.laws.proofs.Streams.Lawful.{MayFollow, lawful-append, lawful-empty, meets-none, epoch-items-grow, epoch-empty, size-grow}
+use Rattle.laws.proofs.Streams.Lawful.{MayFollow, lawful-append, lawful-empty, meets-none, epoch-items-grow, size-grow, barrier-empties}
 use Rattle.laws.proofs.Primary.LastEpoch.{end-open, write-follows, resync-follows}
 use Rattle.laws.proofs.Lists.Elements.{get-more}
 use Rattle.laws.proofs.Lists.Picks.{any-none}
@@ -58,16 +58,6 @@ not-over : (h : PrimaryHistory) (c : Outward) → list_any (is_settled h c) (ite
 not-over h c unsettled room = and_right (stands c) _ (or_from _ _ unsettled (false_from_ne_true _ (λ full.
     let more = leb-true h.settings.max_epoch (epoch_size c.stream (last_epoch c.stream)) full in
     omega arith)))
-
--- behind a barrier begins an epoch without items
-pub barrier-empties : (items : List Item) (epoch : ℕ) → items_of_epoch (items ++ BarrierItem epoch ∷ []) (last_epoch (items ++ BarrierItem epoch ∷ [])) ≡ []
-barrier-empties items epoch =
-    let grown = barriers-append items (BarrierItem epoch ∷ []) in
-    let last : ℕ = last_epoch (items ++ BarrierItem epoch ∷ []) in
-    let other : (last_epoch items == last) ≡ false = ne_eqb (last_epoch items) last (λ same. omega arith) in
-    epoch-items-grow items (BarrierItem epoch) last
-    ∙ (ap (λ b. items_of_epoch items last ++ cond b ((length items, BarrierItem epoch) ∷ []) []) other
-    ∙ ap (λ (l : List (ℕ × Item)). l ++ []) (epoch-empty items last (omega arith)))
 
 -- The last connection changes, and its stream stays lawful.
 lawful-change : (settings : Settings) (h later : PrimaryHistory) (f : Outward → Outward) → later.settings ≡ h.settings → later.connections ≡ change_last f h.connections

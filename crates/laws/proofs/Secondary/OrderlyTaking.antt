@@ -18,7 +18,7 @@ use Rattle.model.specs.SecondarySteps.{is_pending_at, has_earlier, offsets_at, a
 use Rattle.laws.proofs.Lists.Elements.{get-more, get-end, same-at}
 use Rattle.laws.proofs.Lists.Picks.{pick-any}
 use Rattle.laws.proofs.Streams.Parts.{in-append, in-offsets, whole-has, whole-from}
-use Rattle.laws.proofs.Joining.Promises.{same-place}
+use Rattle.laws.proofs.Secondary.TrueAnswers.{same-place}
 use Rattle.laws.proofs.Secondary.Moves.{framed, receipting}
 use Rattle.laws.proofs.Secondary.Sound.{Started, starting}
 use Rattle.laws.proofs.Secondary.Good.{IsGood, good-due, good-taking, good-applying}

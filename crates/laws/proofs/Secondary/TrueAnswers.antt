@@ -1,7 +1,7 @@
 -- What a secondary's acknowledgements say is true: what they name was taken, or is applied. Over every list of its events.
 use Rattle.std.proofs.Common.{ℕ, zero, suc, ◌≡◌, ◌-◌, ◌<◌, ◌⊎◌, inl, inr, Bool, true, false, cond, not, ◌&&◌, ◌||◌, List, [], ◌∷◌, ◌++◌, length, take, drop, map, Option, Some, None, is_none, slice_get, Ok, Err, refl, sym, ◌∙◌, ap, subst, arith, ◌==◌, nat_lt, nat_le}
 use Rattle.std.specs.Prelude.{filter_map, if◌then◌else◌}
-use Rattle.std.proofs.lemmas.Bool.{cases_Bool, both_ways, not-false, and_from, or_left, or_right, eq-eqb, ltb-false, cases_lt}
+use Rattle.std.proofs.lemmas.Bool.{cases_Bool, both_ways, not-false, and_from, or_left, or_right, eq-eqb, ltb-false, cases_lt, and_parts, eqb-true}
 use Rattle.std.proofs.lemmas.List.Elements.{filter_map-append}
 use Rattle.std.proofs.lemmas.List.{append-nil, map-append, drop-append-le}
 use Rattle.blocks.specs.declared.refusal.Refusal.{Refusal}
@@ -17,7 +17,7 @@ use Rattle.blocks.specs.declared.tuple.Tuple.{Tuple}
 use Rattle.model.specs.Contents.{BlockMap, Write}
 use Rattle.model.specs.Stream.{Item, WriteItem, ResyncItem, BarrierItem, SyncUuidItem, UuidsItem, Part, is_in, is_whole, below, contents_of, within}
 use Rattle.model.specs.Frames.{Packet, DataFrame, RsDataReplyFrame, BarrierFrame, ProtocolFrame, UuidsFrame, SizesFrame, SyncUuidFrame, RecvAckFrame, WriteAckFrame, RsWriteAckFrame, BarrierAckFrame, Acknowledged, Received, naming}
-use Rattle.model.specs.Primary.{change_last}
+use Rattle.model.specs.Primary.{change_last, same_naming}
 use Rattle.model.specs.Refusals.{Test, done_with}
 use Rattle.model.specs.Secondary.{Inward, SecondaryHistory, no_inward, inward, with_inward, items_taken, accepted_of, received_item, pending, secondary_map}
 use Rattle.model.specs.SecondarySteps.{answering, barrier_answer, barriers_to_answer, succeeding_secondary, open_secondary_tests, opened_secondary, open_secondary, Checked, checking_hello, checking_item, checking, adopting, receiving, take_item, receive, peer_tests, is_pending_at, has_earlier, offsets_at, applied_answer, applying, peer, failing, peer_fault, ack_out_tests, answering_with, ack_out, close_secondary, blocks_at}
@@ -43,6 +43,12 @@ pub record NamesApplied (d : Inward) (ack : Acknowledged) : Type 0 where
   pub item : Item
   pub there : slice_get (items_taken d) ack.place ≡ Some item
   pub whole : is_whole d.applied ack.place item ≡ true
+
+-- what names an item names its place
+pub same-place : (of ack : Acknowledged) → same_naming of ack ≡ true → of.place ≡ ack.place
+same-place of ack h =
+    let last = (and_parts ((of.first == ack.first) && (of.number == ack.number)) ((of.count == ack.count) && (of.place == ack.place)) h).1 in
+    eqb-true of.place ack.place (and_parts (of.count == ack.count) (of.place == ack.place) last).1
 
 abbrev pub IsTrueAnswer : Inward → Packet → Type 0
 IsTrueAnswer d (RecvAckFrame ack) = NamesTaken d ack

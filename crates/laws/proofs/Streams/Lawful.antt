@@ -1,6 +1,6 @@
 -- A lawful stream stays lawful as items go to its end.
 use Rattle.std.proofs.Common.{ℕ, suc, ◌≡◌, ◌+◌, ◌≤◌, ◌<◌, ◌⊎◌, inl, inr, Bool, true, false, cond, ◌&&◌, List, [], ◌∷◌, ◌++◌, length, take, drop, filter, Some, slice_get, refl, sym, ◌∙◌, ap, subst, arith, ◌==◌, nat_lt, length-append}
-use Rattle.std.proofs.lemmas.Bool.{both_ways, and_parts, and_from, and_right, false_from_ne_true, ltb-true, lt-ltb, le-leb, eqb-true}
+use Rattle.std.proofs.lemmas.Bool.{both_ways, and_parts, and_from, and_right, false_from_ne_true, ltb-true, lt-ltb, le-leb, eqb-true, ne_eqb}
 use Rattle.std.proofs.lemmas.List.{take-append-drop}
 use Rattle.std.proofs.lemmas.List.Elements.{filter-append}
 use Rattle.std.proofs.lemmas.Option.{slice_get_within}
@@ -61,6 +61,16 @@ epoch-empty items epoch behind = filter-none (λ entry. epoch_of items entry.0 =
     let is : epoch_of items place ≡ epoch = eqb-true (epoch_of items place) epoch same in
     let bound = epoch-bound items place in
     omega arith))
+
+-- behind a barrier begins an epoch without items
+pub barrier-empties : (items : List Item) (epoch : ℕ) → items_of_epoch (items ++ BarrierItem epoch ∷ []) (last_epoch (items ++ BarrierItem epoch ∷ [])) ≡ []
+barrier-empties items epoch =
+    let grown = barriers-append items (BarrierItem epoch ∷ []) in
+    let last : ℕ = last_epoch (items ++ BarrierItem epoch ∷ []) in
+    let other : (last_epoch items == last) ≡ false = ne_eqb (last_epoch items) last (λ same. omega arith) in
+    epoch-items-grow items (BarrierItem epoch) last
+    ∙ (ap (λ b. items_of_epoch items last ++ cond b ((length items, BarrierItem epoch) ∷ []) []) other
+    ∙ ap (λ (l : List (ℕ × Item)). l ++ []) (epoch-empty items last (omega arith)))
 
 -- the item at a place is a write
 abbrev writes_there : ℕ × Item → Bool

@@ -1,8 +1,8 @@
 -- Places of a stream, their epochs as the stream grows, and tests over the items at their places.
-use Rattle.std.proofs.Common.{ℕ, zero, suc, ◌≡◌, ◌+◌, ◌-◌, ◌≤◌, ◌<◌, inl, inr, Bool, true, false, cond, List, [], ◌∷◌, ◌++◌, length, take, map, filter, Some, slice_get, refl, sym, ◌∙◌, ap, subst, arith, ◌==◌, length-append}
+use Rattle.std.proofs.Common.{ℕ, zero, suc, ◌≡◌, ◌+◌, ◌-◌, ◌≤◌, ◌<◌, inl, inr, Bool, true, false, cond, List, [], ◌∷◌, ◌++◌, length, take, map, filter, Some, slice_get, refl, sym, ◌∙◌, ap, subst, arith, ◌==◌, length-append, drop}
 use Rattle.std.specs.List.{list_any}
 use Rattle.std.proofs.lemmas.Bool.{or_parts, or_cases, or_left, or_right, eqb-true, eq-eqb, cases_Bool}
-use Rattle.std.proofs.lemmas.List.{take-append-le}
+use Rattle.std.proofs.lemmas.List.{take-append-le, length-take-le, take-append-drop}
 use Rattle.std.proofs.lemmas.List.Elements.{filter-append}
 use Rattle.model.specs.Stream.{Item, is_barrier, barriers_in, epoch_of, last_epoch, placed_from}
 use Rattle.std.specs.Prelude.{map, filter}
@@ -14,6 +14,12 @@ barriers-append xs ys = ap length (filter-append is_barrier xs ys) ∙ length-ap
 -- a place keeps its epoch as the stream grows
 pub epoch-grows : (items more : List Item) (place : ℕ) → place ≤ length items → epoch_of (items ++ more) place ≡ epoch_of items place
 epoch-grows items more place within = ap (λ xs. suc (barriers_in xs)) (take-append-le place items more within)
+
+-- a place of a front keeps its epoch
+pub epoch-front : (items : List Item) (n place : ℕ) → place < n → n ≤ length items → epoch_of (take n items) place ≡ epoch_of items place
+epoch-front items n place less within =
+    let size : length (take n items) ≡ n = length-take-le n items within in
+    sym (epoch-grows (take n items) (drop n items) place (omega arith)) ∙ ap (λ (l : List Item). epoch_of l place) (take-append-drop n items)
 
 take-past : {X : Type 0} (xs ys : List X) (n : ℕ) → length xs ≤ n → take n (xs ++ ys) ≡ xs ++ take (n - length xs) ys
 take-past [] ys n past = ap (λ m. take m ys) (omega arith)

@@ -16,8 +16,7 @@ use Rattle.model.specs.PrimarySteps.{is_settled, epoch_is_over}
 use Rattle.laws.proofs.Lists.Elements.{get-more, get-there}
 use Rattle.laws.proofs.Lists.Picks.{pick-any, any-pick, any-none, pick-filtered}
 use Rattle.laws.proofs.Streams.Places.{barriers-append}
-use Rattle.laws.proofs.Streams.Lawful.{epoch-items-grow}
-use Rattle.laws.proofs.Primary.LawfulMoves.{barrier-empties}
+use Rattle.laws.proofs.Streams.Lawful.{epoch-items-grow, barrier-empties}
 
 -- What is asked of an item by what stands before it: its blocks are a range of the device; SYNC_UUID comes first and its word
 -- is not zero; resync blocks and closing UUIDS come in a resync.

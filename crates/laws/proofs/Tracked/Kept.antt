@@ -1,5 +1,5 @@
 -- Every move of a primary keeps what its history keeps of its blocks, and that the journal has accepted writes alone.
-use Rattle.std.proofs.Common.{ℕ, suc, ◌≡◌, ◌≤◌, ◌<◌, inl, inr, Bool, true, false, ◌&&◌, List, [], ◌∷◌, ◌++◌, length, map, Option, Some, None, slice_get, Ok, ap, arith, ◌==◌, length-append, not, sym, ◌∙◌}
+use Rattle.std.proofs.Common.{ℕ, suc, ◌≡◌, ◌≤◌, ◌<◌, inl, inr, Bool, true, false, ◌&&◌, List, [], ◌∷◌, ◌++◌, length, map, Option, Some, None, slice_get, Ok, ap, arith, ◌==◌, length-append, not, sym, ◌∙◌, refl}
 use Rattle.std.specs.Prelude.{is_some}
 use Rattle.std.proofs.lemmas.Bool.{cases_Bool, eqb-true, and_parts, both_ways, not-true, eq-eqb}
 use Rattle.std.proofs.lemmas.List.{length-map}
@@ -12,7 +12,7 @@ use Rattle.model.specs.Contents.{BlockMap}
 use Rattle.model.specs.Stream.{WriteItem, BarrierItem, last_epoch, within}
 use Rattle.model.specs.Frames.{UuidsFrame}
 use Rattle.model.specs.Marks.{marking}
-use Rattle.model.specs.Primary.{LocalOutcome, Waiting, OnDisk, Failed, Accepted, Completion, PrimaryHistory, primary_opening, outward, last_index, with_outward, stands, is_open, completes, is_completed, is_failed}
+use Rattle.model.specs.Primary.{LocalOutcome, Waiting, OnDisk, Failed, Accepted, Completion, PrimaryHistory, primary_opening, outward, last_index, with_outward, stands, is_open, completes, is_completed, is_failed, is_waiting, is_on_disk}
 use Rattle.model.specs.PrimarySteps.{newly_completed, completion_of, with_completions, epoch_is_over, resync_is_over, ending_resync, follows, submission, submitted, appending, set_outcome, with_outcome, accepted_at, faulted}
 use Rattle.model.specs.Acknowledgements.{begun_with}
 use Rattle.laws.proofs.Primary.Moves.{IsKeptByMoves, following-from, with_frame}
@@ -46,6 +46,16 @@ fresh-number h numbers = elim (cases_Bool (is_completed h (suc (length h.writes)
 pub record IsKnown (h : PrimaryHistory) : Type 0 where
   pub tracked : IsTracked h
   pub numbers : HasNumbers h
+
+-- a write that waits for the local disk is open
+pub waits-open : (h : PrimaryHistory) → IsKnown h → (i : ℕ) (a : Accepted) → slice_get h.writes i ≡ Some a → is_waiting a.outcome ≡ true → is_open h a ≡ true
+waits-open h known i a at waits = go (is_completed h a.write.number) refl a.outcome refl
+  where
+    go : (b : Bool) → is_completed h a.write.number ≡ b → (o : LocalOutcome) → a.outcome ≡ o → (not b && not (is_failed o)) ≡ true
+    go b is OnDisk o = absurd (both_ways (is_waiting a.outcome) (ap is_waiting o) waits)
+    go b is (Failed offsets) o = absurd (both_ways (is_waiting a.outcome) (ap is_waiting o) waits)
+    go true is Waiting o = absurd (let done = known.tracked.on_disk i a at is in both_ways (is_on_disk a.outcome) (ap is_on_disk o) done)
+    go false is Waiting o = refl
 
 -- What follows a step.
 

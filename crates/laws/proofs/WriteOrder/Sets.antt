@@ -21,7 +21,7 @@ use Rattle.laws.proofs.Streams.Places.{epoch-grows, epoch-behind, get-grows, pla
 use Rattle.laws.proofs.Streams.Parts.{whole-has}
 use Rattle.laws.proofs.Joining.Ends.{AreEnds, outward-there}
 use Rattle.laws.proofs.Primary.Homes.{HasHomes}
-use Rattle.laws.proofs.Primary.InOrder.{IsInOrder}
+use Rattle.laws.proofs.Releases.InOrder.{IsInOrder}
 use Rattle.laws.proofs.WriteOrder.Layers.{full_layer, writes_over, under-bare, overlay-front, LastPassing, last-passing, layers-bare, layers-last}
 
 -- The writes that were completed when another one was accepted: they were accepted earlier, and on one connection they are of an

@@ -2,7 +2,7 @@
 use Rattle.std.proofs.Common.{ℕ, ◌≡◌, ◌-◌, ◌+◌, ◌<◌, inl, inr, true, false, not, ◌==◌, List, [], ◌∷◌, ◌++◌, length, take, map, Option, Some, None, slice_get, Ok, refl, sym, ◌∙◌, ap, subst, arith}
 use Rattle.std.specs.Prelude.{is_some, unwrap_or}
 use Rattle.std.specs.List.{list_any}
-use Rattle.std.proofs.lemmas.Bool.{cases_Bool, cases_lt, both_ways, and_parts, and_cases, and_from, not-true, not-false, eqb-true, lt-ltb}
+use Rattle.std.proofs.lemmas.Bool.{cases_Bool, cases_lt, both_ways, and_parts, and_cases, and_from, not-true, not-false, eqb-true, lt-ltb, le-leb}
 use Rattle.std.proofs.lemmas.Option.{slice_get_within}
 use Rattle.std.proofs.lemmas.List.{append-nil}
 use Rattle.std.proofs.Math.Seq.{take-append_seam}
@@ -26,13 +26,12 @@ use Rattle.laws.proofs.Primary.Ends.{not-refused, frames-refusing}
 use Rattle.laws.proofs.Primary.LastOpen.{IsLastOpen, open-is-last}
 use Rattle.laws.proofs.Primary.StaysClosed.{open-stands}
 use Rattle.laws.proofs.Primary.LastEpoch.{end-open, write-open}
-use Rattle.laws.proofs.Tracked.Kept.{IsKnown}
+use Rattle.laws.proofs.Tracked.Kept.{IsKnown, waits-open}
 use Rattle.laws.proofs.Accounted.Moves.{first-carries}
-use Rattle.laws.proofs.Accounted.Kept.{waits-open, keeps-open, named-item, resynced-now}
+use Rattle.laws.proofs.Accounted.Kept.{keeps-open, named-item, resynced-now}
 use Rattle.laws.proofs.WriteOrder.Layers.{full_layer}
 use Rattle.laws.proofs.WriteOrder.Sets.{IsRead}
 use Rattle.laws.proofs.WriteOrder.Spans.{NoneFailed, IsTold, left_by, Passes}
-use Rattle.std.proofs.lemmas.Bool.{le-leb}
 use Rattle.laws.proofs.WriteOrder.SpanMoves.{HasSpans, span-shut, keeps-quiet}
 use Rattle.laws.proofs.WriteOrder.SpanKept.{grows-with, grows-item, spans-end, spans-takes}
 

@@ -25,16 +25,14 @@ use Rattle.laws.proofs.Lists.Last.{get-change, get-change-back, change-twice, ge
 use Rattle.laws.proofs.Primary.Homes.{HasHomes, open-at}
 use Rattle.laws.proofs.Primary.Moves.{IsKeptByMoves, IsKeptByReleases, both-kept, keeps-run, with_frame, pushing}
 use Rattle.laws.proofs.Primary.LastOpen.{IsLastOpen}
-use Rattle.laws.proofs.Primary.Releases.{done-releases, confirmed-releases}
-use Rattle.laws.proofs.Primary.InOrderMoves.{Ordered, OrderedAfter, in-order-kept}
-use Rattle.laws.proofs.Tracked.Released.{ordered-opening}
-use Rattle.laws.proofs.Accounted.{IsAccounted}
+use Rattle.laws.proofs.Releases.Cleared.{done-releases, confirmed-releases}
+use Rattle.laws.proofs.Releases.InOrderMoves.{Ordered, OrderedAfter, in-order-kept}
+use Rattle.laws.proofs.Releases.Runs.{ordered-opening}
+use Rattle.laws.proofs.Accounted.{IsAccounted, held-covers}
 use Rattle.laws.proofs.Accounted.Kept.{accounted-kept, accounted-opening}
 use Rattle.laws.proofs.Accounted.Reflected.{reflected, rest-marked}
 use Rattle.laws.proofs.Accounted.Released.{Both, BothAfter, both-released}
-use Rattle.laws.proofs.WriteOrder.Spans.{NoneFailed, left_by, WasBelow, IsSpan, Passes, below-passes}
-use Rattle.laws.proofs.Accounted.{held-covers}
-use Rattle.laws.proofs.WriteOrder.Spans.{opening-below}
+use Rattle.laws.proofs.WriteOrder.Spans.{NoneFailed, left_by, WasBelow, IsSpan, Passes, below-passes, opening-below}
 use Rattle.laws.proofs.WriteOrder.SpanMoves.{HasSpans, SameOpening, KeepsFirst, passes-change, last-end, spans-with, keeps-quiet}
 use Rattle.laws.proofs.WriteOrder.SpanKept.{grows-with, spans-still, spans-end, spans-takes, spans-following}
 use Rattle.laws.proofs.WriteOrder.SpanSteps.{spans-done, spans-faults, spans-releasing}

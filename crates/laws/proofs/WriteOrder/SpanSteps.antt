@@ -17,8 +17,8 @@ use Rattle.laws.proofs.Lists.Picks.{pick-any, pick-image, pick-found}
 use Rattle.laws.proofs.Blocks.Overlays.{overlay-agrees}
 use Rattle.laws.proofs.Primary.Homes.{HasHomes, grows-self, outcome-write, outcome-home}
 use Rattle.laws.proofs.Primary.LastOpen.{IsLastOpen}
-use Rattle.laws.proofs.Primary.Releases.{IsRelease, release-clears}
-use Rattle.laws.proofs.Primary.InOrderMoves.{Ordered, OrderedAfter}
+use Rattle.laws.proofs.Releases.Cleared.{IsRelease, release-clears}
+use Rattle.laws.proofs.Releases.InOrderMoves.{Ordered, OrderedAfter}
 use Rattle.laws.proofs.Accounted.Moves.{first-carries}
 use Rattle.laws.proofs.WriteOrder.Layers.{full_layer, writes_over}
 use Rattle.laws.proofs.WriteOrder.Spans.{NoneFailed, Passes}

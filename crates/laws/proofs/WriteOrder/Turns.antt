@@ -31,11 +31,11 @@ use Rattle.laws.proofs.Streams.Lawful.{epoch-end, epoch-bound}
 use Rattle.laws.proofs.Streams.Places.{epoch-grows}
 use Rattle.laws.proofs.Primary.Homes.{HasHomes, open-at, outcome-write, outcome-home}
 use Rattle.laws.proofs.Primary.Moves.{IsKeptByMoves, IsKeptByReleases, following-from, keeps-run, with_frame, refusing, pushing}
-use Rattle.laws.proofs.Primary.InOrderMoves.{Ordered, OrderedAfter, in-order-kept}
+use Rattle.laws.proofs.Releases.InOrderMoves.{Ordered, OrderedAfter, in-order-kept}
 use Rattle.laws.proofs.Primary.LastEpoch.{end-open, write-open}
 use Rattle.laws.proofs.Primary.Ends.{stands-parts}
 use Rattle.laws.proofs.Accounted.{epoch-same}
-use Rattle.laws.proofs.Tracked.Released.{ordered-released, ordered-opening}
+use Rattle.laws.proofs.Releases.Runs.{ordered-released, ordered-opening}
 use Rattle.std.specs.Prelude.{is_some, if◌then◌else◌}
 use Rattle.laws.proofs.WriteOrder.Sets.{AreInTurn}
 

@@ -1,5 +1,5 @@
 -- What joined nodes have, every run of the pair has.
-use Rattle.laws.proofs.Headlines.{every_beginning, every_close, every_epochs, every_promises, every_marks, every_headline}
+use Rattle.laws.proofs.Theorems.Headline.{every_beginning, every_close, every_epochs, every_promises, every_marks, every_headline}
 use Rattle.laws.proofs.headline.Goals as goal
 
 pub returns-clause-beginning : goal.returns-clause-beginning

@@ -1,9 +1,7 @@
 -- What was taken begins what was pushed; an acknowledgement that was taken was due, and what was due is true; what is surely
 -- applied is then applied.
-use Rattle.laws.proofs.Joining.Promises.{keeps_promises}
-use Rattle.laws.proofs.Headlines.{joined_headline, joined_covers, joined_settles, joined_settles_anyhow}
+use Rattle.laws.proofs.Theorems.Joined.{keeps_promises, joined_headline, joined_covers, joined_settles, joined_settles_anyhow, takes_a_beginning}
 use Rattle.laws.proofs.joined.Goals as goal
-use Rattle.laws.proofs.Joining.Taking.{takes_a_beginning}
 
 pub returns-clause-beginning : goal.returns-clause-beginning
 returns-clause-beginning c = takes_a_beginning

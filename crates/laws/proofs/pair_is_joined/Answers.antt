@@ -1,5 +1,5 @@
 -- Each event of the pair is at most one event of each node.
-use Rattle.laws.proofs.Headlines.{every_run_is_joined}
+use Rattle.laws.proofs.Theorems.PairIsJoined.{every_run_is_joined}
 use Rattle.laws.proofs.pair_is_joined.Goals as goal
 
 pub returns : goal.returns

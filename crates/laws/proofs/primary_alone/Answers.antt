@@ -1,6 +1,5 @@
 -- By the invariants of a primary's runs.
-use Rattle.laws.proofs.Joining.Promises.{writes_once}
-use Rattle.laws.proofs.Headlines.{streams_are_lawful, stays_closed, extents_are_few, releases_in_order}
+use Rattle.laws.proofs.Theorems.PrimaryAlone.{writes_once, streams_are_lawful, stays_closed, extents_are_few, releases_in_order}
 use Rattle.laws.proofs.primary_alone.Goals as goal
 
 pub returns-clause-once : goal.returns-clause-once

@@ -1,7 +1,5 @@
 -- By the invariants of a secondary's runs.
-use Rattle.laws.proofs.Secondary.Runs.{holds_earlier_epochs}
-use Rattle.laws.proofs.Secondary.Drained.{drains_first}
-use Rattle.laws.proofs.Headlines.{stays_closed_too}
+use Rattle.laws.proofs.Theorems.SecondaryAlone.{holds_earlier_epochs, drains_first, stays_closed_too}
 use Rattle.laws.proofs.secondary_alone.Goals as goal
 
 pub returns-clause-epochs : goal.returns-clause-epochs

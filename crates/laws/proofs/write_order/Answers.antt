@@ -1,5 +1,5 @@
 -- A consistent secondary never took a SYNC_UUID, or adopted the tuple that ended a resync: either way a set is behind its disk.
-use Rattle.laws.proofs.WriteOrder.Theorem.{joined_write_order, every_write_order}
+use Rattle.laws.proofs.Theorems.WriteOrder.{joined_write_order, every_write_order}
 use Rattle.laws.proofs.write_order.Goals as goal
 
 pub returns-clause-joined : goal.returns-clause-joined

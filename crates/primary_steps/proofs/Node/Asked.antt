@@ -11,7 +11,7 @@ use Rattle.model.specs.PrimarySteps as step
 use Rattle.primary_steps.specs.Core.{PrimaryState}
 use Rattle.primary_steps.specs.Transitions as transition
 use Rattle.primary_steps.specs.Leaves.{Leaves}
-use Rattle.primary_steps.proofs.Known.{end-open}
+use Rattle.primary_steps.proofs.Common.Reached.{end-open}
 
 pub open-tests-same : (sync loss : ℕ) (s : PrimaryState) (h : PrimaryHistory) → Leaves s h → transition.open_tests sync loss false s ≡ step.open_tests h sync loss false
 open-tests-same sync loss s h left =

@@ -23,7 +23,7 @@ use Rattle.std.proofs.lemmas.List.{length-append}
 use Rattle.blocks.specs.declared.refusal.Refusal.TheVariants.{NoMemory, NotDrained, StreamFull, UsedIdentifier}
 use Rattle.blocks.specs.Identifiers.{are_fresh}
 use Rattle.laws.proofs.Lists.Tests.{test-passed}
-use Rattle.primary_steps.proofs.Known.{end-open, stands-same}
+use Rattle.primary_steps.proofs.Common.Reached.{end-open, stands-same}
 use Rattle.model.specs.LocalRuns.{PrimaryEvent, Opens, Submits, Closes}
 use Rattle.laws.proofs.Lists.Last.{last-more}
 use Rattle.bitmap.specs.Marks.{marked}
@@ -33,13 +33,13 @@ use Rattle.primary_steps.specs.Transitions.{known_tuples, open_end, open_tests, 
 use Rattle.primary_steps.specs.Leaves.{Leaves, marks_in}
 use Rattle.primary_steps.specs.Node.{NodeState, NodeHas, NodeIsHad, NodeSteps, primary_step}
 use Rattle.primary_steps.specs.Steps.{IsReached, Agrees, replied, plainly}
-use Rattle.primary_steps.proofs.Marks.{length-marks, marked-in}
+use Rattle.primary_steps.proofs.Common.Marks.{length-marks, marked-in}
 use Rattle.primary_steps.proofs.Node.Due.{IsStill, is-still, stood, kept-leaves}
 use Rattle.primary_steps.proofs.Node.Keeps.{Keeps, unchanged, keeps-self, keeps-following, submits-keeps, closes-keeps}
 use Rattle.primary_steps.proofs.Node.Runs.{node-steps, node-refused, opens-to, submits-to}
-use Rattle.primary_steps.proofs.Steps.Opens.{fresh-is, opens-agree}
-use Rattle.primary_steps.proofs.Steps.Closes.{closes-agree}
-use Rattle.primary_steps.proofs.Steps.Submits.{submits-agree}
+use Rattle.primary_steps.proofs.Connect.Opens.{fresh-is, opens-agree}
+use Rattle.primary_steps.proofs.Close.Closes.{closes-agree}
+use Rattle.primary_steps.proofs.Submit.Submits.{submits-agree}
 
 -- A new node.
 

@@ -21,8 +21,8 @@ use Rattle.laws.proofs.Streams.Sendable.{IsSendable, is_work}
 use Rattle.primary_steps.specs.Core.{PrimaryState}
 use Rattle.primary_steps.specs.Leaves.{Leaves, LeavesEpochs}
 use Rattle.primary_steps.specs.Steps.{IsReached}
-use Rattle.primary_steps.proofs.Epochs.{sizes-many}
-use Rattle.primary_steps.proofs.Filters.{any-at}
+use Rattle.primary_steps.proofs.Common.Epochs.{sizes-many}
+use Rattle.primary_steps.proofs.Common.Filters.{any-at}
 
 -- The stream that stands can be sent.
 pub sendable : (h : PrimaryHistory) → IsReached h → stands (outward h) ≡ true → (settings : Settings) × IsSendable settings (outward h).stream

@@ -17,7 +17,7 @@ use Rattle.laws.proofs.Blocks.Ranges.{between-parts}
 use Rattle.laws.proofs.Blocks.Written.{written-inside, written-before, written-after}
 use Rattle.laws.proofs.Joining.Openings.{HasOpening, kept-opening-primary}
 use Rattle.laws.proofs.Primary.Homes.{HasHomes, outcome-write}
-use Rattle.laws.proofs.Primary.InOrder.{IsInOrder}
+use Rattle.laws.proofs.Releases.InOrder.{IsInOrder}
 use Rattle.laws.proofs.Tracked.{IsTracked}
 use Rattle.laws.proofs.Tracked.Moves.{beyond-the-end}
 use Rattle.laws.proofs.Tracked.Outcomes.{outcome-cases}
@@ -28,9 +28,9 @@ use Rattle.laws.proofs.Lists.Fronts.{front-get}
 use Rattle.laws.proofs.Lists.Picks.{pick-any, any-pick, pick-filtered, filtered-pick, pick-below}
 use Rattle.primary_steps.specs.Node.{NodeState, NodeHas}
 use Rattle.primary_steps.specs.Steps.{IsReached}
-use Rattle.primary_steps.proofs.Filters.{map-twice}
-use Rattle.primary_steps.proofs.Known.{reached-ordered}
-use Rattle.primary_steps.proofs.Marks.{get-below}
+use Rattle.primary_steps.proofs.Common.Filters.{map-twice}
+use Rattle.primary_steps.proofs.Common.Reached.{reached-ordered}
+use Rattle.primary_steps.proofs.Common.Marks.{get-below}
 
 -- The disk of a reached history has the blocks of the device, and no other.
 pub map-sized : (h : PrimaryHistory) → IsReached h → (block : ℕ) → is_some (local_map h block) ≡ nat_lt block h.settings.blocks

@@ -18,11 +18,11 @@ use Rattle.primary_steps.specs.Transitions.{resync_next, resync_fault}
 use Rattle.primary_steps.specs.Leaves.{logged_of, Leaves}
 use Rattle.primary_steps.specs.Node.{NodeState, NodeHas, NodeIsHad, NodeSteps, primary_step}
 use Rattle.primary_steps.specs.Steps.{Agrees, replied}
-use Rattle.primary_steps.proofs.Known.{reached-ordered}
-use Rattle.primary_steps.proofs.Numbers.{find-number}
-use Rattle.primary_steps.proofs.Steps.Local.{Waits, unfinished-same, waits-so}
+use Rattle.primary_steps.proofs.Common.Reached.{reached-ordered}
+use Rattle.primary_steps.proofs.Common.Numbers.{find-number}
+use Rattle.primary_steps.proofs.LocalDisk.Writes.{Waits, unfinished-same, waits-so}
 use Rattle.primary_steps.proofs.Node.Disk.{disk-size, disk-written}
-use Rattle.primary_steps.proofs.Steps.Resync.{resyncs-agree, resync-faults-agree}
+use Rattle.primary_steps.proofs.Resync.Resyncs.{resyncs-agree, resync-faults-agree}
 use Rattle.primary_steps.proofs.Node.Due.{IsStill, is-still, kept-leaves, stood}
 use Rattle.primary_steps.proofs.Node.Keeps.{Change, Keeps, keeps-self, unchanged, resyncs-keeps}
 use Rattle.primary_steps.proofs.Node.Runs.{node-had, node-refused, node-steps, reached-step}

@@ -15,8 +15,8 @@ use Rattle.primary_steps.specs.Transitions.{owed, due}
 use Rattle.primary_steps.specs.Leaves.{Leaves, EndLeft}
 use Rattle.primary_steps.specs.Node.{NodeState, NodeLeaves}
 use Rattle.primary_steps.specs.Steps.{IsReached}
-use Rattle.primary_steps.proofs.Known.{end-open, reached-ordered, stands-same}
-use Rattle.primary_steps.proofs.Owing.{owed-is, length-frames}
+use Rattle.primary_steps.proofs.Common.Reached.{end-open, reached-ordered, stands-same}
+use Rattle.primary_steps.proofs.Send.Due.{owed-is, length-frames}
 use Rattle.primary_steps.proofs.Node.Keeps.{Change, Keeps, due-begins, pushed-stays}
 
 -- what an open end owes is due

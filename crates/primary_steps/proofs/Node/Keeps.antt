@@ -24,7 +24,7 @@ use Rattle.laws.proofs.Lists.Last.{length-change}
 use Rattle.laws.proofs.Lists.Tests.{test-passed}
 use Rattle.laws.proofs.Primary.Moves.{following-from, tested-keeps}
 use Rattle.laws.proofs.Primary.StaysClosed.{open-stands, over-stands}
-use Rattle.primary_steps.proofs.Known.{outward-of}
+use Rattle.primary_steps.proofs.Common.Reached.{outward-of}
 
 -- What a step may change besides what is due: the frames taken, whether the stream has begun, and what the local disk holds.
 pub record Change : Type 0 where

@@ -22,7 +22,7 @@ use Rattle.laws.proofs.Primary.Sendable.{HasFitEnds, IsFitEnd, primary_fit}
 use Rattle.laws.proofs.Primary.StaysClosed.{over-stands}
 use Rattle.primary_steps.specs.Node.{NodeState, NodeHas}
 use Rattle.primary_steps.specs.Steps.{IsReached}
-use Rattle.primary_steps.proofs.Owing.{length-frames}
+use Rattle.primary_steps.proofs.Send.Due.{length-frames}
 
 -- A connection that has pushed no more than its hello and its stream, and whose stream is empty until it has begun.
 record IsPushed (c : Outward) : Type 0 where

@@ -22,7 +22,7 @@ use Rattle.primary_steps.proofs.Node.Due.{kept-leaves}
 use Rattle.primary_steps.proofs.Node.Housed.{reached-housed}
 use Rattle.primary_steps.proofs.Node.Keeps.{unchanged, receipts-keeps}
 use Rattle.primary_steps.proofs.Node.Runs.{node-steps}
-use Rattle.primary_steps.proofs.Steps.Receipts.{receipts-agree}
+use Rattle.primary_steps.proofs.Receipts.Receipts.{receipts-agree}
 
 -- the receipt of an entry that was completed
 abbrev pub receipt_with : ℕ → Entry → Kind → Option (ℕ × ℕ) → Receipt

@@ -14,11 +14,11 @@ use Rattle.transferlog.specs.Writes.{LogWrite}
 use Rattle.primary_steps.specs.Core.{PrimaryState}
 use Rattle.primary_steps.specs.Leaves.{logged_of, marks_in, Leaves}
 use Rattle.primary_steps.specs.Steps.{IsReached}
-use Rattle.primary_steps.proofs.Filters.{filter-at, filter-map, filter-twice, find-map, find-at}
-use Rattle.primary_steps.proofs.Known.{reached-ordered}
-use Rattle.primary_steps.proofs.Marks.{length-marks, marked-in}
-use Rattle.primary_steps.proofs.Releasing.{released-not-open}
-use Rattle.primary_steps.proofs.Seen.{waiting-seen, open-seen, waiting-not-released}
+use Rattle.primary_steps.proofs.Common.Filters.{filter-at, filter-map, filter-twice, find-map, find-at}
+use Rattle.primary_steps.proofs.Common.Reached.{reached-ordered}
+use Rattle.primary_steps.proofs.Common.Marks.{length-marks, marked-in}
+use Rattle.primary_steps.proofs.Common.Releasing.{released-not-open}
+use Rattle.primary_steps.proofs.Common.WriteStates.{waiting-seen, open-seen, waiting-not-released}
 
 -- a search finds the same behind a filter that lets through what it looks for
 find-kept : {X : Type 0} (p q : X → Bool) (xs : List X) → ((x : X) → p x ≡ true → q x ≡ true) → find p (filter q xs) ≡ find p xs

@@ -17,11 +17,11 @@ use Rattle.primary_steps.specs.Core.{EndState, PrimaryState, stands, tested}
 use Rattle.primary_steps.specs.Transitions.{owed, due, called, sent_from, send}
 use Rattle.primary_steps.specs.Node.{NodeState, NodeHas, NodeIsHad, NodeSteps}
 use Rattle.primary_steps.specs.Steps.{Agrees, replied}
-use Rattle.primary_steps.proofs.Known.{end-open, outward-of, stands-same}
+use Rattle.primary_steps.proofs.Common.Reached.{end-open, outward-of, stands-same}
 use Rattle.primary_steps.proofs.Node.Due.{due-next}
 use Rattle.primary_steps.proofs.Node.Keeps.{Keeps, unchanged, keeps-self, keeps-following, pushed-stays}
 use Rattle.primary_steps.proofs.Node.Runs.{node-steps, node-refused, pushes-to}
-use Rattle.primary_steps.proofs.Steps.Send.{sends-agree}
+use Rattle.primary_steps.proofs.Send.Sends.{sends-agree}
 
 -- a frame is due only at an open end
 pub due-open : (s : PrimaryState) (packet : Packet) → due s ≡ Ok packet → is_some s.end ≡ true

@@ -27,11 +27,11 @@ use Rattle.primary_steps.specs.Core.{EndState, PrimaryState, stands, tested}
 use Rattle.primary_steps.specs.Taking.{Taken, hearing, taking, taking_hello, taking_ack, taken_by, take_at, ack_in}
 use Rattle.primary_steps.specs.Node.{NodeState, NodeHas, NodeIsHad, NodeSteps}
 use Rattle.primary_steps.specs.Steps.{Agrees, replied}
-use Rattle.primary_steps.proofs.Known.{end-open, outward-of, reached-ordered, stands-same}
+use Rattle.primary_steps.proofs.Common.Reached.{end-open, outward-of, reached-ordered, stands-same}
 use Rattle.primary_steps.proofs.Node.Due.{IsStill, is-still, kept-leaves}
 use Rattle.primary_steps.proofs.Node.Keeps.{Change, Keeps, unchanged, keeps-self, keeps-change, keeps-rest, keeps-following, closing-keeps}
 use Rattle.primary_steps.proofs.Node.Runs.{node-steps, node-refused}
-use Rattle.primary_steps.proofs.Steps.Takes.{takes-agree}
+use Rattle.primary_steps.proofs.Acknowledge.Takes.{takes-agree}
 
 -- the frame is taken, and the stream has begun or not
 abbrev pub took : PrimaryHistory → Received → Bool → Change

@@ -15,10 +15,10 @@ use Rattle.laws.proofs.Streams.Places.{placed-at, placed-back}
 use Rattle.primary_steps.specs.Core.{PrimaryState}
 use Rattle.primary_steps.specs.Leaves.{is_sent, logged_of, Leaves}
 use Rattle.primary_steps.specs.Steps.{IsReached}
-use Rattle.primary_steps.proofs.Filters.{filter-at, filter-map, filter-none, filter-twice}
-use Rattle.primary_steps.proofs.Known.{IsOrdered, reached-ordered}
-use Rattle.primary_steps.proofs.Numbers.{AreNumberedFrom, numbered-first, numbered-rest, get-map}
-use Rattle.primary_steps.proofs.Releasing.{confirmed-answered, not-alone}
+use Rattle.primary_steps.proofs.Common.Filters.{filter-at, filter-map, filter-none, filter-twice}
+use Rattle.primary_steps.proofs.Common.Reached.{IsOrdered, reached-ordered}
+use Rattle.primary_steps.proofs.Common.Numbers.{AreNumberedFrom, numbered-first, numbered-rest, get-map}
+use Rattle.primary_steps.proofs.Common.Releasing.{confirmed-answered, not-alone}
 
 -- Rising lists of numbers.
 

@@ -21,14 +21,14 @@ use Rattle.model.specs.LocalRuns.{WritesLocally, FailsLocally}
 use Rattle.transferlog.specs.Ring.{write_at}
 use Rattle.transferlog.specs.Writes as log
 use Rattle.transferlog.specs.Writes.{LogWrite}
-use Rattle.laws.proofs.Primary.InOrder.{IsInOrder}
+use Rattle.laws.proofs.Releases.InOrder.{IsInOrder}
 use Rattle.primary_steps.specs.Core.{PrimaryState}
 use Rattle.primary_steps.specs.Transitions as transition
 use Rattle.primary_steps.specs.Node.{IsStep, NodeState, NodeHas, NodeIsHad, NodeSteps}
 use Rattle.primary_steps.specs.Steps.{Agrees, replied}
-use Rattle.primary_steps.proofs.Known.{reached-ordered}
-use Rattle.primary_steps.proofs.Steps.Fault.{faults-agree}
-use Rattle.primary_steps.proofs.Steps.Local.{unfinished-same, writes-agree}
+use Rattle.primary_steps.proofs.Common.Reached.{reached-ordered}
+use Rattle.primary_steps.proofs.LocalDisk.Faults.{faults-agree}
+use Rattle.primary_steps.proofs.LocalDisk.Writes.{unfinished-same, writes-agree}
 use Rattle.primary_steps.proofs.Node.Disk.{disk-kept, disk-torn, new_offsets}
 use Rattle.primary_steps.proofs.Node.Disks.{Comes, KeepsNode, accepted-is, after-written, comes-kept, comes-steps, homes, inside, same-write, the, unfinished}
 use Rattle.primary_steps.proofs.Node.Keeps.{Keeps, fails-keeps, writes-keeps, written}

@@ -1,12 +1,12 @@
-use Rattle.primary_steps.proofs.Steps.Closes.{closes-agree}
-use Rattle.primary_steps.proofs.Steps.Fault.{faults-agree}
-use Rattle.primary_steps.proofs.Steps.Local.{writes-agree}
-use Rattle.primary_steps.proofs.Steps.Opens.{fresh-is, opens-agree}
-use Rattle.primary_steps.proofs.Steps.Receipts.{receipts-agree}
-use Rattle.primary_steps.proofs.Steps.Resync.{resyncs-agree, resync-faults-agree}
-use Rattle.primary_steps.proofs.Steps.Send.{sends-agree}
-use Rattle.primary_steps.proofs.Steps.Submits.{submits-agree}
-use Rattle.primary_steps.proofs.Steps.Takes.{takes-agree}
+use Rattle.primary_steps.proofs.Close.Closes.{closes-agree}
+use Rattle.primary_steps.proofs.LocalDisk.Faults.{faults-agree}
+use Rattle.primary_steps.proofs.LocalDisk.Writes.{writes-agree}
+use Rattle.primary_steps.proofs.Connect.Opens.{fresh-is, opens-agree}
+use Rattle.primary_steps.proofs.Receipts.Receipts.{receipts-agree}
+use Rattle.primary_steps.proofs.Resync.Resyncs.{resyncs-agree, resync-faults-agree}
+use Rattle.primary_steps.proofs.Send.Sends.{sends-agree}
+use Rattle.primary_steps.proofs.Submit.Submits.{submits-agree}
+use Rattle.primary_steps.proofs.Acknowledge.Takes.{takes-agree}
 use Rattle.primary_steps.proofs.transitions_are_steps.Goals as goal
 
 pub returns-clause-fresh : goal.returns-clause-fresh

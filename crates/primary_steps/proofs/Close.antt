@@ -1,0 +1,4 @@
+-- A primary closes its end, by a call or as it refuses a frame.
+pub mod Closes
+pub mod Closing
+pub mod Refusing

@@ -1,0 +1,22 @@
+-- What several events share: what the log and the history say of writes, what follows a step, and what a run leads to.
+pub mod Activity
+pub mod Appending
+pub mod Completing
+pub mod Connections
+pub mod EndChanges
+pub mod EpochEnds
+pub mod Epochs
+pub mod Filters
+pub mod Following
+pub mod Freeing
+pub mod Marks
+pub mod NothingFollows
+pub mod Numbers
+pub mod OneWrite
+pub mod OneWriteLeaves
+pub mod Reached
+pub mod Releasing
+pub mod Reporting
+pub mod TakenAlike
+pub mod WriteStates
+pub mod WritesChange

@@ -1,0 +1,3 @@
+-- A caller takes a receipt.
+pub mod Journal
+pub mod Receipts

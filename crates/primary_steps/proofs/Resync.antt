@@ -1,0 +1,3 @@
+-- A resync reads its next block, or the local disk fails that.
+pub mod NextBlock
+pub mod Resyncs
