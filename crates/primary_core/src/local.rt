@@ -54,7 +54,7 @@ impl PrimaryCore {
     {
         let range = self.local_write(number)?.range();
         self.give_up(number, range);
-        let barrier = self.log.local_failed(number);
+        let barrier = self.log.local_fault(number);
         Ok(self.follow(What::Nothing, barrier))
     }
 

@@ -114,7 +114,7 @@ failing number s = elim (write_at number s.log.writes) [
 -- the local disk fails a write
 abbrev pub local_fault : ℕ → PrimaryState → Result Done Refusal × PrimaryState
 local_fault number s =
-    tested s ((not (is_unfinished number s), UnknownJob) ∷ []) (λ _. let after = logged what.Nothing (log.local_failed number s.log) (failing number s) in (Ok after.0, after.1))
+    tested s ((not (is_unfinished number s), UnknownJob) ∷ []) (λ _. let after = logged what.Nothing (log.local_fault number s.log) (failing number s) in (Ok after.0, after.1))
 
 -- Send.
 

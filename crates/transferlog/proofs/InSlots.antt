@@ -3,11 +3,11 @@ use Rattle.std.proofs.Common.{◌≡◌, ℕ, zero, suc, ◌+◌, ◌<◌, ◌�
 use Rattle.std.proofs.lemmas.List.{get_or_read}
 use Rattle.std.proofs.Math.ListN.{set}
 use Rattle.transferlog.specs.Writes.{LogWrite}
-use Rattle.transferlog.specs.Ring.{write_at, with_change, without}
-use Rattle.transferlog.specs.Ring.{changed, Rises}
+use Rattle.transferlog.specs.Ring.{RingState, write_at, with_change, without, changed, Rises}
 use Rattle.transferlog.specs.declared.write.Change.{Change}
 use Rattle.transferlog.specs.declared.write.Change.TheVariants as change
-use Rattle.transferlog.specs.Slots.{writes_in, AreNumbered}
+use Rattle.transferlog.specs.Slots.{writes_in, AreNumbered, IsRing, ring_of}
+use Rattle.transferlog.specs.declared.ring.Ring.TheInside.{Inside}
 use Rattle.transferlog.proofs.Numbers.{same_number, lower_number, higher_number, NoneHas, write_at-none, with_change-none, without-none}
 
 abbrev Slots : Type 0
@@ -158,3 +158,7 @@ pub rises_in : (low first : ℕ) (slots : Slots) → low ≤ first → AreNumber
 rises_in low first [] from numbered = tt
 rises_in low first (None ∷ slots) from numbered = rises_in low (suc first) slots (omega arith) numbered
 rises_in low first (Some w ∷ slots) from numbered = (omega (arith, numbered.0), rises_in (suc w.number) (suc first) slots (omega (arith, numbered.0)) numbered.1)
+
+-- numbers rise, by what the fields keep
+pub rises_of : (r : Inside) (s : RingState) → ring_of r ≡ s → IsRing r → Rises 0 s.writes
+rises_of r s is ring = rw (← is) (rises_in 0 r.first r.slots.items (omega arith) ring.numbered)

@@ -1,5 +1,6 @@
 pub mod Numbers
 pub mod Answered
+pub mod FirstFrom
 pub mod InSlots
 pub mod Kept
 pub mod Moves

@@ -9,7 +9,7 @@ use Rattle.transferlog.specs.Slots.{writes_in}
 use Rattle.transferlog.specs.declared.write.Change.{Change}
 use Rattle.transferlog.specs.declared.write.Change.TheVariants as change
 use Rattle.transferlog.proofs.InSlots.{number-changed}
-use Rattle.transferlog.proofs.Numbers.{NoneHas, higher_number, write_at-none}
+use Rattle.transferlog.proofs.Numbers.{NoneHas, higher_number, is_same, write_at-none}
 
 -- a write is added
 pub each_pushed : (P : LogWrite → Type 0) (ws : List LogWrite) (w : LogWrite) → Each P ws → P w → Each P (ws ++ w ∷ [])
@@ -53,10 +53,7 @@ none_above : (n low : ℕ) (ws : List LogWrite) → n < low → Rises low ws →
 none_above n low [] less rises = tt
 none_above n low (w ∷ ws) less rises = (higher_number w.number n (omega (arith, rises.0)), none_above n (suc w.number) ws (omega (arith, rises.0)) rises.1)
 
-is_same : (a b : ℕ) → (a == b) ≡ true → a ≡ b
-is_same a b is = grind (arith, nat_tests)
-
-is_other : (a b : ℕ) → (a == b) ≡ false → b ≤ a → b + 1 ≤ a
+pub is_other : (a b : ℕ) → (a == b) ≡ false → b ≤ a → b + 1 ≤ a
 is_other a b is least = grind (arith, nat_tests)
 
 -- where the write with this number does not wait, none does up to it

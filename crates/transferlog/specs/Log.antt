@@ -105,8 +105,8 @@ abbrev pub local_done : ℕ → LogState → Option ℕ × LogState
 local_done number s = changing number storing s
 
 -- the local disk failed a write
-abbrev pub local_failed : ℕ → LogState → Option ℕ × LogState
-local_failed number s = changing number failing s
+abbrev pub local_fault : ℕ → LogState → Option ℕ × LogState
+local_fault number s = changing number failing s
 
 -- A write is accepted where a stream stands or not.
 

@@ -1,10 +1,10 @@
 //! The transfer log of a primary.
-ghost use Rattle.std.specs.Prelude.{MatchOption, filter, find, slice_get, ◌≡◌, ◌+◌, ◌<◌, ◌≤◌, length, IfOk, IfErr, IsSomeAnd, None};
+ghost use Rattle.std.specs.Prelude.{filter, find, nat_le, slice_get, ◌≡◌, ◌+◌, ◌<◌, ◌≤◌, length, IfOk, IfErr, IfSome};
 ghost use Rattle.std.specs.Option.{option_copied, option_map};
 ghost use Rattle.transferlog.specs.Log.{clears, empty_log};
 ghost use Rattle.epochs.specs.Epochs.{unacknowledged};
 ghost use Rattle.transferlog.specs.Writes.{is_open, is_unanswered, is_waiting};
-ghost use Rattle.transferlog.specs.Ring.{write_at};
+ghost use Rattle.transferlog.specs.Ring.{Rises, write_at};
 ghost use Rattle.blocks.specs.declared.refusal.Refusal.TheVariants.{NoMemory};
 
 mod stream;
@@ -13,7 +13,7 @@ mod writes;
 use crate::report::{Completed, Released};
 use crate::ring::Ring;
 use crate::write::Write;
-use blocks::{Block, Protocol, Range, Refusal};
+use blocks::{Block, Protocol, Refusal};
 use epochs::Epochs;
 use std::alloc::Global;
 use std::marker::Model;
@@ -21,11 +21,15 @@ use std::marker::Model;
 /// The unreleased writes of a primary under protocols A, B and C (DRBD's transfer log): which are completed
 /// and which released, the epochs of the connection's stream, and which marks a release clears.
 ///
-/// Numbers are consecutive, so a write is found by subtraction: a call takes constant time, but for a
-/// release, which takes time for each number released, `local_done` and `local_failed`, where the next write
-/// for the local disk is further on, `barrier_acked`, for each write of the epoch, `drain`, for each
-/// unreleased write, and `unreleased`, for each unreleased write below the answer. The memory is a slot for each number from the first unreleased one on, four bytes a block of the device,
-/// and room for `backlog` reports of either kind.
+/// Numbers are consecutive, so a write is found by subtraction, and a call takes constant time, but for these.
+/// `new` takes time for each block of the device. `open`, `unanswered` and `drain` take time for each number
+/// from the first unreleased one on, `unreleased_from` for each number from the one asked for to the answer, and
+/// `barrier_acked` for each write of the epoch. A release takes time for each number that leaves the log by it,
+/// and `local_done` and `local_fault` for each number up to the next write for the local disk, so both pass
+/// each number once in all.
+///
+/// The memory is a slot for each number from the first unreleased one on, four bytes a block of the device, and
+/// room for `backlog` reports of either kind.
 #[derive(Drop)]
 pub struct TransferLog {
     protocol: Protocol,
@@ -169,14 +173,15 @@ impl TransferLog {
         Some(write.number())
     }
 
-    /// The range of the unreleased write that has `index` unreleased ones below it. It takes time for each
-    /// of those.
-    pub fn unreleased(&self, index: u32) -> Option<Range>
-        ensures { MatchOption (slice_get self.now.state.writes index) (result ≡ None)
-            (λ w. IsSomeAnd result (λ range. (range.first.0 ≡ w.first) × (range.count ≡ w.count))) }
+    /// The first unreleased write whose number is `from` or more. It takes time for each number from there to
+    /// the answer.
+    pub fn unreleased_from(&self, from: u64) -> Option<&Write>
+        ensures first { option_copied result ≡ find (λ w. nat_le from w.number) self.now.state.writes }
+        // for callers that go on behind the answer
+        ensures rises { Rises 0 self.now.state.writes }
+        ensures few { IfSome result (λ w. w.now.number ≤ 1048576) }
     {
-        let write = self.ring.nth(index)?;
-        Some(write.range())
+        self.ring.first_from(from)
     }
 
     /// Whether the release of a write, by the last call, clears the mark of this block: the write clears

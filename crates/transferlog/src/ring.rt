@@ -1,5 +1,5 @@
 //! The row of the unreleased writes.
-ghost use Rattle.std.specs.Prelude.{find, slice_get, ◌&&◌, ◌≤◌, filter, map, not, vec_len, vec_capacity, ◌≡◌, ◌+◌, ◌^◌, ◌<◌, [], ◌∷◌, ◌++◌, length, IsOk, OnOk, is_some, if◌then◌else◌};
+ghost use Rattle.std.specs.Prelude.{find, nat_le, IfSome, ◌&&◌, ◌≤◌, filter, map, not, vec_len, vec_capacity, ◌≡◌, ◌+◌, ◌^◌, ◌<◌, [], ◌∷◌, ◌++◌, length, IsOk, OnOk, is_some, if◌then◌else◌};
 ghost use Rattle.std.specs.List.{list_any};
 ghost use Rattle.blocks.specs.Ranges.{is_between};
 ghost use Rattle.std.specs.Option.{option_copied, option_map, option_and_then};
@@ -15,9 +15,14 @@ use std::marker::Model;
 
 /// Writes by rising number. Numbers are consecutive, so a write is found by subtraction; a write that is
 /// gone leaves a hole until all before it are gone too. No write below `waiting` waits for the local disk,
-/// and that number only rises, since a write that the disk was done with never waits again. Each call takes
-/// constant time, but for a removal and for the end of a write on the local disk, which both take constant
-/// time for each number that was accepted.
+/// and that number only rises, since a write that the disk was done with never waits again.
+///
+/// A call takes constant time, but for these. A removal drops the holes before the first write that is left,
+/// and the end of a write on the local disk passes the numbers up to the next one that waits: each number is
+/// dropped once and passed once, so this is constant time for each number that was accepted. `open`,
+/// `unanswered`, `unlink_all` and `release_rest` take time for each number from the first write on, `first_from`
+/// for each number from the one asked for to the answer, and `lacks_answer` and `release_all` for each number
+/// that they are given.
 #[derive(Drop)]
 pub(crate) struct Ring {
     first: u64,
@@ -131,17 +136,17 @@ impl Ring {
         }
     }
 
-    /// The write that has so many below it.
-    pub(crate) fn nth(&self, below: u32) -> Option<&Write>
-        ensures { option_copied result ≡ slice_get self.now.writes below }
+    /// The first write whose number is `from` or more. It takes time for each number from there to the
+    /// answer.
+    pub(crate) fn first_from(&self, from: u64) -> Option<&Write>
+        ensures first { option_copied result ≡ find (λ w. nat_le from w.number) self.now.writes }
+        // for callers that go on behind the answer
+        ensures rises { Rises 0 self.now.writes }
+        ensures below { IfSome result (λ w. w.now.number < self.now.next) }
     {
-        let mut left = below;
-        for index in 0..self.slots.len() {
-            if let Some(write) = self.slots[index].as_ref() {
-                if left == 0 {
-                    return Some(write);
-                }
-                left -= 1;
+        for number in from.max(self.first)..self.end() {
+            if let Some(write) = self.get(number) {
+                return Some(write);
             }
         }
         None

@@ -5,7 +5,7 @@
 //! | open | its frame stands in the link's queue (`sent`) | sent; under protocol A answered by that |
 //! | open, sent | RECV_ACK under B, WRITE_ACK under C (`acked`) | answered |
 //! | open, waiting for the local disk | the disk has it (`local_done`) | on disk |
-//! | open, waiting for the local disk | the disk failed (`local_failed`) | failed, never completed |
+//! | open, waiting for the local disk | the disk failed (`local_fault`) | failed, never completed |
 //! | open, on disk and answered | at once | completed (linked) |
 //! | on disk or failed, linked | its epoch's BARRIER_ACK (`barrier_acked`), or it came before | released |
 //! | linked | the connection is closed (`drain`) | without a connection |

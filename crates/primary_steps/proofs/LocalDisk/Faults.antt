@@ -200,25 +200,25 @@ module _ (settings : Settings) (bound : 0 < settings.max_epoch) (s : PrimaryStat
           pointwise a true = and-false (is_open h a) ∙ sym (and-false (not (is_completed h a.write.number)))
           pointwise a false = and-true (is_open h a)
 
-  fault-due : IsDue (record s { log = (log.local_failed number s.log).1; entries = with_entry number (λ entry. record entry { fate = core.Failed }) s.entries; held = without number s.held; marks = bits.marking (is_between the.accepted.write.first (length the.accepted.write.contents)) s.marks })
-      (log.local_failed number s.log).0 (with_outcome number (Failed (within (length the.accepted.write.contents) offsets)) (record h { marks = marking the.accepted.write h.marks }))
+  fault-due : IsDue (record s { log = (log.local_fault number s.log).1; entries = with_entry number (λ entry. record entry { fate = core.Failed }) s.entries; held = without number s.held; marks = bits.marking (is_between the.accepted.write.first (length the.accepted.write.contents)) s.marks })
+      (log.local_fault number s.log).0 (with_outcome number (Failed (within (length the.accepted.write.contents) offsets)) (record h { marks = marking the.accepted.write h.marks }))
   fault-due =
       change-due s h (with_outcome number (Failed (within (length the.accepted.write.contents) offsets)) (record h { marks = marking the.accepted.write h.marks })) number writes.failing (set_outcome number (Failed (within (length the.accepted.write.contents) offsets))) (λ c. c) left homes ordered.1.0 ordered.1.1.0.1.on after.1.1.0.0 fault-change
       (with_entry number (λ entry. record entry { fate = core.Failed }) s.entries) (without number s.held) (bits.marking (is_between the.accepted.write.first (length the.accepted.write.contents)) s.marks) s.end refl refl refl entries-are held-is marks-are left.rest.end
 
-  pub fault-follows : Agrees reply.Ok (Ok (transition.logged what.Nothing (log.local_failed number s.log) (transition.failing number s)).0, (transition.logged what.Nothing (log.local_failed number s.log) (transition.failing number s)).1)
+  pub fault-follows : Agrees reply.Ok (Ok (transition.logged what.Nothing (log.local_fault number s.log) (transition.failing number s)).0, (transition.logged what.Nothing (log.local_fault number s.log) (transition.failing number s)).1)
       (step.succeeding what.Nothing (faulted number offsets h))
   fault-follows =
-      subst (λ (x : PrimaryHistory). Agrees reply.Ok (Ok (transition.logged what.Nothing (log.local_failed number s.log) (transition.failing number s)).0, (transition.logged what.Nothing (log.local_failed number s.log) (transition.failing number s)).1) (step.succeeding what.Nothing x)) (sym faulted-is)
-      (subst (λ (t : PrimaryState). Agrees reply.Ok (Ok (transition.logged what.Nothing (log.local_failed number s.log) t).0, (transition.logged what.Nothing (log.local_failed number s.log) t).1) (step.succeeding what.Nothing (with_outcome number (Failed (within (length the.accepted.write.contents) offsets)) (record h { marks = marking the.accepted.write h.marks })))) (sym failing-is)
-      (from-follow _ _ (follow _ (log.local_failed number s.log).0 (with_outcome number (Failed (within (length the.accepted.write.contents) offsets)) (record h { marks = marking the.accepted.write h.marks })) fault-due what.Nothing)))
+      subst (λ (x : PrimaryHistory). Agrees reply.Ok (Ok (transition.logged what.Nothing (log.local_fault number s.log) (transition.failing number s)).0, (transition.logged what.Nothing (log.local_fault number s.log) (transition.failing number s)).1) (step.succeeding what.Nothing x)) (sym faulted-is)
+      (subst (λ (t : PrimaryState). Agrees reply.Ok (Ok (transition.logged what.Nothing (log.local_fault number s.log) t).0, (transition.logged what.Nothing (log.local_fault number s.log) t).1) (step.succeeding what.Nothing (with_outcome number (Failed (within (length the.accepted.write.contents) offsets)) (record h { marks = marking the.accepted.write h.marks })))) (sym failing-is)
+      (from-follow _ _ (follow _ (log.local_fault number s.log).0 (with_outcome number (Failed (within (length the.accepted.write.contents) offsets)) (record h { marks = marking the.accepted.write h.marks })) fault-due what.Nothing)))
 
 -- the local disk fails a write
 pub faults-agree : FaultsAgree
 faults-agree number offsets s h reached left =
     let known = reached-ordered h reached in
     tested-agrees reply.Ok s h ((not (transition.is_unfinished number s), UnknownJob) ∷ []) ((not (is_unfinished h number), UnknownJob) ∷ [])
-    (λ _. (Ok (transition.logged what.Nothing (log.local_failed number s.log) (transition.failing number s)).0, (transition.logged what.Nothing (log.local_failed number s.log) (transition.failing number s)).1))
+    (λ _. (Ok (transition.logged what.Nothing (log.local_fault number s.log) (transition.failing number s)).0, (transition.logged what.Nothing (log.local_fault number s.log) (transition.failing number s)).1))
     (λ _. step.succeeding what.Nothing (faulted number offsets h))
     (ap (λ b. (not b, UnknownJob) ∷ []) (unfinished-same s h number left known.ordered.1.1.0.0)) left
     (λ none. fault-follows known.settings known.bound s h number offsets left known.ordered (not-false (is_unfinished h number) (test-passed (not (is_unfinished h number)) UnknownJob [] none).0))

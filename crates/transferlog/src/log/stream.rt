@@ -90,7 +90,8 @@ impl TransferLog {
 
     /// The connection is closed: no stream stands any more, and no write has a connection. What is on the
     /// local disk and was not completed is completed by that; what is settled is released, and clears
-    /// nothing. Answers how many writes it completed. It takes no memory, and time for each unreleased write.
+    /// nothing. Answers how many writes it completed. It takes no memory, and time for each number from the
+    /// first unreleased one on.
     pub fn drain(&mut self) -> u32
         ensures { (result, self.new.state) ≡ drained self.old.state }
     {

@@ -1,7 +1,7 @@
 //! The life of a write in the transfer log, from its acceptance to its completion.
 ghost use Rattle.std.specs.Prelude.{◌≡◌, ◌+◌, ◌<◌, ◌≤◌, ◌++◌, ◌⊎◌, ◌↔◌, length, take, drop, replicate, OnErr, IsErrOf, IsOk, IfOk, IfErr, OnOk, IsSomeAnd, true, false};
 ghost use Rattle.std.specs.Option.{option_map};
-ghost use Rattle.transferlog.specs.Log.{accepting, acked, changing, home_in, local_done, local_failed, sent};
+ghost use Rattle.transferlog.specs.Log.{accepting, acked, changing, home_in, local_done, local_fault, sent};
 ghost use Rattle.transferlog.specs.Ring.{changed, write_at};
 ghost use Rattle.transferlog.specs.declared.local.Local.TheVariants.{Waiting};
 ghost use Rattle.blocks.specs.declared.refusal.Refusal.TheVariants.{LogFull, NoMemory};
@@ -84,9 +84,9 @@ impl TransferLog {
 
     /// The local disk failed the write, which is never completed then. Answers the barrier that is
     /// appended, where it is in the last epoch. It takes no memory.
-    pub fn local_failed(&mut self, number: u64) -> Option<u32>
+    pub fn local_fault(&mut self, number: u64) -> Option<u32>
         requires { IsSomeAnd (write_at number self.old.state.writes) (λ w. w.local ≡ Waiting) }
-        ensures { (result, self.new.state) ≡ local_failed number self.old.state }
+        ensures { (result, self.new.state) ≡ local_fault number self.old.state }
     {
         self.change(number, Change::Failed)
     }

@@ -1,6 +1,6 @@
 use Rattle.std.proofs.Common.{◌≡◌, ◌+◌, ℕ, sym, ◌∙◌, subst, arith}
-use Rattle.transferlog.specs.Ring.{Each, Rises}
-use Rattle.transferlog.proofs.InSlots.{rises_in}
+use Rattle.transferlog.specs.Ring.{Each}
+use Rattle.transferlog.proofs.InSlots.{rises_of}
 use Rattle.transferlog.proofs.Answered.{IsAnsweredBelow, answered_next, lacks_one, lacks_none}
 use Rattle.transferlog.proofs.ring.Ring.lacks_answer.Goals as goal
 
@@ -10,8 +10,7 @@ returns-then-is_unanswered c =
 
 pub loop-number-preserved : goal.loop-number-preserved
 loop-number-preserved c =
-    let s = c.self.inside in
-    let rises : Rises 0 c.args.self.now.writes = rw (← c.self.view_is) (rises_in 0 s.first s.slots.items (omega arith) c.self.invariant.numbered) in
+    let rises = rises_of c.self.inside c.args.self.now c.self.view_is c.self.invariant in
     answered_next c.args.first c.loop-number.number 0 c.args.self.now.writes rises (sym c.is_unanswered.ensures ∙ c.if-is_unanswered.false) c.loop-number.invariant
 
 pub returns : goal.returns

@@ -1,15 +1,11 @@
 use Rattle.std.proofs.Common.{◌≡◌, ℕ, ◌+◌, ◌<◌, ◌≤◌, None, length, sym, ◌∙◌, ap, subst, arith, false, true}
-use Rattle.transferlog.specs.Ring.{Each, Rises, RingState, WaitsFrom, is_waiting_at, write_at}
+use Rattle.transferlog.specs.Ring.{Each, RingState, WaitsFrom, is_waiting_at, write_at}
 use Rattle.transferlog.specs.Slots.{IsRing, ring_of}
 use Rattle.transferlog.specs.declared.ring.Ring.TheInside.{Inside}
-use Rattle.transferlog.proofs.InSlots.{past_the_end, rises_in, write_at-slot}
+use Rattle.transferlog.proofs.InSlots.{past_the_end, rises_of, write_at-slot}
 use Rattle.transferlog.proofs.Unlinking.{numbers_below}
 use Rattle.transferlog.proofs.Waiting.{first_found, none_found, waits_next}
 use Rattle.transferlog.proofs.ring.Ring.lowest_waiting.Goals as goal
-
--- numbers rise, by what the fields keep
-rises_of : (r : Inside) (s : RingState) → ring_of r ≡ s → IsRing r → Rises 0 s.writes
-rises_of r s is ring = rw (← is) (rises_in 0 r.first r.slots.items (omega arith) ring.numbered)
 
 -- no write has the next number
 none_at_end : (r : Inside) (s : RingState) (n : ℕ) → ring_of r ≡ s → IsRing r → n ≡ r.first + length r.slots.items → write_at n s.writes ≡ None

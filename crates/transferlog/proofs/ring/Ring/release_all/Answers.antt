@@ -3,17 +3,11 @@ use Rattle.std.specs.Prelude.{filter, map, is_some, IsSome, if◌then◌else◌}
 use Rattle.std.specs.Option.{option_and_then, option_to_list}
 use Rattle.std.proofs.lemmas.List.{length-map, append-nil}
 use Rattle.transferlog.specs.Writes.{LogWrite, is_released, released_of, release_of}
-use Rattle.transferlog.specs.Ring.{RingState, write_at, without, Rises}
-use Rattle.transferlog.specs.Slots.{ring_of, IsRing}
-use Rattle.transferlog.specs.declared.ring.Ring.TheInside.{Inside}
-use Rattle.transferlog.proofs.InSlots.{rises_in}
+use Rattle.transferlog.specs.Ring.{write_at, without, Rises}
+use Rattle.transferlog.proofs.InSlots.{rises_of}
 use Rattle.transferlog.specs.declared.report.Released.{Released}
 use Rattle.transferlog.proofs.Sweep.{goes, remains, out_at, found_still, gone_next, left_next, all_before, all_after, room_left}
 use Rattle.transferlog.proofs.ring.Ring.release_all.Goals as goal
-
--- numbers rise, by what the fields keep
-rises_of : (r : Inside) (s : RingState) → ring_of r ≡ s → IsRing r → Rises 0 s.writes
-rises_of r s is ring = rw (← is) (rises_in 0 r.first r.slots.items (omega arith) ring.numbered)
 
 onto_nothing : (xs : List Released) (ys : List LogWrite) → ys ≡ [] → xs ≡ xs ++ map released_of ys
 onto_nothing xs ys none = rw none (sym (append-nil xs))

@@ -8,17 +8,13 @@ use Rattle.transferlog.specs.Slots.{ring_of, IsRing}
 use Rattle.transferlog.specs.declared.ring.Ring.TheInside.{Inside}
 use Rattle.transferlog.specs.declared.report.Completed.{Completed}
 use Rattle.transferlog.specs.declared.report.Turn.{Turn}
-use Rattle.transferlog.proofs.InSlots.{rises_in}
+use Rattle.transferlog.proofs.InSlots.{rises_of}
 use Rattle.transferlog.proofs.Sweep.{goes, out_at, gone_next, all_before, all_after, room_left}
 use Rattle.transferlog.proofs.Unlinking.{completes, unlinked, unlinked_next, none_unlinked, all_unlinked, completion_at, all_completed, numbers_from, numbers_below, each_to}
 use Rattle.transferlog.proofs.ring.Ring.unlink_all.Goals as goal
 
 onto_nothing : (xs : List Completed) (ys : List LogWrite) → ys ≡ [] → xs ≡ xs ++ map completed_of ys
 onto_nothing xs ys none = rw none (sym (append-nil xs))
-
--- numbers rise, by what the fields keep
-rises_of : (r : Inside) (s : RingState) → ring_of r ≡ s → IsRing r → Rises 0 s.writes
-rises_of r s is ring = rw (← is) (rises_in 0 r.first r.slots.items (omega arith) ring.numbered)
 
 from_first : (r : Inside) (s : RingState) → ring_of r ≡ s → IsRing r → Each (λ w. r.first ≤ w.number) s.writes
 from_first r s is ring = rw (← is) (numbers_from r.first r.first r.slots.items (omega arith) ring.numbered)

@@ -1,5 +1,5 @@
 use Rattle.std.proofs.Common.{rules}
-use Rattle.transferlog.proofs.log.TransferLog.local_failed.Goals as goal
+use Rattle.transferlog.proofs.log.TransferLog.local_fault.Goals as goal
 
 pub returns : goal.returns
 returns c = search rules
