@@ -10,7 +10,7 @@ use std::time::{Clock, Duration};
 const YIELDS: u32 = 20;
 
 /// How often a thread that found nothing waits so, before it sleeps.
-const LOOKS: u32 = 30;
+const LOOKS: u32 = 3;
 
 /// The longest sleep, as a power of two in milliseconds: 16 ms. (A sleep ends at a ring.)
 const LONGEST_SLEEP: u32 = 4;
@@ -20,7 +20,11 @@ const LONGEST_SLEEP: u32 = 4;
 #[derive(Drop)]
 pub struct Bell {
     rings: AtomicU64,
+    // Threads that look again before they sleep.
+    watchers: AtomicU64,
     sleepers: AtomicU64,
+    // 1 from when a sleeper is woken until one is awake, so that no ring in between wakes another.
+    waking: AtomicU64,
     lock: Mutex<()>,
     rung: Condvar,
 }
@@ -30,7 +34,9 @@ impl Bell {
     pub fn new() -> Bell {
         Bell {
             rings: AtomicU64::new(0),
+            watchers: AtomicU64::new(0),
             sleepers: AtomicU64::new(0),
+            waking: AtomicU64::new(0),
             lock: Mutex::new(()),
             rung: Condvar::new(),
         }
@@ -42,10 +48,16 @@ impl Bell {
         self.rings.load(Ordering::SeqCst)
     }
 
-    /// Wakes one sleeper.
+    /// Counts a thread that from now on does whatever there is, as long as the bell is used, and waits only when it has
+    /// found nothing.
+    pub fn watch(&self) {
+        self.watchers.fetch_add(1, Ordering::SeqCst);
+    }
+
+    /// Wakes one sleeper, unless a watcher is awake, which looks again before it sleeps.
     pub fn ring_one<R: Wait>(&self, rt: &R) {
         self.rings.fetch_add(1, Ordering::SeqCst);
-        if self.sleepers.load(Ordering::SeqCst) > 0 {
+        if self.needs_waking() {
             drop(self.lock.lock(rt));
             self.rung.notify_one();
         }
@@ -77,6 +89,15 @@ impl Bell {
             let _ = self.rung.wait_timeout(rt, guard, sleep);
         }
         self.sleepers.fetch_sub(1, Ordering::SeqCst);
+        self.waking.store(0, Ordering::SeqCst);
+    }
+
+    // Whether all watchers sleep, and none has been woken since.
+    fn needs_waking(&self) -> bool {
+        let sleepers = self.sleepers.load(Ordering::SeqCst);
+        sleepers > 0
+            && sleepers >= self.watchers.load(Ordering::SeqCst)
+            && self.waking.swap(1, Ordering::SeqCst) == 0
     }
 
     // Yields until it rings, `YIELDS` times at most.
@@ -107,6 +128,38 @@ mod tests {
         bell.ring_one(rt);
         bell.ring_all(rt);
         bell.wait(rt, rings, 24);
+    }
+
+    /// A thread that does whatever there is, until it has seen `rings` rings.
+    fn watch<R: Wait + Clock>(rt: &R, bell: &Bell, rings: u64) {
+        bell.watch();
+        let mut looks = 0u32;
+        for _ in rt.forever() {
+            let seen = bell.rings();
+            if seen >= rings {
+                break;
+            }
+            bell.wait(rt, seen, looks);
+            looks = looks.saturating_add(1);
+        }
+    }
+
+    fn ring<R: Wait + Clock>(rt: &R, bell: &Bell, rings: u64) {
+        for _ in 0..rings {
+            bell.ring_one(rt);
+        }
+    }
+
+    fn watchers_see_each_ring<R: Threads + Wait + Clock + Abort + Sync>(rt: &R) {
+        let bell = Bell::new();
+        let shared = &bell;
+        thread::join(rt, || watch(rt, shared, 1000), || ring(rt, shared, 1000));
+        assert!(rt; bell.rings() == 1000, "{} rings", bell.rings());
+    }
+
+    #[test]
+    fn a_watcher_and_a_ringer(rt: HostRuntime) {
+        watchers_see_each_ring(&rt);
     }
 
     fn two_threads<R: Threads + Wait + Clock + Abort + Sync>(rt: &R) {

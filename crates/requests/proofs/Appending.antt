@@ -1,18 +1,17 @@
--- The receipts of one range after another.
+-- The ranges of one write after another.
 use Rattle.std.proofs.Common.{ℕ, ◌≡◌, List, [], ◌∷◌, ◌++◌, map, sym, ap, ◌∙◌, append_assoc}
 use Rattle.std.proofs.lemmas.List.{map_push, map-append}
 use Rattle.blocks.specs.declared.range.Range.{Range}
 use Rattle.nbd.specs.Pieces.{pair_of}
-use Rattle.requests.specs.Receipts.{HasReceipts, range_of}
-use Rattle.model.specs.Settlement.{Receipt}
+use Rattle.requests.specs.Receipts.{HasMore}
 
--- those of some ranges, and then those of some more
-pub one-more : (yielded : List Range) (range : Range) (old before new : List Receipt) → HasReceipts (map pair_of yielded) old before → HasReceipts (pair_of range ∷ []) before new
-    → HasReceipts (map pair_of (yielded ++ range ∷ [])) old new
-one-more yielded range old before new done one = record {
+-- those of some ranges, and then that of one more
+pub one-more : {A B : Type 0} (range : A → ℕ × ℕ) (asked : B → ℕ × ℕ) (yielded : List B) (last : B) (old before new : List A)
+    → HasMore range (map asked yielded) old before → HasMore range (asked last ∷ []) before new → HasMore range (map asked (yielded ++ last ∷ [])) old new
+one-more range asked yielded last old before new done one = record {
   more = done.more ++ one.more;
-  appended = one.appended ∙ ap (λ (l : List Receipt). l ++ one.more) done.appended ∙ append_assoc old done.more one.more;
-  each = map-append range_of done.more one.more ∙ ap (λ (l : List (ℕ × ℕ)). l ++ map range_of one.more) done.each ∙ ap (λ (l : List (ℕ × ℕ)). map pair_of yielded ++ l) one.each ∙ sym (map_push pair_of yielded range);
+  appended = one.appended ∙ ap (λ l. l ++ one.more) done.appended ∙ append_assoc old done.more one.more;
+  each = map-append range done.more one.more ∙ ap (λ l. l ++ map range one.more) done.each ∙ ap (λ l. map asked yielded ++ l) one.each ∙ sym (map_push asked yielded last);
 }
 
 -- what is left goes on

@@ -1,18 +1,17 @@
-//! Reading and writing ranges of a mirror, one after another.
+//! Reading ranges of a mirror, and beginning to write them, one after another.
 ghost use Rattle.std.specs.Prelude.{◌≡◌, ◌*◌, ◌<◌, ◌^◌, ◌∷◌, [], length, vec_len, IfOk, OnOk};
 ghost use Rattle.nbd.specs.Pieces.{pair_of};
-ghost use Rattle.requests.specs.Receipts.{HasReceipts};
+ghost use Rattle.requests.specs.Receipts.{HasMore, span_of};
 
 use crate::payload::{front, zeros};
 use crate::requests::Requests;
 use blocks::{BLOCK_BYTES, Range, Refusal};
 use bytes::Bytes;
 use nbd::{Errno, Ranges};
-use primary::Receipt;
 use std::alloc::Global;
 use std::sync::Wait;
 use std::time::Clock;
-use volume::{Mirror, PrimaryHalf, SecondaryHalf};
+use volume::{Begun, Mirror, PrimaryHalf, SecondaryHalf};
 
 /// Reads these ranges, which have `count` blocks together.
 pub(crate) fn read<R: Wait + Clock + Drop, A: PrimaryHalf + Drop, B: SecondaryHalf + Drop>(
@@ -36,71 +35,71 @@ pub(crate) fn read<R: Wait + Clock + Drop, A: PrimaryHalf + Drop, B: SecondaryHa
     Ok(data)
 }
 
-/// Writes the payload to these ranges, each from where the one before ends in it.
-pub(crate) fn write<R: Wait + Clock + Drop, A: PrimaryHalf + Drop, B: SecondaryHalf + Drop>(
+/// Begins to write the payload to these ranges, each from where the one before ends in it.
+pub(crate) fn begin_write<R: Wait + Clock + Drop, A: PrimaryHalf + Drop, B: SecondaryHalf + Drop>(
     rt: &R,
     requests: &Requests,
     mirror: &Mirror<R, A, B>,
     ranges: Ranges,
     payload: Bytes,
-    receipts: &mut Vec<Receipt>,
+    begun: &mut Vec<Begun>,
 ) -> Result<(), Errno>
-    ensures { OnOk result (HasReceipts ranges receipts.old.items receipts.new.items) }
+    ensures { OnOk result (HasMore span_of ranges begun.old.items begun.new.items) }
 {
     let mut payload = payload;
     for range in ranges {
         let bytes = front(&mut payload, range.count)?;
-        write_range(rt, requests, mirror, range, &bytes, receipts)?;
+        begin_range(rt, requests, mirror, range, &bytes, begun)?;
     }
     Ok(())
 }
 
-/// Writes zeros to these ranges.
-pub(crate) fn write_zeroes<R: Wait + Clock + Drop, A: PrimaryHalf + Drop, B: SecondaryHalf + Drop>(
+/// Begins to write zeros to these ranges.
+pub(crate) fn begin_zeroes<R: Wait + Clock + Drop, A: PrimaryHalf + Drop, B: SecondaryHalf + Drop>(
     rt: &R,
     requests: &Requests,
     mirror: &Mirror<R, A, B>,
     ranges: Ranges,
-    receipts: &mut Vec<Receipt>,
+    begun: &mut Vec<Begun>,
 ) -> Result<(), Errno>
-    ensures { OnOk result (HasReceipts ranges receipts.old.items receipts.new.items) }
+    ensures { OnOk result (HasMore span_of ranges begun.old.items begun.new.items) }
 {
     for range in ranges {
         let bytes = zeros(requests.alloc, range.count)?;
-        write_range(rt, requests, mirror, range, &bytes, receipts)?;
+        begin_range(rt, requests, mirror, range, &bytes, begun)?;
     }
     Ok(())
 }
 
-// Writes one range, and keeps its receipt.
-fn write_range<R: Wait + Clock + Drop, A: PrimaryHalf + Drop, B: SecondaryHalf + Drop>(
+// Begins to write one range.
+fn begin_range<R: Wait + Clock + Drop, A: PrimaryHalf + Drop, B: SecondaryHalf + Drop>(
     rt: &R,
     requests: &Requests,
     mirror: &Mirror<R, A, B>,
     range: Range,
     bytes: &Bytes,
-    receipts: &mut Vec<Receipt>,
+    begun: &mut Vec<Begun>,
 ) -> Result<(), Errno>
     requires { length bytes.now ≡ range.count * 4096 }
-    ensures { OnOk result (HasReceipts (pair_of range ∷ []) receipts.old.items receipts.new.items) }
+    ensures { OnOk result (HasMore span_of (pair_of range ∷ []) begun.old.items begun.new.items) }
 {
     requests.flushes.wait(rt);
     requests.count_write();
-    if receipts.try_reserve(1).is_err() {
+    if begun.try_reserve(1).is_err() {
         return Err(Errno::NoMemory);
     }
-    let receipt = match mirror.write(range.first.0, bytes) {
-        Ok(receipt) => receipt,
+    let write = match mirror.begin(range.first.0, bytes) {
+        Ok(write) => write,
         Err(refusal) => return Err(errno_of(refusal)),
     };
-    match receipts.push(receipt) {
+    match begun.push(write) {
         Ok(()) => Ok(()),
         Err(_) => Err(Errno::NoMemory),
     }
 }
 
-// What a client is told of a refusal.
-fn errno_of(refusal: Refusal) -> Errno {
+/// What a client is told of a refusal.
+pub(crate) fn errno_of(refusal: Refusal) -> Errno {
     match refusal {
         Refusal::NoMemory => Errno::NoMemory,
         Refusal::BadRange => Errno::Invalid,

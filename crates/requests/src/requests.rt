@@ -1,21 +1,23 @@
 //! Requests over a mirror.
-ghost use Rattle.std.specs.Prelude.{◌≡◌, ◌*◌, vec_len, IfOk, OnOk};
+ghost use Rattle.std.specs.Prelude.{◌≡◌, ◌*◌, [], vec_len, IfOk, OnOk};
 ghost use Rattle.nbd.specs.Pieces.{pieces};
 ghost use Rattle.nbd.specs.declared.command.Command.TheVariants as command;
-ghost use Rattle.requests.specs.Receipts.{HasReceipts};
+ghost use Rattle.requests.specs.Receipts.{HasBegun, HasMore, range_of};
 
+use crate::complete::complete_all;
 use crate::flushes::{Flushes, pause};
-use crate::perform::{read, write, write_zeroes};
+use crate::perform::{begin_write, begin_zeroes, read};
+use crate::under_way::UnderWay;
 use blocks::Protocol;
 use image_store::SyncHandle;
-use nbd::{Command, Errno, Request};
+use nbd::{Command, Errno, Ranges, Request};
 use primary::Receipt;
 use std::alloc::Global;
 use std::fs::File;
 use std::sync::Wait;
 use std::sync::atomic::{AtomicU64, Ordering};
 use std::time::Clock;
-use volume::{Mirror, PrimaryHalf, SecondaryHalf};
+use volume::{Begun, Mirror, PrimaryHalf, SecondaryHalf};
 
 /// Does the requests of block clients over one session after another, by any number of threads at a time.
 #[derive(Drop)]
@@ -61,41 +63,98 @@ impl Requests {
         self.writes.fetch_add(1, Ordering::SeqCst);
     }
 
-    /// Does a request. Returns the data of a READ, and no bytes for any other command. A WRITE or WRITE_ZEROES is done once
-    /// each of its ranges has its receipt, which is appended. With FUA, and for a FLUSH, both images are on stable
-    /// storage then, and the peer has all writes that were done before, unless the link is down.
+    /// Begins a request: the writes of a WRITE or WRITE_ZEROES, and nothing of any other command. Whoever has many requests
+    /// begins them all, and then ends one after another.
+    pub fn begin<R: Wait + Clock + Drop, A: PrimaryHalf + Drop, B: SecondaryHalf + Drop>(
+        &self,
+        rt: &R,
+        mirror: &Mirror<R, A, B>,
+        request: Request,
+    ) -> UnderWay
+        ensures { result ≡ request }
+    {
+        let mut begun = Vec::new(self.alloc);
+        let begins = self.begin_writes(rt, mirror, &request, &mut begun);
+        UnderWay {
+            request,
+            begun,
+            begins,
+        }
+    }
+
+    /// Ends a request, and returns it with the data of a READ, and no bytes for any other command. A WRITE or WRITE_ZEROES is
+    /// done once each of its ranges has its receipt, which is appended. With FUA, and for a FLUSH, both images are on
+    /// stable storage then, and the peer has all writes that were done before, unless the link is down.
     ///
     /// `Invalid` (EINVAL) for a range that the mirror refuses and for DISC, which is answered by nothing; `NoMemory` (ENOMEM)
     /// if there is no memory; `InputOutput` (EIO) if a disk or a file failed, or the session has no room left. A part of the
     /// ranges may be written then, and have its receipts.
-    pub fn perform<R: Wait + Clock + Drop, A: PrimaryHalf + Drop, B: SecondaryHalf + Drop>(
+    pub fn end<R: Wait + Clock + Drop, A: PrimaryHalf + Drop, B: SecondaryHalf + Drop>(
+        &self,
+        rt: &R,
+        mirror: &Mirror<R, A, B>,
+        under_way: UnderWay,
+        receipts: &mut Vec<Receipt>,
+    ) -> (Request, Result<Vec<u8>, Errno>)
+        ensures request { result.0 ≡ under_way }
+        ensures read { under_way.command ≡ command.Read → IfOk result.1 (λ read. vec_len read ≡ under_way.block_count * 4096) }
+        ensures written { under_way.command ≡ command.Write
+            → OnOk result.1 (HasMore range_of (pieces under_way.first_block under_way.block_count) receipts.old.items receipts.new.items) }
+        ensures zeroed { under_way.command ≡ command.WriteZeroes
+            → OnOk result.1 (HasMore range_of (pieces under_way.first_block under_way.block_count) receipts.old.items receipts.new.items) }
+    {
+        let UnderWay {
+            request,
+            begun,
+            begins,
+        } = under_way;
+        let completed = complete_all(mirror, begun, receipts);
+        let result = match (begins, completed) {
+            (Ok(()), Ok(())) => self.finish(rt, mirror, &request),
+            (Err(errno), _) | (_, Err(errno)) => Err(errno),
+        };
+        (request, result)
+    }
+
+    // Begins the writes of a request, in order, until one is refused.
+    fn begin_writes<R: Wait + Clock + Drop, A: PrimaryHalf + Drop, B: SecondaryHalf + Drop>(
         &self,
         rt: &R,
         mirror: &Mirror<R, A, B>,
         request: &Request,
-        receipts: &mut Vec<Receipt>,
+        begun: &mut Vec<Begun>,
+    ) -> Result<(), Errno>
+        requires { begun.now.items ≡ [] }
+        ensures { OnOk result (HasBegun request.now begun.new.items) }
+    {
+        match request.command {
+            Command::Write => {
+                let ranges = ranges_of(request)?;
+                let payload = request.payload.clone().map_err(|_| Errno::NoMemory)?;
+                begin_write(rt, self, mirror, ranges, payload, begun)
+            }
+            Command::WriteZeroes => begin_zeroes(rt, self, mirror, ranges_of(request)?, begun),
+            Command::Read | Command::Flush | Command::Disconnect => Ok(()),
+        }
+    }
+
+    // Does what is left of a request once its writes are completed.
+    fn finish<R: Wait + Clock + Drop, A: PrimaryHalf + Drop, B: SecondaryHalf + Drop>(
+        &self,
+        rt: &R,
+        mirror: &Mirror<R, A, B>,
+        request: &Request,
     ) -> Result<Vec<u8>, Errno>
         ensures read { request.now.command ≡ command.Read → IfOk result (λ read. vec_len read ≡ request.now.block_count * 4096) }
-        ensures written { request.now.command ≡ command.Write
-            → OnOk result (HasReceipts (pieces request.now.first_block request.now.block_count) receipts.old.items receipts.new.items) }
-        ensures zeroed { request.now.command ≡ command.WriteZeroes
-            → OnOk result (HasReceipts (pieces request.now.first_block request.now.block_count) receipts.old.items receipts.new.items) }
     {
-        let count = u64::from(request.block_count);
-        let Some(_) = request.first_block.checked_add(count) else {
-            return Err(Errno::Invalid);
-        };
         match request.command {
-            Command::Read => return read(self.alloc, mirror, request.ranges(), count),
-            Command::Write => {
-                let payload = request.payload.clone().map_err(|_| Errno::NoMemory)?;
-                write(rt, self, mirror, request.ranges(), payload, receipts)?;
-            }
-            Command::WriteZeroes => {
-                write_zeroes(rt, self, mirror, request.ranges(), receipts)?;
+            Command::Read => {
+                let count = u64::from(request.block_count);
+                return read(self.alloc, mirror, ranges_of(request)?, count);
             }
             Command::Flush => self.sync(rt, mirror)?,
             Command::Disconnect => return Err(Errno::Invalid),
+            Command::Write | Command::WriteZeroes => {}
         }
         if request.fua {
             self.sync(rt, mirror)?;
@@ -122,5 +181,18 @@ impl Requests {
         }
         self.local.sync().map_err(|_| Errno::InputOutput)?;
         self.peer.sync().map_err(|_| Errno::InputOutput)
+    }
+}
+
+// The ranges of a request. `Invalid` if its blocks cannot be counted.
+fn ranges_of(request: &Request) -> Result<Ranges, Errno>
+    ensures { IfOk result (λ ranges. ranges ≡ pieces request.now.first_block request.now.block_count) }
+{
+    match request
+        .first_block
+        .checked_add(u64::from(request.block_count))
+    {
+        Some(_) => Ok(request.ranges()),
+        None => Err(Errno::Invalid),
     }
 }

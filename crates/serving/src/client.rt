@@ -17,12 +17,15 @@ const PATIENCE_S: u64 = 10;
 /// How long a read waits before its thread looks whether the server ends, in milliseconds.
 const LOOK_MS: u64 = 250;
 
+/// The most bytes of replies that are held before they are sent.
+const MOST_HELD: usize = 64 * 1024;
+
 /// A client's connection.
 #[derive(Drop)]
 pub(crate) struct Client {
     stream: TcpStream,
-    // Whoever has it writes, so a reply is written whole.
-    writing: Mutex<()>,
+    // Replies that leave together. Whoever has the lock writes, so a reply is written whole.
+    held: Mutex<Vec<u8>>,
     pub(crate) places: Places,
 }
 
@@ -32,7 +35,7 @@ impl Client {
         let places = Places::new(alloc)?;
         Ok(Client {
             stream,
-            writing: Mutex::new(()),
+            held: Mutex::new(Vec::new(alloc)),
             places,
         })
     }
@@ -46,21 +49,51 @@ impl Client {
             .set_write_timeout(Some(Duration::from_secs(PATIENCE_S)))
     }
 
-    /// Writes bytes to the client. If that fails, its connection is closed.
+    /// Writes bytes to the client, behind the replies that are held. If that fails, its connection is closed.
     pub(crate) fn send<R: Wait>(&self, rt: &R, bytes: &[u8]) {
-        let _writing = self.writing.lock(rt);
-        let mut stream = &self.stream;
-        if stream.write_all(bytes).is_err() {
-            self.close();
+        let mut held = self.held.lock(rt);
+        self.write_held(&mut held);
+        self.write(bytes);
+    }
+
+    /// Holds a reply, and the data that follow it, until the next `send_held`. What is too long to hold is written at once.
+    pub(crate) fn reply<R: Wait>(&self, rt: &R, header: &Reply, data: &[u8]) {
+        let header = header.encode();
+        let mut held = self.held.lock(rt);
+        if held.len() > MOST_HELD
+            || data.len() > MOST_HELD
+            || held
+                .try_reserve(header.as_slice().len() + data.len())
+                .is_err()
+        {
+            self.write_held(&mut held);
+            self.write(header.as_slice());
+            self.write(data);
+            return;
+        }
+        // There is room for both.
+        let _ = held.extend_from_slice(header.as_slice());
+        let _ = held.extend_from_slice(data);
+    }
+
+    /// Writes the replies that are held.
+    pub(crate) fn send_held<R: Wait>(&self, rt: &R) {
+        let mut held = self.held.lock(rt);
+        self.write_held(&mut held);
+    }
+
+    // Writes the replies that are held, and holds none.
+    fn write_held(&self, held: &mut Vec<u8>) {
+        if !held.is_empty() {
+            self.write(held.as_slice());
+            held.clear();
         }
     }
 
-    /// Writes a reply, and the data that follow it. If that fails, the connection is closed.
-    pub(crate) fn reply<R: Wait>(&self, rt: &R, header: &Reply, data: &[u8]) {
-        let header = header.encode();
-        let _writing = self.writing.lock(rt);
+    // Writes bytes. If that fails, the connection is closed.
+    fn write(&self, bytes: &[u8]) {
         let mut stream = &self.stream;
-        if stream.write_all(header.as_slice()).is_err() || stream.write_all(data).is_err() {
+        if stream.write_all(bytes).is_err() {
             self.close();
         }
     }

@@ -11,8 +11,8 @@ use std::thread::Threads;
 use std::time::{Clock, Duration};
 use volume::{Mirror, PrimaryHalf, SecondaryHalf};
 
-/// How many requests of all clients are done at a time.
-const WORKERS: usize = 64;
+/// How many threads do the requests of all clients, each of them some together.
+const WORKERS: usize = 4;
 
 /// How long a thread waits for a request before it looks whether the session ends, in milliseconds.
 const LOOK_MS: u64 = 100;
@@ -73,7 +73,7 @@ fn do_requests<
     Ok(all)
 }
 
-// Does one request after another. Returns the receipts for which there was no room among those that are gathered.
+// Does requests, as they come. Returns the receipts for which there was no room among those that are gathered.
 fn do_some<R: Wait + Clock + Drop, A: PrimaryHalf + Drop, B: SecondaryHalf + Drop>(
     rt: &R,
     service: &Service,

@@ -137,6 +137,7 @@ fn talk(alloc: Global, stream: &mut TcpStream) -> io::Result<bool> {
         &[&ask(0, 4, [0x10, 0], [0x20, 0])],
         &[&told(0, 4), &AB_BLOCK, &ZERO_BLOCK],
     )?;
+    let is_done_at_once = burst(alloc, stream)?;
     // A part of a block is EINVAL, a write past the end ENOSPC.
     let is_part_refused = exchange(
         alloc,
@@ -153,9 +154,40 @@ fn talk(alloc: Global, stream: &mut TcpStream) -> io::Result<bool> {
             && is_zeroed
             && is_flushed
             && is_read
+            && is_done_at_once
             && is_part_refused
             && is_end_refused,
     )
+}
+
+// Asks for two writes of the same block and a read of another before any reply has come. Returns whether each is answered
+// once, in whatever order.
+fn burst(alloc: Global, stream: &mut TcpStream) -> io::Result<bool> {
+    let mut asked = Vec::new(alloc);
+    for cookie in [8, 9] {
+        asked.extend_from_slice(&ask(1, cookie, [0x40, 0], [0x10, 0]))?;
+        asked.extend_from_slice(&ZERO_BLOCK)?;
+    }
+    asked.extend_from_slice(&ask(0, 10, [0x10, 0], [0x10, 0]))?;
+    stream.write_all(asked.as_slice())?;
+    let mut seen = [false; 3];
+    for _ in 0..3 {
+        let mut header = [0u8; 16];
+        stream.read_exact(&mut header)?;
+        let cookie = header[15];
+        if header != told(0, cookie) || !(8..=10).contains(&cookie) {
+            return Ok(false);
+        }
+        let place = usize::from(cookie) - 8;
+        if seen[place] {
+            return Ok(false);
+        }
+        seen[place] = true;
+        if cookie == 10 && !exchange(alloc, stream, &[], &[&AB_BLOCK])? {
+            return Ok(false);
+        }
+    }
+    Ok(true)
 }
 
 /// What a client of the status page asks.
@@ -245,7 +277,7 @@ fn a_client_reads_what_it_wrote(rt: HostRuntime) -> Result<(), Fail> {
         let (status, is_right) = serve_one(rt, protocol, &mut out)?;
         assert!(rt; is_right, "{protocol:?}");
         assert_eq!(rt; status, 0, "{protocol:?}");
-        let lines = "completed 2\nsettled 2\nunmarked 0\n";
+        let lines = "completed 4\nsettled 4\nunmarked 0\n";
         assert_eq!(rt; out.as_slice(), lines.as_bytes(), "{protocol:?}");
         let mut wanted = Vec::new(rt.alloc());
         for block in 0..8 {

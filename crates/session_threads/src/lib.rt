@@ -12,6 +12,6 @@ mod way;
 mod workers;
 
 pub use carriers::{PumpEnds, half_rows};
-pub use mirror::Mirror;
+pub use mirror::{Begun, Mirror};
 pub use running::Running;
 pub use way::Way;

@@ -11,6 +11,14 @@ use std::alloc::Global;
 use std::sync::{Arc, Wait};
 use std::time::Clock;
 
+/// A write that was begun, and whose receipt is not yet had.
+#[derive(Debug, Drop)]
+pub struct Begun {
+    number: u64,
+    first: u64,
+    count: u64,
+}
+
 /// A running session over these two halves, as any number of threads may share it.
 #[derive(Drop)]
 pub struct Mirror<R: Wait + Drop, A: PrimaryHalf + Drop, B: SecondaryHalf + Drop> {
@@ -29,9 +37,39 @@ impl<R: Wait + Clock + Drop, A: PrimaryHalf + Drop, B: SecondaryHalf + Drop> Mir
     pub fn write(&self, first: u64, bytes: &Bytes) -> Result<Receipt, Refusal>
         ensures own { IfOk result (λ receipt. (receipt.first ≡ first) × (receipt.count * 4096 ≡ length bytes.now)) }
     {
+        let begun = self.begin(first, bytes)?;
+        self.complete(begun)
+    }
+
+    /// Begins a write of whole blocks from the first one on: it is accepted, and sent if there is room for it. Whoever has
+    /// many writes to do begins them all, and then waits for one after another.
+    ///
+    /// It asks again on `Conflict` (2), `LogFull` (3) and `ActivityFull` (4), and returns every other refusal of
+    /// `Primary::submit`: `BadRange` (1), `JournalFull` (5), `StreamFull` (6), `NoMemory` (7), `NotConnected` (12).
+    pub fn begin(&self, first: u64, bytes: &Bytes) -> Result<Begun, Refusal>
+        ensures range { IfOk result (λ begun. (begun.first ≡ first) × (begun.count * 4096 ≡ length bytes.now)) }
+    {
+        if bytes.len() % BLOCK_BYTES != 0 {
+            return Err(Refusal::BadRange);
+        }
         let number = self.submit(first, bytes)?;
-        let receipt = self.completed(number)?;
-        if receipt.first().0 != first || !is_size(receipt.count(), bytes.len()) {
+        self.shared.send_next();
+        Ok(Begun {
+            number,
+            first,
+            count: (bytes.len() / BLOCK_BYTES) as u64,
+        })
+    }
+
+    /// Waits until a write that was begun is completed as the protocol says, and returns its receipt.
+    ///
+    /// It returns the refusals of `Primary::take_completed` but `NotCompleted` (10): `LocalFault` (8), and `UnknownJob` (16)
+    /// for a write of another session. A receipt of another range would be `UnknownJob` (16), too.
+    pub fn complete(&self, begun: Begun) -> Result<Receipt, Refusal>
+        ensures own { IfOk result (λ receipt. (receipt.first ≡ begun.first) × (receipt.count ≡ begun.count)) }
+    {
+        let receipt = self.completed(begun.number)?;
+        if receipt.first().0 != begun.first || receipt.count() != begun.count {
             return Err(Refusal::UnknownJob);
         }
         Ok(receipt)
@@ -93,9 +131,13 @@ impl<R: Wait + Clock + Drop, A: PrimaryHalf + Drop, B: SecondaryHalf + Drop> Mir
         unreachable!()
     }
 
-    // Waits until a write is completed or failed.
+    // Waits until a write is completed or failed. Whoever was woken does a turn first: it may have been woken for that.
     fn completed(&self, number: u64) -> Result<Receipt, Refusal> {
         let shared = &self.shared;
+        let taken = shared.local.take_completed(number);
+        if !matches!(taken, Err(Refusal::NotCompleted)) {
+            return taken;
+        }
         let mut looks = 0u32;
         for _ in shared.rt.forever() {
             let rings = shared.local.writers().rings();
@@ -112,11 +154,4 @@ impl<R: Wait + Clock + Drop, A: PrimaryHalf + Drop, B: SecondaryHalf + Drop> Mir
         }
         unreachable!()
     }
-}
-
-// Whether so many blocks have so many bytes.
-fn is_size(blocks: u64, bytes: usize) -> bool
-    ensures { result ≡ true → blocks * 4096 ≡ bytes }
-{
-    bytes % BLOCK_BYTES == 0 && blocks == (bytes / BLOCK_BYTES) as u64
 }

@@ -60,14 +60,30 @@ impl<R: Wait + Drop, A: PrimaryHalf + Drop, B: SecondaryHalf + Drop> Shared<R, A
         self.peer.sent().ring_all(&self.rt);
     }
 
+    /// Sends the primary's next frame, if it has one and there is room for it.
+    pub(crate) fn send_next(&self) {
+        let Ok(done) = self.local.send() else {
+            return;
+        };
+        self.ring_for_push();
+        if done.completed.is_some() {
+            self.local.writers().ring_all(&self.rt);
+        }
+    }
+
+    // Rings for whoever takes what the primary pushed.
+    fn ring_for_push(&self) {
+        match self.path {
+            Path::Link => self.peer.work().ring_one(&self.rt),
+            Path::Wire => self.local.sent().ring_one(&self.rt),
+        }
+    }
+
     /// Does a turn at the primary, and tells the secondary's half of it.
     pub(crate) fn turn_local(&self, role: LocalRole) -> Turn {
         let turn = self.local.turn(role);
         if turn.pushed {
-            match self.path {
-                Path::Link => self.peer.work().ring_one(&self.rt),
-                Path::Wire => self.local.sent().ring_one(&self.rt),
-            }
+            self.ring_for_push();
         }
         if let Some(connection) = turn.closed {
             let _door = self.door.lock(&self.rt);
@@ -99,6 +115,7 @@ impl<R: Wait + Drop, A: PrimaryHalf + Drop, B: SecondaryHalf + Drop> Shared<R, A
 impl<R: Wait + Clock + Drop, A: PrimaryHalf + Drop, B: SecondaryHalf + Drop> Shared<R, A, B> {
     /// The loop of a thread of the primary's half.
     pub(crate) fn work_local(&self, role: LocalRole) {
+        self.local.work().watch();
         let mut looks = 0u32;
         for _ in self.rt.forever() {
             if self.is_over() {
@@ -116,6 +133,7 @@ impl<R: Wait + Clock + Drop, A: PrimaryHalf + Drop, B: SecondaryHalf + Drop> Sha
 
     /// The loop of a thread of the secondary's half.
     pub(crate) fn work_peer(&self, role: PeerRole) {
+        self.peer.work().watch();
         let mut looks = 0u32;
         for _ in self.rt.forever() {
             if self.is_over() {

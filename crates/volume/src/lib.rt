@@ -9,5 +9,5 @@ pub use halves::{PrimaryHalf, SecondaryHalf};
 pub use locked_halves::{LocalHalf, PeerHalf};
 pub use session::{Parts, Session, SessionLocal, SessionMirror, SessionPeer};
 pub use session_link::{Back, Linked, SessionPrimary, SessionSecondary, There};
-pub use session_threads::{Mirror, Way};
+pub use session_threads::{Begun, Mirror, Way};
 pub use wire::{WireLocal, WireMirror, WirePeer, WirePrimary, WireSecondary, WireSession};

@@ -1,8 +1,8 @@
 use Rattle.requests.proofs.Appending.{one-more, left-one}
-use Rattle.requests.proofs.perform.write.Goals as goal
+use Rattle.requests.proofs.perform.begin_zeroes.Goals as goal
 
 pub loop-range-preserved : goal.loop-range-preserved
 loop-range-preserved g c = record {
-  done = one-more _ _ _ _ _ c.loop-range.invariant.done c.in_ok-write_range.ensures;
+  done = one-more _ _ _ _ _ _ _ c.loop-range.invariant.done c.in_ok-begin_range.ensures;
   left = left-one _ _ _ _ _ c.loop-range.invariant.left c.in-Some.ensures.steps;
 }

@@ -1,10 +1,10 @@
 use Rattle.std.proofs.Common.{◌≡◌, ◌++◌, map}
 use Rattle.nbd.specs.Pieces.{pair_of}
-use Rattle.requests.specs.Receipts.{HasReceipts}
-use Rattle.requests.proofs.perform.write.Given as goal
+use Rattle.requests.specs.Receipts.{HasMore, span_of}
+use Rattle.requests.proofs.perform.begin_write.Given as goal
 
 abbrev pub invariant-loop-range : goal.invariant-loop-range
 invariant-loop-range g l = record {
-  done : HasReceipts (map pair_of l.yielded) l.fn.receipts.items l.receipts.items;
+  done : HasMore span_of (map pair_of l.yielded) l.fn.begun.items l.begun.items;
   left : map pair_of l.yielded ++ l.range-iterator ≡ l.fn.ranges;
 }

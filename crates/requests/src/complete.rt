@@ -1,0 +1,46 @@
+//! Waiting for the writes of a request.
+ghost use Rattle.std.specs.Prelude.{◌∷◌, [], map, OnOk};
+ghost use Rattle.requests.specs.Receipts.{HasMore, range_of, span_of};
+
+use crate::perform::errno_of;
+use nbd::Errno;
+use primary::Receipt;
+use std::sync::Wait;
+use std::time::Clock;
+use volume::{Begun, Mirror, PrimaryHalf, SecondaryHalf};
+
+/// Waits for all writes that were begun, one after another, and keeps their receipts. If any fails, the others are waited
+/// for too.
+pub(crate) fn complete_all<R: Wait + Clock + Drop, A: PrimaryHalf + Drop, B: SecondaryHalf + Drop>(
+    mirror: &Mirror<R, A, B>,
+    begun: Vec<Begun>,
+    receipts: &mut Vec<Receipt>,
+) -> Result<(), Errno>
+    ensures { OnOk result (HasMore range_of (map span_of begun.items) receipts.old.items receipts.new.items) }
+{
+    let mut all = Ok(());
+    for write in begun {
+        if let Err(errno) = complete(mirror, write, receipts) {
+            all = Err(errno);
+        }
+    }
+    all
+}
+
+// Waits for a write, and keeps its receipt.
+fn complete<R: Wait + Clock + Drop, A: PrimaryHalf + Drop, B: SecondaryHalf + Drop>(
+    mirror: &Mirror<R, A, B>,
+    write: Begun,
+    receipts: &mut Vec<Receipt>,
+) -> Result<(), Errno>
+    ensures { OnOk result (HasMore range_of (span_of write ∷ []) receipts.old.items receipts.new.items) }
+{
+    let receipt = match mirror.complete(write) {
+        Ok(receipt) => receipt,
+        Err(refusal) => return Err(errno_of(refusal)),
+    };
+    match receipts.push(receipt) {
+        Ok(()) => Ok(()),
+        Err(_) => Err(Errno::NoMemory),
+    }
+}

@@ -1,0 +1,24 @@
+//! A request whose writes were begun.
+use nbd::{Errno, Request};
+use std::marker::Model;
+use volume::Begun;
+
+/// A request whose writes were begun. Invariant: if none was refused, what was begun is all that it writes.
+#[derive(Debug, Drop)]
+pub struct UnderWay {
+    pub(crate) request: Request,
+    pub(crate) begun: Vec<Begun>,
+    pub(crate) begins: Result<(), Errno>,
+}
+
+impl Model for UnderWay {
+    ghost use Rattle.std.specs.Prelude.{OnOk};
+    ghost use Rattle.nbd.specs.declared.request.Request.{Request};
+    ghost use Rattle.requests.specs.Receipts.{HasBegun};
+
+    ghost Value = { Request };
+
+    ghost view = { λ u. u.request };
+
+    ghost invariant = { λ u. OnOk u.begins (HasBegun u.request u.begun.items) };
+}
