@@ -5,7 +5,8 @@ use pair::{Pair, Side};
 use secondary_core::Usage;
 use std::process::Abort;
 
-/// All that can be read off a pair of eight blocks. It is taken without memory.
+/// All that can be read off a pair of eight blocks, without memory. A disk that fails its next read shows here, since each block
+/// of both is read.
 #[derive(Clone, Copy, Debug, PartialEq, Eq)]
 pub(crate) struct Seen {
     disks: Disks,
@@ -45,15 +46,23 @@ struct PrimarySeen {
     unanswered: u32,
     open_epochs: u64,
     next_local: Option<u64>,
+    items_sent: u32,
+    /// How many frames went into the link, the hello's among them.
+    frames_sent: Option<u64>,
 }
 
 /// What the secondary says of itself.
 #[derive(Clone, Copy, Debug, PartialEq, Eq)]
 struct SecondarySeen {
     next: Result<u32, Refusal>,
+    connection: u32,
     is_drained: bool,
+    is_consistent: bool,
     is_open: bool,
     is_hello_done: bool,
+    items_taken: u32,
+    items_applied: u32,
+    frames_sent: Option<u64>,
     usage: Usage,
 }
 
@@ -134,6 +143,8 @@ impl PrimarySeen {
             unanswered: primary.unanswered(),
             open_epochs: primary.open_epochs(),
             next_local: primary.next_local(),
+            items_sent: primary.items_sent(),
+            frames_sent: primary.outgoing().map(|end| end.pushed()),
         }
     }
 }
@@ -143,9 +154,14 @@ impl SecondarySeen {
         let secondary = pair.secondary();
         SecondarySeen {
             next: secondary.next(),
+            connection: secondary.number(),
             is_drained: secondary.is_drained(),
+            is_consistent: secondary.is_consistent(),
             is_open: secondary.is_open(),
             is_hello_done: secondary.is_hello_done(),
+            items_taken: secondary.items_taken(),
+            items_applied: secondary.items_applied(),
+            frames_sent: secondary.outgoing().map(|end| end.pushed()),
             usage: secondary.usage(),
         }
     }
