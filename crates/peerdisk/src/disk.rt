@@ -1,6 +1,6 @@
 //! The items that wait for the secondary's disk.
-ghost use Rattle.std.specs.Prelude.{◌≡◌, ◌+◌, ◌-◌, ◌<◌, ◌≤◌, [], true, false, nat_eq, length, get_or, All, None, Some, Ok, Err, OnOk, OnErr, IsOk, IfOk, IfErr, is_some, option_map, slice_get, MatchResult};
-ghost use Rattle.blocks.specs.declared.refusal.Refusal.TheVariants.{NoMemory};
+ghost use Rattle.std.specs.Prelude.{◌≡◌, ◌+◌, ◌-◌, ◌<◌, ◌≤◌, [], true, false, nat_eq, nat_le, if◌then◌else◌, length, get_or, All, None, Some, Ok, Err, OnOk, OnErr, IsOk, IfOk, IfErr, is_some, option_map, slice_get, MatchResult};
+ghost use Rattle.blocks.specs.declared.refusal.Refusal.TheVariants.{NoMemory, PendingFull};
 ghost use Rattle.peerdisk.specs.Pending.{after_fault, at_place, epoch_at, is_pending, is_starved, item_at, next, put, start, without};
 
 use crate::slots::{drop_holes, drop_later, put_holes, take_item};
@@ -90,6 +90,16 @@ impl<T: Drop> PeerDisk<T> {
         Ok(())
     }
 
+    /// Whether another item may be pending. `PendingFull` (18) if as many are pending as may be.
+    pub fn may_put(&self) -> Result<(), Refusal>
+        ensures { result ≡ (if nat_le self.now.limit (length self.now.pending) then Err PendingFull else Ok tt) }
+    {
+        if self.count >= self.limit {
+            return Err(Refusal::PendingFull);
+        }
+        Ok(())
+    }
+
     /// An item was taken: its place lies after all that are pending, and its epoch is none of theirs or the
     /// last.
     ///
@@ -102,9 +112,7 @@ impl<T: Drop> PeerDisk<T> {
         ensures put { (result, self.new) ≡ put place epoch item (is_starved result) (record self.old { reach = self.new.reach }) }
         ensures room { place < self.old.reach → is_starved result ≡ false }
     {
-        if self.count >= self.limit {
-            return Err(Refusal::PendingFull);
-        }
+        self.may_put()?;
         self.reserve(place)?;
         let place = u64::from(place);
         if self.slots.is_empty() {

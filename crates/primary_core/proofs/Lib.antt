@@ -18,3 +18,4 @@ pub mod Taken
 pub mod Copying
 pub mod Unmarked
 pub mod Refused
+pub mod Barriers

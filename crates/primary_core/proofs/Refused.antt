@@ -1,5 +1,5 @@
 -- What an opening is refused for, but for want of memory, it is refused for.
-use Rattle.std.proofs.Common.{ℕ, ◌≡◌, Bool, true, false, not, List, [], ◌∷◌, Result, Ok, Err, refl, sym, ◌∙◌, ap, nat_le}
+use Rattle.std.proofs.Common.{ℕ, ◌≡◌, Bool, true, false, not, [], ◌∷◌, Result, Ok, Err, ap, nat_le}
 use Rattle.std.specs.Prelude.{is_some}
 use Rattle.blocks.specs.declared.refusal.Refusal.{Refusal}
 use Rattle.blocks.specs.declared.refusal.Refusal.TheVariants.{NotDrained, UsedIdentifier, StreamFull, NoMemory}

@@ -9,3 +9,5 @@ pub mod Send
 pub mod State
 pub mod Submit
 pub mod Take
+pub mod Unsent
+pub mod Waiting

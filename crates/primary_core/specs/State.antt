@@ -1,7 +1,6 @@
 -- What the fields of a primary stand for, and what is kept about them.
-use Rattle.std.specs.Prelude.{ℕ, ◌≡◌, ◌-◌, ◌<◌, ◌≤◌, Bool, List, ◌∷◌, length, Option, Some, None, option_map, false, []}
+use Rattle.std.specs.Prelude.{ℕ, ◌≡◌, ◌<◌, ◌≤◌, Bool, List, ◌∷◌, length, Option, Some, None, option_map, false, []}
 use Rattle.std.specs.List.{AllByRecursion}
-use Rattle.std.specs.VecDeque.{deque_len, deque_capacity}
 use Rattle.blocks.specs.declared.settings.Settings.{Settings}
 use Rattle.blocks.specs.declared.tuple.Tuple.{Tuple}
 use Rattle.blocks.specs.SettingsRange.{IsInRange}
@@ -81,7 +80,7 @@ state_of c = record {
 
 -- the fields, with the room for more
 abbrev pub core_of : Inside → CoreState
-core_of c = record { state = state_of c; confirmed = c.confirmed.items; stream_room = deque_capacity c.unsent - deque_len c.unsent; log_room = c.log.spare }
+core_of c = record { state = state_of c; confirmed = c.confirmed.items; stream_room = c.unsent.room; log_room = c.log.spare }
 
 -- The state is sound, only accepted writes hold something beside the block under way, each entry is confirmed or not, and there
 -- is room for what may come to the stream without memory.
@@ -89,7 +88,7 @@ pub record IsCore (c : Inside) : Type 0 where
   pub sound : IsSound (state_of c)
   pub writers : AllByRecursion (IsWriter c.log.state.accepted) c.held
   pub flagged : c.confirmed.len ≡ c.entries.len
-  pub room : owing None (state_of c).end c.log.state ≤ deque_capacity c.unsent - deque_len c.unsent
+  pub room : owing None (state_of c).end c.log.state ≤ c.unsent.room
 
 -- a primary may begin with these: the settings are in their ranges, each block has its mark or none, and the data have a
 -- generation

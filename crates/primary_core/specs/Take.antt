@@ -1,5 +1,5 @@
 -- What a taken packet does, as its call tells it.
-use Rattle.std.specs.Prelude.{ℕ, true, Some, [], ◌∷◌, Result, Ok, Err}
+use Rattle.std.specs.Prelude.{true, Some, [], ◌∷◌, Result, Ok, Err}
 use Rattle.blocks.specs.declared.outcome.Done.{Done}
 use Rattle.blocks.specs.declared.refusal.Refusal.{Refusal}
 use Rattle.blocks.specs.Identifiers.{sync_start}

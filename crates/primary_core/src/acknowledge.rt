@@ -9,11 +9,9 @@ ghost use Rattle.primary_steps.specs.Taking.{answered, confirmed, is_in_epoch, i
 ghost use Rattle.primary_steps.specs.Taking.{named as asked};
 ghost use Rattle.blocks.specs.declared.outcome.What.TheVariants as what;
 
-use crate::item::Item;
 use crate::state::PrimaryCore;
 use blocks::{Block, Command, Done, Refusal, What};
 use packets::{Acknowledgement, Packet};
-use std::collections::VecDeque;
 use transferlog::{Answer, Named};
 
 impl PrimaryCore {
@@ -59,7 +57,7 @@ impl PrimaryCore {
     fn is_going_on(&self, number: u32) -> bool
         ensures { (e : EndState) → self.now.state.end ≡ Some e → result ≡ (is_unsent number e.unsent || is_in_epoch number e.under_way) }
     {
-        if waits(&self.unsent, number) {
+        if self.unsent.has_barrier(number) {
             return true;
         }
         match self.under_way() {
@@ -115,19 +113,6 @@ impl PrimaryCore {
             None => false,
         }
     }
-}
-
-// Whether the barrier of this epoch is one of the items.
-fn waits(unsent: &VecDeque<Item>, number: u32) -> bool
-    ensures { result ≡ is_unsent number unsent.now.items }
-{
-    for index in 0..unsent.len() {
-        let item = &unsent[index];
-        if item.ends(number) {
-            return true;
-        }
-    }
-    false
 }
 
 // What an acknowledgement names, as the log asks for it.

@@ -6,6 +6,7 @@ ghost use Rattle.model.specs.Frames.{command_of, frame_of};
 ghost use Rattle.model.specs.Stream.{is_write, number_of};
 ghost use Rattle.packets.specs.Spelling.{IsSpellable};
 ghost use Rattle.primary_steps.specs.Taking.{is_unsent};
+ghost use Rattle.primary_core.specs.Unsent.{barrier_of};
 
 use blocks::{Block, Command, Refusal, Tuple};
 use bytes::Bytes;
@@ -88,6 +89,16 @@ impl Item {
     {
         match &self.kind {
             Kind::Write(number, ..) => Some(*number),
+            _ => None,
+        }
+    }
+
+    /// The number of the barrier, if it is one.
+    pub(crate) fn barrier(&self) -> Option<u32>
+        ensures { result ≡ barrier_of self.now }
+    {
+        match &self.kind {
+            Kind::Barrier(number) => Some(*number),
             _ => None,
         }
     }

@@ -15,6 +15,7 @@ mod resyncing;
 mod send;
 mod state;
 mod submit;
+mod unsent;
 mod usage;
 
 pub use entry::{Entry, Fate};

@@ -5,14 +5,13 @@ ghost use Rattle.primary_steps.specs.Core.{fresh};
 ghost use Rattle.primary_core.specs.State.{CanBegin};
 
 use crate::entry::Entry;
-use crate::item::Item;
+use crate::unsent::Unsent;
 use activitylog::ActivityLog;
 use bitmap::Bitmap;
 use blocks::{Block, Refusal, Settings, Tuple};
 use generations::Generations;
 use overlap::Held;
 use std::alloc::Global;
-use std::collections::VecDeque;
 use std::marker::Model;
 use transferlog::TransferLog;
 
@@ -64,7 +63,7 @@ pub struct PrimaryCore {
     pub(crate) activity: ActivityLog,
     pub(crate) end: Option<End>,
     // The items of an open end that were not sent. They keep their room while it is closed.
-    pub(crate) unsent: VecDeque<Item>,
+    pub(crate) unsent: Unsent,
 }
 
 impl Model for PrimaryCore {
@@ -113,7 +112,7 @@ impl PrimaryCore {
             held: Held::new(alloc),
             activity: ActivityLog::new(alloc, settings.slots)?,
             end: None,
-            unsent: VecDeque::new(alloc),
+            unsent: Unsent::new(alloc),
         })
     }
 }

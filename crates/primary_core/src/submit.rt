@@ -73,9 +73,7 @@ impl PrimaryCore {
         if self.log.accepted() >= MOST_WRITES {
             return Err(Refusal::JournalFull);
         }
-        if self.log.len() >= self.settings.backlog {
-            return Err(Refusal::LogFull);
-        }
+        self.log.may_accept()?;
         if let Some(number) = self.conflict(range) {
             return Err(Refusal::Conflict(number));
         }

@@ -26,10 +26,7 @@ impl SecondaryCore {
         if !self.is_open {
             return Err(Refusal::NotConnected);
         }
-        if self.disk.len() >= self.settings.pending as usize {
-            return Err(Refusal::PendingFull);
-        }
-        Ok(())
+        self.disk.may_put()
     }
 
     /// Whether nothing is pending.

@@ -26,6 +26,17 @@ impl TransferLog {
         self.epochs.reserve()
     }
 
+    /// Whether another write is accepted. `LogFull` (3) if the backlog is full.
+    pub fn may_accept(&self) -> Result<(), Refusal>
+        ensures full { IsErrOf result LogFull ↔ (self.now.state.backlog ≤ length self.now.state.writes) }
+        ensures refused { IfErr result (λ e. e ≡ LogFull) }
+    {
+        if self.ring.len() >= self.backlog {
+            return Err(Refusal::LogFull);
+        }
+        Ok(())
+    }
+
     /// Accepts a write. Where a stream stands, it takes the next place there.
     ///
     /// `LogFull` (3) where `backlog` writes are unreleased; `NoMemory` (7) where there is no room for the
@@ -40,9 +51,7 @@ impl TransferLog {
         ensures unchanged { OnErr result (self.new.state ≡ self.old.state) }
         ensures roomy { 0 < self.old.spare → IfErr result (λ e. e ≡ LogFull) }
     {
-        if self.ring.len() >= self.backlog {
-            return Err(Refusal::LogFull);
-        }
+        self.may_accept()?;
         self.ring.reserve()?;
         let number = self.accepted + 1;
         let (home, barrier) = home_in(self.connection, number, &mut self.epochs)?;

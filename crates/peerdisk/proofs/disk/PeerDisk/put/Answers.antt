@@ -11,22 +11,37 @@ use Rattle.peerdisk.proofs.Stored.{grown-stored, length-filled}
 use Rattle.peerdisk.proofs.disk.PeerDisk.put.Goals as goal
 use Rattle.peerdisk.proofs.disk.PeerDisk.put.Goals.{then-is_empty, else-is_empty}
 
+pub overflow_sub-index : goal.overflow_sub-index
+overflow_sub-index g c =
+    let s = c.self.inside in
+    let row = filled s.items s.slots.items in
+    let pending = ap (λ s. s.pending) (c.self.view_is ∙ c.in_ok-reserve.ensures.same) in
+    elim c.if-is_empty.branch [
+      | then-is_empty w ↦ omega (arith, ap (λ x. x.first) w.self-inside-is)
+      | else-is_empty w ↦
+          let more : 0 < deque_len s.slots = grind (arith, nat_tests, c.is_empty.ensures, w.if-is_empty.false) in
+          let begin : length row ≡ 0 → c.args.place ≡ s.first = λ none. absurd (omega (arith, s.slots.ok, none, length-filled s.items s.slots.items)) in
+          let above : All (λ p. p.place < c.args.place) (pending_from s.first row) = rw pending c.requires.above in
+          let from = from-first c.args.place s.first row c.self.invariant.row.begins begin above in
+          omega (arith, from, c.from-place.ensures, ap (λ x. x.first) w.self-inside-is)
+    ]
+
 pub invariant_of-self : goal.invariant_of-self
 invariant_of-self g c =
-    let s = c.self-2.inside in
+    let s = c.self.inside in
     let f = c.if-is_empty.self-inside in
     let old = c.args.self.now in
-    let same = c.self-2.view_is ∙ c.in_ok-reserve.ensures.same in
+    let same = c.self.view_is ∙ c.in_ok-reserve.ensures.same in
     let pending = ap (λ s. s.pending) same in
     let cap = deque_capacity s.slots in
     let long : deque_len s.slots ≡ length s.slots.items = omega (arith, s.slots.ok) in
-    let reach = ap (λ s. s.reach) c.self-2.view_is in
-    let room : 0 < cap = has-room c.args.place s.first cap (omega (arith, reach, c.in_ok-reserve.ensures.room)) c.self-2.invariant.row.begun in
+    let reach = ap (λ s. s.reach) c.self.view_is in
+    let room : 0 < cap = has-room c.args.place s.first cap (omega (arith, reach, c.in_ok-reserve.ensures.room)) c.self.invariant.row.begun in
     let stored : IsStored f.items f.first f.slots.items f.count (deque_len f.slots) (deque_capacity f.slots) f.limit = elim c.if-is_empty.branch [
       | then-is_empty w ↦
           let empty : deque_len s.slots ≡ 0 = grind (arith, nat_tests, c.is_empty.ensures, w.if-is_empty.true) in
-          rw w.self-inside-is (grown-stored s.items s.first c.from-place.result s.slots.items s.count (deque_len s.slots) (deque_len s.slots) cap cap s.limit c.self-2.invariant long refl (omega (arith, c.from-place.ensures, c.ranges.place.fits)) (λ (more : 0 < deque_len s.slots). absurd (omega (arith, empty, more))) room)
-      | else-is_empty w ↦ rw w.self-inside-is c.self-2.invariant
+          rw w.self-inside-is (grown-stored s.items s.first c.from-place.result s.slots.items s.count (deque_len s.slots) (deque_len s.slots) cap cap s.limit c.self.invariant long refl (omega (arith, c.from-place.ensures, c.ranges.place.fits)) (λ (more : 0 < deque_len s.slots). absurd (omega (arith, empty, more))) room)
+      | else-is_empty w ↦ rw w.self-inside-is c.self.invariant
     ] in
     let row = filled f.items f.slots.items in
     let left : pending_from f.first row ≡ old.pending = elim c.if-is_empty.branch [
@@ -69,20 +84,20 @@ invariant_of-self g c =
 
 pub returns-clause-put : goal.returns-clause-put
 returns-clause-put g c =
-    let s = c.self-2.inside in
+    let s = c.self.inside in
     let f = c.if-is_empty.self-inside in
     let old = c.args.self.now in
-    let same = c.self-2.view_is ∙ c.in_ok-reserve.ensures.same in
+    let same = c.self.view_is ∙ c.in_ok-reserve.ensures.same in
     let pending = ap (λ s. s.pending) same in
     let cap = deque_capacity s.slots in
     let long : deque_len s.slots ≡ length s.slots.items = omega (arith, s.slots.ok) in
-    let reach = ap (λ s. s.reach) c.self-2.view_is in
-    let room : 0 < cap = has-room c.args.place s.first cap (omega (arith, reach, c.in_ok-reserve.ensures.room)) c.self-2.invariant.row.begun in
+    let reach = ap (λ s. s.reach) c.self.view_is in
+    let room : 0 < cap = has-room c.args.place s.first cap (omega (arith, reach, c.in_ok-reserve.ensures.room)) c.self.invariant.row.begun in
     let stored : IsStored f.items f.first f.slots.items f.count (deque_len f.slots) (deque_capacity f.slots) f.limit = elim c.if-is_empty.branch [
       | then-is_empty w ↦
           let empty : deque_len s.slots ≡ 0 = grind (arith, nat_tests, c.is_empty.ensures, w.if-is_empty.true) in
-          rw w.self-inside-is (grown-stored s.items s.first c.from-place.result s.slots.items s.count (deque_len s.slots) (deque_len s.slots) cap cap s.limit c.self-2.invariant long refl (omega (arith, c.from-place.ensures, c.ranges.place.fits)) (λ (more : 0 < deque_len s.slots). absurd (omega (arith, empty, more))) room)
-      | else-is_empty w ↦ rw w.self-inside-is c.self-2.invariant
+          rw w.self-inside-is (grown-stored s.items s.first c.from-place.result s.slots.items s.count (deque_len s.slots) (deque_len s.slots) cap cap s.limit c.self.invariant long refl (omega (arith, c.from-place.ensures, c.ranges.place.fits)) (λ (more : 0 < deque_len s.slots). absurd (omega (arith, empty, more))) room)
+      | else-is_empty w ↦ rw w.self-inside-is c.self.invariant
     ] in
     let row = filled f.items f.slots.items in
     let left : pending_from f.first row ≡ old.pending = elim c.if-is_empty.branch [
@@ -114,5 +129,5 @@ returns-clause-put g c =
       | then-is_empty w ↦ rw w.self-inside-is (ap (λ s. s.limit) same)
       | else-is_empty w ↦ rw w.self-inside-is (ap (λ s. s.limit) same)
     ] in
-    let few : length old.pending < old.limit = omega (arith, c.if-self.false, c.self.invariant.row.counted, ap (λ s. length s.pending) c.self.view_is, ap (λ s. s.limit) c.self.view_is) in
+    let few : length old.pending < old.limit = grind (arith, nat_tests, c.may_put.ensures, c.in_ok-may_put.was) in
     rw (whole, limit) (put-room old.limit _ (of_filled c.args.place full) old.pending few)

@@ -86,7 +86,7 @@ invariant_of-self-2 c =
       flagged = omega (arith, is.flagged, c.in_ok-reserve.ensures.len, c.in_ok-reserve-4.ensures.len, c.push_reserved.ensures.len, c.push_reserved-2.ensures.len);
       writers = rw (log, held-is c) (writers-next s.log.state.accepted first count s.held is.writers);
       room = elim (owing-left v.state.end s.log.state.connection first count contents s.log.state refl) [
-        | inl two ↦ rw (log, items) (omega (arith, two, c.in_ok-reserve-2.ensures.ok, c.in_ok-reserve-2.ensures.len))
-        | inr less ↦ rw (log, items) (omega (arith, less, is.room, c.in_ok-reserve-2.ensures.capacity, c.in_ok-reserve-2.ensures.len))
+        | inl two ↦ rw (log, items) (omega (arith, two, c.in_ok-reserve-2.ensures.room))
+        | inr less ↦ rw (log, items) (omega (arith, less, is.room, c.in_ok-reserve-2.ensures.kept))
       ];
     }

@@ -4,9 +4,6 @@ use Rattle.primary_core.proofs.state.PrimaryCore.may_submit.Goals as goal
 pub returns-then-accepted-ge-MOST_WRITES : goal.returns-then-accepted-ge-MOST_WRITES
 returns-then-accepted-ge-MOST_WRITES c = search rules
 
-pub returns-then-len-self : goal.returns-then-len-self
-returns-then-len-self c = search rules
-
 pub returns-in-Some : goal.returns-in-Some
 returns-in-Some c = search rules
 

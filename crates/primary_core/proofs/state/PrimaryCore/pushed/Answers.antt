@@ -26,7 +26,7 @@ invariant_of-self-in-Some-write c =
       sound = sound-unsent s left.items is.sound;
       flagged = is.flagged;
       writers = is.writers;
-      room = rw (owing-unsent s.end s.unsent.items left.items s.log.state) (omega (arith, is.room, c.pop_front.ensures.len, c.pop_front.ensures.capacity));
+      room = rw (owing-unsent s.end s.unsent.items left.items s.log.state) (omega (arith, is.room, c.pop_front.ensures.room));
     } in
     let answers = answers_sent s.log.state.protocol in
     core-logged (record s { unsent = left }) c.sent-barrier.new.self c.sent-barrier.result popped
