@@ -1,6 +1,6 @@
 -- What a call that copies a block for a resync comes to.
 use Rattle.std.proofs.Common.{ℕ, ◌≡◌, ◌<◌, ◌≤◌, ◌||◌, ◌&&◌, ◌+◌, inl, inr, Bool, true, false, not, List, [], ◌∷◌, ◌++◌, length, take, drop, Option, Some, None, Result, Ok, Err, slice_get, refl, sym, ◌∙◌, ap, subst, arith, nat_le}
-use Rattle.std.specs.Prelude.{filter, is_none, is_some, ok_or, unwrap_or, OnErr, OnOk}
+use Rattle.std.specs.Prelude.{filter, is_none, is_some, ok_or, unwrap_or, IfErr, OnErr, OnOk}
 use Rattle.std.specs.Result.{is_err}
 use Rattle.std.proofs.Math.Seq.{take-append_seam}
 use Rattle.std.proofs.lemmas.Bool.{and_parts, both_ways, or_parts}
@@ -217,6 +217,12 @@ on-ok (Err e) b value so p = absurd (let wrong : false ≡ true = sym so ∙ val
 -- a steady disk has counted nothing, and stays steady
 pub still-steady : (v w : PrimaryView) (faults : ℕ) (steady : Bool) → v ≡ w → faults ≡ v.faults → (v.steady ≡ true → steady ≡ true) → w.steady ≡ true → (faults ≡ w.faults) × (steady ≡ true)
 still-steady v w faults steady is counted stays known = (counted ∙ ap (λ (x : PrimaryView). x.faults) is, stays (ap (λ (x : PrimaryView). x.steady) is ∙ known))
+
+-- Where memory is wanting, no fault is counted and the core is as it was.
+pub starved-kept : (v w : PrimaryView) (result : Result Done Refusal) (core : PrimaryState) (faults : ℕ) → v ≡ w → core ≡ v.core → faults ≡ v.faults
+    → IfErr result (λ e. e ≡ NoMemory → (core ≡ w.core) × (faults ≡ w.faults))
+starved-kept v w (Ok done) core faults is same counted = tt
+starved-kept v w (Err e) core faults is same counted = λ starved. (same ∙ ap (λ (x : PrimaryView). x.core) is, counted ∙ ap (λ (x : PrimaryView). x.faults) is)
 
 -- what was read into a vector's bytes is all that it holds
 pub read-held : (disk : List (List ℕ)) (block n : ℕ) (contents buffer items : List ℕ) → slice_get disk block ≡ Some buffer → contents ≡ take n (buffer ++ drop (length buffer) items) → length buffer ≡ n → slice_get disk block ≡ Some contents

@@ -1,6 +1,6 @@
 -- A node sends what it owes.
 use Rattle.std.proofs.Common.{ℕ, ◌≡◌, ◌⊎◌, inl, inr, ◌≤◌, Bool, true, false, List, [], ◌∷◌, ◌++◌, Option, Some, None, Result, Ok, Err, refl, sym, ◌∙◌, ap, subst}
-use Rattle.std.specs.Prelude.{IfSome, IsOk}
+use Rattle.std.specs.Prelude.{IfErr, IfSome, IsOk}
 use Rattle.std.specs.Option.{option_map}
 use Rattle.blocks.specs.declared.refusal.Refusal.{Refusal}
 use Rattle.blocks.specs.declared.refusal.Refusal.TheVariants.{LinkFull, NoMemory, NotConnected, NothingThere}
@@ -12,7 +12,7 @@ use Rattle.endpoint.specs.Calls as link
 use Rattle.endpoint.specs.Calls.{has_room, is_starved}
 use Rattle.endpoint.specs.Outgoing.{OutgoingState, with_pushed}
 use Rattle.endpoint.specs.Incoming.{IncomingState}
-use Rattle.primary_core.specs.Send.{sent_at, sent_owed, sent_now}
+use Rattle.primary_core.specs.Send.{owes_blocks, sent_at, sent_owed, sent_now}
 use Rattle.primary_steps.specs.Core.{EndState, PrimaryState, stands}
 use Rattle.primary_steps.specs.Transitions.{owed, due, send}
 use Rattle.primary_steps.specs.Node.{NodeState, NodeSteps}
@@ -52,6 +52,17 @@ not-due-steps v before e said told why =
 full-or-not : (e : Refusal) → (e ≡ LinkFull) ⊎ ((e ≡ LinkFull) → ⊥)
 full-or-not LinkFull = inl refl
 full-or-not e = inr (λ is. absurd (cc))
+
+-- a push that finds no memory is of a frame with blocks
+pub blocks-wanted : (blocks owes : Bool) (e : Refusal) → blocks ≡ owes → ((e ≡ LinkFull → ⊥) → (e ≡ NoMemory) × (blocks ≡ true)) → e ≡ NoMemory → owes ≡ true
+blocks-wanted blocks owes e same refused starved = sym same ∙ (refused (λ full. cc)).1
+
+-- what is refused for want of memory is a frame with blocks
+pub starved-owes : (v w : PrimaryView) (said : Result Done Refusal) (e : Refusal) → v ≡ w → said ≡ Err e → (e ≡ NoMemory → owes_blocks v.core ≡ true)
+    → IfErr said (λ x. x ≡ NoMemory → owes_blocks w.core ≡ true)
+starved-owes v w said e is told owes =
+    subst (λ (r : Result Done Refusal). IfErr r (λ x. x ≡ NoMemory → owes_blocks w.core ≡ true)) (sym told)
+    (subst (λ (x : PrimaryView). e ≡ NoMemory → owes_blocks x.core ≡ true) is owes)
 
 -- the step of a push that the link or the memory refused
 pub not-pushed-steps : (v : PrimaryView) → IsNode v → (o p : OutgoingState) (packet : Packet) (e : Refusal) (said : Result Done Refusal) → v.outgoing ≡ Some o → due v.core ≡ Ok packet → said ≡ Err e → ((e ≡ LinkFull → ⊥) → e ≡ NoMemory) → p.pushed ≡ o.pushed

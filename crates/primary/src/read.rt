@@ -1,5 +1,5 @@
 //! The disk is read.
-ghost use Rattle.std.specs.Prelude.{◌≡◌, ◌⊎◌, ◌<◌, ◌≤◌, Some, length, true, false, IfErr, OnOk, IfOk};
+ghost use Rattle.std.specs.Prelude.{◌≡◌, ◌≢◌, ◌⊎◌, ◌<◌, ◌≤◌, Some, length, true, false, IfErr, OnOk, IfOk};
 ghost use Rattle.blocks.specs.declared.block.TheConstants.{BLOCK_BYTES};
 ghost use Rattle.blocks.specs.declared.refusal.Refusal.TheVariants.{BadRange, NoMemory, ReadFault};
 ghost use Rattle.model.specs.Contents.{IsRead, is_range};
@@ -43,6 +43,8 @@ impl<O: FrameOut + Drop, I: FrameIn + Drop, S: Store + Drop> Primary<O, I, S> {
         ensures read { IfOk result (λ bytes. (h : PrimaryHistory) → NodeHas (node self.old) h → IsRead (local_map h) first count bytes.items) }
         ensures rest { self.new ≡ record self.old { faults = self.new.faults; steady = self.new.steady } }
         ensures works { self.old.steady ≡ true → self.new.steady ≡ true }
+        // A steady disk does not fail, and nothing changes.
+        ensures steadily { self.old.steady ≡ true → (self.new ≡ self.old) × IfErr result (λ e. e ≢ ReadFault) }
         ensures uncounted { OnOk result (self.new.faults ≡ self.old.faults) }
         ensures refused { IfErr result (λ e. ((e ≡ BadRange) × (is_range self.old.core.settings first count ≡ false) × (self.new.faults ≡ self.old.faults))
             ⊎ (((e ≡ NoMemory) × (is_range self.old.core.settings first count ≡ true) × (self.new.faults ≡ self.old.faults))

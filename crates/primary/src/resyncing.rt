@@ -1,6 +1,7 @@
 //! Blocks are copied to the peer.
-ghost use Rattle.std.specs.Prelude.{◌≡◌, true};
+ghost use Rattle.std.specs.Prelude.{◌≡◌, true, IfErr};
 ghost use Rattle.blocks.specs.declared.outcome.Reply.TheVariants as reply;
+ghost use Rattle.blocks.specs.declared.refusal.Refusal.TheVariants.{NoMemory};
 ghost use Rattle.endpoint.specs.Calls.{is_starved};
 ghost use Rattle.model.specs.LocalRuns.{FailsResync};
 ghost use Rattle.primary_steps.specs.Node.{NodeSteps};
@@ -23,6 +24,7 @@ impl<O: FrameOut + Drop, I: FrameIn + Drop, S: Store + Drop> Primary<O, I, S> {
     pub fn resync_next(&mut self) -> Result<Done, Refusal>
         ensures step { CopiesOne result self.old self.new }
         ensures works { self.old.steady ≡ true → (self.new.faults ≡ self.old.faults) × (self.new.steady ≡ true) }
+        ensures starved { IfErr result (λ e. e ≡ NoMemory → (self.new.core ≡ self.old.core) × (self.new.faults ≡ self.old.faults)) }
         ensures rest { self.new ≡ record self.old {
           core = self.new.core;
           faults = self.new.faults;

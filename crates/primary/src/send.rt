@@ -1,9 +1,11 @@
 //! What is owed is sent.
-ghost use Rattle.std.specs.Prelude.{◌≡◌};
+ghost use Rattle.std.specs.Prelude.{◌≡◌, true, IfErr};
 ghost use Rattle.blocks.specs.declared.outcome.Reply.TheVariants as reply;
+ghost use Rattle.blocks.specs.declared.refusal.Refusal.TheVariants.{NoMemory};
 ghost use Rattle.endpoint.specs.Calls as link;
 ghost use Rattle.endpoint.specs.Calls.{has_room, is_starved};
 ghost use Rattle.model.specs.LocalRuns.{Sends};
+ghost use Rattle.primary_core.specs.Send.{owes_blocks};
 ghost use Rattle.primary_steps.specs.Node.{NodeSteps};
 ghost use Rattle.primary_steps.specs.Steps.{replied};
 ghost use Rattle.primary.specs.State.{node};
@@ -23,6 +25,7 @@ impl<O: FrameOut + Drop, I: FrameIn + Drop, S: Store + Drop> Primary<O, I, S> {
         ensures step { NodeSteps (Sends (has_room result) (is_starved result)) (node self.old) (replied reply.Ok result) (node self.new) }
         ensures link { link.Sends result self.old.outgoing self.new.outgoing }
         ensures rest { self.new ≡ record self.old { core = self.new.core; outgoing = self.new.outgoing } }
+        ensures memory { IfErr result (λ e. e ≡ NoMemory → owes_blocks self.old.core ≡ true) }
     {
         let packet = self.core.due()?;
         let Some(outgoing) = &mut self.outgoing else {

@@ -8,7 +8,9 @@ use Rattle.blocks.specs.declared.refusal.Refusal.{Refusal}
 use Rattle.blocks.specs.declared.refusal.Refusal.TheVariants.{NoMemory, NothingThere}
 use Rattle.endpoint.specs.Meaning.{meaning}
 use Rattle.packets.specs.declared.packet.Packet.{Packet}
+use Rattle.packets.specs.declared.packet.Packet.TheVariants as packet
 use Rattle.packets.specs.Spelling.{IsSpellable}
+use Rattle.packets.specs.Table.{has_blocks}
 use Rattle.model.specs.Frames as frames
 use Rattle.model.specs.Frames.{command_of, frame_of}
 use Rattle.model.specs.Refusals.{done_with}
@@ -17,7 +19,7 @@ use Rattle.transferlog.specs.Log.{LogState}
 use Rattle.primary_steps.specs.Core.{EndState, PrimaryState}
 use Rattle.primary_steps.specs.Transitions.{called, due, next_place, owed, pushed_item, sent_from}
 use Rattle.primary_core.specs.Kept.{IsSound, owing, places_owing}
-use Rattle.primary_core.specs.Send.{greeting, sent_at, sent_now, sent_owed}
+use Rattle.primary_core.specs.Send.{carries_blocks, greeting, is_with_blocks, owes_blocks, sent_at, sent_now, sent_owed}
 use Rattle.primary_core.specs.State.{end_of, state_of}
 use Rattle.primary_core.specs.declared.state.End.{End}
 use Rattle.primary_core.specs.declared.state.PrimaryCore.TheInside.{Inside}
@@ -43,6 +45,42 @@ pub due-told : (r : Result Packet Refusal) (d : Result frames.Packet Refusal) (x
     → MatchResult r (λ p. (d ≡ Ok (meaning p)) × IsSpellable p) (λ e. (d ≡ Err e) ⊎ ((e ≡ NoMemory) × IsOk d))
 due-told (Ok p) d x is ok err = (is ∙ ap (λ (y : frames.Packet). Ok y) (sym ok.0), ok.1)
 due-told (Err e) d x is ok err = inr (err, rw is refl)
+
+-- The first item that was not sent is due, at this place.
+pub item-is-due : (s : PrimaryState) (end : Option End) (items : List Item) (item : Item) (e : EndState) (place : ℕ)
+    → option_map (end_of items) end ≡ s.end → s.end ≡ Some e → nat_lt e.said 3 ≡ false
+    → item ≡ get_or items 0 item → 0 < length items → place ≡ next_place e s → due s ≡ Ok (frame_of place item)
+item-is-due s end items item e place shown is over lookup some at =
+    let parts = end-items end items e (shown ∙ is) in
+    let first = ap (λ (xs : List Item). slice_get xs 0) parts.0 ∙ first-item items item lookup some in
+    due-item s e item is over first ∙ ap (λ (k : ℕ). Ok (frame_of k item)) (sym at)
+
+-- What is due and has blocks.
+
+-- a packet has blocks where what it means carries them
+same-blocks : (p : Packet) → has_blocks p ≡ carries_blocks (meaning p)
+same-blocks (packet.Protocol protocol) = refl
+same-blocks (packet.Sizes blocks) = refl
+same-blocks (packet.Uuids tuple) = refl
+same-blocks (packet.Data first number place contents) = refl
+same-blocks (packet.RsDataReply first place contents) = refl
+same-blocks (packet.Barrier number) = refl
+same-blocks (packet.SyncUuid word) = refl
+same-blocks (packet.RecvAck ack) = refl
+same-blocks (packet.WriteAck ack) = refl
+same-blocks (packet.RsWriteAck ack) = refl
+same-blocks (packet.BarrierAck number size) = refl
+
+pub blocks-owed : (s : PrimaryState) (r : Result Packet Refusal)
+    → MatchResult r (λ p. (due s ≡ Ok (meaning p)) × IsSpellable p) (λ e. (due s ≡ Err e) ⊎ ((e ≡ NoMemory) × IsOk (due s)))
+    → IfOk r (λ p. has_blocks p ≡ owes_blocks s)
+blocks-owed s (Ok p) told = same-blocks p ∙ ap is_with_blocks (sym told.0)
+blocks-owed s (Err e) told = tt
+
+pub memory-owed : (s : PrimaryState) (r : Result Packet Refusal) (x : frames.Packet) → due s ≡ Ok x → IfErr r (λ e. carries_blocks x ≡ true)
+    → IfErr r (λ e. e ≡ NoMemory → owes_blocks s ≡ true)
+memory-owed s (Ok p) x is starved = tt
+memory-owed s (Err e) x is starved = λ memory. ap is_with_blocks is ∙ starved
 
 -- The hello.
 

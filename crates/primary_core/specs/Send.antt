@@ -1,13 +1,29 @@
--- What is left where the packet that was due is sent.
-use Rattle.std.specs.Prelude.{ℕ, zero, suc, Option, None, Some}
+-- What is due, and what is left where it is sent.
+use Rattle.std.specs.Prelude.{ℕ, zero, suc, Bool, true, false, Option, None, Some, Result, Ok, Err}
 use Rattle.blocks.specs.declared.command.Command.{Command}
 use Rattle.blocks.specs.declared.command.Command.TheVariants as command
 use Rattle.blocks.specs.declared.outcome.Done.{Done}
 use Rattle.blocks.specs.declared.outcome.What.TheVariants as what
-use Rattle.model.specs.Frames.{Packet}
+use Rattle.blocks.specs.declared.refusal.Refusal.{Refusal}
+use Rattle.model.specs.Frames.{Packet, DataFrame, RsDataReplyFrame}
 use Rattle.model.specs.Refusals.{done_with}
 use Rattle.primary_steps.specs.Core.{EndState, PrimaryState}
-use Rattle.primary_steps.specs.Transitions.{called, owed, sent_from}
+use Rattle.primary_steps.specs.Transitions.{called, due, owed, sent_from}
+
+-- whether a frame carries blocks
+abbrev pub carries_blocks : Packet → Bool
+carries_blocks (DataFrame write place) = true
+carries_blocks (RsDataReplyFrame block contents place) = true
+carries_blocks _ = false
+
+-- whether what is due is a frame with blocks
+abbrev pub is_with_blocks : Result Packet Refusal → Bool
+is_with_blocks (Ok packet) = carries_blocks packet
+is_with_blocks (Err refusal) = false
+
+-- whether the next frame that is due carries blocks
+abbrev pub owes_blocks : PrimaryState → Bool
+owes_blocks s = is_with_blocks (due s)
 
 -- the name of the hello's frame that comes after so many
 abbrev pub greeting : ℕ → Command

@@ -1,10 +1,11 @@
 //! What waits to be sent.
-ghost use Rattle.std.specs.Prelude.{ℕ, ◌≡◌, ◌∷◌, [], Some, None, if◌then◌else◌, IfOk, IfErr};
+ghost use Rattle.std.specs.Prelude.{ℕ, ◌≡◌, ◌∷◌, [], true, Some, None, if◌then◌else◌, IfOk, IfErr};
 ghost use Rattle.blocks.specs.declared.refusal.Refusal.TheVariants.{NoMemory};
 ghost use Rattle.endpoint.specs.Meaning.{meaning};
 ghost use Rattle.model.specs.Frames.{command_of, frame_of};
 ghost use Rattle.model.specs.Stream.{is_write, number_of};
 ghost use Rattle.packets.specs.Spelling.{IsSpellable};
+ghost use Rattle.primary_core.specs.Send.{carries_blocks};
 ghost use Rattle.primary_steps.specs.Taking.{is_unsent};
 ghost use Rattle.primary_core.specs.Unsent.{barrier_of};
 
@@ -51,6 +52,7 @@ impl Item {
     pub(crate) fn packet(&self, place: u32) -> Result<Packet, Refusal>
         ensures packet { IfOk result (λ p. (meaning p ≡ frame_of place self.now) × IsSpellable p) }
         ensures refused { IfErr result (λ e. e ≡ NoMemory) }
+        ensures starved { IfErr result (λ e. carries_blocks (frame_of place self.now) ≡ true) }
     {
         Ok(match &self.kind {
             Kind::Write(number, first, contents) => Packet::Data {

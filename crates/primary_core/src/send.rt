@@ -1,9 +1,10 @@
 //! What goes out.
-ghost use Rattle.std.specs.Prelude.{◌≡◌, ◌⊎◌, ◌-◌, nat_lt, false, length, Ok, Err, Some, IsOk, MatchResult};
+ghost use Rattle.std.specs.Prelude.{◌≡◌, ◌⊎◌, ◌-◌, nat_lt, true, false, length, Ok, Err, Some, IsOk, IfOk, IfErr, MatchResult};
 ghost use Rattle.blocks.specs.declared.refusal.Refusal.TheVariants.{NoMemory};
 ghost use Rattle.endpoint.specs.Meaning.{meaning};
 ghost use Rattle.packets.specs.Spelling.{IsSpellable};
-ghost use Rattle.primary_core.specs.Send.{greeting, sent_now};
+ghost use Rattle.packets.specs.Table.{has_blocks};
+ghost use Rattle.primary_core.specs.Send.{greeting, owes_blocks, sent_now};
 ghost use Rattle.primary_steps.specs.Core.{EndState};
 ghost use Rattle.primary_steps.specs.Transitions.{due, next_place};
 
@@ -18,9 +19,11 @@ impl PrimaryCore {
     /// The next packet that an open end owes: its hello, and then its stream. Its bytes are shared.
     ///
     /// `NotConnected` (12) comes where the end is closed, `NothingThere` (13) where nothing is due, else
-    /// `NoMemory` (7), where the bytes cannot be shared.
+    /// `NoMemory` (7), where the packet has blocks and their bytes cannot be shared.
     pub fn due(&self) -> Result<Packet, Refusal>
-        ensures { MatchResult result (λ p. (due self.now.state ≡ Ok (meaning p)) × IsSpellable p) (λ e. (due self.now.state ≡ Err e) ⊎ ((e ≡ NoMemory) × IsOk (due self.now.state))) }
+        ensures due { MatchResult result (λ p. (due self.now.state ≡ Ok (meaning p)) × IsSpellable p) (λ e. (due self.now.state ≡ Err e) ⊎ ((e ≡ NoMemory) × IsOk (due self.now.state))) }
+        ensures inline { IfOk result (λ p. has_blocks p ≡ owes_blocks self.now.state) }
+        ensures memory { IfErr result (λ e. e ≡ NoMemory → owes_blocks self.now.state ≡ true) }
     {
         let Some(end) = self.end else {
             return Err(Refusal::NotConnected);
@@ -39,7 +42,8 @@ impl PrimaryCore {
 
     // The packet of the first item that was not sent.
     fn due_item(&self) -> Result<Packet, Refusal>
-        ensures { (e : EndState) → self.now.state.end ≡ Some e → nat_lt e.said 3 ≡ false → MatchResult result (λ p. (due self.now.state ≡ Ok (meaning p)) × IsSpellable p) (λ r. (due self.now.state ≡ Err r) ⊎ ((r ≡ NoMemory) × IsOk (due self.now.state))) }
+        ensures due { (e : EndState) → self.now.state.end ≡ Some e → nat_lt e.said 3 ≡ false → MatchResult result (λ p. (due self.now.state ≡ Ok (meaning p)) × IsSpellable p) (λ r. (due self.now.state ≡ Err r) ⊎ ((r ≡ NoMemory) × IsOk (due self.now.state))) }
+        ensures memory { (e : EndState) → self.now.state.end ≡ Some e → nat_lt e.said 3 ≡ false → IfErr result (λ r. r ≡ NoMemory → owes_blocks self.now.state ≡ true) }
     {
         match self.unsent.front() {
             Some(item) => item.packet(self.next_place()),

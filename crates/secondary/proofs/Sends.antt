@@ -26,6 +26,13 @@ use Rattle.secondary_steps.proofs.Node.Runs.{node-had}
 use Rattle.secondary.specs.State.{SecondaryView, node, pushed_of, taken_of, IsDue, IsNumbered, IsNode}
 use Rattle.secondary.proofs.Kept.{due-none}
 
+-- a frame with no blocks is not refused for want of memory
+pub not-starved : (p : packets.Packet) (e : Refusal) → table.has_blocks p ≡ false → ((e ≡ LinkFull → ⊥) → (e ≡ NoMemory) × (table.has_blocks p ≡ true))
+    → e ≡ NoMemory → ⊥
+not-starved p e inline refused starved =
+    let blocks : table.has_blocks p ≡ true = (refused (λ full. cc)).1 in
+    cc
+
 -- the name of a packet is that of what it means
 same-command : (packet : packets.Packet) → command_of (meaning packet) ≡ table.command_of packet
 same-command (packet.Protocol protocol) = refl

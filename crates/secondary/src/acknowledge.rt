@@ -1,6 +1,7 @@
 //! What is owed is sent.
-ghost use Rattle.std.specs.Prelude.{◌≡◌};
+ghost use Rattle.std.specs.Prelude.{◌≡◌, ◌≢◌, IfErr};
 ghost use Rattle.model.specs.LocalRuns.{Acknowledges};
+ghost use Rattle.blocks.specs.declared.refusal.Refusal.TheVariants.{NoMemory};
 ghost use Rattle.secondary_steps.specs.Node.{NodeSteps};
 ghost use Rattle.secondary_steps.specs.Steps.{replied};
 ghost use Rattle.secondary.specs.State.{node};
@@ -20,6 +21,7 @@ impl<O: FrameOut + Drop, I: FrameIn + Drop, S: Store + Drop> Secondary<O, I, S> 
         ensures step { NodeSteps (Acknowledges (has_room result) (is_starved result)) (node self.old) (replied (λ done. done) result) (node self.new) }
         ensures link { Sends result self.old.outgoing self.new.outgoing }
         ensures rest { self.new ≡ record self.old { core = self.new.core; outgoing = self.new.outgoing } }
+        ensures memory { IfErr result (λ e. e ≢ NoMemory) }
     {
         let packet = self.core.due()?;
         let command = packet.command();

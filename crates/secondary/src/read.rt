@@ -1,5 +1,5 @@
 //! The disk is read.
-ghost use Rattle.std.specs.Prelude.{◌≡◌, ◌⊎◌, ◌+◌, ◌*◌, ◌/◌, ◌<◌, ◌≤◌, Some, length, true, false, IfErr, OnOk, OnErr, IfOk};
+ghost use Rattle.std.specs.Prelude.{◌≡◌, ◌≢◌, ◌⊎◌, ◌+◌, ◌*◌, ◌/◌, ◌<◌, ◌≤◌, Some, length, true, false, IfErr, IsOk, OnOk, OnErr, IfOk};
 ghost use Rattle.blocks.specs.declared.block.TheConstants.{BLOCK_BYTES};
 ghost use Rattle.blocks.specs.declared.refusal.Refusal.TheVariants.{BadRange, NoMemory, ReadFault};
 ghost use Rattle.model.specs.Contents.{IsRead, is_range};
@@ -44,6 +44,8 @@ impl<O: FrameOut + Drop, I: FrameIn + Drop, S: Store + Drop> Secondary<O, I, S> 
         ensures read { IfOk result (λ bytes. (h : SecondaryHistory) → NodeHas (node self.old) h → IsRead (secondary_map h) first count bytes.items) }
         ensures rest { self.new ≡ record self.old { faults = self.new.faults; steady = self.new.steady } }
         ensures works { self.old.steady ≡ true → self.new.steady ≡ true }
+        // A steady disk does not fail, and nothing changes.
+        ensures steadily { self.old.steady ≡ true → (self.new ≡ self.old) × IfErr result (λ e. e ≢ ReadFault) }
         ensures uncounted { OnOk result (self.new.faults ≡ self.old.faults) }
         ensures refused { IfErr result (λ e. ((e ≡ BadRange) × (is_range self.old.core.settings first count ≡ false) × (self.new.faults ≡ self.old.faults))
             ⊎ (((e ≡ NoMemory) × (is_range self.old.core.settings first count ≡ true) × (self.new.faults ≡ self.old.faults))
@@ -67,6 +69,7 @@ fn read_blocks<S: Store>(store: &mut S, first: Block, bytes: &mut [u8]) -> Resul
     ensures read { OnOk result (AreRead (S.contents store.old) first.0 bytes.new (length bytes.new / 4096)) }
     ensures same { S.contents store.new ≡ S.contents store.old }
     ensures works { S.steady store.old ≡ true → S.steady store.new ≡ true }
+    ensures steadily { S.steady store.old ≡ true → IsOk result }
     ensures uncounted { OnOk result (S.faults store.new ≡ S.faults store.old) }
     ensures counted { OnErr result (S.faults store.old < S.faults store.new) }
 {

@@ -1,6 +1,7 @@
 //! An acknowledgement that is due.
-ghost use Rattle.std.specs.Prelude.{◌≡◌};
+ghost use Rattle.std.specs.Prelude.{◌≡◌, false};
 ghost use Rattle.packets.specs.Spelling.{IsSpellable, NamesResync, NamesWrite};
+ghost use Rattle.packets.specs.Table.{has_blocks};
 ghost use Rattle.model.specs.Frames.{BarrierAckFrame, RecvAckFrame, RsWriteAckFrame, WriteAckFrame};
 ghost use Rattle.endpoint.specs.Meaning.{meaning, named};
 
@@ -78,10 +79,11 @@ impl Answer {
         }
     }
 
-    /// Its packet.
+    /// Its packet, which has no blocks.
     pub(crate) fn packet(&self) -> Packet
         ensures means { meaning result ≡ self.now }
         ensures spellable { IsSpellable result }
+        ensures inline { has_blocks result ≡ false }
     {
         match self.told {
             Told::Received(of) => Packet::RecvAck(of),

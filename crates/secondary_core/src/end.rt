@@ -1,6 +1,7 @@
 //! What a secondary's end owes to the primary.
-ghost use Rattle.std.specs.Prelude.{ℕ, ◌≡◌, ◌+◌, ◌<◌, ◌≤◌, ◌++◌, ◌∷◌, [], Some, None, length, nat_le, option_to_list, MatchOption, OnOk, IfErr};
+ghost use Rattle.std.specs.Prelude.{ℕ, ◌≡◌, ◌+◌, ◌<◌, ◌≤◌, ◌++◌, ◌∷◌, [], Some, None, length, nat_le, option_to_list, false, MatchOption, OnOk, IfErr, IfSome};
 ghost use Rattle.packets.specs.Spelling.{IsSpellable};
+ghost use Rattle.packets.specs.Table.{has_blocks};
 ghost use Rattle.endpoint.specs.Meaning.{meaning};
 ghost use Rattle.secondary_steps.specs.Core.{answering, hearing, is_applied_to, opened_end, owed, owing, pushing};
 ghost use Rattle.blocks.specs.declared.refusal.Refusal.TheVariants.{NoMemory};
@@ -152,9 +153,11 @@ impl End {
         }
     }
 
-    /// The next frame that it owes, of its hello and then of the acknowledgements, if there is one.
+    /// The next frame that it owes, of its hello and then of the acknowledgements, if there is one. It has no
+    /// blocks.
     pub(crate) fn owed(&self, settings: &Settings) -> Option<Packet>
-        ensures { MatchOption result (owed settings.now self.now.state ≡ None) (λ packet. (owed settings.now self.now.state ≡ Some (meaning packet)) × IsSpellable packet) }
+        ensures owed { MatchOption result (owed settings.now self.now.state ≡ None) (λ packet. (owed settings.now self.now.state ≡ Some (meaning packet)) × IsSpellable packet) }
+        ensures inline { IfSome result (λ packet. has_blocks packet ≡ false) }
     {
         match self.said {
             0 => Some(Packet::Protocol(settings.protocol)),

@@ -1,7 +1,8 @@
 use Rattle.std.proofs.Common.{rules, ◌≡◌, ◌∙◌, Err, refl}
 use Rattle.blocks.specs.declared.refusal.Refusal.TheVariants.{NoMemory}
 use Rattle.primary.specs.State.{PrimaryView}
-use Rattle.primary.proofs.Copying.{chosen-inside, copied-is, copy-done, copy-failed, copy-refused, copy-starved, is-chosen, on-err, on-ok, read-held, same-is, still-steady}
+use Rattle.primary.proofs.Copying.{chosen-inside, copied-is, copy-done, copy-failed, copy-refused, copy-starved, is-chosen, on-err, on-ok, read-held}
+use Rattle.primary.proofs.Copying.{same-is, starved-kept, still-steady}
 use Rattle.primary.proofs.state.Primary.resync_next.Goals as goal
 
 pub returns-in_err-block-clause-step : goal.returns-in_err-block-clause-step
@@ -81,6 +82,19 @@ returns-in_err-contents-clause-step g c =
     } in
     let refused : c.from_residual-in_err-contents.result ≡ Err NoMemory = search rules in
     rw (← c.self.view_is) (copy-starved v c.resync_block.new.self.state (g.S.Store.contents c.read.new.self) (g.S.Store.faults c.read.new.self) (g.S.Store.steady c.read.new.self) _ _ c.resync_block.ensures.same c.in_ok-block.ensures.block c.read.ensures.same (on-ok c.read.result c.is_err.result c.is_err.ensures.value c.if-is_err.false c.read.ensures.uncounted) refused)
+
+pub returns-in_err-contents-clause-starved : goal.returns-in_err-contents-clause-starved
+returns-in_err-contents-clause-starved g c =
+    let v : PrimaryView = record {
+      core = c.self.inside.core.state;
+      disk = g.S.Store.contents c.self.inside.store;
+      outgoing = c.self.inside.outgoing;
+      incoming = c.self.inside.incoming;
+      faults = g.S.Store.faults c.self.inside.store;
+      steady = g.S.Store.steady c.self.inside.store;
+    } in
+    starved-kept v _ _ _ _ c.self.view_is c.resync_block.ensures.same
+    (on-ok c.read.result c.is_err.result c.is_err.ensures.value c.if-is_err.false c.read.ensures.uncounted)
 
 pub returns-in_err-contents-clause-works : goal.returns-in_err-contents-clause-works
 returns-in_err-contents-clause-works g c =

@@ -1,7 +1,7 @@
 use Rattle.std.proofs.Common.{◌≡◌, ◌∙◌, Err, rules, sym, ap, subst, true}
 use Rattle.std.specs.Prelude.{is_some}
 use Rattle.secondary_steps.proofs.Node.Calls.{due-open}
-use Rattle.secondary.proofs.Sends.{nothing-due-steps, not-sent-steps, part-is, sends-none, sends-part, sent-is, sent-steps}
+use Rattle.secondary.proofs.Sends.{nothing-due-steps, not-sent-steps, not-starved, part-is, sends-none, sends-part, sent-is, sent-steps}
 use Rattle.secondary.proofs.state.Secondary.ack_out.Goals as goal
 
 pub returns-in_err-packet-clause-step : goal.returns-in_err-packet-clause-step
@@ -14,6 +14,11 @@ returns-in_err-packet-clause-link g c =
     let refused : c.from_residual.result ≡ Err c.in_err-packet.field-0.0 = search rules in
     sends-none c.self.inside.core.state _ _ _ c.in_err-packet.ensures.due refused
 
+pub returns-in_err-packet-clause-memory : goal.returns-in_err-packet-clause-memory
+returns-in_err-packet-clause-memory g c =
+    let refused : c.from_residual.result ≡ Err c.in_err-packet.field-0.0 = search rules in
+    rw refused c.in_err-packet.ensures.memory
+
 pub returns-in_err-push-clause-step : goal.returns-in_err-push-clause-step
 returns-in_err-push-clause-step g c =
     let refused : c.from_residual-in_err-push.result ≡ Err c.in_err-push.field-0.0 = search rules in
@@ -23,6 +28,11 @@ pub returns-in_err-push-clause-link : goal.returns-in_err-push-clause-link
 returns-in_err-push-clause-link g c =
     let refused : c.from_residual-in_err-push.result ≡ Err c.in_err-push.field-0.0 = search rules in
     rw (← c.self.view_is) (sends-part _ c.in-Some.outgoing c.push.new.self _ _ c.in-Some.is c.in_err-push.ensures.unchanged refused c.in_err-push.ensures.full)
+
+pub returns-in_err-push-clause-memory : goal.returns-in_err-push-clause-memory
+returns-in_err-push-clause-memory g c =
+    let refused : c.from_residual-in_err-push.result ≡ Err c.in_err-push.field-0.0 = search rules in
+    rw refused (not-starved _ _ c.in_ok-packet.ensures.inline c.in_err-push.ensures.refused)
 
 pub invariant_of-self-2 : goal.invariant_of-self-2
 invariant_of-self-2 g c =
