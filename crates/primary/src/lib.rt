@@ -18,5 +18,6 @@ mod submit;
 mod usage;
 
 pub use parts::Unlinked;
+pub use primary_core::{Entry, Fate};
 pub use receipts::{Kind, Receipt};
 pub use state::Primary;

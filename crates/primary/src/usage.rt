@@ -9,6 +9,7 @@ ghost use Rattle.primary.specs.State.{node};
 use crate::Primary;
 use blocks::{Block, Settings, Store, Tuple};
 use link::{FrameIn, FrameOut};
+use primary_core::Entry;
 
 impl<O: FrameOut + Drop, I: FrameIn + Drop, S: Store + Drop> Primary<O, I, S> {
     /// The settings.
@@ -77,6 +78,13 @@ impl<O: FrameOut + Drop, I: FrameIn + Drop, S: Store + Drop> Primary<O, I, S> {
         ensures { (h : PrimaryHistory) → NodeHas (node self.now) h → result ≡ length h.writes }
     {
         self.core.accepted()
+    }
+
+    /// The journal: an entry for each accepted write, by number, the first being 1.
+    pub fn journal(&self) -> &[Entry]
+        ensures { result.now ≡ self.now.core.entries }
+    {
+        self.core.entries()
     }
 
     /// How many blocks are marked.

@@ -63,7 +63,7 @@ impl<R: Wait + Clock + Drop, A: PrimaryHalf + Drop, B: SecondaryHalf + Drop> Mir
 
     /// Waits until a write that was begun is completed as the protocol says, and returns its receipt.
     ///
-    /// It returns the refusals of `Primary::take_completed` but `NotCompleted` (10): `LocalFault` (8), and `UnknownJob` (16)
+    /// It returns the refusals of `Primary::take_completed` but `NotCompleted` (9): `LocalFault` (8), and `UnknownJob` (16)
     /// for a write of another session. A receipt of another range would be `UnknownJob` (16), too.
     pub fn complete(&self, begun: Begun) -> Result<Receipt, Refusal>
         ensures own { IfOk result (λ receipt. (receipt.first ≡ begun.first) × (receipt.count ≡ begun.count)) }
