@@ -1,4 +1,4 @@
-//! Why the next session may start from what is left.
+//! The law that the next session may start from what is left.
 ghost use Rattle.handover.specs.Left.{JoinedRunsLeaveAnOpening};
 
 /// Two joined nodes at rest leave a sound opening, if their history was grounded: both disks have their blocks, the primary's

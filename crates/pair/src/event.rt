@@ -1,4 +1,4 @@
-//! What may happen to a pair.
+//! Events of a pair.
 use bytes::Bytes;
 
 /// One event. It is one call of a node, under which nothing else happens.

@@ -1,4 +1,4 @@
-//! A connection begins.
+//! Opening a connection.
 ghost use Rattle.std.specs.Prelude.{◌≡◌};
 ghost use Rattle.blocks.specs.declared.outcome.Reply.TheVariants as reply;
 ghost use Rattle.endpoint.specs.Calls.{is_starved};

@@ -43,7 +43,7 @@ impl Model for Pair {
 impl Pair {
     /// Two zero-filled disks with the tuple 1,0,0,0 and no marks, and both ends closed.
     ///
-    /// `BadSetting` (15) comes where a setting is out of its range, and `NoMemory` (7) where there is no
+    /// `BadSetting` (15) if a setting is out of its range, and `NoMemory` (7) if there is no
     /// memory.
     pub fn fresh(alloc: Global, settings: Settings) -> Result<Pair, Refusal>
         ensures history { IfOk result (λ p. PairHas (state p) (zero_filled settings)) }
@@ -70,9 +70,9 @@ impl Pair {
     /// where the peer's current one is the primary's current or bitmap one, the disks are equal but for the
     /// marked blocks. Without that, nothing is said of the marks.
     ///
-    /// `BadSetting` (15) comes where a setting is out of its range, where a disk or the list of marks has
+    /// `BadSetting` (15) if a setting is out of its range, where a disk or the list of marks has
     /// another size than the settings say, and where the primary's current identifier is zero; else
-    /// `NoMemory` (7), where there is no memory. What was handed over is dropped then.
+    /// `NoMemory` (7) if there is no memory. What was handed over is dropped then.
     pub fn from_parts(
         alloc: Global,
         settings: Settings,

@@ -1,4 +1,4 @@
-//! What is read off a pair.
+//! Read-only accessors, and the comparison of both disks.
 ghost use Rattle.std.specs.Prelude.{◌≡◌, ◌≤◌, ◌↔◌, length, Some, OnOk, IsErr, IfErr};
 ghost use Rattle.blocks.specs.declared.block.TheConstants.{BLOCK_BYTES};
 ghost use Rattle.blocks.specs.declared.refusal.Refusal.TheVariants.{BadRange};
@@ -26,7 +26,7 @@ impl Pair {
         self.primary.is_marked(block)
     }
 
-    /// Reads a block of one node's disk into a buffer of 4,096 bytes. `BadRange` (1) comes for a block past the
+    /// Reads a block of one node's disk into a buffer of 4,096 bytes. `BadRange` (1) for a block past the
     /// end. It changes nothing, and takes no memory.
     pub fn read(&mut self, side: Side, block: Block, buffer: &mut [u8]) -> Result<(), Refusal>
         requires { length buffer.old ≡ BLOCK_BYTES }

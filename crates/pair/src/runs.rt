@@ -1,4 +1,4 @@
-//! Events, one after another.
+//! Running a list of events.
 ghost use Rattle.std.specs.Prelude.{◌≡◌, length, map, IfOk, IfErr};
 ghost use Rattle.blocks.specs.declared.refusal.Refusal.TheVariants.{NoMemory};
 ghost use Rattle.model.specs.Headline.{CoversDifferences, HoldsEarlierEpochs, IsGrounded, KeepsPromises, MarksDifferences, StaysClosed, StaysClosedToo, TakesABeginning};
@@ -14,7 +14,7 @@ use std::alloc::Global;
 
 /// Takes a pair through the events, in order, and gives the reply to each.
 ///
-/// Room for all replies is made first: `NoMemory` (7) where it cannot be had, and then nothing has happened,
+/// Room for all replies is made first: `NoMemory` (7) if it cannot be had, and then nothing has happened,
 /// and the pair is handed back. An event whose memory was refused is replied 7, and changes nothing.
 pub fn run(
     alloc: Global,

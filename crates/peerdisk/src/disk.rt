@@ -53,7 +53,7 @@ impl<T> Model for PeerDisk<T> {
 
 impl<T: Drop> PeerDisk<T> {
     /// Nothing is pending, and no more than `limit` items may be. Room for that many items is made here, and
-    /// `NoMemory` (7) comes where there is none.
+    /// `NoMemory` (7) if there is none.
     pub fn new(alloc: Global, limit: u32) -> Result<PeerDisk<T>, Refusal>
         ensures empty { IfOk result (λ d. d ≡ record { limit = limit; pending = []; reach = d.reach }) }
         ensures refused { IfErr result (λ e. e ≡ NoMemory) }
@@ -69,7 +69,7 @@ impl<T: Drop> PeerDisk<T> {
 
     /// Makes room for an item of this place, which lies after all that are pending.
     ///
-    /// `NoMemory` (7) comes where there is no memory. Then nothing changes.
+    /// `NoMemory` (7) if there is no memory. Then nothing changes.
     pub fn reserve(&mut self, place: u32) -> Result<(), Refusal>
         requires above { All (λ p. p.place < place) self.old.pending }
         ensures same { self.new ≡ record self.old { reach = self.new.reach } }
@@ -103,7 +103,7 @@ impl<T: Drop> PeerDisk<T> {
     /// An item was taken: its place lies after all that are pending, and its epoch is none of theirs or the
     /// last.
     ///
-    /// `PendingFull` (18) comes where as many items are pending as may be; else `NoMemory` (7), where there
+    /// `PendingFull` (18) if as many items are pending as may be; else `NoMemory` (7) if there
     /// is no memory, and never where there is room for the place. Then nothing changes, and the item is
     /// dropped.
     pub fn put(&mut self, place: u32, epoch: u32, item: T) -> Result<(), Refusal>
@@ -126,7 +126,7 @@ impl<T: Drop> PeerDisk<T> {
         Ok(())
     }
 
-    /// The lowest pending place. `NothingThere` (13) comes where nothing is pending.
+    /// The lowest pending place. `NothingThere` (13) if nothing is pending.
     pub fn next(&self) -> Result<u32, Refusal>
         ensures { result ≡ next self.now.pending }
     {
@@ -136,8 +136,8 @@ impl<T: Drop> PeerDisk<T> {
         Ok(self.first as u32)
     }
 
-    /// The item of a place, whose write to the disk may start. `UnknownJob` (16) comes where the place is
-    /// not pending, `EpochOpen` (17) where an item of an earlier epoch is.
+    /// The item of a place, whose write to the disk may start. `UnknownJob` (16) if the place is
+    /// not pending, `EpochOpen` (17) if an item of an earlier epoch is.
     pub fn start(&self, place: u32) -> Result<&T, Refusal>
         ensures { MatchResult result (λ item. start place self.now.pending ≡ Ok item.now) (λ e. start place self.now.pending ≡ Err e) }
     {

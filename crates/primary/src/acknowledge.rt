@@ -1,4 +1,4 @@
-//! What the peer sends is taken.
+//! Receiving the peer's handshake and acknowledgements.
 ghost use Rattle.std.specs.Prelude.{◌≡◌};
 ghost use Rattle.primary.specs.Calls.{TakesOne};
 
@@ -9,8 +9,8 @@ use link::{FrameIn, FrameOut};
 impl<O: FrameOut + Drop, I: FrameIn + Drop, S: Store + Drop> Primary<O, I, S> {
     /// Takes the next frame that the link has: of the peer's hello, and then an acknowledgement.
     ///
-    /// `NotConnected` (12) comes where the end is closed, else, in the hello alone, `NoMemory` (7) where there
-    /// is no room for the longest frame, else `NothingThere` (13) where there is none; these change nothing.
+    /// `NotConnected` (12) if the end is closed, else, in the hello alone, `NoMemory` (7) if there
+    /// is no room for the longest frame, else `NothingThere` (13) if there is none; these change nothing.
     /// Every other refusal is a protocol error (20 to 25, 30 to 35): the frame counts as taken, and the end
     /// closes, with all effects of a close. Once the stream has begun it takes no memory.
     pub fn ack_in(&mut self) -> Result<Done, Refusal>

@@ -1,4 +1,4 @@
-//! The end closes.
+//! Closing the end.
 ghost use Rattle.std.specs.Prelude.{◌≡◌};
 ghost use Rattle.blocks.specs.declared.outcome.Reply.TheVariants as reply;
 ghost use Rattle.model.specs.LocalRuns.{Closes};
@@ -12,7 +12,7 @@ use link::{FrameIn, FrameOut};
 
 impl<O: FrameOut + Drop, I: FrameIn + Drop, S: Store + Drop> Primary<O, I, S> {
     /// Closes the end: what is unreleased is marked, and no write has a connection any more. Answers how
-    /// many writes were completed by that. `NotConnected` (12) comes where it is closed. It takes no memory.
+    /// many writes were completed by that. `NotConnected` (12) if it is closed. It takes no memory.
     pub fn close(&mut self) -> Result<u32, Refusal>
         ensures step { NodeSteps Closes (node self.old) (replied reply.Closed result) (node self.new) }
         ensures rest { self.new ≡ record self.old { core = self.new.core } }

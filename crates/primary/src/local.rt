@@ -1,4 +1,4 @@
-//! The disk does the writes.
+//! Writes of the local disk.
 ghost use Rattle.std.specs.Prelude.{◌≡◌, true};
 ghost use Rattle.blocks.specs.declared.outcome.Reply.TheVariants as reply;
 ghost use Rattle.model.specs.Pair.{local_fault_kept};
@@ -23,7 +23,7 @@ impl<O: FrameOut + Drop, I: FrameIn + Drop, S: Store + Drop> Primary<O, I, S> {
     /// Has the disk do a write. Where the disk fails, each block of the write is as it was or as it was to be,
     /// they are marked, and the write is never completed.
     ///
-    /// `UnknownJob` (16) comes where the disk has not that write to do. It takes no memory.
+    /// `UnknownJob` (16) if the disk has not that write to do. It takes no memory.
     pub fn local(&mut self, number: u64) -> Result<Done, Refusal>
         ensures step { WritesOne number result self.old self.new }
         ensures works { self.old.steady ≡ true → (self.new.faults ≡ self.old.faults) × (self.new.steady ≡ true) }
@@ -46,7 +46,7 @@ impl<O: FrameOut + Drop, I: FrameIn + Drop> Primary<O, I, FaultStore> {
     /// Has the disk fail a write, after its first `kept` blocks. It does what `local` does then, and
     /// afterwards no write is armed on the disk.
     ///
-    /// `UnknownJob` (16) comes as there, else `BadRange` (1) where the write has fewer blocks. It takes no
+    /// `UnknownJob` (16) comes as there, else `BadRange` (1) if the write has fewer blocks. It takes no
     /// memory.
     pub fn local_fault(&mut self, number: u64, kept: u64) -> Result<Done, Refusal>
         ensures step { IsStep (local_fault_kept number kept) (node self.old) (replied reply.Ok result) (node self.new) }

@@ -1,4 +1,4 @@
-//! A connection begins.
+//! Opening a connection.
 ghost use Rattle.std.specs.Prelude.{◌≡◌, ◌<◌, Some, is_some, true, false, OnOk, OnErr, IfOk, IfErr};
 ghost use Rattle.endpoint.specs.Calls.{IsNewIn, IsNewOut, is_starved, refusal_in};
 ghost use Rattle.endpoint.specs.Incoming.{incoming};
@@ -20,8 +20,8 @@ impl<O: FrameOut + Drop, I: FrameIn + Drop, S: Store + Drop> Primary<O, I, S> {
     /// Opens the end, over unused ends of a link, with a word for a resync and one for the case that the
     /// connection is lost.
     ///
-    /// `NotDrained` (36) comes where it is open; `UsedIdentifier` (33) where a word is zero, or stands in a
-    /// tuple that is known, or both are one; `StreamFull` (6) where 4,294,967,295 connections were opened;
+    /// `NotDrained` (36) if it is open; `UsedIdentifier` (33) if a word is zero, or stands in a
+    /// tuple that is known, or both are one; `StreamFull` (6) if 4,294,967,295 connections were opened;
     /// else `NoMemory` (7). The new ends are dropped then.
     pub fn open(&mut self, outward: O, inward: I, sync: u64, loss: u64) -> Result<(), Refusal>
         requires outward { IsNewOut (O.state outward) }

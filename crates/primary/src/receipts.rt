@@ -1,4 +1,4 @@
-//! A caller takes the receipt of a completed write.
+//! Receipts of completed writes.
 ghost use Rattle.std.specs.Prelude.{ℕ, ◌≡◌, ◌<◌, Bool, Some};
 ghost use Rattle.primary_steps.specs.Core.{Completed};
 ghost use Rattle.primary_steps.specs.Node.{IsStep, take_receipt};
@@ -98,8 +98,8 @@ impl Receipt {
 impl<O: FrameOut + Drop, I: FrameIn + Drop, S: Store + Drop> Primary<O, I, S> {
     /// The receipt of a write, once.
     ///
-    /// `UnknownJob` (16) comes for a number that was never accepted, or whose receipt was taken;
-    /// `NotCompleted` (9) where the write is open; `LocalFault` (8), once, where the disk failed it. It takes
+    /// `UnknownJob` (16) for a number that was never accepted, or whose receipt was taken;
+    /// `NotCompleted` (9) if the write is open; `LocalFault` (8), once, where the disk failed it. It takes
     /// no memory, and constant time.
     pub fn take_completed(&mut self, number: u64) -> Result<Receipt, Refusal>
         ensures step { IsStep (take_receipt number) (node self.old) result (node self.new) }

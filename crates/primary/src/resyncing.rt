@@ -1,4 +1,4 @@
-//! Blocks are copied to the peer.
+//! Copying marked blocks to the peer.
 ghost use Rattle.std.specs.Prelude.{◌≡◌, true, IfErr};
 ghost use Rattle.blocks.specs.declared.outcome.Reply.TheVariants as reply;
 ghost use Rattle.blocks.specs.declared.refusal.Refusal.TheVariants.{NoMemory};
@@ -17,9 +17,9 @@ use link::{FrameIn, FrameOut};
 impl<O: FrameOut + Drop, I: FrameIn + Drop, S: Store + Drop> Primary<O, I, S> {
     /// Reads the block that the resync copies next, and appends it to the stream, in one step.
     ///
-    /// `NotConnected` (12) comes where the end is closed; `NothingToDo` (10) where no resync runs, a block is
-    /// under way, or no marked block is free; `StreamFull` (6) where the stream has 4,294,967,288 items;
-    /// `NoMemory` (7) where there is no room for the block and its item; else `ReadFault` (14) where the disk
+    /// `NotConnected` (12) if the end is closed; `NothingToDo` (10) if no resync runs, a block is
+    /// under way, or no marked block is free; `StreamFull` (6) if the stream has 4,294,967,288 items;
+    /// `NoMemory` (7) if there is no room for the block and its item; else `ReadFault` (14) if the disk
     /// fails.
     pub fn resync_next(&mut self) -> Result<Done, Refusal>
         ensures step { CopiesOne result self.old self.new }

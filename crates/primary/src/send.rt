@@ -1,4 +1,4 @@
-//! What is owed is sent.
+//! Sending the next frame of the handshake or the stream.
 ghost use Rattle.std.specs.Prelude.{◌≡◌, true, IfErr};
 ghost use Rattle.blocks.specs.declared.outcome.Reply.TheVariants as reply;
 ghost use Rattle.blocks.specs.declared.refusal.Refusal.TheVariants.{NoMemory};
@@ -18,8 +18,8 @@ impl<O: FrameOut + Drop, I: FrameIn + Drop, S: Store + Drop> Primary<O, I, S> {
     /// Sends the next frame that the end owes: of its hello, and then of its stream. Under protocol A that may
     /// complete a write.
     ///
-    /// `NotConnected` (12) comes where the end is closed, else `NothingThere` (13) where nothing is due, else
-    /// `NoMemory` (7) where there is no room for a frame with blocks, else `LinkFull` (11) where the link is
+    /// `NotConnected` (12) if the end is closed, else `NothingThere` (13) if nothing is due, else
+    /// `NoMemory` (7) if there is no room for a frame with blocks, else `LinkFull` (11) if the link is
     /// full. The link's answer is read off the reply.
     pub fn send(&mut self) -> Result<Done, Refusal>
         ensures step { NodeSteps (Sends (has_room result) (is_starved result)) (node self.old) (replied reply.Ok result) (node self.new) }

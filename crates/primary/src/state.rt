@@ -53,7 +53,7 @@ impl<O: FrameOut + Drop, I: FrameIn + Drop, S: Store + Drop> Primary<O, I, S> {
     /// A closed primary that was never opened, with its disk, that disk's generation identifiers, and for
     /// each block whether it is marked.
     ///
-    /// `BadSetting` (15) comes where a setting is out of its range, where the disk or the list of marks has
+    /// `BadSetting` (15) if a setting is out of its range, where the disk or the list of marks has
     /// another size than the settings say, and where the current identifier is zero; else `NoMemory` (7),
     /// where there is no memory. A refused disk is dropped.
     pub fn new(

@@ -1,4 +1,4 @@
-//! What is read off.
+//! Read-only accessors.
 ghost use Rattle.std.specs.Prelude.{◌≡◌, length, not};
 ghost use Rattle.model.specs.Headline.{is_marked};
 ghost use Rattle.model.specs.Primary.{PrimaryHistory, items_sent, marked_blocks, outward, resync_runs, stands};

@@ -1,4 +1,4 @@
-//! The peer's acknowledgements.
+//! Receiving acknowledgements.
 ghost use Rattle.std.specs.Prelude.{◌≡◌, ◌||◌, false, set, Some, None};
 ghost use Rattle.endpoint.specs.Meaning.{meaning, named};
 ghost use Rattle.packets.specs.declared.packet.Packet.TheVariants as packet;

@@ -1,4 +1,4 @@
-//! The end closes.
+//! Closing the end.
 ghost use Rattle.std.specs.Prelude.{◌≡◌, length, if◌then◌else◌};
 ghost use Rattle.bitmap.specs.Marks.{marking};
 ghost use Rattle.transferlog.specs.Ring.{Each};
@@ -17,7 +17,7 @@ impl PrimaryCore {
     /// Closes the end: what is unreleased is marked, and no write has a connection any more. Answers how
     /// many writes were completed by that.
     ///
-    /// `NotConnected` (12) comes where it is closed. It takes no memory, and time for each number from the first
+    /// `NotConnected` (12) if it is closed. It takes no memory, and time for each number from the first
     /// unreleased one on and for each item that was not sent.
     pub fn close(&mut self) -> Result<u32, Refusal>
         ensures { (result, self.new.state) ≡ close_end self.old.state }

@@ -1,4 +1,4 @@
-//! What is kept of a write for its caller.
+//! The journal: the outcome of each accepted write.
 ghost use Rattle.std.specs.Prelude.{◌≡◌, true};
 ghost use Rattle.primary_core.specs.Entries.{fate_as};
 ghost use Rattle.primary_steps.specs.Core.{with_entry};

@@ -1,4 +1,4 @@
-//! What follows a step of the log.
+//! What a step of the log brings about: a barrier, and the end of a resync.
 ghost use Rattle.std.specs.Prelude.{◌≡◌, ◌≤◌, true};
 ghost use Rattle.std.specs.List.{list_any};
 ghost use Rattle.primary_steps.specs.Core.{appending, barrier_item, ending, following, is_over};

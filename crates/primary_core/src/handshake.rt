@@ -1,4 +1,4 @@
-//! What comes in, and the peer's hello.
+//! Receiving the peer's handshake.
 ghost use Rattle.std.specs.Prelude.{◌≡◌, ◌≤◌, true, Some, None};
 ghost use Rattle.endpoint.specs.Meaning.{meaning, received};
 ghost use Rattle.model.specs.Acknowledgements.{same_protocol};
@@ -18,7 +18,7 @@ use packets::Packet;
 impl PrimaryCore {
     /// Takes a packet, or the fault that stands in its place.
     ///
-    /// `NotConnected` (12) comes where the end is closed. Every other refusal closes it, with all effects of
+    /// `NotConnected` (12) if the end is closed. Every other refusal closes it, with all effects of
     /// a close: the fault (20 to 23); `BadCommand` (21) for a packet that does not belong here; in the hello
     /// `OtherProtocol` (34), `OtherSize` (35), `UsedIdentifier` (33) and what the decision says (30 to 32);
     /// then `UnknownAck` (25) and `BadBarrierAck` (24). It takes no memory.

@@ -1,4 +1,4 @@
-//! What waits to be sent.
+//! Items of the stream that are not sent.
 ghost use Rattle.std.specs.Prelude.{ℕ, ◌≡◌, ◌∷◌, [], true, Some, None, if◌then◌else◌, IfOk, IfErr};
 ghost use Rattle.blocks.specs.declared.refusal.Refusal.TheVariants.{NoMemory};
 ghost use Rattle.endpoint.specs.Meaning.{meaning};
@@ -48,7 +48,7 @@ impl Model for Item {
 }
 
 impl Item {
-    /// Its packet, at this place of the stream. `NoMemory` (7) comes where its bytes cannot be shared.
+    /// Its packet, at this place of the stream. `NoMemory` (7) if its bytes cannot be shared.
     pub(crate) fn packet(&self, place: u32) -> Result<Packet, Refusal>
         ensures packet { IfOk result (λ p. (meaning p ≡ frame_of place self.now) × IsSpellable p) }
         ensures refused { IfErr result (λ e. e ≡ NoMemory) }

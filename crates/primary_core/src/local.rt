@@ -1,4 +1,4 @@
-//! The local disk does the writes.
+//! Writes of the local disk.
 ghost use Rattle.std.specs.Prelude.{◌≡◌, ◌+◌, ◌*◌, ◌<◌, ◌≤◌, find, length, option_map, Some, false, true, MatchResult, IfOk, IsSomeAnd};
 ghost use Rattle.blocks.specs.declared.refusal.Refusal.TheVariants.{UnknownJob};
 ghost use Rattle.transferlog.specs.Ring.{write_at};
@@ -21,7 +21,7 @@ impl PrimaryCore {
     }
 
     /// The write of a number, which the local disk has to do: its blocks, which lie in the device, and their
-    /// bytes. `UnknownJob` (16) comes where the local disk has not that to do.
+    /// bytes. `UnknownJob` (16) if the local disk has not that to do.
     pub fn local_write(&self, number: u64) -> Result<&Write, Refusal>
         ensures write { MatchResult result (λ w. (write_at number self.now.state.log.writes ≡ Some w.now) × (w.now.local ≡ Waiting)) (λ e. (e ≡ UnknownJob) × (is_unfinished number self.now.state ≡ false)) }
         ensures inside { IfOk result (λ w. w.now.first + w.now.count ≤ self.now.state.settings.blocks) }
@@ -36,7 +36,7 @@ impl PrimaryCore {
 
     /// The local disk has a write.
     ///
-    /// `UnknownJob` (16) comes where the local disk has not that to do. It takes no memory.
+    /// `UnknownJob` (16) if the local disk has not that to do. It takes no memory.
     pub fn local_done(&mut self, number: u64) -> Result<Done, Refusal>
         ensures { (result, self.new.state) ≡ local_done number self.old.state }
     {
@@ -48,7 +48,7 @@ impl PrimaryCore {
     /// The local disk failed a write: it holds nothing more, its blocks are marked, and it is never
     /// completed.
     ///
-    /// `UnknownJob` (16) comes where the local disk has not that to do. It takes no memory.
+    /// `UnknownJob` (16) if the local disk has not that to do. It takes no memory.
     pub fn local_failed(&mut self, number: u64) -> Result<Done, Refusal>
         ensures { (result, self.new.state) ≡ local_fault number self.old.state }
     {

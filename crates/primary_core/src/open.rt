@@ -1,4 +1,4 @@
-//! A connection begins.
+//! Opening a connection.
 ghost use Rattle.std.specs.Prelude.{◌≡◌, false};
 ghost use Rattle.blocks.specs.Identifiers.{are_fresh, is_fresh};
 ghost use Rattle.primary_core.specs.Starved.{is_starved};
@@ -12,9 +12,9 @@ use generations::fresh;
 impl PrimaryCore {
     /// Opens the end, with a word for a resync and one for the case that the connection is lost.
     ///
-    /// `NotDrained` (36) comes where it is open; `UsedIdentifier` (33) where a word is zero, or stands in a
-    /// tuple that is known, or both are one; `StreamFull` (6) where 4,294,967,295 connections were opened;
-    /// else `NoMemory` (7), where there is no room for the SYNC_UUID and the UUIDS of a resync.
+    /// `NotDrained` (36) if it is open; `UsedIdentifier` (33) if a word is zero, or stands in a
+    /// tuple that is known, or both are one; `StreamFull` (6) if 4,294,967,295 connections were opened;
+    /// else `NoMemory` (7) if there is no room for the SYNC_UUID and the UUIDS of a resync.
     pub fn open(&mut self, sync: u64, loss: u64) -> Result<(), Refusal>
         ensures { (result, self.new.state) ≡ open_end sync loss (is_starved result) self.old.state }
     {

@@ -1,4 +1,4 @@
-//! A caller takes the receipt of a write.
+//! Receipts of writes.
 ghost use Rattle.std.specs.Prelude.{◌≡◌, ◌-◌, false, true, if◌then◌else◌, length, replicate, slice_set};
 ghost use Rattle.std.specs.Option.{option_copied};
 ghost use Rattle.primary_core.specs.Entries.{is_unconfirmed};
@@ -11,8 +11,8 @@ use blocks::Refusal;
 impl PrimaryCore {
     /// The entry of a write, once.
     ///
-    /// `UnknownJob` (16) comes for a number that was never accepted, or whose receipt was taken;
-    /// `NotCompleted` (9) where the write is open; `LocalFault` (8), once, where the local disk failed it. It
+    /// `UnknownJob` (16) for a number that was never accepted, or whose receipt was taken;
+    /// `NotCompleted` (9) if the write is open; `LocalFault` (8), once, where the local disk failed it. It
     /// takes no memory, and constant time.
     pub fn take_completed(&mut self, number: u64) -> Result<Entry, Refusal>
         ensures { (result, self.new.state) ≡ take_completed number self.old.state }

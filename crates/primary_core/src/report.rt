@@ -1,4 +1,4 @@
-//! What the transfer log reports is put down.
+//! Applying the completions and releases that the last log call reported.
 ghost use Rattle.std.specs.Prelude.{◌≡◌, ◌+◌, ◌≤◌, length, option_map, slice_get};
 ghost use Rattle.transferlog.specs.Log.{clears};
 ghost use Rattle.primary_steps.specs.Core.{entering, freeing, leaving, reporting, unmarking};

@@ -1,4 +1,4 @@
-//! Blocks are copied to the peer.
+//! Copying marked blocks to the peer.
 ghost use Rattle.std.specs.Prelude.{◌≡◌, ◌<◌, ◌≤◌, length, false, Ok, Err, Some, OnOk, MatchResult};
 ghost use Rattle.primary_core.specs.Resyncing.{resync_choice};
 ghost use Rattle.primary_core.specs.Starved.{is_starved};
@@ -16,9 +16,9 @@ impl PrimaryCore {
     /// The block that the resync copies next: the lowest marked one that no open write has. There is room
     /// for its item then, and for its barrier.
     ///
-    /// `NotConnected` (12) comes where the end is closed; `NothingToDo` (10) where no resync runs, a block
-    /// is under way, or no marked block is free; `StreamFull` (6) where the stream has 4,294,967,288 items;
-    /// else `NoMemory` (7), where there is no room.
+    /// `NotConnected` (12) if the end is closed; `NothingToDo` (10) if no resync runs, a block
+    /// is under way, or no marked block is free; `StreamFull` (6) if the stream has 4,294,967,288 items;
+    /// else `NoMemory` (7) if there is no room.
     pub fn resync_block(&mut self) -> Result<Block, Refusal>
         ensures block { MatchResult result (λ b. resync_choice false self.old.state ≡ Ok b.0) (λ e. resync_choice (is_starved result) self.old.state ≡ Err e) }
         ensures same { self.new.state ≡ self.old.state }

@@ -1,4 +1,4 @@
-//! What goes out.
+//! The next frame to send.
 ghost use Rattle.std.specs.Prelude.{◌≡◌, ◌⊎◌, ◌-◌, nat_lt, true, false, length, Ok, Err, Some, IsOk, IfOk, IfErr, MatchResult};
 ghost use Rattle.blocks.specs.declared.refusal.Refusal.TheVariants.{NoMemory};
 ghost use Rattle.endpoint.specs.Meaning.{meaning};
@@ -18,8 +18,8 @@ const HELLO_FRAMES: u32 = 3;
 impl PrimaryCore {
     /// The next packet that an open end owes: its hello, and then its stream. Its bytes are shared.
     ///
-    /// `NotConnected` (12) comes where the end is closed, `NothingThere` (13) where nothing is due, else
-    /// `NoMemory` (7), where the packet has blocks and their bytes cannot be shared.
+    /// `NotConnected` (12) if the end is closed, `NothingThere` (13) if nothing is due, else
+    /// `NoMemory` (7) if the packet has blocks and their bytes cannot be shared.
     pub fn due(&self) -> Result<Packet, Refusal>
         ensures due { MatchResult result (λ p. (due self.now.state ≡ Ok (meaning p)) × IsSpellable p) (λ e. (due self.now.state ≡ Err e) ⊎ ((e ≡ NoMemory) × IsOk (due self.now.state))) }
         ensures inline { IfOk result (λ p. has_blocks p ≡ owes_blocks self.now.state) }

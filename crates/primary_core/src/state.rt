@@ -79,8 +79,8 @@ impl Model for PrimaryCore {
 impl PrimaryCore {
     /// A primary that was never opened, with these identifiers and marks, one for each block.
     ///
-    /// `BadSetting` (15) comes where `settings.check()` says so, where there are not as many marks as
-    /// blocks, and where the current identifier is zero; else `NoMemory` (7), where there is no memory.
+    /// `BadSetting` (15) if `settings.check()` says so, where there are not as many marks as
+    /// blocks, and where the current identifier is zero; else `NoMemory` (7) if there is no memory.
     pub fn new(
         alloc: Global,
         settings: Settings,

@@ -1,4 +1,4 @@
-//! A write is accepted.
+//! Accepting a write.
 ghost use Rattle.std.specs.Prelude.{◌≡◌, ◌+◌, ◌*◌, ◌^◌, ◌<◌, ◌≤◌, ◌∷◌, [], None, true, false, length, IfOk, IfErr, OnOk, OnErr};
 ghost use Rattle.activitylog.specs.Activity.{begun, can_begin, writes_of};
 ghost use Rattle.blocks.specs.declared.refusal.Refusal.TheVariants.{BadRange, NoMemory};
@@ -31,12 +31,12 @@ impl PrimaryCore {
     /// Accepts a write of whole blocks from the first one on; the bytes are shared. With a stream it goes
     /// there, and without one its blocks are marked.
     ///
-    /// `BadRange` (1) where it is not 1 to 32 whole blocks inside the device and inside one extent;
+    /// `BadRange` (1) if it is not 1 to 32 whole blocks inside the device and inside one extent;
     /// `NotConnected` (12) without a stream, where the bitmap records no generation; `JournalFull` (5) where
-    /// 1,048,576 writes were accepted; `LogFull` (3) where `backlog` writes are unreleased; `Conflict` (2)
-    /// where an open write, or for 0 the block under way, has a block of it; `ActivityFull` (4) where its
-    /// extent is not active and cannot become so; `StreamFull` (6) where the stream has 4,294,967,288 items;
-    /// else `NoMemory` (7), where there is no room for it, its barrier, its entry and its item.
+    /// 1,048,576 writes were accepted; `LogFull` (3) if `backlog` writes are unreleased; `Conflict` (2)
+    /// where an open write, or for 0 the block under way, has a block of it; `ActivityFull` (4) if its
+    /// extent is not active and cannot become so; `StreamFull` (6) if the stream has 4,294,967,288 items;
+    /// else `NoMemory` (7) if there is no room for it, its barrier, its entry and its item.
     pub fn submit(&mut self, first: u64, bytes: &Bytes) -> Result<Done, Refusal>
         ensures { (result, self.new.state) ≡ submit first bytes.now (is_starved result) self.old.state }
     {

@@ -1,4 +1,4 @@
-//! What is read off.
+//! Read-only accessors.
 ghost use Rattle.std.specs.Prelude.{◌≡◌, filter, is_some, length, option_map};
 ghost use Rattle.epochs.specs.Epochs.{unacknowledged};
 ghost use Rattle.transferlog.specs.Writes.{is_open, is_unanswered};

@@ -1,4 +1,4 @@
-//! What is printed of a pair without a step.
+//! Printing a pair without a step.
 use crate::print;
 use blocks::{BLOCK_BYTES, Block, Refusal};
 use pair::{Pair, Side};

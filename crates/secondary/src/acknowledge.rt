@@ -1,4 +1,4 @@
-//! What is owed is sent.
+//! Sending the handshake and acknowledgements.
 ghost use Rattle.std.specs.Prelude.{◌≡◌, ◌≢◌, IfErr};
 ghost use Rattle.model.specs.LocalRuns.{Acknowledges};
 ghost use Rattle.blocks.specs.declared.refusal.Refusal.TheVariants.{NoMemory};
@@ -14,8 +14,8 @@ use link::{FrameIn, FrameOut};
 impl<O: FrameOut + Drop, I: FrameIn + Drop, S: Store + Drop> Secondary<O, I, S> {
     /// Sends the next frame that the end owes: of its hello, and then of the acknowledgements that are due.
     ///
-    /// `NotConnected` (12) comes where the end is closed, else `NothingThere` (13) where nothing is due, else
-    /// `LinkFull` (11) where the link is full. An acknowledgement has no blocks, so it wants no memory. The
+    /// `NotConnected` (12) if the end is closed, else `NothingThere` (13) if nothing is due, else
+    /// `LinkFull` (11) if the link is full. An acknowledgement has no blocks, so it wants no memory. The
     /// link's answer is read off the reply.
     pub fn ack_out(&mut self) -> Result<Done, Refusal>
         ensures step { NodeSteps (Acknowledges (has_room result) (is_starved result)) (node self.old) (replied (λ done. done) result) (node self.new) }

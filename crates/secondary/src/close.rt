@@ -1,4 +1,4 @@
-//! The end closes.
+//! Closing the end.
 ghost use Rattle.std.specs.Prelude.{◌≡◌};
 ghost use Rattle.model.specs.LocalRuns.{ClosesToo};
 ghost use Rattle.secondary_steps.specs.Node.{NodeSteps};

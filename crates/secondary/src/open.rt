@@ -1,4 +1,4 @@
-//! A connection begins.
+//! Opening a connection.
 ghost use Rattle.std.specs.Prelude.{◌≡◌, ◌<◌, ◌+◌, ◌-◌, Some, is_some, true, OnOk, OnErr};
 ghost use Rattle.endpoint.specs.Calls.{IsNewIn, IsNewOut};
 ghost use Rattle.endpoint.specs.Incoming.{incoming};
@@ -17,7 +17,7 @@ impl<O: FrameOut + Drop, I: FrameIn + Drop, S: Store + Drop> Secondary<O, I, S> 
     /// Opens the end, over unused ends of a link. The connection's number is one more than the last one's,
     /// and the caller owes that there are no more connections than 32 bits count.
     ///
-    /// `NotDrained` (36) comes where the end is open, and where items are pending; the new ends are dropped
+    /// `NotDrained` (36) if the end is open, and where items are pending; the new ends are dropped
     /// then. It takes no memory.
     pub fn open(&mut self, outward: O, inward: I) -> Result<(), Refusal>
         requires outward { IsNewOut (O.state outward) }
@@ -42,7 +42,7 @@ impl<O: FrameOut + Drop, I: FrameIn + Drop, S: Store + Drop> Secondary<O, I, S> 
     /// the last one's and this it never saw. The caller owes that it was opened before, and that the number
     /// is above the last one.
     ///
-    /// `NotDrained` (36) comes where the end is open, and where items are pending. It takes no memory.
+    /// `NotDrained` (36) if the end is open, and where items are pending. It takes no memory.
     pub fn reopen(&mut self, number: u32) -> Result<(), Refusal>
         requires opened { is_some self.old.outgoing ≡ true }
         requires opened_too { is_some self.old.incoming ≡ true }

@@ -1,4 +1,4 @@
-//! The disk does what came.
+//! Applying items to the disk.
 ghost use Rattle.std.specs.Prelude.{◌≡◌, true};
 ghost use Rattle.model.specs.Pair.{peer_fault_kept};
 ghost use Rattle.secondary_steps.specs.Node.{IsStep};
@@ -15,7 +15,7 @@ impl<O: FrameOut + Drop, I: FrameIn + Drop, S: Store + Drop> Secondary<O, I, S> 
     /// each block of the item is as it was or as it was to be, the end closes, and the items of later epochs
     /// are dropped.
     ///
-    /// `UnknownJob` (16) comes where the place is not pending, else `EpochOpen` (17) where an item of an
+    /// `UnknownJob` (16) if the place is not pending, else `EpochOpen` (17) if an item of an
     /// earlier epoch is. It takes no memory.
     pub fn peer(&mut self, place: u32) -> Result<Done, Refusal>
         ensures step { AppliesOne place result self.old self.new }
@@ -43,7 +43,7 @@ impl<O: FrameOut + Drop, I: FrameIn + Drop> Secondary<O, I, FaultStore> {
     /// Has the disk fail the item of a place, after its first `kept` blocks. It does what `peer` does then,
     /// and afterwards no write is armed on the disk.
     ///
-    /// `UnknownJob` (16) and `EpochOpen` (17) come as there, else `BadRange` (1) where the item has fewer
+    /// `UnknownJob` (16) and `EpochOpen` (17) come as there, else `BadRange` (1) if the item has fewer
     /// blocks. It takes no memory.
     pub fn peer_fault(&mut self, place: u32, kept: u64) -> Result<Done, Refusal>
         ensures step { IsStep (peer_fault_kept place kept) (node self.old) (replied (λ done. done) result) (node self.new) }

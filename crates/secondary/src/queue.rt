@@ -1,4 +1,4 @@
-//! The queue of a link in one thread passes through the nodes. None of this takes memory.
+//! Lending the queues of a link in one thread. None of this takes memory.
 ghost use Rattle.std.specs.Prelude.{◌≡◌, ◌++◌, Some, None, IfSome, is_none, true};
 ghost use Rattle.endpoint.specs.Lending.{GivenBack, GivenOut, LaidBack, LaidIn};
 

@@ -1,4 +1,4 @@
-//! The disk is read.
+//! Reading the disk.
 ghost use Rattle.std.specs.Prelude.{◌≡◌, ◌≢◌, ◌⊎◌, ◌+◌, ◌*◌, ◌/◌, ◌<◌, ◌≤◌, Some, length, true, false, IfErr, IsOk, OnOk, OnErr, IfOk};
 ghost use Rattle.blocks.specs.declared.block.TheConstants.{BLOCK_BYTES};
 ghost use Rattle.blocks.specs.declared.refusal.Refusal.TheVariants.{BadRange, NoMemory, ReadFault};
@@ -16,7 +16,7 @@ use std::alloc::Global;
 impl<O: FrameOut + Drop, I: FrameIn + Drop, S: Store + Drop> Secondary<O, I, S> {
     /// Reads a block of the disk into a buffer of 4,096 bytes.
     ///
-    /// `BadRange` (1) comes past the disk's end, else `ReadFault` (14) where the disk fails; the buffer then
+    /// `BadRange` (1) past the disk's end, else `ReadFault` (14) if the disk fails; the buffer then
     /// holds nothing of use. It takes no memory.
     pub fn read_block(&mut self, block: Block, buffer: &mut [u8]) -> Result<(), Refusal>
         requires { length buffer.old ≡ BLOCK_BYTES }
@@ -38,8 +38,8 @@ impl<O: FrameOut + Drop, I: FrameIn + Drop, S: Store + Drop> Secondary<O, I, S> 
 
     /// Reads so many blocks of the disk from this one on, 1 to 32 inside the device and inside one extent.
     ///
-    /// `BadRange` (1) comes where they are not that, else `NoMemory` (7) where there is no room for their
-    /// bytes, else `ReadFault` (14) where the disk fails.
+    /// `BadRange` (1) if they are not that, else `NoMemory` (7) if there is no room for their
+    /// bytes, else `ReadFault` (14) if the disk fails.
     pub fn read(&mut self, alloc: Global, first: u64, count: u64) -> Result<Vec<u8>, Refusal>
         ensures read { IfOk result (λ bytes. (h : SecondaryHistory) → NodeHas (node self.old) h → IsRead (secondary_map h) first count bytes.items) }
         ensures rest { self.new ≡ record self.old { faults = self.new.faults; steady = self.new.steady } }

@@ -1,4 +1,4 @@
-//! A frame is taken.
+//! Receiving a frame.
 ghost use Rattle.std.specs.Prelude.{◌≡◌};
 ghost use Rattle.secondary.specs.Calls.{ReceivesOne};
 
@@ -9,9 +9,9 @@ use link::{FrameIn, FrameOut};
 impl<O: FrameOut + Drop, I: FrameIn + Drop, S: Store + Drop> Secondary<O, I, S> {
     /// Takes the next frame that the link has.
     ///
-    /// `NotConnected` (12) comes where the end is closed, else `PendingFull` (18) where as many items are
-    /// pending as may be, else `NoMemory` (7) where there is no room for what a frame can want, else
-    /// `NothingThere` (13) where there is none; these change nothing. Every other refusal is a protocol error
+    /// `NotConnected` (12) if the end is closed, else `PendingFull` (18) if as many items are
+    /// pending as may be, else `NoMemory` (7) if there is no room for what a frame can want, else
+    /// `NothingThere` (13) if there is none; these change nothing. Every other refusal is a protocol error
     /// (20 to 23, 34, 35): the frame counts as taken, and the end closes; its items stay.
     pub fn receive(&mut self) -> Result<Done, Refusal>
         ensures step { ReceivesOne result self.old self.new }

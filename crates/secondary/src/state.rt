@@ -53,8 +53,8 @@ impl<O: FrameOut + Drop, I: FrameIn + Drop, S: Store + Drop> Secondary<O, I, S> 
     /// A closed secondary that was never opened, with its disk and that disk's generation identifiers. It is
     /// consistent unless its current identifier is zero.
     ///
-    /// `BadSetting` (15) comes where a setting is out of its range, and where the disk has another size than
-    /// the settings say; else `NoMemory` (7), where there is no memory. A refused disk is dropped.
+    /// `BadSetting` (15) if a setting is out of its range, and where the disk has another size than
+    /// the settings say; else `NoMemory` (7) if there is no memory. A refused disk is dropped.
     pub fn new(
         alloc: Global,
         settings: Settings,

@@ -1,4 +1,4 @@
-//! What is read off.
+//! Read-only accessors.
 ghost use Rattle.std.specs.Prelude.{◌≡◌, ◌&&◌, length, not, ok_or};
 ghost use Rattle.blocks.specs.declared.refusal.Refusal.TheVariants.{NothingThere};
 ghost use Rattle.model.specs.Secondary.{SecondaryHistory, inward, is_drained, items_taken, next_pending};
@@ -14,7 +14,7 @@ use link::{FrameIn, FrameOut};
 use secondary_core::Usage;
 
 impl<O: FrameOut + Drop, I: FrameIn + Drop, S: Store + Drop> Secondary<O, I, S> {
-    /// The lowest pending place. `NothingThere` (13) comes where nothing is pending. It takes no memory.
+    /// The lowest pending place. `NothingThere` (13) if nothing is pending. It takes no memory.
     pub fn next(&self) -> Result<u32, Refusal>
         ensures { (h : SecondaryHistory) → NodeHas (node self.now) h → result ≡ ok_or (next_pending h) NothingThere }
     {

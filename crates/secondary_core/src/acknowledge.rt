@@ -1,4 +1,4 @@
-//! What is owed to the primary.
+//! The next frame to send.
 ghost use Rattle.std.specs.Prelude.{◌≡◌, ◌≢◌, false, Ok, Err, IsOk, IfOk, IfErr, MatchResult};
 ghost use Rattle.blocks.specs.declared.refusal.Refusal.TheVariants.{NoMemory};
 ghost use Rattle.packets.specs.Spelling.{IsSpellable};
@@ -12,7 +12,7 @@ use packets::Packet;
 
 impl SecondaryCore {
     /// The next frame that the end owes: of its hello, and then of the acknowledgements that are due. It has
-    /// a spelling, and no blocks. `NotConnected` (12) comes where the end is closed, else `NothingThere` (13) where nothing
+    /// a spelling, and no blocks. `NotConnected` (12) if the end is closed, else `NothingThere` (13) if nothing
     /// is due. It takes no memory.
     pub fn due(&self) -> Result<Packet, Refusal>
         ensures due { MatchResult result (λ packet. due self.now.state ≡ Ok (meaning packet)) (λ e. due self.now.state ≡ Err e) }

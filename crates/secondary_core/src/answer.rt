@@ -1,4 +1,4 @@
-//! An acknowledgement that is due.
+//! An acknowledgement to send.
 ghost use Rattle.std.specs.Prelude.{◌≡◌, false};
 ghost use Rattle.packets.specs.Spelling.{IsSpellable, NamesResync, NamesWrite};
 ghost use Rattle.packets.specs.Table.{has_blocks};

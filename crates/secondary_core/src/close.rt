@@ -1,4 +1,4 @@
-//! The end closes.
+//! Closing the end.
 ghost use Rattle.std.specs.Prelude.{◌≡◌};
 ghost use Rattle.secondary_steps.specs.Core.{close_end};
 
@@ -6,7 +6,7 @@ use crate::state::SecondaryCore;
 use blocks::Refusal;
 
 impl SecondaryCore {
-    /// Closes the end; its items stay. `NotConnected` (12) comes where it is closed.
+    /// Closes the end; its items stay. `NotConnected` (12) if it is closed.
     pub fn close(&mut self) -> Result<(), Refusal>
         ensures { (result, self.new.state) ≡ close_end self.old.state }
     {

@@ -1,4 +1,4 @@
-//! What a secondary's end owes to the primary.
+//! The sending state of a connection: its handshake, and the acknowledgements to send.
 ghost use Rattle.std.specs.Prelude.{ℕ, ◌≡◌, ◌+◌, ◌<◌, ◌≤◌, ◌++◌, ◌∷◌, [], Some, None, length, nat_le, option_to_list, false, MatchOption, OnOk, IfErr, IfSome};
 ghost use Rattle.packets.specs.Spelling.{IsSpellable};
 ghost use Rattle.packets.specs.Table.{has_blocks};
@@ -72,7 +72,7 @@ impl End {
         self.sizes.clear();
     }
 
-    /// Makes room for what one item more can ask for, where so many are pending. `NoMemory` (7) where there
+    /// Makes room for what one item more can ask for, where so many are pending. `NoMemory` (7) if there
     /// is no memory.
     pub(crate) fn reserve(&mut self, pending: usize) -> Result<(), Refusal>
         requires { pending ≤ 4096 }

@@ -1,4 +1,4 @@
-//! The primary's hello.
+//! Receiving the primary's handshake.
 ghost use Rattle.endpoint.specs.Meaning.{meaning};
 ghost use Rattle.secondary_core.specs.Receiving.{IsCalled};
 

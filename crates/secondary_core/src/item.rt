@@ -1,4 +1,4 @@
-//! What waits for the secondary's disk.
+//! Items for the secondary's disk.
 ghost use Rattle.std.specs.Prelude.{◌≡◌, ◌*◌, ◌<◌, ◌≤◌, ◌^◌, length, option_to_list, true};
 ghost use Rattle.blocks.specs.Contents.{blocks_of};
 ghost use Rattle.model.specs.Stream.{WriteItem, ResyncItem, contents_of, first_of};

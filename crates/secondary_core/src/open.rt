@@ -1,4 +1,4 @@
-//! A connection begins.
+//! Opening a connection.
 ghost use Rattle.std.specs.Prelude.{◌≡◌};
 ghost use Rattle.secondary_steps.specs.Core.{open_end};
 
@@ -6,7 +6,7 @@ use crate::state::SecondaryCore;
 use blocks::Refusal;
 
 impl SecondaryCore {
-    /// Opens the end, under the connection's number. `NotDrained` (36) comes where it is open, and where
+    /// Opens the end, under the connection's number. `NotDrained` (36) if it is open, and where
     /// items are pending. It takes no memory.
     pub fn open(&mut self, number: u32) -> Result<(), Refusal>
         ensures { (result, self.new.state) ≡ open_end number self.old.state }

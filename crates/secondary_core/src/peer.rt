@@ -1,4 +1,4 @@
-//! The disk does the items.
+//! Applying items.
 ghost use Rattle.std.specs.Prelude.{◌≡◌, ◌+◌, ◌≤◌, length, Ok, Err, IsOk, IfOk, MatchResult};
 ghost use Rattle.peerdisk.specs.Pending.{next};
 ghost use Rattle.model.specs.Stream.{contents_of, first_of};
@@ -9,7 +9,7 @@ use crate::state::SecondaryCore;
 use blocks::Refusal;
 
 impl SecondaryCore {
-    /// The lowest pending place. `NothingThere` (13) comes where nothing is pending.
+    /// The lowest pending place. `NothingThere` (13) if nothing is pending.
     pub fn next(&self) -> Result<u32, Refusal>
         ensures { result ≡ next self.now.state.pending }
     {
@@ -17,7 +17,7 @@ impl SecondaryCore {
     }
 
     /// The item of a place, which the disk may do now; the device has its blocks. `UnknownJob` (16) comes
-    /// where the place is not pending, `EpochOpen` (17) where an item of an earlier epoch is.
+    /// where the place is not pending, `EpochOpen` (17) if an item of an earlier epoch is.
     pub fn start(&self, place: u32) -> Result<&Item, Refusal>
         ensures started { MatchResult result (λ item. start place self.now.state ≡ Ok item.now) (λ e. start place self.now.state ≡ Err e) }
         ensures inside { IfOk result (λ item. first_of item.now + length (contents_of item.now) ≤ self.now.state.settings.blocks) }

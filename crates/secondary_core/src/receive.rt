@@ -1,4 +1,4 @@
-//! A frame is taken.
+//! Receiving a frame.
 ghost use Rattle.std.specs.Prelude.{ℕ, ◌≡◌, ◌+◌, ◌/◌, ◌<◌, ◌≤◌, true, false, length, is_some, Ok, Err, IsOk, IfOk, IfErr, OnOk, OnErr, MatchResult};
 ghost use Rattle.blocks.specs.Contents.{blocks_of};
 ghost use Rattle.blocks.specs.declared.refusal.Refusal.TheVariants.{BadField, NoMemory};
@@ -17,7 +17,7 @@ use packets::Packet;
 
 impl SecondaryCore {
     /// Makes the room for all that taking one frame, and the later steps of its item, can want, so that none
-    /// of these takes memory. `NoMemory` (7) comes where there is none; then nothing changes.
+    /// of these takes memory. `NoMemory` (7) if there is none; then nothing changes.
     pub fn ready(&mut self) -> Result<(), Refusal>
         ensures ready { OnOk result (self.new ≡ record self.old { is_ready = true }) }
         ensures unchanged { OnErr result (self.new ≡ self.old) }

@@ -52,7 +52,7 @@ impl Model for SecondaryCore {
 impl SecondaryCore {
     /// A secondary that was never opened. It is consistent unless its current identifier is zero.
     ///
-    /// `BadSetting` (15) comes where `settings.check()` says so; else `NoMemory` (7), where there is no
+    /// `BadSetting` (15) if `settings.check()` says so; else `NoMemory` (7) if there is no
     /// memory.
     pub fn new(alloc: Global, settings: Settings, tuple: Tuple) -> Result<SecondaryCore, Refusal>
         ensures fresh { IfOk result (λ c. IsInRange settings × (c ≡ record { state = fresh settings tuple; is_ready = false })) }

@@ -1,4 +1,4 @@
-//! What is kept of the stream that was taken.
+//! Receive-side state of the connection's stream: how many items, the highest write number, the last epoch's blocks.
 ghost use Rattle.std.specs.Prelude.{ℕ, zero, suc, ◌≡◌, ◌+◌, ◌<◌, ◌≤◌, ◌==◌, ◌||◌, nat_lt, length, IfOk, IfErr};
 ghost use Rattle.model.specs.Stream.{BarrierItem, contents_of, first_of};
 ghost use Rattle.model.specs.SecondarySteps.{has_place};
@@ -37,7 +37,7 @@ impl Model for Taken {
 }
 
 impl Taken {
-    /// Nothing, for a device of so many blocks. `NoMemory` (7) where there is no memory; nothing takes
+    /// Nothing, for a device of so many blocks. `NoMemory` (7) if there is no memory; nothing takes
     /// memory later.
     pub(crate) fn new(alloc: Global, blocks: u32) -> Result<Taken, Refusal>
         ensures nothing { IfOk result (λ t. t ≡ nothing_taken blocks) }

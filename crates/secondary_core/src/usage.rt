@@ -1,4 +1,4 @@
-//! What is read off.
+//! Read-only accessors.
 ghost use Rattle.std.specs.Prelude.{◌≡◌, ◌==◌, length, is_some};
 ghost use Rattle.secondary_steps.specs.Core.{may_take, whole};
 ghost use Rattle.secondary_core.specs.Ends.{is_hello_done};
@@ -18,8 +18,8 @@ pub struct Usage {
 }
 
 impl SecondaryCore {
-    /// Whether a frame may be taken: `NotConnected` (12) comes where the end is closed, else `PendingFull`
-    /// (18) where as many items are pending as may be.
+    /// Whether a frame may be taken: `NotConnected` (12) if the end is closed, else `PendingFull`
+    /// (18) if as many items are pending as may be.
     pub fn may_take(&self) -> Result<(), Refusal>
         ensures { result ≡ may_take self.now.state }
     {

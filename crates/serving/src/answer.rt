@@ -1,4 +1,4 @@
-//! What a thread does for requests.
+//! Doing requests together.
 use crate::client::Client;
 use crate::request::Job;
 use crate::service::Service;

@@ -1,4 +1,4 @@
-//! Where a server listens.
+//! The addresses that a server listens at.
 use crate::fault::Fault;
 use crate::options::ServeOptions;
 use std::io;

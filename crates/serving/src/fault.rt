@@ -1,4 +1,4 @@
-//! Why a server could not start, or failed.
+//! Failures of a server.
 ghost use Rattle.std.specs.Prelude.{◌≡◌, ◌⊎◌};
 
 use blocks::Refusal;

@@ -1,4 +1,4 @@
-//! What a server is told to do.
+//! The options of a server.
 use blocks::Protocol;
 use std::net::SocketAddr;
 

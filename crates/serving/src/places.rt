@@ -1,4 +1,4 @@
-//! How many requests of a client are under way.
+//! The limit on a client's requests under way.
 use blocks::Refusal;
 use crossbeam_channel::{Receiver, Sender, bounded};
 use std::alloc::Global;

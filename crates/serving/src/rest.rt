@@ -1,4 +1,4 @@
-//! What a session leaves, from which the next one starts.
+//! The parts that a session leaves for the next one.
 use crate::service::Service;
 use blocks::{Refusal, Store, Tuple};
 use handover::parts_after;

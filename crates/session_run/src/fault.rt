@@ -1,4 +1,4 @@
-//! Why a run failed.
+//! Failures of a run.
 ghost use Rattle.std.specs.Prelude.{◌≡◌, ◌⊎◌};
 
 use blocks::Refusal;

@@ -1,4 +1,4 @@
-//! What a session came to.
+//! The outcome of a session.
 ghost use Rattle.std.specs.Prelude.{◌≡◌, length, IfOk};
 
 use crate::options::Options;

@@ -1,4 +1,4 @@
-//! What a run tells while it goes on.
+//! Progress lines of a run.
 use crate::options::Options;
 use std::io;
 use std::io::Write;

@@ -1,4 +1,4 @@
-//! What callers do with a session while it runs.
+//! The calls of a running session.
 ghost use Rattle.std.specs.Prelude.{◌≡◌, ◌*◌, length, true, IfOk};
 
 use crate::shared::{Path, Shared};

@@ -1,4 +1,4 @@
-//! What a running session tells of its nodes.
+//! Read-only accessors of a running session.
 use crate::Mirror;
 use blocks::Refusal;
 use halves::{PrimaryHalf, SecondaryHalf};

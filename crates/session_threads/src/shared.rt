@@ -1,4 +1,4 @@
-//! What both halves of a session share while their threads run, and the loop of each thread.
+//! The state that both halves of a running session share, and the loop of each thread.
 use halves::{PrimaryHalf, SecondaryHalf};
 use session_nodes::{LocalRole, PeerRole, Turn};
 use std::sync::atomic::{AtomicBool, Ordering};

@@ -29,7 +29,7 @@ use std::alloc::Global;
 /// KiB in a block.
 const BLOCK_KIB: u64 = 4;
 
-/// The primary's status line, without a newline. `NoMemory` (7) where there is no room for it.
+/// The primary's status line, without a newline. `NoMemory` (7) if there is no room for it.
 pub fn primary_line<O: FrameOut + Drop, I: FrameIn + Drop, S: Store + Drop>(
     alloc: Global,
     primary: &Primary<O, I, S>,
@@ -41,7 +41,7 @@ pub fn primary_line<O: FrameOut + Drop, I: FrameIn + Drop, S: Store + Drop>(
     Ok(format!(in alloc; "{line}")?)
 }
 
-/// The secondary's status line, without a newline. `NoMemory` (7) where there is no room for it.
+/// The secondary's status line, without a newline. `NoMemory` (7) if there is no room for it.
 pub fn secondary_line<O: FrameOut + Drop, I: FrameIn + Drop, S: Store + Drop>(
     alloc: Global,
     secondary: &Secondary<O, I, S>,
@@ -53,7 +53,7 @@ pub fn secondary_line<O: FrameOut + Drop, I: FrameIn + Drop, S: Store + Drop>(
     Ok(format!(in alloc; "{line}")?)
 }
 
-/// Both lines of a pair, the primary's first, each ended by a newline. `NoMemory` (7) where there is no room for
+/// Both lines of a pair, the primary's first, each ended by a newline. `NoMemory` (7) if there is no room for
 /// them.
 pub fn line(alloc: Global, pair: &Pair) -> Result<String, Refusal>
     ensures lines { IfOk result (λ lines. (h : PairHistory) → PairHas (state pair.now) h → string_bytes lines ≡ primary_text (primary_line h.primary) ++ 10 ∷ (secondary_text (secondary_line h.secondary) ++ 10 ∷ [])) }

@@ -20,7 +20,7 @@ impl TransferLog {
         self.epochs.restart();
     }
 
-    /// Puts a resync item into the stream. Answers its place. `NoMemory` (7) where there is no room for its
+    /// Puts a resync item into the stream. Answers its place. `NoMemory` (7) if there is no room for its
     /// epoch, and never after `reserve`.
     pub fn place_resync(&mut self) -> Result<u32, Refusal>
         requires { self.old.state.epochs.places < 4294967290 }

@@ -15,7 +15,7 @@ use bytes::Bytes;
 use epochs::Epochs;
 
 impl TransferLog {
-    /// Makes room for one more item, a write or a resync item, and for its barrier. `NoMemory` (7) where it
+    /// Makes room for one more item, a write or a resync item, and for its barrier. `NoMemory` (7) if it
     /// cannot be had.
     pub fn reserve(&mut self) -> Result<(), Refusal>
         ensures same { self.new.state ≡ self.old.state }
@@ -39,7 +39,7 @@ impl TransferLog {
 
     /// Accepts a write. Where a stream stands, it takes the next place there.
     ///
-    /// `LogFull` (3) where `backlog` writes are unreleased; `NoMemory` (7) where there is no room for the
+    /// `LogFull` (3) if `backlog` writes are unreleased; `NoMemory` (7) if there is no room for the
     /// write or for its epoch, and never after `reserve`.
     pub fn accept(&mut self, range: Range, contents: Bytes) -> Result<Accepted, Refusal>
         requires inside { range.first.0 + range.count ≤ length self.old.state.latest }
