@@ -4,7 +4,7 @@ ghost use Rattle.std.specs.Prelude.{◌≡◌, ◌<◌};
 use blocks::{Done, Refusal, Store};
 use link::{FrameIn, FrameOut};
 use primary::Primary;
-use ruled_link::{RuledIn, RuledOut, ruled};
+use ruled_link::{RuledIn, RuledLink, RuledOut};
 use secondary::Secondary;
 use std::alloc::Global;
 use std::sync::Wait;
@@ -34,8 +34,10 @@ pub(crate) fn connect<R: Wait + Copy + Drop, S: Store + Drop, T: Store + Drop>(
     if peer.number() == u32::MAX {
         return Err(Refusal::StreamFull);
     }
-    let (there, at_peer) = ruled(rt, alloc, FRAMES)?;
-    let (back, at_local) = ruled(rt, alloc, FRAMES)?;
+    let RuledLink {
+        there: (there, at_peer),
+        back: (back, at_local),
+    } = RuledLink::new(rt, alloc, FRAMES)?;
     local.open(there, at_local, sync, loss)?;
     peer.open(back, at_peer)?;
     work(local, peer)

@@ -6,3 +6,4 @@ pub mod Names
 pub mod Outward
 pub mod Pieces
 pub mod Row
+pub mod Unused

@@ -2,6 +2,7 @@
 //! pieces in a row, over one connection after another.
 #![tactic(auto)]
 
+mod both_ways;
 mod ends;
 mod gathered;
 mod inward;
@@ -16,6 +17,7 @@ mod rest;
 mod sheet;
 mod stock;
 
+pub use both_ways::RuledLink;
 pub use ends::{join_ends, ruled, watched};
 pub use inward::RuledIn;
 pub use moment::{Moment, Unwatched};

@@ -2,7 +2,7 @@
 use blocks::{FaultStore, MemStore, Refusal, Settings, Tuple};
 use bytes::Bytes;
 use primary::{Primary, Receipt};
-use ruled_link::{RuledIn, RuledOut, ruled};
+use ruled_link::{RuledIn, RuledLink, RuledOut, ruled};
 use secondary::Secondary;
 use std::alloc::Global;
 use std::sync::Wait;
@@ -70,8 +70,10 @@ pub(super) fn connect<R: Wait + Copy + Drop>(
     if peer.number() == u32::MAX {
         return Err(Refusal::StreamFull);
     }
-    let (there, at_peer) = ruled(rt, alloc, 4)?;
-    let (back, at_local) = ruled(rt, alloc, 4)?;
+    let RuledLink {
+        there: (there, at_peer),
+        back: (back, at_local),
+    } = RuledLink::new(rt, alloc, 4)?;
     local.open(there, at_local, words.0, words.1)?;
     peer.open(back, at_peer)?;
     work(local, peer);
