@@ -29,7 +29,7 @@ impl Model for LastEpoch {
 }
 
 impl LastEpoch {
-    /// Of a device of so many blocks, with no item yet. `NoMemory` (7) if there is no memory; nothing
+    /// For a device of `blocks` blocks, with no item yet. `NoMemory` (7) if there is no memory; nothing
     /// takes memory later.
     pub fn new(alloc: Global, blocks: u32) -> Result<LastEpoch, Refusal>
         ensures empty { IfOk result (λ e. e ≡ none_of blocks) }

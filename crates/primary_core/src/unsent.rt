@@ -60,7 +60,7 @@ impl Unsent {
         self.items.front()
     }
 
-    /// Makes room for so many more items.
+    /// Makes room for `additional` more items.
     pub(crate) fn reserve(&mut self, additional: usize) -> Result<(), AllocError>
         ensures items { self.new.items ≡ self.old.items }
         ensures kept { self.old.room ≤ self.new.room }
@@ -120,7 +120,7 @@ impl Unsent {
     }
 }
 
-// The number of the first barrier, and whether all are a run, once one of this number comes behind so many.
+// The number of the first barrier, and whether all are a run, after one of this number comes behind `count` others.
 fn run_with(first: u64, count: usize, is_run: bool, number: u32) -> (u64, bool)
     ensures { (ns : List ℕ) → length ns ≡ count → (is_run ≡ true → ns ≡ run first count) → result.1 ≡ true → ns ++ number ∷ [] ≡ run result.0 (count + 1) }
 {

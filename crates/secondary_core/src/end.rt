@@ -72,7 +72,7 @@ impl End {
         self.sizes.clear();
     }
 
-    /// Makes room for what one item more can ask for, where so many are pending. `NoMemory` (7) if there
+    /// Makes room for the answers to `pending` items and to the next one. `NoMemory` (7) if there
     /// is no memory.
     pub(crate) fn reserve(&mut self, pending: usize) -> Result<(), Refusal>
         requires { pending ≤ 4096 }
