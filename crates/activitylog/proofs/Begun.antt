@@ -9,11 +9,13 @@ use Rattle.activitylog.specs.Entries.{active_of, oldest_idle}
 use Rattle.activitylog.proofs.Entries.{active-lookup, active-remove, active-remove_oldest, is_some-oldest, length-active, oldest-active, writes-lookup}
 
 -- by the answer, whether the extent was active
-pub when_known : (o : Option ℕ) (r : Bool) (P : Type 0) (Q : ℕ → Type 0) → MatchOption o ((r ≡ false) × P) (λ w. (r ≡ true) × Q w) → r ≡ true → (w : ℕ) × (o ≡ Some w) × Q w
+pub when_known : (o : Option ℕ) (r : Bool) (P : Type 0) (Q : ℕ → Type 0) → MatchOption o ((r ≡ false) × P) (λ w. (r ≡ true) × Q w) → r ≡ true
+    → (w : ℕ) × (o ≡ Some w) × Q w
 when_known None r P Q told is = absurd (let no = told.0 in cc)
 when_known (Some w) r P Q told is = (w, refl, told.1)
 
-pub when_unknown : (o : Option ℕ) (r : Bool) (P : Type 0) (Q : ℕ → Type 0) → MatchOption o ((r ≡ false) × P) (λ w. (r ≡ true) × Q w) → r ≡ false → (o ≡ None) × P
+pub when_unknown : (o : Option ℕ) (r : Bool) (P : Type 0) (Q : ℕ → Type 0) → MatchOption o ((r ≡ false) × P) (λ w. (r ≡ true) × Q w) → r ≡ false
+    → (o ≡ None) × P
 when_unknown None r P Q told is = (refl, told.1)
 when_unknown (Some w) r P Q told is = absurd (let yes = told.0 in cc)
 
@@ -66,10 +68,12 @@ module _ (slots k : ℕ) (es : List (ℕ × ℕ)) where
               let there : is_active k (active_of es) ≡ true = rw (← same) (oldest-active i (active_of es) oldest) in
               absurd (let nowhere = unknown none in cc)
 
-      pub begun-full : (i : ℕ) → oldest_idle (active_of es) ≡ Some i → IsDistinct nat_eq (keys_of es) → state slots (remove_entry (nat_eq i) ((k, 1) ∷ es)) ≡ begun k (state slots es)
+      pub begun-full : (i : ℕ) → oldest_idle (active_of es) ≡ Some i → IsDistinct nat_eq (keys_of es)
+          → state slots (remove_entry (nat_eq i) ((k, 1) ∷ es)) ≡ begun k (state slots es)
       begun-full i oldest distinct =
           rw (other_key i oldest, unknown none, no_writes, no_room, active-remove_oldest i es distinct oldest) refl
 
   -- whether a write may begin, by what the code asks in turn
-  pub can-by : (a b : Bool) → is_some (lookup (nat_eq k) es) ≡ a → nat_lt (length es) slots ≡ b → can_begin k (state slots es) ≡ ((a || b) || is_some (oldest_idle (active_of es)))
+  pub can-by : (a b : Bool) → is_some (lookup (nat_eq k) es) ≡ a → nat_lt (length es) slots ≡ b
+      → can_begin k (state slots es) ≡ ((a || b) || is_some (oldest_idle (active_of es)))
   can-by a b is_known is_free = rw (← is_known, ← is_free, active-lookup k es, ← length-active es, is_some-oldest (active_of es)) refl

@@ -1,5 +1,6 @@
 -- What the cache's calls do to the active extents.
-use Rattle.std.proofs.Common.{ℕ, suc, ◌≡◌, ◌+◌, ◌-◌, ◌≤◌, ◌==◌, Bool, true, false, ◌||◌, List, [], ◌∷◌, length, Option, Some, None, refl, sym, ◌∙◌, ap, arith, nat_eq}
+use Rattle.std.proofs.Common.{ℕ, suc, ◌≡◌, ◌+◌, ◌-◌, ◌≤◌, ◌==◌, Bool, true, false, ◌||◌, List, [], ◌∷◌, length, Option, Some, None, refl, sym, ◌∙◌, ap, arith}
+use Rattle.std.proofs.Common.{nat_eq}
 use Rattle.std.specs.Prelude.{fold, is_some, unwrap_or, if◌then◌else◌}
 use Rattle.std.specs.List.{AllByRecursion, IsDistinct}
 use Rattle.std.specs.Map.{keys_of, lookup, lookup_entry, remove_entry, set_value}
@@ -20,7 +21,8 @@ pub active-lookup : (k : ℕ) (es : List (ℕ × ℕ)) → is_some (lookup (nat_
 active-lookup k [] = refl
 active-lookup k (e ∷ es) = go (active-lookup k es) (nat_eq k e.0) refl
   where
-    go : is_some (lookup (nat_eq k) es) ≡ is_active k (active_of es) → (b : Bool) → nat_eq k e.0 ≡ b → is_some (lookup (nat_eq k) (e ∷ es)) ≡ is_active k (active_of (e ∷ es))
+    go : is_some (lookup (nat_eq k) es) ≡ is_active k (active_of es) → (b : Bool) → nat_eq k e.0 ≡ b
+        → is_some (lookup (nat_eq k) (e ∷ es)) ≡ is_active k (active_of (e ∷ es))
     go rest true is = rw is refl
     go rest false is = rw is rest
 
@@ -28,7 +30,8 @@ pub writes-lookup : (k : ℕ) (es : List (ℕ × ℕ)) → unwrap_or (lookup (na
 writes-lookup k [] = refl
 writes-lookup k (e ∷ es) = go (writes-lookup k es) (nat_eq k e.0) refl
   where
-    go : unwrap_or (lookup (nat_eq k) es) 0 ≡ writes_of k (active_of es) → (b : Bool) → nat_eq k e.0 ≡ b → unwrap_or (lookup (nat_eq k) (e ∷ es)) 0 ≡ writes_of k (active_of (e ∷ es))
+    go : unwrap_or (lookup (nat_eq k) es) 0 ≡ writes_of k (active_of es) → (b : Bool) → nat_eq k e.0 ≡ b
+        → unwrap_or (lookup (nat_eq k) (e ∷ es)) 0 ≡ writes_of k (active_of (e ∷ es))
     go rest true is = rw is refl
     go rest false is = rw is rest
 
@@ -36,7 +39,8 @@ entry-some : (k w : ℕ) (es : List (ℕ × ℕ)) → lookup (nat_eq k) es ≡ S
 entry-some k w [] is = absurd (cc)
 entry-some k w (e ∷ es) is = go (entry-some k w es) (nat_eq k e.0) refl
   where
-    go : (lookup (nat_eq k) es ≡ Some w → lookup_entry (nat_eq k) es ≡ Some (k, w)) → (b : Bool) → nat_eq k e.0 ≡ b → lookup_entry (nat_eq k) (e ∷ es) ≡ Some (k, w)
+    go : (lookup (nat_eq k) es ≡ Some w → lookup_entry (nat_eq k) es ≡ Some (k, w)) → (b : Bool) → nat_eq k e.0 ≡ b
+        → lookup_entry (nat_eq k) (e ∷ es) ≡ Some (k, w)
     go rest true same =
         let key : e.0 ≡ k = sym (eqb-true k e.0 same) in
         let one = rw same at is in
@@ -57,7 +61,8 @@ pub active-remove : (k : ℕ) (es : List (ℕ × ℕ)) → active_of (remove_ent
 active-remove k [] = refl
 active-remove k (e ∷ es) = go (active-remove k es) (nat_eq k e.0) refl
   where
-    go : active_of (remove_entry (nat_eq k) es) ≡ other_than k (active_of es) → (b : Bool) → nat_eq k e.0 ≡ b → active_of (remove_entry (nat_eq k) (e ∷ es)) ≡ other_than k (active_of (e ∷ es))
+    go : active_of (remove_entry (nat_eq k) es) ≡ other_than k (active_of es) → (b : Bool) → nat_eq k e.0 ≡ b
+        → active_of (remove_entry (nat_eq k) (e ∷ es)) ≡ other_than k (active_of (e ∷ es))
     go rest true is = rw is refl
     go rest false is = rw is (ap (λ xs. record { extent = e.0; writes = e.1 } ∷ xs) rest)
 
@@ -65,7 +70,8 @@ pub length-removed : (k : ℕ) (es : List (ℕ × ℕ)) → is_some (lookup (nat
 length-removed k [] is = absurd (cc)
 length-removed k (e ∷ es) is = go (length-removed k es) (nat_eq k e.0) refl
   where
-    go : (is_some (lookup (nat_eq k) es) ≡ true → length (remove_entry (nat_eq k) es) + 1 ≡ length es) → (b : Bool) → nat_eq k e.0 ≡ b → length (remove_entry (nat_eq k) (e ∷ es)) + 1 ≡ length (e ∷ es)
+    go : (is_some (lookup (nat_eq k) es) ≡ true → length (remove_entry (nat_eq k) es) + 1 ≡ length es) → (b : Bool) → nat_eq k e.0 ≡ b
+        → length (remove_entry (nat_eq k) (e ∷ es)) + 1 ≡ length (e ∷ es)
     go rest true same = rw same (omega arith)
     go rest false same = rw same (omega (arith, rest (rw same at is)))
 
@@ -74,7 +80,8 @@ pub active-set : (k v : ℕ) (es : List (ℕ × ℕ)) → lookup (nat_eq k) es �
 active-set k v [] is = absurd (cc)
 active-set k v (e ∷ es) is = go (active-set k v es) (nat_eq k e.0) refl
   where
-    go : (lookup (nat_eq k) es ≡ Some v → active_of (set_value (nat_eq k) es (v - 1)) ≡ one_less k (active_of es)) → (b : Bool) → nat_eq k e.0 ≡ b → active_of (set_value (nat_eq k) (e ∷ es) (v - 1)) ≡ one_less k (active_of (e ∷ es))
+    go : (lookup (nat_eq k) es ≡ Some v → active_of (set_value (nat_eq k) es (v - 1)) ≡ one_less k (active_of es)) → (b : Bool) → nat_eq k e.0 ≡ b
+        → active_of (set_value (nat_eq k) (e ∷ es) (v - 1)) ≡ one_less k (active_of (e ∷ es))
     go rest true same =
         let one = rw same at is in
         let value : e.1 ≡ v = cc in
@@ -82,14 +89,16 @@ active-set k v (e ∷ es) is = go (active-set k v es) (nat_eq k e.0) refl
     go rest false same = rw same (ap (λ xs. record { extent = e.0; writes = e.1 } ∷ xs) (rest (rw same at is)))
 
 -- What goes in, where the cache has room.
-pub put-new : (c : LruCache ℕ ℕ) (k v slots : ℕ) → c.cap ≡ slots + 1 → length c.entries ≤ slots → lookup (nat_eq k) c.entries ≡ None → put_entries nat_eq c k v ≡ (k, v) ∷ c.entries
+pub put-new : (c : LruCache ℕ ℕ) (k v slots : ℕ) → c.cap ≡ slots + 1 → length c.entries ≤ slots → lookup (nat_eq k) c.entries ≡ None
+    → put_entries nat_eq c k v ≡ (k, v) ∷ c.entries
 put-new c k v slots cap few none = rw (entry-none k c.entries none) (ap (λ es. (k, v) ∷ es) (take_all (c.cap - 1) c.entries (omega arith)))
 
 pub put-known : (c : LruCache ℕ ℕ) (k v w : ℕ) → lookup (nat_eq k) c.entries ≡ Some w → put_entries nat_eq c k v ≡ (k, v) ∷ remove_entry (nat_eq k) c.entries
 put-known c k v w some = rw (entry-some k w c.entries some) refl
 
 -- What is written to an entry that was brought to the front.
-pub mut-known : (k v w : ℕ) (es : List (ℕ × ℕ)) → lookup (nat_eq k) es ≡ Some w → set_value (nat_eq k) (promoted (nat_eq k) es) v ≡ (k, v) ∷ remove_entry (nat_eq k) es
+pub mut-known : (k v w : ℕ) (es : List (ℕ × ℕ)) → lookup (nat_eq k) es ≡ Some w
+    → set_value (nat_eq k) (promoted (nat_eq k) es) v ≡ (k, v) ∷ remove_entry (nat_eq k) es
 mut-known k v w es some = let same : nat_eq k k ≡ true = eq-eqb k k refl in rw (entry-some k w es some, same) refl
 
 pub mut-unknown : (k : ℕ) (es : List (ℕ × ℕ)) → lookup (nat_eq k) es ≡ None → promoted (nat_eq k) es ≡ es
@@ -113,7 +122,8 @@ fold-idle idle [] = refl
 fold-idle idle (e ∷ es) = go (fold-idle (later_idle idle e) es) (e.1 == 0) (has_idle (active_of es)) refl refl
   where
     go : fold later_idle (later_idle idle e) es ≡ (if has_idle (active_of es) then oldest_idle (active_of es) else later_idle idle e)
-        → (b c : Bool) → (e.1 == 0) ≡ b → has_idle (active_of es) ≡ c → fold later_idle idle (e ∷ es) ≡ (if has_idle (active_of (e ∷ es)) then oldest_idle (active_of (e ∷ es)) else idle)
+        → (b c : Bool) → (e.1 == 0) ≡ b → has_idle (active_of es) ≡ c
+        → fold later_idle idle (e ∷ es) ≡ (if has_idle (active_of (e ∷ es)) then oldest_idle (active_of (e ∷ es)) else idle)
     go rest true true here there = rest ∙ rw (here, there) refl
     go rest true false here there = rest ∙ rw (here, there) refl
     go rest false true here there = rest ∙ rw (here, there) refl
@@ -166,9 +176,11 @@ apart_from i k (e ∷ es) apart is = go (apart_from i k es apart.1) (nat_eq i e.
         flip a b is = grind (arith, nat_tests)
     go rest false same = rest (rw same at is)
 
-pub active-remove_oldest : (i : ℕ) (es : List (ℕ × ℕ)) → IsDistinct nat_eq (keys_of es) → oldest_idle (active_of es) ≡ Some i → active_of (remove_entry (nat_eq i) es) ≡ without_oldest_idle (active_of es)
+pub active-remove_oldest : (i : ℕ) (es : List (ℕ × ℕ)) → IsDistinct nat_eq (keys_of es) → oldest_idle (active_of es) ≡ Some i
+    → active_of (remove_entry (nat_eq i) es) ≡ without_oldest_idle (active_of es)
 active-remove_oldest i [] distinct is = absurd (cc)
-active-remove_oldest i (e ∷ es) distinct is = go (active-remove_oldest i es (IsDistinct-tail nat_eq e.0 (keys_of es) distinct)) (e.1 == 0) (has_idle (active_of es)) refl refl
+active-remove_oldest i (e ∷ es) distinct is = go (active-remove_oldest i es (IsDistinct-tail nat_eq e.0 (keys_of es) distinct)) (e.1 == 0)
+    (has_idle (active_of es)) refl refl
   where
     go : (oldest_idle (active_of es) ≡ Some i → active_of (remove_entry (nat_eq i) es) ≡ without_oldest_idle (active_of es))
         → (b c : Bool) → (e.1 == 0) ≡ b → has_idle (active_of es) ≡ c → active_of (remove_entry (nat_eq i) (e ∷ es)) ≡ without_oldest_idle (active_of (e ∷ es))

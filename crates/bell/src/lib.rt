@@ -23,7 +23,7 @@ pub struct Bell {
     // Threads that look again before they sleep.
     watchers: AtomicU64,
     sleepers: AtomicU64,
-    // 1 from when a sleeper is woken until one is awake, so that no ring in between wakes another.
+    // 1 from when a sleeper is woken until one is awake or another goes to sleep, so that no ring in between wakes another.
     waking: AtomicU64,
     lock: Mutex<()>,
     rung: Condvar,
@@ -83,6 +83,8 @@ impl Bell {
         }
         let power = (looks - LOOKS).min(LONGEST_SLEEP);
         self.sleepers.fetch_add(1, Ordering::SeqCst);
+        // A ring may have come when nobody slept any more. What rang by now is seen below.
+        self.waking.store(0, Ordering::SeqCst);
         let guard = self.lock.lock(rt);
         if self.rings.load(Ordering::SeqCst) == rings {
             let sleep = Duration::from_millis(1u64 << power);

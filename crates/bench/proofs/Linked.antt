@@ -17,13 +17,15 @@ same-direction link old_out out old_inn inn out_is inn_is was =
     (subst (λ (i : Option IncomingState). IsDirection link (record { out = old_out; inn = i })) (sym inn_is) was)
 
 -- A call that leaves a node's sides of the link as they were.
-pub primary-kept : (v : MirrorView) (p : PrimaryView) → p.outgoing ≡ v.primary.outgoing → p.incoming ≡ v.primary.incoming → IsMirror v → IsMirror (record v { primary = p })
+pub primary-kept : (v : MirrorView) (p : PrimaryView) → p.outgoing ≡ v.primary.outgoing → p.incoming ≡ v.primary.incoming → IsMirror v
+    → IsMirror (record v { primary = p })
 primary-kept v p out inn was = record {
   there = same-direction v.link v.primary.outgoing p.outgoing v.secondary.incoming v.secondary.incoming out refl was.there;
   back = same-direction v.link v.secondary.outgoing v.secondary.outgoing v.primary.incoming p.incoming refl inn was.back;
 }
 
-pub secondary-kept : (v : MirrorView) (s : SecondaryView) → s.outgoing ≡ v.secondary.outgoing → s.incoming ≡ v.secondary.incoming → IsMirror v → IsMirror (record v { secondary = s })
+pub secondary-kept : (v : MirrorView) (s : SecondaryView) → s.outgoing ≡ v.secondary.outgoing → s.incoming ≡ v.secondary.incoming → IsMirror v
+    → IsMirror (record v { secondary = s })
 secondary-kept v s out inn was = record {
   there = same-direction v.link v.primary.outgoing v.primary.outgoing v.secondary.incoming s.incoming refl inn was.there;
   back = same-direction v.link v.secondary.outgoing s.outgoing v.primary.incoming v.primary.incoming out refl was.back;
@@ -31,12 +33,33 @@ secondary-kept v s out inn was = record {
 
 -- Two ends of a new link.
 pub new-direction : (s : OutState) (t : InState) (capacity : ℕ) (out : Option OutgoingState) (inn : Option IncomingState) → IsUnused s t capacity
-    → out ≡ Some (outgoing (record { sent = s.sent; number = s.number; past = s.past; partly = None; waiting = option_map (λ q. q.frames) s.queue; room = Some (room_in s.queue) }))
-    → inn ≡ Some (incoming (record { taken = t.taken; number = t.number; past = t.past; is_ready = true; queued = Some (frames_in t.queue); capacity = option_map (λ q. q.capacity) t.queue }))
+    → out ≡ Some (outgoing (record {
+      sent = s.sent;
+      number = s.number;
+      past = s.past;
+      partly = None;
+      waiting = option_map (λ q. q.frames) s.queue;
+      room = Some (room_in s.queue);
+    }))
+    → inn ≡ Some (incoming (record {
+      taken = t.taken;
+      number = t.number;
+      past = t.past;
+      is_ready = true;
+      queued = Some (frames_in t.queue);
+      capacity = option_map (λ q. q.capacity) t.queue;
+    }))
     → IsDirection capacity (record { out = out; inn = inn })
 new-direction s t capacity out inn unused out_is inn_is =
     subst (λ (o : Option OutgoingState). IsDirection capacity (record { out = o; inn = inn })) (sym out_is) (
-      incoming (record { taken = t.taken; number = t.number; past = t.past; is_ready = true; queued = Some (frames_in t.queue); capacity = option_map (λ q. q.capacity) t.queue }),
+      incoming (record {
+        taken = t.taken;
+        number = t.number;
+        past = t.past;
+        is_ready = true;
+        queued = Some (frames_in t.queue);
+        capacity = option_map (λ q. q.capacity) t.queue;
+      }),
       inn_is,
       rw (unused.sending, unused.taking) (record {
         waiting = [];

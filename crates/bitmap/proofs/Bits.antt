@@ -1,5 +1,6 @@
 -- The bits of the words.
-use Rattle.std.proofs.Common.{ℕ, zero, suc, ◌≡◌, ◌≢◌, ◌+◌, ◌*◌, ◌/◌, ◌%◌, ◌^◌, ◌<◌, ◌==◌, ◌⊎◌, inl, inr, Bool, true, false, not, List, length, refl, sym, ◌∙◌, ap, arith, add-zero}
+use Rattle.std.proofs.Common.{ℕ, zero, suc, ◌≡◌, ◌≢◌, ◌+◌, ◌*◌, ◌/◌, ◌%◌, ◌^◌, ◌<◌, ◌==◌, ◌⊎◌, inl, inr, Bool, true, false, not, List, length, refl, sym, ◌∙◌}
+use Rattle.std.proofs.Common.{ap, arith, add-zero}
 use Rattle.std.specs.Prelude.{slice_set, slice_index}
 use Rattle.std.specs.Int.{bit_at}
 use Rattle.std.specs.Int.RustNames.{bit_xor}
@@ -56,7 +57,8 @@ kept_bit w k i small other =
 
 pub bit_of-turned : (words : List ℕ) (b : ℕ) → b / 64 < length words → bit_of (turned words b) b ≡ not (bit_of words b)
 bit_of-turned words b within =
-    rw (get_or-set_same words (b / 64) (bit_xor (slice_index words (b / 64)) (1 * 2 ^ (b % 64) % 18446744073709551616)) 0 within) (turned_bit (slice_index words (b / 64)) (b % 64) (omega arith))
+    rw (get_or-set_same words (b / 64) (bit_xor (slice_index words (b / 64)) (1 * 2 ^ (b % 64) % 18446744073709551616)) 0 within)
+    (turned_bit (slice_index words (b / 64)) (b % 64) (omega arith))
 
 pub bit_of-turned_other : (words : List ℕ) (b q : ℕ) → b / 64 < length words → q ≢ b → bit_of (turned words b) q ≡ bit_of words q
 bit_of-turned_other words b q within other = go (cases_eq (q / 64) (b / 64))
@@ -64,13 +66,16 @@ bit_of-turned_other words b q within other = go (cases_eq (q / 64) (b / 64))
     go : (q / 64 ≡ b / 64) ⊎ (q / 64 ≡ b / 64 → ⊥) → bit_of (turned words b) q ≡ bit_of words q
     go (inl same) =
         let apart : q % 64 ≢ b % 64 = λ e. other (omega arith) in
-        rw (same, get_or-set_same words (b / 64) (bit_xor (slice_index words (b / 64)) (1 * 2 ^ (b % 64) % 18446744073709551616)) 0 within) (kept_bit (slice_index words (b / 64)) (b % 64) (q % 64) (omega arith) apart)
+        rw (same, get_or-set_same words (b / 64) (bit_xor (slice_index words (b / 64)) (1 * 2 ^ (b % 64) % 18446744073709551616)) 0 within)
+        (kept_bit (slice_index words (b / 64)) (b % 64) (q % 64) (omega arith) apart)
     go (inr apart) = rw (get_or-set_other words (b / 64) (q / 64) (bit_xor (slice_index words (b / 64)) (1 * 2 ^ (b % 64) % 18446744073709551616)) 0 apart) refl
 
 -- a turned bit is a mark that was written
-pub marks-turned : (n : ℕ) (words : List ℕ) (b : ℕ) (v : Bool) → b < n → b / 64 < length words → marked (marks_of n words) b ≡ not v → marks_of n (turned words b) ≡ slice_set (marks_of n words) b v
+pub marks-turned : (n : ℕ) (words : List ℕ) (b : ℕ) (v : Bool) → b < n → b / 64 < length words → marked (marks_of n words) b ≡ not v
+    → marks_of n (turned words b) ≡ slice_set (marks_of n words) b v
 marks-turned n words b v within inside was =
-    same-marks (marks_of n (turned words b)) (slice_set (marks_of n words) b v) (length-bits 0 n (turned words b) ∙ sym (length-set (marks_of n words) b v ∙ length-bits 0 n words))
+    same-marks (marks_of n (turned words b)) (slice_set (marks_of n words) b v) (length-bits 0 n (turned words b)
+    ∙ sym (length-set (marks_of n words) b v ∙ length-bits 0 n words))
     (λ q h. let in_n : q < n = omega (arith, length-bits 0 n (turned words b)) in marked-bits n (turned words b) q in_n ∙ go q in_n (cases_eq q b))
   where
     go : (q : ℕ) → q < n → (q ≡ b) ⊎ (q ≡ b → ⊥) → bit_of (turned words b) q ≡ marked (slice_set (marks_of n words) b v) q

@@ -9,7 +9,8 @@ use Rattle.bitmap.specs.Fields.{AreCounted, marks_of}
 use Rattle.bitmap.proofs.Lists.{count-set, count_in-set, count_in-set_other}
 use Rattle.bitmap.proofs.Bits.{turned, length-bits, bit_of-turned_other, marks-turned}
 
-pub turned-counted : (n : ℕ) (words counts : List ℕ) (total b : ℕ) (v : Bool) (in_extent in_all : ℕ) → AreCounted n words counts total → b < n → marked (marks_of n words) b ≡ not v
+pub turned-counted : (n : ℕ) (words counts : List ℕ) (total b : ℕ) (v : Bool) (in_extent in_all : ℕ) → AreCounted n words counts total → b < n
+    → marked (marks_of n words) b ≡ not v
     → in_extent + (if v then 0 else 1) ≡ slice_index counts (b / 1024) + (if v then 1 else 0)
     → in_all + (if v then 0 else 1) ≡ total + (if v then 1 else 0)
     → AreCounted n (turned words b) (slice_set counts (b / 1024) in_extent) in_all
@@ -26,8 +27,10 @@ turned-counted n words counts total b v in_extent in_all is within was extent_is
       totalled = rw new (omega (arith, count-set (marks_of n words) b v long was, is.totalled));
     }
   where
-    go : (extent : ℕ) → b < length (marks_of n words) → (extent ≡ b / 1024) ⊎ (extent ≡ b / 1024 → ⊥) → slice_index (slice_set counts (b / 1024) in_extent) extent ≡ count_in (slice_set (marks_of n words) b v) extent
+    go : (extent : ℕ) → b < length (marks_of n words) → (extent ≡ b / 1024) ⊎ (extent ≡ b / 1024 → ⊥)
+        → slice_index (slice_set counts (b / 1024) in_extent) extent ≡ count_in (slice_set (marks_of n words) b v) extent
     go extent long (inl same) =
         let there : b / 1024 < length counts = omega (arith, is.enough_counts) in
         rw (same, get_or-set_same counts (b / 1024) in_extent 0 there) (omega (arith, count_in-set (marks_of n words) b v long was, is.counted (b / 1024)))
-    go extent long (inr other) = get_or-set_other counts (b / 1024) extent in_extent 0 other ∙ is.counted extent ∙ sym (count_in-set_other (marks_of n words) b v extent other)
+    go extent long (inr other) = get_or-set_other counts (b / 1024) extent in_extent 0 other ∙ is.counted extent
+        ∙ sym (count_in-set_other (marks_of n words) b v extent other)

@@ -1,5 +1,6 @@
 -- Marks by their places, and how many there are.
-use Rattle.std.proofs.Common.{ℕ, zero, suc, ◌≡◌, ◌≢◌, ◌+◌, ◌*◌, ◌/◌, ◌<◌, ◌≤◌, ◌⊎◌, inl, inr, Bool, true, false, not, ◌||◌, List, [], ◌∷◌, length, take, drop, refl, ◌∙◌, ap, arith, add-zero, length-take}
+use Rattle.std.proofs.Common.{ℕ, zero, suc, ◌≡◌, ◌≢◌, ◌+◌, ◌*◌, ◌/◌, ◌<◌, ◌≤◌, ◌⊎◌, inl, inr, Bool, true, false, not, ◌||◌, List, [], ◌∷◌, length, take, drop}
+use Rattle.std.proofs.Common.{refl, ◌∙◌, ap, arith, add-zero, length-take}
 use Rattle.std.specs.Prelude.{slice_set, replicate, if◌then◌else◌}
 use Rattle.std.proofs.lemmas.Bool.{cases_lt}
 use Rattle.bitmap.specs.Marks.{marked, marking_from, count, count_in}
@@ -42,7 +43,8 @@ pub length-marking : (from : ℕ) (such : ℕ → Bool) (xs : List Bool) → len
 length-marking from such [] = refl
 length-marking from such (x ∷ xs) = ap suc (length-marking (suc from) such xs)
 
-pub marked-marking : (from : ℕ) (such : ℕ → Bool) (xs : List Bool) (b : ℕ) → b < length xs → marked (marking_from from such xs) b ≡ (marked xs b || such (from + b))
+pub marked-marking : (from : ℕ) (such : ℕ → Bool) (xs : List Bool) (b : ℕ) → b < length xs
+    → marked (marking_from from such xs) b ≡ (marked xs b || such (from + b))
 marked-marking from such [] b within = absurd (omega arith)
 marked-marking from such (x ∷ xs) zero within = rw add-zero refl
 marked-marking from such (x ∷ xs) (suc b) within =

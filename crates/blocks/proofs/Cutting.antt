@@ -1,7 +1,9 @@
 -- What cutting bytes into blocks does to their joining, their parts and their places.
-use Rattle.std.proofs.Common.{ℕ, zero, suc, ◌≡◌, ◌+◌, ◌-◌, ◌*◌, ◌/◌, ◌<◌, ◌≤◌, List, ◌++◌, length, take, drop, replicate, slice_get, Some, refl, sym, ◌∙◌, ap, arith, add_assoc, append_assoc, length-append, length-take, length-drop}
+use Rattle.std.proofs.Common.{ℕ, zero, suc, ◌≡◌, ◌+◌, ◌-◌, ◌*◌, ◌/◌, ◌<◌, ◌≤◌, List, ◌++◌, length, take, drop, replicate, slice_get, Some, refl, sym, ◌∙◌, ap}
+use Rattle.std.proofs.Common.{arith, add_assoc, append_assoc, length-append, length-take, length-drop}
 use Rattle.std.proofs.Math.Nat.{mul-suc}
-use Rattle.std.proofs.lemmas.List.{drop-drop, take-append-drop, take-append-le, drop-append-le, length-take-le, take_at, drop_at, take-replicate, drop-replicate}
+use Rattle.std.proofs.lemmas.List.{drop-drop, take-append-drop, take-append-le, drop-append-le, length-take-le, take_at, drop_at, take-replicate}
+use Rattle.std.proofs.lemmas.List.{drop-replicate}
 use Rattle.blocks.specs.Contents.{cut, blocks_of, overwritten}
 
 -- there are as many blocks as were asked for
@@ -30,7 +32,8 @@ cut-append size (suc count) front back long =
     rw (take-append-le size front back within, drop-append-le size front back within, cut-append size count (drop size front) back rest) refl
 
 -- the block at a place
-pub slice_get-cut : (size count place : ℕ) (bytes : List ℕ) → place < count → slice_get (cut size count bytes) place ≡ Some (take size (drop (size * place) bytes))
+pub slice_get-cut : (size count place : ℕ) (bytes : List ℕ) → place < count
+    → slice_get (cut size count bytes) place ≡ Some (take size (drop (size * place) bytes))
 slice_get-cut size zero place bytes below = absurd (omega arith)
 slice_get-cut size (suc count) zero bytes below = let start : size * 0 ≡ 0 = omega arith in rw start refl
 slice_get-cut size (suc count) (suc place) bytes below =
@@ -68,13 +71,16 @@ cut-written size first count more old new long whole =
     let rest : drop (size * first) ((front ++ new) ++ back) ≡ new ++ back = rw append_assoc (drop_at front (new ++ back) (size * first) front_len) in
     let last : drop (size * count) (new ++ back) ≡ back = drop_at new back (size * count) whole in
     let behind : drop (first + length (cut size count new)) (cut size (first + (count + more)) old) ≡ cut size more back =
-    rw (length-cut size count new, ← add_assoc first count more) (drop-cut size (first + count) more old ∙ ap (λ n. cut size more (drop n old)) (omega (arith, whole))) in
+    rw (length-cut size count new, ← add_assoc first count more) (drop-cut size (first + count) more old
+    ∙ ap (λ n. cut size more (drop n old)) (omega (arith, whole))) in
     let before : take first (cut size (first + (count + more)) old) ≡ cut size first old = take-cut size first (count + more) old in
     cut-add size first (count + more) ((front ++ new) ++ back)
-    ∙ rw (left, rest, cut-add size count more (new ++ back), last, cut-append size count new back whole, before, behind) (sym (append_assoc (cut size first old) (cut size count new) (cut size more back)))
+    ∙ rw (left, rest, cut-add size count more (new ++ back), last, cut-append size count new back whole, before, behind)
+    (sym (append_assoc (cut size first old) (cut size count new) (cut size more back)))
 
 -- a write over whole blocks of an image is one over the blocks of the device
-pub blocks_of-written : (first count : ℕ) (old new : List ℕ) → 4096 * (length old / 4096) ≡ length old → first + count ≤ length old / 4096 → length new ≡ 4096 * count
+pub blocks_of-written : (first count : ℕ) (old new : List ℕ) → 4096 * (length old / 4096) ≡ length old → first + count ≤ length old / 4096
+    → length new ≡ 4096 * count
     → blocks_of 4096 (take (first * 4096) old ++ new ++ drop (first * 4096 + length new) old) ≡ overwritten (blocks_of 4096 old) first (blocks_of 4096 new)
 blocks_of-written first count old new image inside whole =
     let more : ℕ = length old / 4096 - (first + count) in
@@ -88,12 +94,14 @@ blocks_of-written first count old new image inside whole =
     let put : List ℕ = take (4096 * first) old ++ new ++ drop (4096 * first + length new) old in
     let moved : written ≡ put = ap (λ n. take n old ++ new ++ drop (n + length new) old) place in
     ap (λ n. cut 4096 n written) size ∙ (ap (cut 4096 (first + (count + more))) moved ∙ (cut-written 4096 first count more old new long whole
-    ∙ (ap (λ n. overwritten (cut 4096 n old) first (cut 4096 count new)) (sym all) ∙ ap (λ n. overwritten (blocks_of 4096 old) first (cut 4096 n new)) (sym new_size))))
+    ∙ (ap (λ n. overwritten (cut 4096 n old) first (cut 4096 count new)) (sym all)
+    ∙ ap (λ n. overwritten (blocks_of 4096 old) first (cut 4096 n new)) (sym new_size))))
 
 -- a device has as many blocks as its image has whole ones
 pub length-blocks_of : (bytes : List ℕ) → length (blocks_of 4096 bytes) ≡ length bytes / 4096
 length-blocks_of bytes = length-cut 4096 (length bytes / 4096) bytes
 
 -- a write leaves a device of the same size
-pub length-overwritten : (device written : List (List ℕ)) (first : ℕ) → first + length written ≤ length device → length (overwritten device first written) ≡ length device
+pub length-overwritten : (device written : List (List ℕ)) (first : ℕ) → first + length written ≤ length device
+    → length (overwritten device first written) ≡ length device
 length-overwritten device written first inside = simp (length-append, length-take, length-drop) (omega arith)

@@ -1,5 +1,6 @@
 -- A write that stops after some of its blocks leaves each block old or new.
-use Rattle.std.proofs.Common.{ℕ, zero, suc, ◌≡◌, ◌+◌, ◌-◌, ◌*◌, ◌/◌, ◌≤◌, ◌⊎◌, inl, inr, List, [], ◌∷◌, ◌++◌, length, take, drop, min, slice_get, Some, None, refl, sym, ◌∙◌, ap, arith, length-take}
+use Rattle.std.proofs.Common.{ℕ, zero, suc, ◌≡◌, ◌+◌, ◌-◌, ◌*◌, ◌/◌, ◌≤◌, ◌⊎◌, inl, inr, List, [], ◌∷◌, ◌++◌, length, take, drop, min, slice_get, Some, None}
+use Rattle.std.proofs.Common.{refl, sym, ◌∙◌, ap, arith, length-take}
 use Rattle.std.proofs.lemmas.List.{take-append-drop, length-take-le, take_at, take_min}
 use Rattle.blocks.specs.Contents.{cut, blocks_of, overwritten, IsTorn}
 use Rattle.blocks.specs.Faults.{WriteArming, FaultState, written}
@@ -7,7 +8,8 @@ use Rattle.blocks.proofs.Cutting.{length-cut, cut-add, cut-append, length-blocks
 
 -- a block of a row that begins with the first blocks of another
 front_torn : (k : ℕ) (blocks device : List (List ℕ)) (block : ℕ) → length blocks ≤ length device
-    → (slice_get (take k blocks ++ drop (length (take k blocks)) device) block ≡ slice_get device block) ⊎ (slice_get (take k blocks ++ drop (length (take k blocks)) device) block ≡ slice_get blocks block)
+    → (slice_get (take k blocks ++ drop (length (take k blocks)) device) block ≡ slice_get device block)
+    ⊎ (slice_get (take k blocks ++ drop (length (take k blocks)) device) block ≡ slice_get blocks block)
 front_torn zero blocks device block fits = inl refl
 front_torn (suc k) [] device block fits = inl refl
 front_torn (suc k) (x ∷ blocks) [] block fits = absurd (omega (arith, fits))
@@ -29,7 +31,8 @@ each_torn k (suc first) blocks (d ∷ device) (suc block) fits =
     let less : suc block - suc first ≡ block - first = omega arith in
     rw (next, less) (elim (each_torn k first blocks device block (omega (arith, fits))) [ inl old ↦ inl old | inr new ↦ inr (omega (arith, new.0), new.1) ])
 
-pub torn_after : (k first : ℕ) (blocks device : List (List ℕ)) → first + length blocks ≤ length device → IsTorn device first blocks (overwritten device first (take k blocks))
+pub torn_after : (k first : ℕ) (blocks device : List (List ℕ)) → first + length blocks ≤ length device
+    → IsTorn device first blocks (overwritten device first (take k blocks))
 torn_after k first blocks device fits = record {
   size = length-overwritten device (take k blocks) first (omega (arith, length-take k blocks));
   each = λ block. each_torn k first blocks device block fits;
@@ -46,7 +49,8 @@ blocks_of-take n bytes fits =
     ap (λ (m : ℕ). cut 4096 m (take (n * 4096) bytes)) size
     ∙ sym (cut-append 4096 n (take (n * 4096) bytes) (drop (n * 4096) bytes) place)
     ∙ ap (cut 4096 n) (take-append-drop (n * 4096) bytes)
-    ∙ sym (ap (take n) (ap (λ (m : ℕ). cut 4096 m bytes) all ∙ cut-add 4096 n more bytes) ∙ take_at (cut 4096 n bytes) (cut 4096 more (drop (4096 * n) bytes)) n (length-cut 4096 n bytes))
+    ∙ sym (ap (take n) (ap (λ (m : ℕ). cut 4096 m bytes) all ∙ cut-add 4096 n more bytes)
+    ∙ take_at (cut 4096 n bytes) (cut 4096 more (drop (4096 * n) bytes)) n (length-cut 4096 n bytes))
 
 -- as many bytes as so many blocks have, or as there are, make the first blocks of a write
 pub kept_put : (k n count first : ℕ) (bytes : List ℕ) (device torn : List (List ℕ)) → length bytes ≡ 4096 * count → n ≡ min k count
@@ -59,6 +63,7 @@ kept_put k n count first bytes device torn whole least is =
     is ∙ ap (overwritten device first) kept
 
 -- a disk that was armed for this write
-pub fault_after : (s : FaultState) (arming : WriteArming) (first faults : ℕ) (blocks disk : List (List ℕ)) → s.write_arming ≡ Some arming → arming.passes ≡ 0 → disk ≡ overwritten s.disk first (take arming.kept blocks) → faults ≡ s.faults + 1
+pub fault_after : (s : FaultState) (arming : WriteArming) (first faults : ℕ) (blocks disk : List (List ℕ)) → s.write_arming ≡ Some arming → arming.passes ≡ 0
+    → disk ≡ overwritten s.disk first (take arming.kept blocks) → faults ≡ s.faults + 1
     → record s { disk = disk; faults = faults; write_arming = None } ≡ written first blocks s
 fault_after s arming first faults blocks disk armed now torn counted = rw (armed, now, torn, counted) refl

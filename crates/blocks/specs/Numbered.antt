@@ -1,5 +1,5 @@
--- The number of each refusal.
-use Rattle.std.specs.Prelude.{ℕ}
+-- The number of each refusal, and what a caller may do about it.
+use Rattle.std.specs.Prelude.{ℕ, Bool, true, false, ◌||◌, ◌&&◌, nat_lt}
 use Rattle.blocks.specs.declared.refusal.Refusal.{Refusal}
 use Rattle.blocks.specs.declared.refusal.Refusal.TheVariants as refusal
 
@@ -37,3 +37,20 @@ number_of refusal.UsedIdentifier = 33
 number_of refusal.OtherProtocol = 34
 number_of refusal.OtherSize = 35
 number_of refusal.NotDrained = 36
+
+-- a refusal of a call that may be taken later: by number 2 to 4, 9 to 11, 13, 17 and 18
+abbrev pub is_busy : Refusal → Bool
+is_busy (refusal.Conflict _) = true
+is_busy refusal.LogFull = true
+is_busy refusal.ActivityFull = true
+is_busy refusal.NotCompleted = true
+is_busy refusal.NothingToDo = true
+is_busy refusal.LinkFull = true
+is_busy refusal.NothingThere = true
+is_busy refusal.EpochOpen = true
+is_busy refusal.PendingFull = true
+is_busy refusal = false
+
+-- a refusal of a frame that was taken, which closes its end: by number 20 to 25 and 30 to 35
+abbrev pub closes_end : Refusal → Bool
+closes_end refusal = (nat_lt 19 (number_of refusal) && nat_lt (number_of refusal) 26) || (nat_lt 29 (number_of refusal) && nat_lt (number_of refusal) 36)

@@ -53,6 +53,14 @@ impl FaultStore {
         }
     }
 
+    /// The bytes of a block, where they lie. It is no read, so it never fails.
+    pub fn block(&self, block: Block) -> &[u8]
+        requires inside { block.0 < length self.now.disk }
+        ensures { slice_get self.now.disk block.0 ≡ Some result.now }
+    {
+        self.disk.block(block)
+    }
+
     /// The next write puts only its first `kept` blocks, all if it has fewer, and fails.
     pub fn arm(&mut self, kept: u64)
         ensures { self.new ≡ record self.old { write_arming = Some (record { passes = 0; kept = kept }) } }

@@ -1,6 +1,6 @@
 //! The refusals, each with its number.
 ghost use Rattle.std.specs.Prelude.{◌≡◌};
-ghost use Rattle.blocks.specs.Numbered.{number_of};
+ghost use Rattle.blocks.specs.Numbered.{number_of, is_busy, closes_end};
 
 use std::alloc::{AllocError, AllocFailed};
 use thiserror::Error;
@@ -113,6 +113,46 @@ impl Refusal {
             Refusal::OtherSize => 35,
             Refusal::NotDrained => 36,
         }
+    }
+
+    /// Whether the same call may be taken later, as the pair goes on: it waits for a write, the link, the disk or the peer.
+    pub fn is_busy(&self) -> bool
+        ensures { result ≡ is_busy self.now }
+    {
+        matches!(
+            self,
+            Refusal::Conflict(_)
+                | Refusal::LogFull
+                | Refusal::ActivityFull
+                | Refusal::NotCompleted
+                | Refusal::NothingToDo
+                | Refusal::LinkFull
+                | Refusal::NothingThere
+                | Refusal::EpochOpen
+                | Refusal::PendingFull
+        )
+    }
+
+    /// Whether the end that took the refused frame is closed by it: the frame has a fault, the peer could not have sent it,
+    /// or its hello does not fit.
+    pub fn closes_end(&self) -> bool
+        ensures { result ≡ closes_end self.now }
+    {
+        matches!(
+            self,
+            Refusal::BadMagic
+                | Refusal::BadCommand
+                | Refusal::BadLength
+                | Refusal::BadField
+                | Refusal::BadBarrierAck
+                | Refusal::UnknownAck
+                | Refusal::PrimaryStale
+                | Refusal::SplitBrain
+                | Refusal::Unrelated
+                | Refusal::UsedIdentifier
+                | Refusal::OtherProtocol
+                | Refusal::OtherSize
+        )
     }
 }
 

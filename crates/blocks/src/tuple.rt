@@ -1,4 +1,6 @@
 //! The generation identifiers of a disk.
+ghost use Rattle.std.specs.Prelude.{◌≡◌};
+
 use std::fmt;
 
 /// The four generation identifiers of a node's disk (DRBD User's Guide, "Generation identifiers"). Zero
@@ -13,6 +15,23 @@ pub struct Tuple {
     pub first_historical: u64,
     /// The generation before that.
     pub second_historical: u64,
+}
+
+impl Tuple {
+    /// The tuple of these words, from the newest to the oldest; zero stands for none.
+    pub fn new(current: u64, bitmap: u64, first: u64, second: u64) -> Tuple
+        ensures current { result.current ≡ current }
+        ensures bitmap { result.bitmap ≡ bitmap }
+        ensures first { result.first_historical ≡ first }
+        ensures second { result.second_historical ≡ second }
+    {
+        Tuple {
+            current,
+            bitmap,
+            first_historical: first,
+            second_historical: second,
+        }
+    }
 }
 
 /// The tuple's four words, parted by commas.

@@ -70,7 +70,8 @@ item_of_all {X = X} P (first ∷ xs) zero x h e = let same : first ≡ x = cc in
 item_of_all P (first ∷ xs) (suc i) x h e = item_of_all P xs i x h.1 e
 
 pub past_begins : (came went : List Past) → AllByRecursion (λ before. AllByRecursion IsSpelled before.frames) went
-    → (i j : ℕ) (taken : TakenBefore) (pushed : PushedBefore) → slice_get (map taken_before came) i ≡ Some taken → slice_get (map pushed_before went) j ≡ Some pushed
+    → (i j : ℕ) (taken : TakenBefore) (pushed : PushedBefore) → slice_get (map taken_before came) i ≡ Some taken
+    → slice_get (map pushed_before went) j ≡ Some pushed
     → IsBeginning taken.frames pushed.frames → BeginsPushed taken.taken pushed.pushed
 past_begins came went spelled i j taken pushed at_i at_j beginning =
     let t = item_of_map taken_before came i taken at_i in
@@ -79,7 +80,8 @@ past_begins came went spelled i j taken pushed at_i at_j beginning =
     let frames_begin : IsBeginning t.0.frames p.0.frames =
     subst (λ (x : TakenBefore). IsBeginning x.frames p.0.frames) t.2 (subst (λ (x : PushedBefore). IsBeginning taken.frames x.frames) p.2 beginning) in
     let b : BeginsPushed (taken_before t.0).taken (pushed_before p.0).pushed = begins t.0.frames p.0.frames all frames_begin in
-    subst (λ (x : TakenBefore). BeginsPushed x.taken pushed.pushed) (sym t.2) (subst (λ (x : PushedBefore). BeginsPushed (taken_before t.0).taken x.pushed) (sym p.2) b)
+    subst (λ (x : TakenBefore). BeginsPushed x.taken pushed.pushed) (sym t.2)
+    (subst (λ (x : PushedBefore). BeginsPushed (taken_before t.0).taken x.pushed) (sym p.2) b)
 
 -- frames that are spelled are cut off a row as they are
 pub spelled_cuts : (sent : List (List ℕ)) → AllByRecursion IsSpelled sent → AllByRecursion IsCut sent
@@ -99,7 +101,8 @@ abbrev frames_past : ℕ → List Past → List (List ℕ)
 frames_past number [] = []
 frames_past number (before ∷ past) = if before.number == number then before.frames else frames_past number past
 
-spelled_past : (number : ℕ) (went : List Past) → AllByRecursion (λ before. AllByRecursion IsSpelled before.frames) went → AllByRecursion IsSpelled (frames_past number went)
+spelled_past : (number : ℕ) (went : List Past) → AllByRecursion (λ before. AllByRecursion IsSpelled before.frames) went
+    → AllByRecursion IsSpelled (frames_past number went)
 spelled_past number [] h = tt
 spelled_past number (before ∷ went) h = go (before.number == number) (spelled_past number went h.1)
   where
@@ -111,7 +114,8 @@ pushed_meant : (number : ℕ) (went : List Past) → pushed_past number (map pus
 pushed_meant number [] = refl
 pushed_meant number (before ∷ went) = go (before.number == number) (pushed_meant number went)
   where
-    go : (b : Bool) → pushed_past number (map pushed_before went) ≡ meant_in (frames_past number went) → (if b then meant_in before.frames else pushed_past number (map pushed_before went)) ≡ meant_in (if b then before.frames else frames_past number went)
+    go : (b : Bool) → pushed_past number (map pushed_before went) ≡ meant_in (frames_past number went)
+        → (if b then meant_in before.frames else pushed_past number (map pushed_before went)) ≡ meant_in (if b then before.frames else frames_past number went)
     go true rest = refl
     go false rest = rest
 
@@ -123,7 +127,9 @@ taken_received : (number : ℕ) (came : List Past) → taken_past number (map ta
 taken_received number [] = refl
 taken_received number (before ∷ came) = go (before.number == number) (taken_received number came)
   where
-    go : (b : Bool) → taken_past number (map taken_before came) ≡ received_from 0 (frames_past number came) → (if b then received_from 0 before.frames else taken_past number (map taken_before came)) ≡ received_from 0 (if b then before.frames else frames_past number came)
+    go : (b : Bool) → taken_past number (map taken_before came) ≡ received_from 0 (frames_past number came)
+        → (if b then received_from 0 before.frames else taken_past number (map taken_before came)) ≡ received_from 0 (if b then before.frames
+        else frames_past number came)
     go true rest = refl
     go false rest = rest
 
@@ -132,14 +138,17 @@ came_frames number [] = refl
 came_frames number (before ∷ came) = ap (λ (rest : List (List ℕ)). if before.number == number then before.frames else rest) (came_frames number came)
 
 -- On each connection, whichever of them the two ends had.
-pub everywhere : (o : OutEnd) (i : InEnd) → AllByRecursion IsSpelled o.sent → AllByRecursion (λ before. AllByRecursion IsSpelled before.frames) o.past → AreToldEverywhere (outgoing o) (incoming i)
+pub everywhere : (o : OutEnd) (i : InEnd) → AllByRecursion IsSpelled o.sent → AllByRecursion (λ before. AllByRecursion IsSpelled before.frames) o.past
+    → AreToldEverywhere (outgoing o) (incoming i)
 everywhere o i spelled past number = go (o.number == number) (i.number == number)
   where
-    out : (b : Bool) → (if b then meant_in o.sent else pushed_past number (map pushed_before o.past)) ≡ meant_in (if b then o.sent else frames_past number o.past)
+    out : (b : Bool) → (if b then meant_in o.sent else pushed_past number (map pushed_before o.past)) ≡ meant_in (if b then o.sent
+        else frames_past number o.past)
     out true = refl
     out false = pushed_meant number o.past
 
-    inn : (b : Bool) → (if b then received_from 0 i.taken else taken_past number (map taken_before i.past)) ≡ received_from 0 (if b then i.taken else frames_past number i.past)
+    inn : (b : Bool) → (if b then received_from 0 i.taken else taken_past number (map taken_before i.past)) ≡ received_from 0 (if b then i.taken
+        else frames_past number i.past)
     inn true = refl
     inn false = taken_received number i.past
 
@@ -155,11 +164,14 @@ everywhere o i spelled past number = go (o.number == number) (i.number == number
     came true = refl
     came false = came_frames number i.past
 
-    go : (b c : Bool) → IsBeginning (if c then i.taken else came_past number (map taken_before i.past)) (if b then o.sent else sent_past number (map pushed_before o.past))
-        → BeginsPushed (if c then received_from 0 i.taken else taken_past number (map taken_before i.past)) (if b then meant_in o.sent else pushed_past number (map pushed_before o.past))
+    go : (b c : Bool) → IsBeginning (if c then i.taken else came_past number (map taken_before i.past)) (if b then o.sent
+        else sent_past number (map pushed_before o.past))
+        → BeginsPushed (if c then received_from 0 i.taken else taken_past number (map taken_before i.past)) (if b then meant_in o.sent
+        else pushed_past number (map pushed_before o.past))
     go b c beginning =
         let came_begins : IsBeginning (if c then i.taken else frames_past number i.past) (if b then o.sent else frames_past number o.past) =
-        subst (λ (x : List (List ℕ)). IsBeginning x (if b then o.sent else frames_past number o.past)) (came c) (subst (λ (x : List (List ℕ)). IsBeginning (if c then i.taken else came_past number (map taken_before i.past)) x) (sent b) beginning) in
+        subst (λ (x : List (List ℕ)). IsBeginning x (if b then o.sent else frames_past number o.past)) (came c)
+        (subst (λ (x : List (List ℕ)). IsBeginning (if c then i.taken else came_past number (map taken_before i.past)) x) (sent b) beginning) in
         let packets = begins (if c then i.taken else frames_past number i.past) (if b then o.sent else frames_past number o.past) (all b) came_begins in
         subst (λ (x : List Received). BeginsPushed x (if b then meant_in o.sent else pushed_past number (map pushed_before o.past))) (sym (inn c))
         (subst (λ (x : List frames.Packet). BeginsPushed (received_from 0 (if c then i.taken else frames_past number i.past)) x) (sym (out b)) packets)

@@ -1,5 +1,6 @@
 -- A spelling means one packet.
-use Rattle.std.proofs.Common.{◌≡◌, ℕ, zero, suc, ◌+◌, ◌*◌, ◌/◌, min, List, [], ◌∷◌, ◌++◌, length, take, drop, Bool, false, Option, Some, None, Result, Ok, Err, refl, sym, ap, ◌∙◌, append_assoc, arith}
+use Rattle.std.proofs.Common.{◌≡◌, ℕ, zero, suc, ◌+◌, ◌*◌, ◌/◌, min, List, [], ◌∷◌, ◌++◌, length, take, drop, Bool, false, Option, Some, None, Result, Ok, Err}
+use Rattle.std.proofs.Common.{refl, sym, ap, ◌∙◌, append_assoc, arith}
 use Rattle.std.specs.Prelude.{◌==◌, IfSome}
 use Rattle.std.specs.List.{flat_map, AllByRecursion}
 use Rattle.std.specs.Option.{option_map}
@@ -17,7 +18,8 @@ use Rattle.blocks.specs.declared.refusal.Refusal.{Refusal}
 use Rattle.blocks.specs.declared.refusal.Refusal.TheVariants.{NothingThere}
 use Rattle.link.specs.Taking.{TakesFirst}
 use Rattle.link.specs.Ends.{OutEnd, InEnd, with_sent, with_taken}
-use Rattle.model.specs.Frames.{DataFrame, RsDataReplyFrame, BarrierFrame, ProtocolFrame, UuidsFrame, SizesFrame, SyncUuidFrame, RecvAckFrame, WriteAckFrame, RsWriteAckFrame, BarrierAckFrame}
+use Rattle.model.specs.Frames.{DataFrame, RsDataReplyFrame, BarrierFrame, ProtocolFrame, UuidsFrame, SizesFrame, SyncUuidFrame, RecvAckFrame, WriteAckFrame}
+use Rattle.model.specs.Frames.{RsWriteAckFrame, BarrierAckFrame}
 use Rattle.model.specs.Frames as frames
 use Rattle.endpoint.specs.Meaning.{meaning, packet_read, meant, meant_in, IsSpelled}
 use Rattle.endpoint.specs.Outgoing.{outgoing, with_pushed}
@@ -85,7 +87,8 @@ only_one : (x y : frames.Packet) → x ∷ [] ≡ y ∷ [] → x ≡ y
 only_one x y e = cc
 
 -- a frame that went in part is the one that is offered again
-pub same_frame : (partly : Option (List ℕ)) (p : Packet) (frame : List ℕ) → IfSome partly IsSpelled → IfSome (option_map meant partly) (λ begun. begun ≡ meaning p ∷ [])
+pub same_frame : (partly : Option (List ℕ)) (p : Packet) (frame : List ℕ) → IfSome partly IsSpelled
+    → IfSome (option_map meant partly) (λ begun. begun ≡ meaning p ∷ [])
     → IsSpellable p → Spells p frame → IfSome partly (λ begun. begun ≡ frame)
 same_frame None p frame spelled again rules s = tt
 same_frame (Some begun) p frame (q, q_rules, q_spells) again rules s =
@@ -98,17 +101,20 @@ pub part_meant : (partly : Option (List ℕ)) (p : Packet) (frame : List ℕ) �
 part_meant None p frame is rules s = tt
 part_meant (Some begun) p frame is rules s = ap meant is ∙ meant_spelled frame p rules s
 
-meant_more : (sent : List (List ℕ)) (frame : List ℕ) (p : Packet) → IsSpellable p → Spells p frame → meant_in (sent ++ frame ∷ []) ≡ meant_in sent ++ meaning p ∷ []
+meant_more : (sent : List (List ℕ)) (frame : List ℕ) (p : Packet) → IsSpellable p → Spells p frame
+    → meant_in (sent ++ frame ∷ []) ≡ meant_in sent ++ meaning p ∷ []
 meant_more sent frame p rules s =
     flat_map-append meant sent (frame ∷ [])
     ∙ ap (λ (x : List frames.Packet). meant_in sent ++ x) (flat_map-cons meant frame [] ∙ append-nil (meant frame) ∙ meant_spelled frame p rules s)
 
-longer : (waiting : Option (List (List ℕ))) (frame : List ℕ) → option_map length (option_map (λ frames. frames ++ frame ∷ []) waiting) ≡ option_map (λ n. n + 1) (option_map length waiting)
+longer : (waiting : Option (List (List ℕ))) (frame : List ℕ)
+    → option_map length (option_map (λ frames. frames ++ frame ∷ []) waiting) ≡ option_map (λ n. n + 1) (option_map length waiting)
 longer None frame = refl
 longer (Some frames) frame = ap (λ (n : ℕ). Some n) (length-append frames (frame ∷ []))
 
 -- a frame that an end accepted is a packet pushed
-pub pushed_out : (s : OutEnd) (frame : List ℕ) (p : Packet) → IsSpellable p → Spells p frame → outgoing (with_sent frame s) ≡ with_pushed (meaning p) (spelling p) (outgoing s)
+pub pushed_out : (s : OutEnd) (frame : List ℕ) (p : Packet) → IsSpellable p → Spells p frame
+    → outgoing (with_sent frame s) ≡ with_pushed (meaning p) (spelling p) (outgoing s)
 pushed_out s frame p rules spells = rw (meant_more s.sent frame p rules spells, longer s.waiting frame, spells.bytes_are) refl
 
 -- ---- frames that are taken
@@ -126,14 +132,16 @@ hello_least (suc (suc (suc n))) =
     let c : (m == 2) ≡ false = grind (arith, nat_tests) in
     rw (least, a, b, c) refl
 
-received_more : (n : ℕ) (taken : List (List ℕ)) (frame : List ℕ) → received_from n (taken ++ frame ∷ []) ≡ received_from n taken ++ received_after (n + length taken) frame ∷ []
+received_more : (n : ℕ) (taken : List (List ℕ)) (frame : List ℕ)
+    → received_from n (taken ++ frame ∷ []) ≡ received_from n taken ++ received_after (n + length taken) frame ∷ []
 received_more n [] frame = let none : n + 0 ≡ n = omega arith in rw none refl
 received_more n (x ∷ taken) frame =
     let next : n + suc (length taken) ≡ suc n + length taken = omega arith in
     rw next (ap (λ (rest : List frames.Received). received_after n x ∷ rest) (received_more (suc n) taken frame))
 
 -- a frame that an end took is what it is received as
-pub taken_in : (s : InEnd) (frame : List ℕ) (ready : Bool) → incoming (with_taken frame ready s) ≡ with_received (received_after (length s.taken) frame) (s.taken ++ frame ∷ []) ready (incoming s)
+pub taken_in : (s : InEnd) (frame : List ℕ) (ready : Bool)
+    → incoming (with_taken frame ready s) ≡ with_received (received_after (length s.taken) frame) (s.taken ++ frame ∷ []) ready (incoming s)
 taken_in s frame ready =
     let zeroed : 0 + length s.taken ≡ length s.taken = omega arith in
     let more : received_from 0 (s.taken ++ frame ∷ []) ≡ received_from 0 s.taken ++ received_after (length s.taken) frame ∷ [] =
@@ -153,7 +161,8 @@ some_is : (x y : List (List ℕ)) → Some x ≡ Some y → x ≡ y
 some_is x y e = cc
 
 -- the first frame that was to be taken is the last one taken
-pub same_row : (taken after_taken : List (List ℕ)) (frame : List ℕ) (before after : Option (List (List ℕ))) → after_taken ≡ taken ++ frame ∷ [] → TakesFirst before (Ok frame) after
+pub same_row : (taken after_taken : List (List ℕ)) (frame : List ℕ) (before after : Option (List (List ℕ))) → after_taken ≡ taken ++ frame ∷ []
+    → TakesFirst before (Ok frame) after
     → IfSome before (λ x. IfSome after (λ y. after_taken ++ y ≡ taken ++ x))
 same_row taken after_taken frame None after added first = tt
 same_row taken after_taken frame (Some []) after added first = absurd (nothing frame first)
@@ -167,4 +176,5 @@ same_row taken after_taken frame (Some (x ∷ rest)) (Some y) added first =
 pub meant_many : (sent : List (List ℕ)) → AllByRecursion IsSpelled sent → length (meant_in sent) ≡ length sent
 meant_many [] all = refl
 meant_many (frame ∷ sent) ((p, rules, spells), rest) =
-    ap length (flat_map-cons meant frame sent ∙ ap (λ (l : List frames.Packet). l ++ meant_in sent) (meant_spelled frame p rules spells)) ∙ ap suc (meant_many sent rest)
+    ap length (flat_map-cons meant frame sent ∙ ap (λ (l : List frames.Packet). l ++ meant_in sent) (meant_spelled frame p rules spells))
+    ∙ ap suc (meant_many sent rest)

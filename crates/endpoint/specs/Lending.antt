@@ -41,7 +41,8 @@ LaidBack q old new = new ≡ option_map (with_queue q) old
 pub record GivenBack (queue : Option QueueState) (old new : Option IncomingState) : Type 0 where
   pub there : (i : IncomingState) → old ≡ Some i → is_some queue ≡ is_some i.capacity
   pub none : old ≡ None → queue ≡ None
-  pub whose : (i : IncomingState) (q : QueueState) → old ≡ Some i → queue ≡ Some q → (q.taken ≡ i.frames) × ((i.queued ≡ Some q.frames) × (i.capacity ≡ Some q.capacity))
+  pub whose : (i : IncomingState) (q : QueueState) → old ≡ Some i → queue ≡ Some q
+      → (q.taken ≡ i.frames) × ((i.queued ≡ Some q.frames) × (i.capacity ≡ Some q.capacity))
   pub left : new ≡ option_map empty_handed old
 
 -- it lies here now

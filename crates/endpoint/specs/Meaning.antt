@@ -8,7 +8,8 @@ use Rattle.packets.specs.declared.packet.Packet.{Packet}
 use Rattle.packets.specs.declared.packet.Packet.TheVariants as packet
 use Rattle.packets.specs.Spelling.{IsSpellable, Spells}
 use Rattle.packets.specs.Frames.{frame_read}
-use Rattle.model.specs.Frames.{DataFrame, RsDataReplyFrame, BarrierFrame, ProtocolFrame, UuidsFrame, SizesFrame, SyncUuidFrame, RecvAckFrame, WriteAckFrame, RsWriteAckFrame, BarrierAckFrame, Received}
+use Rattle.model.specs.Frames.{DataFrame, RsDataReplyFrame, BarrierFrame, ProtocolFrame, UuidsFrame, SizesFrame, SyncUuidFrame, RecvAckFrame, WriteAckFrame}
+use Rattle.model.specs.Frames.{RsWriteAckFrame, BarrierAckFrame, Received}
 use Rattle.model.specs.Frames as frames
 
 -- what an acknowledgement names, its first block as a number

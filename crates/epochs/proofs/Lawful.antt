@@ -1,10 +1,12 @@
 -- Streams are lawful, whatever calls made them: the state is what the stream says, call by call.
-use Rattle.std.proofs.Common.{◌≡◌, ℕ, zero, suc, ◌+◌, ◌<◌, ◌≤◌, ◌==◌, nat_lt, nat_le, Bool, true, false, ◌&&◌, ◌||◌, List, [], ◌∷◌, length, map, refl, sym, arith, Some}
+use Rattle.std.proofs.Common.{◌≡◌, ℕ, zero, suc, ◌+◌, ◌<◌, ◌≤◌, ◌==◌, nat_lt, nat_le, Bool, true, false, ◌&&◌, ◌||◌, List, [], ◌∷◌, length, map, refl, sym}
+use Rattle.std.proofs.Common.{arith, Some}
 use Rattle.std.specs.Prelude.{All, if◌then◌else◌}
 use Rattle.std.proofs.lemmas.List.Elements.{All-cons, All-nil}
 use Rattle.std.proofs.lemmas.Bool.Decides.{nat_tests}
 use Rattle.epochs.specs.Epochs.{EpochsState, is_in_last, ending, with_write, with_resync, uncounted, ended_if}
-use Rattle.epochs.specs.Streams.{WriteItem, ResyncItem, BarrierItem, IdentifiersItem, Call, PlaceWrite, PlaceResync, Uuids, Completed, Entry, Stands, tell, is_done, with_barrier, with_item, made, highest, CallsRise, last_epoch, writes_of, barriers_of, IsLawful, StreamsAreLawful}
+use Rattle.epochs.specs.Streams.{WriteItem, ResyncItem, BarrierItem, IdentifiersItem, Call, PlaceWrite, PlaceResync, Uuids, Completed, Entry, Stands, tell}
+use Rattle.epochs.specs.Streams.{is_done, with_barrier, with_item, made, highest, CallsRise, last_epoch, writes_of, barriers_of, IsLawful, StreamsAreLawful}
 use Rattle.epochs.proofs.Told.{length-tell, writes-tell, barriers-tell, last-tell, last_writes-tell, lawful-tell}
 
 -- no number is below this one
@@ -260,7 +262,11 @@ call_holds most (Completed told) before positive rise holds =
     let m = made most before in
     ended_if_holds most (highest before) (is_in_last told m.state) m.state (map (tell told) m.stream) positive
     (told_ties most (highest before) told m.state m.stream holds.ties)
-    (λ elsewhere. (holds.goes_on, rw (last-tell told m.stream) (told_elsewhere most (highest before) told m.state m.stream holds.ties holds.none_done elsewhere)))
+    (λ elsewhere. (
+      holds.goes_on,
+      rw (last-tell told m.stream)
+          (told_elsewhere most (highest before) told m.state m.stream holds.ties holds.none_done elsewhere),
+    ))
 
 rises_before : (call : Call) (before : List Call) → CallsRise (call ∷ before) → CallsRise before
 rises_before (PlaceWrite number) before rise = rise.1

@@ -1,6 +1,7 @@
 -- Telling of a completion changes no item, and so nothing that is read off the items.
 use Rattle.std.proofs.Common.{◌≡◌, ℕ, suc, List, [], ◌∷◌, length, map, refl, ap}
-use Rattle.epochs.specs.Streams.{Item, WriteItem, ResyncItem, BarrierItem, IdentifiersItem, Entry, Stands, tell, last_epoch, writes_of, barriers_of, IsLawful, FollowsOn}
+use Rattle.epochs.specs.Streams.{Item, WriteItem, ResyncItem, BarrierItem, IdentifiersItem, Entry, Stands, tell, last_epoch, writes_of, barriers_of, IsLawful}
+use Rattle.epochs.specs.Streams.{FollowsOn}
 
 pub length-tell : (told : ℕ) (es : List Entry) → length (map (tell told) es) ≡ length es
 length-tell told [] = refl

@@ -84,16 +84,11 @@ where
 
 /// Whether a step was done. A step that has nothing to do now, or waits for another one, is no failure.
 fn went_on(step: Result<Done, Refusal>) -> Result<bool, Refusal> {
-    match step {
-        Ok(_) => Ok(true),
-        Err(
-            Refusal::NothingToDo
-            | Refusal::NothingThere
-            | Refusal::NotConnected
-            | Refusal::LinkFull
-            | Refusal::PendingFull
-            | Refusal::Conflict(_),
-        ) => Ok(false),
-        Err(refusal) => Err(refusal),
+    let Err(refusal) = step else {
+        return Ok(true);
+    };
+    if refusal.is_busy() || refusal == Refusal::NotConnected {
+        return Ok(false);
     }
+    Err(refusal)
 }

@@ -16,7 +16,7 @@ pub trait PrimaryHalf {
     fn take_completed(&self, number: u64) -> Result<Receipt, Refusal>;
 
     /// Reads blocks of the local disk.
-    fn read(&self, alloc: Global, first: u64, count: u64) -> Result<Vec<u8>, Refusal>;
+    fn read(&self, first: u64, count: u64) -> Result<Vec<u8>, Refusal>;
 
     /// Sends the next frame.
     fn send(&self) -> Result<Done, Refusal>;

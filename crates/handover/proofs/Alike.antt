@@ -10,7 +10,9 @@ use denote.Enum.Bare.{sameb}
 -- all fields are the same
 abbrev pub are_alike : Settings → Settings → Bool
 are_alike a b =
-    sameb the_type a.protocol b.protocol && ((a.blocks == b.blocks) && ((a.max_epoch == b.max_epoch) && ((a.slots == b.slots) && ((a.backlog == b.backlog) && ((a.link == b.link) && (a.pending == b.pending))))))
+    sameb the_type a.protocol b.protocol
+    && ((a.blocks == b.blocks) && ((a.max_epoch == b.max_epoch)
+    && ((a.slots == b.slots) && ((a.backlog == b.backlog) && ((a.link == b.link) && (a.pending == b.pending))))))
 
 same-protocol : (a b : Protocol) → sameb the_type a b ≡ true → a ≡ b
 same-protocol protocol.A protocol.A is = refl
@@ -51,7 +53,9 @@ alike-self : (a : Settings) → are_alike a a ≡ true
 alike-self a =
     and_from _ _ (protocol-self a.protocol)
     (and_from _ _ (eq-eqb a.blocks a.blocks refl)
-    (and_from _ _ (eq-eqb a.max_epoch a.max_epoch refl) (and_from _ _ (eq-eqb a.slots a.slots refl) (and_from _ _ (eq-eqb a.backlog a.backlog refl) (and_from _ _ (eq-eqb a.link a.link refl) (eq-eqb a.pending a.pending refl))))))
+    (and_from _ _ (eq-eqb a.max_epoch a.max_epoch refl)
+    (and_from _ _ (eq-eqb a.slots a.slots refl)
+    (and_from _ _ (eq-eqb a.backlog a.backlog refl) (and_from _ _ (eq-eqb a.link a.link refl) (eq-eqb a.pending a.pending refl))))))
 
 -- and one is like itself
 pub same-alike : (a b : Settings) → a ≡ b → are_alike a b ≡ true

@@ -1,5 +1,6 @@
 -- Why the next session may start from the parts that two nodes leave.
-use Rattle.std.proofs.Common.{ℕ, suc, ◌≡◌, ◌+◌, ◌<◌, ◌≤◌, inl, inr, Bool, true, false, ◌&&◌, List, [], ◌∷◌, ◌++◌, length, map, Option, Some, None, is_none, slice_get, refl, sym, ◌∙◌, ap, subst, arith, nat_lt}
+use Rattle.std.proofs.Common.{ℕ, suc, ◌≡◌, ◌+◌, ◌<◌, ◌≤◌, inl, inr, Bool, true, false, ◌&&◌, List, [], ◌∷◌, ◌++◌, length, map, Option, Some, None, is_none}
+use Rattle.std.proofs.Common.{slice_get, refl, sym, ◌∙◌, ap, subst, arith, nat_lt}
 use Rattle.std.specs.Prelude.{unwrap_or, is_some}
 use Rattle.std.proofs.lemmas.Bool.{cases_lt, and_parts, and_from, le-ltb}
 use Rattle.std.proofs.lemmas.List.{map-append}
@@ -27,9 +28,11 @@ use Rattle.settle.specs.Settled.{WereHonest}
 use Rattle.volume.specs.declared.session.Parts.{Parts}
 
 -- both ends are closed, nothing is pending, and the local disk has done or failed every write
-pub at-rest : (p : PrimaryHistory) (s : SecondaryHistory) → (outward p).closed ≡ true → (inward s).closed ≡ true → is_drained s ≡ true → is_some (next_local p) ≡ false → is_at_rest p s ≡ true
+pub at-rest : (p : PrimaryHistory) (s : SecondaryHistory) → (outward p).closed ≡ true → (inward s).closed ≡ true → is_drained s ≡ true
+    → is_some (next_local p) ≡ false → is_at_rest p s ≡ true
 at-rest p s closed closed_too drained done =
-    and_from ((outward p).closed && (inward s).closed) (is_drained s && is_none (next_local p)) (and_from (outward p).closed (inward s).closed closed closed_too) (and_from (is_drained s) (is_none (next_local p)) drained (none (next_local p) done))
+    and_from ((outward p).closed && (inward s).closed) (is_drained s && is_none (next_local p))
+    (and_from (outward p).closed (inward s).closed closed closed_too) (and_from (is_drained s) (is_none (next_local p)) drained (none (next_local p) done))
   where
     none : (v : Option ℕ) → is_some v ≡ false → is_none v ≡ true
     none None is = refl
@@ -41,16 +44,19 @@ LeaveSound p s = IsJoined p s → IsGrounded p s → is_at_rest p s ≡ true →
 
 -- Histories that nodes have do, where the identifiers of both openings were honest.
 pub reached-leave : (p : PrimaryHistory) (s : SecondaryHistory) → primary.IsReached p → secondary.IsReached s → WereHonest p s → LeaveSound p s
-reached-leave p s rp rs honest = subst (λ (q : PrimaryHistory). LeaveSound q s) rp.is (subst (λ (t : SecondaryHistory). LeaveSound (primary_run rp.events (primary_at o)) t) (sym rs.reached) (leaves_an_opening o rp.events rs.events sound))
+reached-leave p s rp rs honest = subst (λ (q : PrimaryHistory). LeaveSound q s) rp.is
+    (subst (λ (t : SecondaryHistory). LeaveSound (primary_run rp.events (primary_at o)) t) (sym rs.reached) (leaves_an_opening o rp.events rs.events sound))
   where
     o : Opening
     o = record { settings = rp.settings; peer_settings = rs.settings; local = rp.disk; peer = rs.disk; own = rp.tuple; peer_tuple = rs.tuple; marks = rp.marks }
 
     sound : IsSoundOpening o
     sound =
-        let here = subst (λ (q : PrimaryHistory). (q.settings ≡ o.settings) × (q.opening_map ≡ o.local) × (q.opening_marks ≡ o.marks) × (q.opening_tuple ≡ o.own)) rp.is
+        let here = subst (λ (q : PrimaryHistory). (q.settings ≡ o.settings) × (q.opening_map ≡ o.local) × (q.opening_marks ≡ o.marks)
+        × (q.opening_tuple ≡ o.own)) rp.is
         (let k = kept-opening-primary o rp.events in (k.settings, k.disk, k.marks, k.tuple)) in
-        let there = subst (λ (t : SecondaryHistory). (t.opening_map ≡ o.peer) × (t.opening_tuple ≡ o.peer_tuple)) (sym rs.reached) (let k = kept-opening-secondary o rs.events in (k.disk, k.tuple)) in
+        let there = subst (λ (t : SecondaryHistory). (t.opening_map ≡ o.peer) × (t.opening_tuple ≡ o.peer_tuple)) (sym rs.reached)
+        (let k = kept-opening-secondary o rs.events in (k.disk, k.tuple)) in
         let marked : (block : ℕ) → opening_marked p block ≡ marks_at o block
         = λ block. (λ i. nat_lt block (here.0 i).blocks && (here.2 i) block) in
         let covers : Cover (opening_marked p) p.opening_map s.opening_map → Cover (marks_at o) o.local o.peer
@@ -62,28 +68,33 @@ reached-leave p s rp rs honest = subst (λ (q : PrimaryHistory). LeaveSound q s)
           identifiers = record {
             own_data = subst (λ (t : Tuple). 0 < t.current) here.3 honest.own_data;
             same_current = λ same. covers (honest.same_current (ap (λ (t : Tuple). t.current) there.1 ∙ same ∙ sym (ap (λ (t : Tuple). t.current) here.3)));
-            from_bitmap = λ some same. covers (honest.from_bitmap (subst (λ (t : Tuple). 0 < t.bitmap) (sym here.3) some) (ap (λ (t : Tuple). t.current) there.1 ∙ same ∙ sym (ap (λ (t : Tuple). t.bitmap) here.3)));
+            from_bitmap = λ some same. covers (honest.from_bitmap (subst (λ (t : Tuple). 0 < t.bitmap) (sym here.3) some) (ap (λ (t : Tuple). t.current) there.1
+                ∙ same ∙ sym (ap (λ (t : Tuple). t.bitmap) here.3)));
           };
         }
 
 -- the marks of one block more
-pub one-more : (p : PrimaryHistory) (n block : ℕ) (old new : List Bool) (marked : Bool) → old ≡ map (is_marked p) (below n) → new ≡ old ++ marked ∷ [] → marked ≡ is_marked p block → block ≡ n → new ≡ map (is_marked p) (below (n + 1))
+pub one-more : (p : PrimaryHistory) (n block : ℕ) (old new : List Bool) (marked : Bool) → old ≡ map (is_marked p) (below n) → new ≡ old ++ marked ∷ []
+    → marked ≡ is_marked p block → block ≡ n → new ≡ map (is_marked p) (below (n + 1))
 one-more p n block old new marked was is here same =
     let next : n + 1 ≡ suc n = omega arith in
     let last : marked ≡ is_marked p n = here ∙ ap (is_marked p) same in
     is ∙ (λ i. was i ++ last i ∷ []) ∙ sym (ap (λ (m : ℕ). map (is_marked p) (below m)) next ∙ map-append (is_marked p) (below n) (n ∷ []))
 
 -- the marks of all blocks of the device, one by one: past its end none is marked
-pub marks-left : (p : PrimaryHistory) (marks : List Bool) (blocks : ℕ) → blocks ≡ p.settings.blocks → marks ≡ map (is_marked p) (below blocks) → (block : ℕ) → unwrap_or (slice_get marks block) false ≡ is_marked p block
+pub marks-left : (p : PrimaryHistory) (marks : List Bool) (blocks : ℕ) → blocks ≡ p.settings.blocks → marks ≡ map (is_marked p) (below blocks) → (block : ℕ)
+    → unwrap_or (slice_get marks block) false ≡ is_marked p block
 marks-left p marks blocks size is block = ap (λ (l : List Bool). unwrap_or (slice_get l block) false) is ∙ elim (cases_lt block blocks) [
   | inl inside ↦ marked-in blocks (is_marked p) block inside
   | inr past ↦
       let few : length (map (is_marked p) (below blocks)) ≤ block = subst (λ (n : ℕ). n ≤ block) (sym (length-marks blocks (is_marked p))) past in
-      ap (λ (v : Option Bool). unwrap_or v false) (slice_get_past (map (is_marked p) (below blocks)) block few) ∙ sym (ap (λ (b : Bool). b && p.marks block) (le-ltb block p.settings.blocks (subst (λ (n : ℕ). n ≤ block) size past)))
+      ap (λ (v : Option Bool). unwrap_or v false) (slice_get_past (map (is_marked p) (below blocks)) block few)
+      ∙ sym (ap (λ (b : Bool). b && p.marks block) (le-ltb block p.settings.blocks (subst (λ (n : ℕ). n ≤ block) size past)))
 ]
 
 -- The parts that are left over the disks as they are: the same opening, over settings that both nodes have.
-pub parts-sound : (parts : Parts) (p : PrimaryHistory) (s : SecondaryHistory) → IsLeft parts p s → p.settings ≡ s.settings → IsSoundOpening (left_by p s parts.peer) → IsSoundOpening (opening_of parts (local_map p) (secondary_map s))
+pub parts-sound : (parts : Parts) (p : PrimaryHistory) (s : SecondaryHistory) → IsLeft parts p s → p.settings ≡ s.settings
+    → IsSoundOpening (left_by p s parts.peer) → IsSoundOpening (opening_of parts (local_map p) (secondary_map s))
 parts-sound parts p s left same sound = record {
   ranges = record { here = range; there = range };
   local = subst (λ (x : Settings). IsDisk x.blocks (local_map p)) (sym left.settings) sound.local;
@@ -91,15 +102,18 @@ parts-sound parts p s left same sound = record {
   identifiers = record {
     own_data = subst (λ (t : Tuple). 0 < t.current) (sym left.own) sound.identifiers.own_data;
     same_current = λ is. covers (sound.identifiers.same_current (is ∙ ap (λ (t : Tuple). t.current) left.own));
-    from_bitmap = λ some is. covers (sound.identifiers.from_bitmap (subst (λ (t : Tuple). 0 < t.bitmap) left.own some) (is ∙ ap (λ (t : Tuple). t.bitmap) left.own));
+    from_bitmap = λ some is. covers (sound.identifiers.from_bitmap (subst (λ (t : Tuple). 0 < t.bitmap) left.own some) (is
+        ∙ ap (λ (t : Tuple). t.bitmap) left.own));
   };
 }
   where
     range : IsInRange parts.settings
     range = subst IsInRange (sym left.settings) sound.ranges.here
 
-    covers : Cover (is_marked p) (local_map p) (secondary_map s) → Cover (marks_at (opening_of parts (local_map p) (secondary_map s))) (local_map p) (secondary_map s)
+    covers : Cover (is_marked p) (local_map p) (secondary_map s)
+        → Cover (marks_at (opening_of parts (local_map p) (secondary_map s))) (local_map p) (secondary_map s)
     covers cover block differs =
         let marked : is_marked p block ≡ true = cover block differs in
-        let inside : nat_lt block parts.settings.blocks ≡ true = ap (λ (x : Settings). nat_lt block x.blocks) left.settings ∙ (and_parts (nat_lt block p.settings.blocks) (p.marks block) marked).0 in
+        let inside : nat_lt block parts.settings.blocks ≡ true = ap (λ (x : Settings). nat_lt block x.blocks) left.settings
+        ∙ (and_parts (nat_lt block p.settings.blocks) (p.marks block) marked).0 in
         and_from (nat_lt block parts.settings.blocks) (unwrap_or (slice_get parts.marks.items block) false) inside (left.marks block ∙ marked)

@@ -1,20 +1,20 @@
 -- The primary's data keep an identifier: in every run its current one stays above 0.
-use Rattle.std.proofs.Common.{ℕ, ◌≡◌, ◌-◌, ◌<◌, inl, inr, Bool, true, false, not, ◌&&◌, List, [], ◌∷◌, ◌++◌, length, Option, Some, None, Ok, refl, sym, ap, subst, ◌==◌, nat_lt}
+use Rattle.std.proofs.Common.{ℕ, ◌≡◌, ◌-◌, ◌<◌, inl, inr, Bool, true, false, List, [], ◌∷◌, ◌++◌, length, Option, Some, None, Ok, refl, sym, ap, subst}
 use Rattle.std.specs.Prelude.{if◌then◌else◌}
-use Rattle.std.specs.List.{list_any}
-use Rattle.std.proofs.lemmas.Bool.{and_parts, both_ways, ltb-true}
+use Rattle.std.proofs.lemmas.Bool.{both_ways}
 use Rattle.blocks.specs.declared.tuple.Tuple.{Tuple}
 use Rattle.blocks.specs.declared.outcome.Decision.{Decision}
 use Rattle.blocks.specs.declared.outcome.Decision.TheVariants.{NoSync, BitmapSync, FullSync}
 use Rattle.model.specs.Stream.{WriteItem, SyncUuidItem, within}
 use Rattle.model.specs.Frames.{UuidsFrame}
-use Rattle.model.specs.Identifiers.{stands_in, is_fresh, are_fresh, lost}
+use Rattle.model.specs.Identifiers.{are_fresh, lost}
 use Rattle.model.specs.Marks.{marking}
 use Rattle.model.specs.Primary.{Waiting, Failed, Accepted, Outward, PrimaryHistory, no_outward, last_of, change_last, last_index, outward, with_outward, stands}
 use Rattle.model.specs.PrimarySteps.{submission, submitted, appending, with_outcome, faulted, accepted_at, closing, known_tuples, opened}
 use Rattle.model.specs.Acknowledgements.{begun_with}
 use Rattle.model.specs.LocalRuns.{PrimaryEvent, primary_run}
 use Rattle.model.specs.Theorems.{Opening, primary_at}
+use Rattle.laws.proofs.Rules.FreshWords.{loss-some}
 use Rattle.laws.proofs.Lists.Each.{Each, each-get, each-append, each-change}
 use Rattle.laws.proofs.Lists.Last.{last-at}
 use Rattle.laws.proofs.Primary.Moves.{following-from, IsKeptByMoves, IsKeptByReleases, kept-by-releases, keeps-run, with_frame, refusing, pushing}
@@ -30,15 +30,20 @@ record IsNamed (h : PrimaryHistory) : Type 0 where
   pub words : Each HasWord h.connections
 
 -- the last connection changes and keeps its word, and the current identifier stays
-named-change : (h later : PrimaryHistory) (f : Outward → Outward) → later.connections ≡ change_last f h.connections → later.tuple.current ≡ h.tuple.current → ((c : Outward) → (f c).loss ≡ c.loss) → IsNamed h → IsNamed later
+named-change : (h later : PrimaryHistory) (f : Outward → Outward) → later.connections ≡ change_last f h.connections → later.tuple.current ≡ h.tuple.current
+    → ((c : Outward) → (f c).loss ≡ c.loss) → IsNamed h → IsNamed later
 named-change h later f connections current word n = record {
   current = subst (λ (x : ℕ). 0 < x) (sym current) n.current;
-  words = subst (Each HasWord) (sym connections) (each-change HasWord f (no_outward h.tuple) h.connections n.words (λ had. subst (λ (x : ℕ). 0 < x) (sym (word (outward h))) had));
+  words = subst (Each HasWord) (sym connections)
+      (each-change HasWord f (no_outward h.tuple) h.connections n.words (λ had. subst (λ (x : ℕ). 0 < x) (sym (word (outward h))) had));
 }
 
 -- neither changes
 named-same : (h later : PrimaryHistory) → later.connections ≡ h.connections → later.tuple.current ≡ h.tuple.current → IsNamed h → IsNamed later
-named-same h later connections current n = record { current = subst (λ (x : ℕ). 0 < x) (sym current) n.current; words = subst (Each HasWord) (sym connections) n.words }
+named-same h later connections current n = record {
+  current = subst (λ (x : ℕ). 0 < x) (sym current) n.current;
+  words = subst (Each HasWord) (sym connections) n.words;
+}
 
 -- a stream that has begun is on a connection
 begun-word : (h : PrimaryHistory) → IsNamed h → (outward h).begun ≡ true → HasWord (outward h)
@@ -66,17 +71,30 @@ named-closes h n = record {
 
 named-opens : (h : PrimaryHistory) (sync loss : ℕ) → are_fresh sync loss (known_tuples h) ≡ true → IsNamed h → IsNamed (opened h sync loss)
 named-opens h sync loss fresh n =
-    let both = and_parts (is_fresh sync (known_tuples h) && is_fresh loss (known_tuples h)) (not (sync == loss)) fresh in
-    let one = and_parts (is_fresh sync (known_tuples h)) (is_fresh loss (known_tuples h)) both.0 in
-    let some = and_parts (nat_lt 0 loss) (not (list_any (stands_in loss) (known_tuples h))) one.1 in
-    record { current = n.current; words = each-append HasWord h.connections _ n.words (ltb-true 0 loss some.0) }
+    record { current = n.current; words = each-append HasWord h.connections _ n.words (loss-some sync loss (known_tuples h) fresh) }
 
 named-submits : (h : PrimaryHistory) (first : ℕ) (contents : List (List ℕ)) → IsNamed h → IsNamed (submitted h first contents)
 named-submits h first contents n = go (stands (outward h))
   where
     go : (b : Bool) → IsNamed (elim b as (λ _. PrimaryHistory) [
-      | true ↦ appending (WriteItem (submission h first contents)) (record h { writes = h.writes ++ record { write = submission h first contents; journal_length = length h.journal; home = Some (last_index h.connections, length (outward h).stream); outcome = Waiting } ∷ [] })
-      | false ↦ record h { writes = h.writes ++ record { write = submission h first contents; journal_length = length h.journal; home = None; outcome = Waiting } ∷ []; marks = marking (submission h first contents) h.marks }
+      | true ↦ appending (WriteItem (submission h first contents))
+          (record h {
+            writes = h.writes ++ record {
+              write = submission h first contents;
+              journal_length = length h.journal;
+              home = Some (record { index = last_index h.connections; place = length (outward h).stream });
+              outcome = Waiting;
+            } ∷ [];
+          })
+      | false ↦ record h {
+        writes = h.writes ++ record {
+          write = submission h first contents;
+          journal_length = length h.journal;
+          home = None;
+          outcome = Waiting;
+        } ∷ [];
+        marks = marking (submission h first contents) h.marks;
+      }
     ])
     go true = named-change h _ (λ c. record c { stream = c.stream ++ WriteItem (submission h first contents) ∷ [] }) refl refl (λ c. refl) n
     go false = named-same h _ refl refl n
@@ -84,11 +102,17 @@ named-submits h first contents n = go (stands (outward h))
 named-faults : (h : PrimaryHistory) (number : ℕ) (offsets : List ℕ) → IsNamed h → IsNamed (faulted number offsets h)
 named-faults h number offsets n = go (accepted_at h number)
   where
-    go : (v : Option Accepted) → IsNamed (elim v as (λ _. PrimaryHistory) [ None ↦ h | Some accepted ↦ with_outcome number (Failed (within (length accepted.write.contents) offsets)) (record h { marks = marking accepted.write h.marks }) ])
+    go : (v : Option Accepted) → IsNamed
+        (elim v as (λ _. PrimaryHistory) [
+          | None ↦ h
+          | Some accepted ↦ with_outcome number (Failed (within (length accepted.write.contents) offsets))
+              (record h { marks = marking accepted.write h.marks })
+        ])
     go None = n
     go (Some accepted) = named-same h _ refl refl n
 
-named-begins : (h : PrimaryHistory) (peer : Tuple) (decided : Decision) → IsNamed h → IsNamed (begun_with decided (record (with_outward (with_frame (Ok (UuidsFrame peer))) h) { peer = Some peer }))
+named-begins : (h : PrimaryHistory) (peer : Tuple) (decided : Decision) → IsNamed h
+    → IsNamed (begun_with decided (record (with_outward (with_frame (Ok (UuidsFrame peer))) h) { peer = Some peer }))
 named-begins h peer decided n = go decided
   where
     taken : PrimaryHistory
@@ -99,8 +123,10 @@ named-begins h peer decided n = go decided
 
     go : (v : Decision) → IsNamed (begun_with v (record (with_outward (with_frame (Ok (UuidsFrame peer))) h) { peer = Some peer }))
     go NoSync = named-change taken _ (λ c. record c { begun = true }) refl refl (λ c. refl) named-taken
-    go BitmapSync = named-change taken _ (λ c. record c { begun = true; stream = SyncUuidItem (outward taken).sync ∷ [] }) refl (start-current (outward taken).sync h.tuple) (λ c. refl) named-taken
-    go FullSync = named-change taken _ (λ c. record c { begun = true; stream = SyncUuidItem (outward taken).sync ∷ [] }) refl (start-current (outward taken).sync h.tuple) (λ c. refl) named-taken
+    go BitmapSync = named-change taken _ (λ c. record c { begun = true; stream = SyncUuidItem (outward taken).sync ∷ [] }) refl
+        (start-current (outward taken).sync h.tuple) (λ c. refl) named-taken
+    go FullSync = named-change taken _ (λ c. record c { begun = true; stream = SyncUuidItem (outward taken).sync ∷ [] }) refl
+        (start-current (outward taken).sync h.tuple) (λ c. refl) named-taken
 
 named-kept : IsKeptByMoves IsNamed IsNamed
 named-kept = record {
@@ -117,7 +143,9 @@ named-kept = record {
   applies = λ h ack standing begun may n. named-change h _ _ refl refl (λ c. refl) n;
   clears = λ h ack standing begun may n. named-change h _ _ refl refl (λ c. refl) n;
   confirms = λ h number size standing begun turn n. named-change h _ _ refl refl (λ c. refl) n;
-  refuses = λ h frame peer standing n. named-closes _ (named-change (record (with_outward (with_frame frame) h) { peer = peer }) _ refusing refl refl (λ c. refl) (named-change h _ (with_frame frame) refl refl (λ c. refl) n));
+  refuses = λ h frame peer standing n. named-closes _
+      (named-change (record (with_outward (with_frame frame) h) { peer = peer }) _ refusing refl refl (λ c. refl)
+      (named-change h _ (with_frame frame) refl refl (λ c. refl) n));
   resyncs = λ h block runs alone is n. named-change h _ _ refl refl (λ c. refl) n;
   closes = λ h standing n. named-closes h n;
   receipts = λ h number n. named-same h _ refl refl n;

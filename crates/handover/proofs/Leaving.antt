@@ -21,7 +21,8 @@ use Rattle.model.specs.Theorems.{primary_at, secondary_at}
 -- at rest no stream stands
 rest-stands : (p : PrimaryHistory) (s : SecondaryHistory) → is_at_rest p s ≡ true → stands (outward p) ≡ false
 rest-stands p s rest =
-    let closed = (and_parts (outward p).closed (inward s).closed (and_parts ((outward p).closed && (inward s).closed) (is_drained s && is_none (next_local p)) rest).0).0 in
+    let closed = (and_parts (outward p).closed (inward s).closed
+    (and_parts ((outward p).closed && (inward s).closed) (is_drained s && is_none (next_local p)) rest).0).0 in
     ap (λ b. not b && (outward p).begun) closed
 
 pub leaves_an_opening : JoinedRunsLeaveAnOpening
@@ -44,5 +45,6 @@ leaves_an_opening o here there sound joined grounded rest peer = record {
     theirs : HasOpeningToo o (secondary_run there (secondary_at o))
     theirs = kept-opening-secondary o there
 
-    cover : Cover (is_marked (primary_run here (primary_at o))) (local_map (primary_run here (primary_at o))) (secondary_map (secondary_run there (secondary_at o)))
+    cover : Cover (is_marked (primary_run here (primary_at o))) (local_map (primary_run here (primary_at o)))
+        (secondary_map (secondary_run there (secondary_at o)))
     cover = (joined_headline o here there sound joined).marks grounded (rest-stands p s rest)

@@ -1,5 +1,6 @@
 -- Both disks keep the blocks of their device, and get none past its end: what a secondary takes lies in the device.
-use Rattle.std.proofs.Common.{ℕ, suc, ◌≡◌, ◌+◌, ◌-◌, ◌≤◌, ◌<◌, inl, inr, Bool, true, false, ◌&&◌, List, [], ◌∷◌, ◌++◌, length, take, drop, map, Option, Some, None, is_none, slice_get, Ok, Err, refl, sym, ◌∙◌, ap, subst, arith, ◌==◌, nat_lt, nat_le}
+use Rattle.std.proofs.Common.{ℕ, suc, ◌≡◌, ◌+◌, ◌-◌, ◌≤◌, ◌<◌, inl, inr, Bool, true, false, ◌&&◌, List, [], ◌∷◌, ◌++◌, length, take, drop, map, Option, Some}
+use Rattle.std.proofs.Common.{None, is_none, slice_get, Ok, Err, refl, sym, ◌∙◌, ap, subst, arith, ◌==◌, nat_lt, nat_le}
 use Rattle.std.specs.Prelude.{filter_map, if◌then◌else◌, is_some}
 use Rattle.std.specs.List.{cons_option}
 use Rattle.std.proofs.lemmas.Bool.{cases_Bool, cases_lt, both_ways, and_parts, lt-ltb, ltb-true, ltb-false, leb-true}
@@ -13,12 +14,17 @@ use Rattle.blocks.specs.declared.outcome.Reply.{Reply}
 use Rattle.blocks.specs.declared.outcome.Reply.TheVariants as reply
 use Rattle.model.specs.Contents.{BlockMap, IsDisk, Layer, block_under, overlay, extent_of, is_range}
 use Rattle.model.specs.Stream.{Item, WriteItem, ResyncItem, BarrierItem, SyncUuidItem, UuidsItem, first_of, contents_of, below, Part, is_in, layers_from}
-use Rattle.model.specs.Frames.{Packet, DataFrame, RsDataReplyFrame, BarrierFrame, ProtocolFrame, UuidsFrame, SizesFrame, SyncUuidFrame, RecvAckFrame, WriteAckFrame, RsWriteAckFrame, BarrierAckFrame, Received}
+use Rattle.model.specs.Frames.{Packet, DataFrame, RsDataReplyFrame, BarrierFrame, ProtocolFrame, UuidsFrame, SizesFrame, SyncUuidFrame, RecvAckFrame}
+use Rattle.model.specs.Frames.{WriteAckFrame, RsWriteAckFrame, BarrierAckFrame, Received}
 use Rattle.model.specs.Refusals.{Test}
 use Rattle.model.specs.Primary.{PrimaryHistory, last_of, change_last, local_layer, local_map}
-use Rattle.model.specs.Secondary.{Inward, SecondaryHistory, no_inward, inward, with_inward, received_item, items_taken, pending, map_of, secondary_map, is_in_resync}
-use Rattle.model.specs.SecondarySteps.{answering, barrier_answer, barriers_to_answer, succeeding_secondary, opened_secondary, Checked, checking_hello, checking_item, checked_if, checking, take_item, receive, has_place, is_above, is_apart, offsets_at, applied_answer, applying, failing}
-use Rattle.model.specs.LocalRuns.{PrimaryEvent, primary_run, SecondaryEvent, OpensToo, Receives, Applies, FailsToApply, Acknowledges, ClosesToo, secondary_after, secondary_run}
+use Rattle.model.specs.Secondary.{Inward, SecondaryHistory, no_inward, inward, with_inward, received_item, items_taken, pending, map_of, secondary_map}
+use Rattle.model.specs.Secondary.{is_in_resync}
+use Rattle.model.specs.SecondarySteps.{answering, barrier_answer, barriers_to_answer, succeeding_secondary, opened_secondary, Checked, checking_hello}
+use Rattle.model.specs.SecondarySteps.{checking_item, checked_if, checking, take_item, receive, has_place, is_above, is_apart, offsets_at, applied_answer}
+use Rattle.model.specs.SecondarySteps.{applying, failing}
+use Rattle.model.specs.LocalRuns.{PrimaryEvent, primary_run, SecondaryEvent, OpensToo, Receives, Applies, FailsToApply, Acknowledges, ClosesToo}
+use Rattle.model.specs.LocalRuns.{secondary_after, secondary_run}
 use Rattle.model.specs.Theorems.{Opening, HasRanges, primary_at, secondary_at}
 use Rattle.laws.proofs.Accounted.Released.{accounted-run}
 use Rattle.laws.proofs.Blocks.Overlays.{overlay-some, under-some, under-outside}
@@ -29,17 +35,21 @@ use Rattle.laws.proofs.Lists.Elements.{get-more}
 use Rattle.laws.proofs.Lists.Last.{change-twice, last-at}
 use Rattle.laws.proofs.Lists.Tests.{test-passed}
 use Rattle.laws.proofs.Secondary.Good.{items-refusing}
-use Rattle.laws.proofs.Secondary.Moves.{framed, receipting, refused_end, pushed_one, closed_end, after-take, after-open, after-peer, after-fault, after-push, after-close}
+use Rattle.laws.proofs.Secondary.Moves.{framed, receipting, refused_end, pushed_one, closed_end, after-take, after-open, after-peer, after-fault, after-push}
+use Rattle.laws.proofs.Secondary.Moves.{after-close}
 use Rattle.laws.proofs.Secondary.Runs.{tested-keeps}
 use Rattle.laws.proofs.Tracked.{IsTracked}
 use Rattle.laws.proofs.Tracked.Moves.{beyond-the-end}
 
 -- The primary's disk.
 
-pub local-disk : (o : Opening) (events : List PrimaryEvent) → HasRanges o → IsDisk o.settings.blocks o.local → IsDisk o.settings.blocks (local_map (primary_run events (primary_at o)))
+pub local-disk : (o : Opening) (events : List PrimaryEvent) → HasRanges o → IsDisk o.settings.blocks o.local
+    → IsDisk o.settings.blocks (local_map (primary_run events (primary_at o)))
 local-disk o events ranges sized block = elim (cases_lt block o.settings.blocks) [
-  | inl inside ↦ overlay-some p.opening_map (map local_layer p.writes) block (ap (λ (m : BlockMap). is_some (m block)) mine.disk ∙ within block inside) ∙ sym (lt-ltb block o.settings.blocks inside)
-  | inr past ↦ ap is_some (beyond-the-end p block tracked (subst (λ (x : Settings). x.blocks ≤ block) (sym mine.settings) past)).1 ∙ ap (λ (m : BlockMap). is_some (m block)) mine.disk ∙ sized block
+  | inl inside ↦ overlay-some p.opening_map (map local_layer p.writes) block (ap (λ (m : BlockMap). is_some (m block)) mine.disk ∙ within block inside)
+      ∙ sym (lt-ltb block o.settings.blocks inside)
+  | inr past ↦ ap is_some (beyond-the-end p block tracked (subst (λ (x : Settings). x.blocks ≤ block) (sym mine.settings) past)).1
+      ∙ ap (λ (m : BlockMap). is_some (m block)) mine.disk ∙ sized block
 ]
   where
     p : PrimaryHistory
@@ -68,17 +78,20 @@ record IsInside (blocks : ℕ) (d : Inward) : Type 0 where
   pub refused : d.refused ≡ true → d.closed ≡ true
 
 -- a layer in the device
-under-disk : (blocks : ℕ) (layer : Layer) (block : ℕ) (v : Option (List ℕ)) → layer.first + length layer.contents ≤ blocks → is_some v ≡ nat_lt block blocks → is_some (block_under layer block v) ≡ nat_lt block blocks
+under-disk : (blocks : ℕ) (layer : Layer) (block : ℕ) (v : Option (List ℕ)) → layer.first + length layer.contents ≤ blocks → is_some v ≡ nat_lt block blocks
+    → is_some (block_under layer block v) ≡ nat_lt block blocks
 under-disk blocks layer block v inside same = elim (cases_lt block blocks) [
   | inl within ↦ under-some layer block v (same ∙ lt-ltb block blocks within) ∙ sym (lt-ltb block blocks within)
   | inr past ↦ ap is_some (under-outside layer block v (outside-range layer.first (length layer.contents) blocks block inside past)) ∙ same
 ]
 
-layers-disk : (blocks place : ℕ) (items : List Item) (part : Part) (base : BlockMap) (block : ℕ) → AreInside blocks items → is_some (base block) ≡ nat_lt block blocks → is_some (overlay base (layers_from place items part) block) ≡ nat_lt block blocks
+layers-disk : (blocks place : ℕ) (items : List Item) (part : Part) (base : BlockMap) (block : ℕ) → AreInside blocks items
+    → is_some (base block) ≡ nat_lt block blocks → is_some (overlay base (layers_from place items part) block) ≡ nat_lt block blocks
 layers-disk blocks place [] part base block inside same = same
 layers-disk blocks place (item ∷ items) part base block inside same =
     let layer : Layer = record { first = first_of item; contents = contents_of item; laid = λ offset. is_in part place offset } in
-    layers-disk blocks (suc place) items part (λ b. block_under layer b (base b)) block (λ n i at. inside (suc n) i at) (under-disk blocks layer block (base block) (inside 0 item refl) same)
+    layers-disk blocks (suc place) items part (λ b. block_under layer b (base b)) block (λ n i at. inside (suc n) i at)
+    (under-disk blocks layer block (base block) (inside 0 item refl) same)
 
 map-disk : (blocks : ℕ) (d : Inward) → IsInside blocks d → IsDisk blocks (map_of d)
 map-disk blocks d i block = layers-disk blocks 0 (items_taken d) d.applied d.base block i.items (i.base block)
@@ -91,11 +104,13 @@ record HasInside (blocks : ℕ) (h : SecondaryHistory) : Type 0 where
 
 last-inside : (blocks : ℕ) (h : SecondaryHistory) → HasInside blocks h → IsInside blocks (inward h)
 last-inside blocks h a = elim (last-at (no_inward h) h.connections) [
-  | inl none ↦ subst (λ (l : List Inward). IsInside blocks (last_of (no_inward h) l)) (sym none) (record { base = a.opening; items = λ n item at. absurd (cc); refused = λ was. refl })
+  | inl none ↦ subst (λ (l : List Inward). IsInside blocks (last_of (no_inward h) l)) (sym none)
+      (record { base = a.opening; items = λ n item at. absurd (cc); refused = λ was. refl })
   | inr at ↦ each-get (IsInside blocks) h.connections (length h.connections - 1) (inward h) a.ends at
 ]
 
-inside-change : (blocks : ℕ) (h later : SecondaryHistory) (f : Inward → Inward) → later.settings ≡ h.settings → later.opening_map ≡ h.opening_map → later.connections ≡ change_last f h.connections
+inside-change : (blocks : ℕ) (h later : SecondaryHistory) (f : Inward → Inward) → later.settings ≡ h.settings → later.opening_map ≡ h.opening_map
+    → later.connections ≡ change_last f h.connections
     → (IsInside blocks (inward h) → IsInside blocks (f (inward h))) → HasInside blocks h → HasInside blocks later
 inside-change blocks h later f settings opening connections keeps a = record {
   size = ap (λ (x : Settings). x.blocks) settings ∙ a.size;
@@ -117,7 +132,10 @@ inside-applying blocks asked place d i = go (slice_get (items_taken d) place)
   where
     go : (v : Option Item) → IsInside blocks (elim v as (λ _. Inward) [
       | None ↦ d
-      | Some item ↦ record d { applied = d.applied ++ offsets_at place (below (length (contents_of item))); due = elim d.closed [ true ↦ d.due | false ↦ d.due ++ applied_answer asked place item ] }
+      | Some item ↦ record d {
+        applied = d.applied ++ offsets_at place (below (length (contents_of item)));
+        due = elim d.closed [ true ↦ d.due | false ↦ d.due ++ applied_answer asked place item ];
+      }
     ])
     go None = i
     go (Some item) = record { base = i.base; items = i.items; refused = i.refused }
@@ -127,13 +145,15 @@ plain : (blocks : ℕ) (d : Inward) → IsInside blocks d → d.closed ≡ false
 plain blocks d i standing = elim (cases_Bool d.refused) [ inl was ↦ absurd (both_ways d.closed standing (i.refused was)) | inr not_so ↦ not_so ]
 
 inside-refusing : (blocks : ℕ) (frame : Received) (d : Inward) → d.closed ≡ false → IsInside blocks d → IsInside blocks (refused_end (framed frame d))
-inside-refusing blocks frame d standing i = record { base = i.base; items = subst (AreInside blocks) (sym (items-refusing frame d (plain blocks d i standing))) i.items; refused = λ was. refl }
+inside-refusing blocks frame d standing i =
+    record { base = i.base; items = subst (AreInside blocks) (sym (items-refusing frame d (plain blocks d i standing))) i.items; refused = λ was. refl }
 
 -- What a frame behind the hello has to bring to be accepted: an item in the device.
 abbrev BringsInside : ℕ → ℕ → Received → Type 0
 BringsInside blocks taken frame = nat_lt taken 3 ≡ false → (item : Item) → received_item frame ≡ Some item → first_of item + length (contents_of item) ≤ blocks
 
-inside-taking : (blocks : ℕ) (frame : Received) (d : Inward) → d.closed ≡ false → BringsInside blocks (length d.taken) frame → IsInside blocks d → IsInside blocks (framed frame d)
+inside-taking : (blocks : ℕ) (frame : Received) (d : Inward) → d.closed ≡ false → BringsInside blocks (length d.taken) frame → IsInside blocks d
+    → IsInside blocks (framed frame d)
 inside-taking blocks frame d standing brings i = record { base = i.base; items = items (nat_lt (length d.taken) 3) refl; refused = i.refused }
   where
     accepted : d.refused ≡ false
@@ -143,7 +163,8 @@ inside-taking blocks frame d standing brings i = record { base = i.base; items =
     old = ap (λ b. filter_map received_item (drop 3 (if b then take (length d.taken - 1) d.taken else d.taken))) accepted
 
     new : items_taken (framed frame d) ≡ filter_map received_item (drop 3 (d.taken ++ frame ∷ []))
-    new = ap (λ b. filter_map received_item (drop 3 (if b then take (length (d.taken ++ frame ∷ []) - 1) (d.taken ++ frame ∷ []) else (d.taken ++ frame ∷ [])))) accepted
+    new = ap (λ b. filter_map received_item (drop 3 (if b then take (length (d.taken ++ frame ∷ []) - 1) (d.taken ++ frame ∷ []) else (d.taken ++ frame ∷ []))))
+        accepted
 
     few : (taken : List Received) → length taken < 3 → filter_map received_item (drop 3 (taken ++ frame ∷ [])) ≡ filter_map received_item (drop 3 taken)
     few [] less = refl
@@ -153,13 +174,15 @@ inside-taking blocks frame d standing brings i = record { base = i.base; items =
 
     behind : (v : Option Item) → received_item frame ≡ v → nat_lt (length d.taken) 3 ≡ false → AreInside blocks (items_taken d ++ cons_option v [])
     behind None is late = subst (AreInside blocks) (sym (append-nil (items_taken d))) i.items
-    behind (Some item) is late = λ n x at. elim (get-more (items_taken d) item n x at) [ inl before ↦ i.items n x before | inr last ↦ subst (λ (y : Item). first_of y + length (contents_of y) ≤ blocks) (sym last.1) (brings late item is) ]
+    behind (Some item) is late = λ n x at. elim (get-more (items_taken d) item n x at)
+        [ inl before ↦ i.items n x before | inr last ↦ subst (λ (y : Item). first_of y + length (contents_of y) ≤ blocks) (sym last.1) (brings late item is) ]
 
     items : (early : Bool) → nat_lt (length d.taken) 3 ≡ early → AreInside blocks (items_taken (framed frame d))
     items true is = subst (AreInside blocks) (sym (new ∙ few d.taken (ltb-true (length d.taken) 3 is) ∙ sym old)) i.items
     items false is =
         let all : items_taken (framed frame d) ≡ items_taken d ++ cons_option (received_item frame) [] =
-        new ∙ ap (filter_map received_item) (drop-append-le 3 d.taken (frame ∷ []) (ltb-false (length d.taken) 3 is)) ∙ filter_map-append received_item (drop 3 d.taken) (frame ∷ [])
+        new ∙ ap (filter_map received_item) (drop-append-le 3 d.taken (frame ∷ []) (ltb-false (length d.taken) 3 is))
+        ∙ filter_map-append received_item (drop 3 d.taken) (frame ∷ [])
         ∙ ap (λ (l : List Item). l ++ cons_option (received_item frame) []) (sym old) in
         subst (AreInside blocks) (sym all) (behind (received_item frame) refl is)
 
@@ -175,32 +198,41 @@ passed-if true name h done is = refl
 passed-if false name h done is = absurd (cc)
 
 -- an item that is accepted lies in the device
-item-inside : (packet : Packet) (place : ℕ) (c : Inward) (h : SecondaryHistory) (done : What × SecondaryHistory) (item : Item) → checking_item packet place c h ≡ Ok done → received_item (Ok packet) ≡ Some item
+item-inside : (packet : Packet) (place : ℕ) (c : Inward) (h : SecondaryHistory) (done : What × SecondaryHistory) (item : Item)
+    → checking_item packet place c h ≡ Ok done → received_item (Ok packet) ≡ Some item
     → first_of item + length (contents_of item) ≤ h.settings.blocks
 item-inside (DataFrame write at) place c h done item is brings =
     let good = passed-if _ _ _ done is in
-    let range = (and_parts ((at == place) && has_place place) (is_range h.settings write.first (length write.contents)) (and_parts _ (is_above write.number (items_taken c) && is_apart (WriteItem write) (items_taken c)) good).0).1 in
+    let range = (and_parts ((at == place) && has_place place) (is_range h.settings write.first (length write.contents))
+    (and_parts _ (is_above write.number (items_taken c) && is_apart (WriteItem write) (items_taken c)) good).0).1 in
     let same : WriteItem write ≡ item = cc in
     subst (λ (x : Item). first_of x + length (contents_of x) ≤ h.settings.blocks) same (range-inside h.settings write.first (length write.contents) range)
 item-inside (RsDataReplyFrame block contents at) place c h done item is brings =
     let good = passed-if _ _ _ done is in
-    let range = (and_parts ((at == place) && has_place place) (is_range h.settings block 1) (and_parts _ (is_in_resync c && is_apart (ResyncItem block contents) (items_taken c)) good).0).1 in
+    let range = (and_parts ((at == place) && has_place place) (is_range h.settings block 1)
+    (and_parts _ (is_in_resync c && is_apart (ResyncItem block contents) (items_taken c)) good).0).1 in
     let same : ResyncItem block contents ≡ item = cc in
     subst (λ (x : Item). first_of x + length (contents_of x) ≤ h.settings.blocks) same (range-inside h.settings block 1 range)
-item-inside (BarrierFrame number) place c h done item is brings = let same : BarrierItem number ≡ item = cc in subst (λ (x : Item). first_of x + length (contents_of x) ≤ h.settings.blocks) same (omega arith)
+item-inside (BarrierFrame number) place c h done item is brings = let same : BarrierItem number ≡ item =
+    cc in subst (λ (x : Item). first_of x + length (contents_of x) ≤ h.settings.blocks) same (omega arith)
 item-inside (ProtocolFrame asked) place c h done item is brings = absurd (cc)
-item-inside (UuidsFrame tuple) place c h done item is brings = let same : UuidsItem tuple ≡ item = cc in subst (λ (x : Item). first_of x + length (contents_of x) ≤ h.settings.blocks) same (omega arith)
+item-inside (UuidsFrame tuple) place c h done item is brings = let same : UuidsItem tuple ≡ item =
+    cc in subst (λ (x : Item). first_of x + length (contents_of x) ≤ h.settings.blocks) same (omega arith)
 item-inside (SizesFrame blocks) place c h done item is brings = absurd (cc)
-item-inside (SyncUuidFrame word) place c h done item is brings = let same : SyncUuidItem word ≡ item = cc in subst (λ (x : Item). first_of x + length (contents_of x) ≤ h.settings.blocks) same (omega arith)
+item-inside (SyncUuidFrame word) place c h done item is brings = let same : SyncUuidItem word ≡ item =
+    cc in subst (λ (x : Item). first_of x + length (contents_of x) ≤ h.settings.blocks) same (omega arith)
 item-inside (RecvAckFrame ack) place c h done item is brings = absurd (cc)
 item-inside (WriteAckFrame ack) place c h done item is brings = absurd (cc)
 item-inside (RsWriteAckFrame ack) place c h done item is brings = absurd (cc)
 item-inside (BarrierAckFrame number size) place c h done item is brings = absurd (cc)
 
-checked-inside : (frame : Received) (c : Inward) (h : SecondaryHistory) (done : What × SecondaryHistory) → checking frame c h ≡ Ok done → BringsInside h.settings.blocks (length c.taken) frame
+checked-inside : (frame : Received) (c : Inward) (h : SecondaryHistory) (done : What × SecondaryHistory) → checking frame c h ≡ Ok done
+    → BringsInside h.settings.blocks (length c.taken) frame
 checked-inside (Err fault) c h done is late item brings = absurd (cc)
 checked-inside (Ok packet) c h done is late item brings =
-    let late_is : checking_item packet (length (items_taken c)) c h ≡ Ok done = sym (ap (λ b. elim b as (λ _. Checked) [ true ↦ checking_hello (length c.taken) packet h | false ↦ checking_item packet (length (items_taken c)) c h ]) late) ∙ is in
+    let late_is : checking_item packet (length (items_taken c)) c h ≡ Ok done =
+    sym (ap (λ b. elim b as (λ _. Checked) [ true ↦ checking_hello (length c.taken) packet h | false ↦ checking_item packet (length (items_taken c)) c h ])
+    late) ∙ is in
     item-inside packet (length (items_taken c)) c h done item late_is brings
 
 -- Steps.
@@ -212,7 +244,8 @@ inside-take : (blocks : ℕ) (frame : Received) (h : SecondaryHistory) → (inwa
 inside-take blocks frame h standing a = go (checking frame (inward h) (with_inward (framed frame) h)) refl
   where
     refuses : HasInside blocks (with_inward refused_end (with_inward (framed frame) h))
-    refuses = inside-change blocks h _ (λ c. refused_end (framed frame c)) refl refl (change-twice (framed frame) refused_end h.connections) (inside-refusing blocks frame (inward h) standing) a
+    refuses = inside-change blocks h _ (λ c. refused_end (framed frame c)) refl refl (change-twice (framed frame) refused_end h.connections)
+        (inside-refusing blocks frame (inward h) standing) a
 
     go : (v : Checked) → checking frame (inward h) (with_inward (framed frame) h) ≡ v → HasInside blocks (take_item frame h).1
     go (Err refusal) is = subst (λ (v : Checked). HasInside blocks (elim v as (λ _. Reply × SecondaryHistory) [
@@ -220,24 +253,31 @@ inside-take blocks frame h standing a = go (checking frame (inward h) (with_inwa
       | Err refusal ↦ (reply.Refused refusal, with_inward refused_end (with_inward (framed frame) h))
     ]).1) (sym is) refuses
     go (Ok done) is =
-        let brings : BringsInside blocks (length (inward h).taken) frame = subst (λ (n : ℕ). BringsInside n (length (inward h).taken) frame) a.size (checked-inside frame (inward h) (with_inward (framed frame) h) done is) in
-        let taken : HasInside blocks (with_inward (framed frame) h) = inside-change blocks h _ (framed frame) refl refl refl (inside-taking blocks frame (inward h) standing brings) a in
+        let brings : BringsInside blocks (length (inward h).taken) frame = subst (λ (n : ℕ). BringsInside n (length (inward h).taken) frame) a.size
+        (checked-inside frame (inward h) (with_inward (framed frame) h) done is) in
+        let taken : HasInside blocks (with_inward (framed frame) h) = inside-change blocks h _ (framed frame) refl refl refl
+        (inside-taking blocks frame (inward h) standing brings) a in
         after-take (HasInside blocks) h frame (record {
           accepts = then-answering blocks _ taken;
-          receipts = λ write at same late. then-answering blocks _ (inside-change blocks (with_inward (framed frame) h) _ (receipting (length (items_taken (inward h))) write) refl refl refl (λ i. record { base = i.base; items = i.items; refused = i.refused }) taken);
+          receipts = λ write at same late. then-answering blocks _
+              (inside-change blocks (with_inward (framed frame) h) _ (receipting (length (items_taken (inward h))) write) refl refl refl
+              (λ i. record { base = i.base; items = i.items; refused = i.refused }) taken);
           adopts = λ item tuple consistent same late. then-answering blocks _ (record { size = taken.size; opening = taken.opening; ends = taken.ends });
           refuses = refuses;
         })
 
-inside-receive : (blocks : ℕ) (frame : Option Received) (starved : Bool) (h : SecondaryHistory) → HasInside blocks h → HasInside blocks (receive frame starved h).1
+inside-receive : (blocks : ℕ) (frame : Option Received) (starved : Bool) (h : SecondaryHistory) → HasInside blocks h
+    → HasInside blocks (receive frame starved h).1
 inside-receive blocks frame starved h a =
-    tested-keeps (HasInside blocks) h (((inward h).closed, NotConnected) ∷ rest) (λ _. elim frame as (λ _. Reply × SecondaryHistory) [ None ↦ (reply.Refused NothingThere, h) | Some taken ↦ take_item taken h ])
+    tested-keeps (HasInside blocks) h (((inward h).closed, NotConnected) ∷ rest)
+    (λ _. elim frame as (λ _. Reply × SecondaryHistory) [ None ↦ (reply.Refused NothingThere, h) | Some taken ↦ take_item taken h ])
     a (λ passed. go frame (test-passed (inward h).closed NotConnected rest passed).0)
   where
     rest : List Test
     rest = (nat_le h.settings.pending (length (pending (inward h))), PendingFull) ∷ (starved, NoMemory) ∷ (is_none frame, NothingThere) ∷ []
 
-    go : (v : Option Received) → (inward h).closed ≡ false → HasInside blocks (elim v as (λ _. Reply × SecondaryHistory) [ None ↦ (reply.Refused NothingThere, h) | Some taken ↦ take_item taken h ]).1
+    go : (v : Option Received) → (inward h).closed ≡ false
+        → HasInside blocks (elim v as (λ _. Reply × SecondaryHistory) [ None ↦ (reply.Refused NothingThere, h) | Some taken ↦ take_item taken h ]).1
     go None standing = a
     go (Some taken) standing = inside-take blocks taken h standing a
 
@@ -245,21 +285,28 @@ inside-after : (blocks : ℕ) (event : SecondaryEvent) (h : SecondaryHistory) �
 inside-after blocks (OpensToo unseen) h a = after-open (HasInside blocks) unseen h a (λ was. then-answering blocks (opened_secondary unseen h) (record {
   size = a.size;
   opening = a.opening;
-  ends = each-append (IsInside blocks) h.connections _ a.ends (record { base = map-disk blocks (inward h) (last-inside blocks h a); items = λ n item at. absurd (cc); refused = λ was. absurd (cc) });
+  ends = each-append (IsInside blocks) h.connections _ a.ends
+      (record { base = map-disk blocks (inward h) (last-inside blocks h a); items = λ n item at. absurd (cc); refused = λ was. absurd (cc) });
 }))
 inside-after blocks (Receives frame starved) h a = inside-receive blocks frame starved h a
 inside-after blocks (Applies place) h a = after-peer (HasInside blocks) h place a (λ waiting first.
-    then-answering blocks _ (inside-change blocks h _ (applying h.settings.protocol place) refl refl refl (inside-applying blocks h.settings.protocol place (inward h)) a))
+    then-answering blocks _ (inside-change blocks h _ (applying h.settings.protocol place) refl refl refl
+    (inside-applying blocks h.settings.protocol place (inward h)) a))
 inside-after blocks (FailsToApply place offsets) h a = after-fault (HasInside blocks) h place offsets a (λ waiting first.
     inside-change blocks h _ (failing place offsets) refl refl refl (λ i. record { base = i.base; items = i.items; refused = λ was. refl }) a)
-inside-after blocks (Acknowledges room starved) h a = after-push (HasInside blocks) h room starved a (λ standing due. inside-change blocks h _ pushed_one refl refl refl (λ i. record { base = i.base; items = i.items; refused = i.refused }) a)
-inside-after blocks ClosesToo h a = after-close (HasInside blocks) h a (λ standing. inside-change blocks h _ closed_end refl refl refl (λ i. record { base = i.base; items = i.items; refused = λ was. refl }) a)
+inside-after blocks (Acknowledges room starved) h a = after-push (HasInside blocks) h room starved a
+    (λ standing due. inside-change blocks h _ pushed_one refl refl refl (λ i. record { base = i.base; items = i.items; refused = i.refused }) a)
+inside-after blocks ClosesToo h a =
+    after-close (HasInside blocks) h a
+    (λ standing. inside-change blocks h _ closed_end refl refl refl (λ i. record { base = i.base; items = i.items; refused = λ was. refl }) a)
 
 inside-run : (blocks : ℕ) (events : List SecondaryEvent) (h : SecondaryHistory) → HasInside blocks h → HasInside blocks (secondary_run events h)
 inside-run blocks [] h a = a
 inside-run blocks (event ∷ events) h a = inside-run blocks events (secondary_after event h) (inside-after blocks event h a)
 
-pub peer-disk : (o : Opening) (events : List SecondaryEvent) → IsDisk o.peer_settings.blocks o.peer → IsDisk o.peer_settings.blocks (secondary_map (secondary_run events (secondary_at o)))
+pub peer-disk : (o : Opening) (events : List SecondaryEvent) → IsDisk o.peer_settings.blocks o.peer
+    → IsDisk o.peer_settings.blocks (secondary_map (secondary_run events (secondary_at o)))
 peer-disk o events sized =
     let s : SecondaryHistory = secondary_run events (secondary_at o) in
-    map-disk o.peer_settings.blocks (inward s) (last-inside o.peer_settings.blocks s (inside-run o.peer_settings.blocks events (secondary_at o) (record { size = refl; opening = sized; ends = tt })))
+    map-disk o.peer_settings.blocks (inward s)
+    (last-inside o.peer_settings.blocks s (inside-run o.peer_settings.blocks events (secondary_at o) (record { size = refl; opening = sized; ends = tt })))

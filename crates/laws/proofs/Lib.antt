@@ -3,6 +3,7 @@
 pub mod Lists
 pub mod Blocks
 pub mod Streams
+pub mod Rules
 pub mod Primary
 pub mod Tracked
 pub mod Releases

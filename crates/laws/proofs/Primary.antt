@@ -1,6 +1,5 @@
 -- A primary by itself: its moves, and what every run of it keeps.
 pub mod Ends
-pub mod Extents
 pub mod ExtentsMoves
 pub mod Homes
 pub mod HomesFollowing

@@ -29,16 +29,19 @@ pub record IsCopy (c : Outward) (place block : ℕ) (contents : List ℕ) : Type
 -- the local disk comes to hold these bytes in the block, and no write that waits for it has the block
 abbrev pub Settles : PrimaryHistory → ℕ → List ℕ → Type 0
 Settles h block contents =
-    (settling_map h block ≡ Some contents) × ((i : ℕ) (accepted : Accepted) → slice_get h.writes i ≡ Some accepted → is_waiting accepted.outcome ≡ true → covers accepted.write block ≡ false)
+    (settling_map h block ≡ Some contents) × ((i : ℕ) (accepted : Accepted) → slice_get h.writes i ≡ Some accepted → is_waiting accepted.outcome ≡ true
+    → covers accepted.write block ≡ false)
 
 -- Writes and items lie in the device; a completed write is on the local disk; what is under way is the last item on its block; a
 -- block of a resync that no later write has is what the local disk comes to hold; and so is, on each unmarked block, what was sent.
 pub record IsTracked (h : PrimaryHistory) : Type 0 where
   pub homes : HasHomes h
   pub sized : (block : ℕ) → block < h.settings.blocks → is_some (h.opening_map block) ≡ true
-  pub writes_inside : (i : ℕ) (accepted : Accepted) → slice_get h.writes i ≡ Some accepted → accepted.write.first + length accepted.write.contents ≤ h.settings.blocks
+  pub writes_inside : (i : ℕ) (accepted : Accepted) → slice_get h.writes i ≡ Some accepted
+      → accepted.write.first + length accepted.write.contents ≤ h.settings.blocks
   pub items_inside : (block : ℕ) (touch : Touch) → latest h.connections block ≡ Some touch → block < h.settings.blocks
-  pub on_disk : (i : ℕ) (accepted : Accepted) → slice_get h.writes i ≡ Some accepted → is_completed h accepted.write.number ≡ true → is_on_disk accepted.outcome ≡ true
+  pub on_disk : (i : ℕ) (accepted : Accepted) → slice_get h.writes i ≡ Some accepted → is_completed h accepted.write.number ≡ true
+      → is_on_disk accepted.outcome ≡ true
   pub under_way : (place block : ℕ) (contents : List ℕ) → IsUnderWay (outward h) place block contents
       → latest h.connections block ≡ Some (record { connection = last_index h.connections; place = place; item = ResyncItem block contents })
   pub copied : (place block : ℕ) (contents : List ℕ) → IsCopy (outward h) place block contents → Settles h block contents

@@ -12,7 +12,8 @@ use Rattle.model.specs.Stream.{WriteItem, epoch_of}
 use Rattle.model.specs.Primary.{OnDisk, Accepted, Linked, Alone, PrimaryHistory, outward, outward_at, stands, is_released, unreleased, active_extents}
 use Rattle.model.specs.Secondary.{SecondaryHistory, inward, items_taken, pending, secondary_map, whole}
 use Rattle.model.specs.SecondarySteps.{receive}
-use Rattle.model.specs.Pair.{Event, LocalEvent, SendEvent, ReceiveEvent, PeerEvent, AckOutEvent, AckInEvent, ClosePrimaryEvent, CloseSecondaryEvent, PairHistory, step, run_fed, differing, marked}
+use Rattle.model.specs.Pair.{Event, LocalEvent, SendEvent, ReceiveEvent, PeerEvent, AckOutEvent, AckInEvent, ClosePrimaryEvent, CloseSecondaryEvent}
+use Rattle.model.specs.Pair.{PairHistory, step, run_fed, differing, marked}
 use Rattle.model.specs.Headline.{IsJoined, IsGrounded, is_covered}
 use Rattle.model.specs.Settlement.{is_at_rest, settle}
 use Rattle.model.specs.Rows.{words, fresh_with, fill, connect}
@@ -25,7 +26,15 @@ use Rattle.laws.specs.Statements.{is_refused_frame, is_refused_by}
 
 -- A new pair of eight blocks of one byte each, with equal identifiers.
 abbrev pub new_pair : Opening
-new_pair = record { settings = standard; peer_settings = standard; local = filled 8 (0 ∷ []); peer = filled 8 (0 ∷ []); own = words 1 0 0 0; peer_tuple = words 1 0 0 0; marks = λ block. false }
+new_pair = record {
+  settings = standard;
+  peer_settings = standard;
+  local = filled 8 (0 ∷ []);
+  peer = filled 8 (0 ∷ []);
+  own = words 1 0 0 0;
+  peer_tuple = words 1 0 0 0;
+  marks = λ block. false;
+}
 
 -- A pair whose peer was away for a write of block 2, which is marked.
 abbrev pub left_behind : Opening
@@ -56,7 +65,7 @@ pub record OpeningsAreMet : Type 0 where
 -- One write under protocol C: the frames are joined, the write is completed over the link, taken, and on the peer's disk.
 pub record OneWriteIsMet : Type 0 where
   pub joined : IsJoined (reached one_write).primary (reached one_write).secondary
-  pub completed : (reached one_write).primary.journal ≡ record { write = the_write; kind = Linked; home = Some (0, 0) } ∷ []
+  pub completed : (reached one_write).primary.journal ≡ record { write = the_write; kind = Linked; home = Some (record { index = 0; place = 0 }) } ∷ []
   pub taken : items_taken (inward (reached one_write).secondary) ≡ WriteItem the_write ∷ []
   pub applied : (inward (reached one_write).secondary).applied ≡ (0, 0) ∷ []
 
@@ -100,7 +109,9 @@ settled = released ++ ClosePrimaryEvent ∷ CloseSecondaryEvent ∷ []
 -- two nodes at rest, and their settlement
 pub record RestIsMet : Type 0 where
   pub rest : is_at_rest (reached settled).primary (reached settled).secondary ≡ true
-  pub numbers : settle (reached settled).primary (reached settled).secondary (record { number = 1; first = 2; count = 1; kind = Linked; home = Some (1, 0) } ∷ []) false ≡ Ok (record { sent = 2; taken = 2; applied = 1; confirmed = 1; unmarked = 0 })
+  pub numbers : settle (reached settled).primary (reached settled).secondary
+      (record { number = 1; first = 2; count = 1; kind = Linked; home = Some (record { index = 0; place = 0 }) } ∷ []) false ≡ Ok
+      (record { sent = 2; taken = 2; applied = 1; confirmed = 1; unmarked = 0 })
 
 -- Two writes while the link was down, the resync that copies them to its end, and a write that is completed since.
 abbrev pub rewritten : List Event
@@ -114,7 +125,13 @@ first_alone = record { write = record { number = 1; first = 3; contents = (170 �
 
 -- the one that came over the link
 abbrev pub since : Accepted
-since = record { write = record { number = 3; first = 2; contents = (204 ∷ []) ∷ [] }; journal_length = 2; home = Some (1, 6); outcome = OnDisk }
+since = record {
+  write = record { number = 3; first = 2; contents = (204 ∷ []) ∷ [] };
+  journal_length = 2;
+  home =
+      Some (record { index = 1; place = 6 });
+  outcome = OnDisk;
+}
 
 -- The premises of the write order, at a secondary that has adopted a tuple; and what is on its disk then.
 pub record OrderIsMet : Type 0 where
@@ -123,7 +140,8 @@ pub record OrderIsMet : Type 0 where
   pub adopted : has_adopted (reached rewritten).secondary ≡ true
   pub earlier : slice_get (reached rewritten).primary.writes 0 ≡ Some first_alone
   pub later : slice_get (reached rewritten).primary.writes 2 ≡ Some since
-  pub completed : slice_get (reached rewritten).primary.journal 2 ≡ Some (record { write = since.write; kind = Linked; home = Some (1, 6) })
+  pub completed : slice_get (reached rewritten).primary.journal 2
+      ≡ Some (record { write = since.write; kind = Linked; home = Some (record { index = 1; place = 6 }) })
   pub before : comes_before (reached rewritten).primary first_alone since ≡ true
   pub copied : secondary_map (reached rewritten).secondary 3 ≡ Some (170 ∷ [])
   pub written : secondary_map (reached rewritten).secondary 2 ≡ Some (204 ∷ [])
@@ -175,7 +193,7 @@ pub record RefusedFramesAreMet : Type 0 where
   pub marks : broken_off.marks 2 ≡ true
   pub identifiers : broken_off.tuple ≡ words 7 1 0 0
   pub uncompleted : under_way.primary.journal ≡ []
-  pub completed : broken_off.journal ≡ record { write = the_write; kind = Alone; home = Some (0, 0) } ∷ []
+  pub completed : broken_off.journal ≡ record { write = the_write; kind = Alone; home = Some (record { index = 0; place = 0 }) } ∷ []
   pub secondary : (receive (Some (Ok (BarrierFrame 2))) false under_way.secondary).0 ≡ reply.Refused BadField
   pub frame_too : is_refused_frame BadField ≡ true
   pub first_too : (inward under_way.secondary).refused ≡ false
@@ -192,8 +210,10 @@ met =
 -- Then a write of block 2, another one over it once the first is completed, and the acknowledgement of the first one's epoch.
 abbrev pub written_over : List PrimaryEvent
 written_over =
-    met ++ Submits 2 ((170 ∷ []) ∷ []) false ∷ WritesLocally 1 ∷ Sends true false ∷ Takes (Some (Ok (WriteAckFrame (record { first = 2; number = 1; count = 1; place = 0 })))) false
-    ∷ Submits 2 ((187 ∷ []) ∷ []) false ∷ WritesLocally 2 ∷ Sends true false ∷ Sends true false ∷ Takes (Some (Ok (WriteAckFrame (record { first = 2; number = 2; count = 1; place = 2 })))) false
+    met ++ Submits 2 ((170 ∷ []) ∷ []) false ∷ WritesLocally 1 ∷ Sends true false ∷ Takes
+    (Some (Ok (WriteAckFrame (record { first = 2; number = 1; count = 1; place = 0 })))) false
+    ∷ Submits 2 ((187 ∷ []) ∷ []) false ∷ WritesLocally 2 ∷ Sends true false ∷ Sends true false ∷ Takes
+    (Some (Ok (WriteAckFrame (record { first = 2; number = 2; count = 1; place = 2 })))) false
     ∷ Sends true false ∷ Takes (Some (Ok (BarrierAckFrame 1 1))) false ∷ []
 
 -- then that of the second one's
@@ -202,11 +222,18 @@ released_in_turn = written_over ++ Takes (Some (Ok (BarrierAckFrame 2 1))) false
 
 -- the two writes
 abbrev pub the_earlier : Accepted
-the_earlier = record { write = the_write; journal_length = 0; home = Some (0, 0); outcome = OnDisk }
+the_earlier = record { write = the_write; journal_length = 0; home = Some (record { index = 0; place = 0 }); outcome = OnDisk }
 
 -- the one over it
 abbrev pub the_later : Accepted
-the_later = record { write = record { number = 2; first = 2; contents = (187 ∷ []) ∷ [] }; journal_length = 1; home = Some (0, 2); outcome = OnDisk }
+the_later =
+    record {
+      write = record { number = 2; first = 2; contents = (187 ∷ []) ∷ [] };
+      journal_length = 1;
+      home =
+          Some (record { index = 0; place = 2 });
+      outcome = OnDisk;
+    }
 
 -- Of two writes that share a block the earlier one is released first; and then both are.
 pub record ReleasesAreMet : Type 0 where

@@ -40,7 +40,8 @@ pub record FromItem (h : PrimaryHistory) (block : ℕ) : Type 0 where
   pub touched : touches item block ≡ true
   pub sure : is_sure end place item ≡ true
   pub content : content_at item block ≡ local_map h block
-  pub later : (other next : ℕ) (c : Outward) (i : Item) → slice_get h.connections other ≡ Some c → slice_get c.stream next ≡ Some i → touches i block ≡ true → IsLater connection place other next → content_at i block ≡ local_map h block
+  pub later : (other next : ℕ) (c : Outward) (i : Item) → slice_get h.connections other ≡ Some c → slice_get c.stream next ≡ Some i → touches i block ≡ true
+      → IsLater connection place other next → content_at i block ≡ local_map h block
 
 -- no stream has begun, and the tuple is the opening's
 pub record NoneBegan (h : PrimaryHistory) : Type 0 where
@@ -64,5 +65,6 @@ pub record FirstBegan (h : PrimaryHistory) (decided : Decision) : Type 0 where
 pub record FromOpening (h : PrimaryHistory) (block : ℕ) : Type 0 where
   pub content : h.opening_map block ≡ local_map h block
   pub unmarked : opening_marked h block ≡ false
-  pub items : (k place : ℕ) (c : Outward) (i : Item) → slice_get h.connections k ≡ Some c → slice_get c.stream place ≡ Some i → touches i block ≡ true → content_at i block ≡ local_map h block
+  pub items : (k place : ℕ) (c : Outward) (i : Item) → slice_get h.connections k ≡ Some c → slice_get c.stream place ≡ Some i → touches i block ≡ true
+      → content_at i block ≡ local_map h block
   pub began : NoneBegan h ⊎ ((decided : Decision) × FirstBegan h decided × (block < h.settings.blocks → decided ≡ FullSync → ⊥))

@@ -3,7 +3,11 @@
 use Rattle.std.specs.Prelude.{ℕ, suc, ◌≡◌, ◌<◌, ◌≤◌, ◌⊎◌, Bool, true, false, List, [], ◌∷◌, ◌++◌, length, take, if◌then◌else◌, Option, Some, slice_get, Ok}
 use Rattle.blocks.specs.declared.tuple.Tuple.{Tuple}
 use Rattle.blocks.specs.declared.refusal.Refusal.{Refusal}
-use Rattle.blocks.specs.declared.refusal.Refusal.TheVariants.{BadRange, Conflict, LogFull, ActivityFull, JournalFull, StreamFull, NoMemory, LocalFault, NotCompleted, NothingToDo, LinkFull, NotConnected, NothingThere, ReadFault, BadSetting, UnknownJob, EpochOpen, PendingFull, StrangeReceipt, BadMagic, BadCommand, BadLength, BadField, BadBarrierAck, UnknownAck, PrimaryStale, SplitBrain, Unrelated, UsedIdentifier, OtherProtocol, OtherSize, NotDrained}
+use Rattle.blocks.specs.declared.refusal.Refusal.TheVariants.{BadRange, Conflict, LogFull, ActivityFull, JournalFull, StreamFull, NoMemory, LocalFault}
+use Rattle.blocks.specs.declared.refusal.Refusal.TheVariants.{NotCompleted, NothingToDo, LinkFull, NotConnected, NothingThere, ReadFault, BadSetting}
+use Rattle.blocks.specs.declared.refusal.Refusal.TheVariants.{UnknownJob, EpochOpen, PendingFull, StrangeReceipt, BadMagic, BadCommand, BadLength, BadField}
+use Rattle.blocks.specs.declared.refusal.Refusal.TheVariants.{BadBarrierAck, UnknownAck, PrimaryStale, SplitBrain, Unrelated, UsedIdentifier, OtherProtocol}
+use Rattle.blocks.specs.declared.refusal.Refusal.TheVariants.{OtherSize, NotDrained}
 use Rattle.blocks.specs.declared.outcome.Reply.TheVariants as reply
 use Rattle.model.specs.Contents.{Write, IsDisk, covers}
 use Rattle.model.specs.LocalRuns.{PrimaryEvent, primary_run, SecondaryEvent, secondary_run}
@@ -13,11 +17,13 @@ use Rattle.model.specs.Identifiers.{lost}
 use Rattle.model.specs.Marks.{marking_unreleased}
 use Rattle.model.specs.PrimarySteps.{close_primary}
 use Rattle.model.specs.SecondarySteps.{receive, close_secondary}
-use Rattle.model.specs.Primary.{Outward, PrimaryHistory, outward, with_outward, outward_at, stands, items_sent, active_extents, Accepted, is_released, is_on_disk, is_completed, last_index}
+use Rattle.model.specs.Primary.{Outward, PrimaryHistory, outward, with_outward, outward_at, stands, items_sent, active_extents, Accepted, is_released}
+use Rattle.model.specs.Primary.{is_on_disk, is_completed, last_index}
 use Rattle.model.specs.Secondary.{Inward, SecondaryHistory, inward_at, items_taken, pending, inward, with_inward, secondary_map}
 use Rattle.model.specs.Stream.{WriteItem, IsBeginning, IsLawful}
 use Rattle.model.specs.Pair.{Event, PairHistory, step, run, ReceiveEvent, AckInEvent}
-use Rattle.model.specs.Headline.{IsJoined, TakesABeginning, StaysClosed, StaysClosedToo, HoldsEarlierEpochs, KeepsPromises, MarksDifferences, is_marked, is_covered}
+use Rattle.model.specs.Headline.{IsJoined, TakesABeginning, StaysClosed, StaysClosedToo, HoldsEarlierEpochs, KeepsPromises, MarksDifferences, is_marked}
+use Rattle.model.specs.Headline.{is_covered}
 use Rattle.model.specs.Theorems.{Opening, primary_at, secondary_at, pair_at, SharesSettings, AnyOpening, HasRanges, IsSoundOpening, EveryRun, JoinedRuns}
 use Rattle.laws.specs.Reflections.{FromItem, FromOpening}
 
@@ -45,7 +51,8 @@ PrimaryExtentsAreFew = (o : Opening) (events : List PrimaryEvent) → length (ac
 abbrev pub PrimaryReleasesInOrder : Type 0
 PrimaryReleasesInOrder =
     (o : Opening) (events : List PrimaryEvent) → HasRanges o → IsDisk o.settings.blocks o.local
-    → (i j block : ℕ) (a b : Accepted) → i < j → slice_get (primary_run events (primary_at o)).writes i ≡ Some a → slice_get (primary_run events (primary_at o)).writes j ≡ Some b → covers a.write block ≡ true → covers b.write block ≡ true
+    → (i j block : ℕ) (a b : Accepted) → i < j → slice_get (primary_run events (primary_at o)).writes i ≡ Some a
+    → slice_get (primary_run events (primary_at o)).writes j ≡ Some b → covers a.write block ≡ true → covers b.write block ≡ true
     → is_released (primary_run events (primary_at o)) b ≡ true → is_released (primary_run events (primary_at o)) a ≡ true
 
 -- a closed end stays as it is, from any history on
@@ -56,7 +63,8 @@ PrimaryStaysClosed = (p : PrimaryHistory) (events : List PrimaryEvent) → Stays
 abbrev pub PrimaryReflects : Type 0
 PrimaryReflects =
     (o : Opening) (events : List PrimaryEvent) → HasRanges o → IsDisk o.settings.blocks o.local
-    → (block : ℕ) → is_covered (primary_run events (primary_at o)) block ≡ false → FromItem (primary_run events (primary_at o)) block ⊎ FromOpening (primary_run events (primary_at o)) block
+    → (block : ℕ) → is_covered (primary_run events (primary_at o)) block ≡ false
+    → FromItem (primary_run events (primary_at o)) block ⊎ FromOpening (primary_run events (primary_at o)) block
 
 -- while no stream stands, every block under an unreleased write is marked
 abbrev pub PrimaryMarksAtRest : Type 0
@@ -191,12 +199,14 @@ is_closed_by event h = (outward h.primary).closed
 -- A step that is refused leaves the pair's history as it was, unless it refuses a frame; also where memory was wanting.
 abbrev pub RefusedStepsChangeNothing : Type 0
 RefusedStepsChangeNothing =
-    (event : Event) (starved : Bool) (h : PairHistory) (refusal : Refusal) → (step event starved h).0 ≡ reply.Refused refusal → is_refused_by event refusal ≡ false → (step event starved h).1 ≡ h
+    (event : Event) (starved : Bool) (h : PairHistory) (refusal : Refusal) → (step event starved h).0 ≡ reply.Refused refusal
+    → is_refused_by event refusal ≡ false → (step event starved h).1 ≡ h
 
 -- One that refuses a frame closes the end that took it.
 abbrev pub RefusedFramesClose : Type 0
 RefusedFramesClose =
-    (event : Event) (starved : Bool) (h : PairHistory) (refusal : Refusal) → (step event starved h).0 ≡ reply.Refused refusal → is_refused_by event refusal ≡ true → is_closed_by event (step event starved h).1 ≡ true
+    (event : Event) (starved : Bool) (h : PairHistory) (refusal : Refusal) → (step event starved h).0 ≡ reply.Refused refusal
+    → is_refused_by event refusal ≡ true → is_closed_by event (step event starved h).1 ≡ true
 
 -- The peer's tuple last seen, once this frame of the hello was taken after so many: the third names the tuple, also where it
 -- is then refused.
@@ -208,7 +218,8 @@ seen_after n frame seen = seen
 abbrev pub with_refused : Received → PrimaryHistory → PrimaryHistory
 with_refused frame p =
     let c = outward p in
-    with_outward (λ c. record c { taken = c.taken ++ frame ∷ []; refused = true }) (record p { peer = elim c.begun [ true ↦ p.peer | false ↦ seen_after (length c.taken) frame p.peer ] })
+    with_outward (λ c. record c { taken = c.taken ++ frame ∷ []; refused = true })
+    (record p { peer = elim c.begun [ true ↦ p.peer | false ↦ seen_after (length c.taken) frame p.peer ] })
 
 -- the same of a secondary
 abbrev pub with_refused_too : Received → SecondaryHistory → SecondaryHistory
@@ -219,20 +230,23 @@ with_refused_too frame s = with_inward (λ c. record c { taken = c.taken ++ fram
 -- stream had begun, and what the local disk has done is completed alone, unless the peer had answered it before.
 abbrev pub RefusedFramesCloseThePrimary : Type 0
 RefusedFramesCloseThePrimary =
-    (frame : Received) (starved : Bool) (p : PrimaryHistory) (refusal : Refusal) → (ack_in (Some frame) starved p).0 ≡ reply.Refused refusal → is_refused_frame refusal ≡ true
+    (frame : Received) (starved : Bool) (p : PrimaryHistory) (refusal : Refusal) → (ack_in (Some frame) starved p).0 ≡ reply.Refused refusal
+    → is_refused_frame refusal ≡ true
     → (ack_in (Some frame) starved p).1 ≡ (close_primary (with_refused frame p)).1
 
 -- The same of a secondary: its items stay, and nothing more is taken or sent.
 abbrev pub RefusedFramesCloseTheSecondary : Type 0
 RefusedFramesCloseTheSecondary =
-    (frame : Received) (starved : Bool) (s : SecondaryHistory) (refusal : Refusal) → (receive (Some frame) starved s).0 ≡ reply.Refused refusal → is_refused_frame refusal ≡ true
+    (frame : Received) (starved : Bool) (s : SecondaryHistory) (refusal : Refusal) → (receive (Some frame) starved s).0 ≡ reply.Refused refusal
+    → is_refused_frame refusal ≡ true
     → (receive (Some frame) starved s).1 ≡ (close_secondary (with_refused_too frame s)).1
 
 -- What was pending at the secondary stays so, and its disk holds what it held: a refused frame brings no item. (An open end has
 -- refused none before.)
 abbrev pub RefusedFramesLeaveTheItems : Type 0
 RefusedFramesLeaveTheItems =
-    (frame : Received) (starved : Bool) (s : SecondaryHistory) (refusal : Refusal) → (inward s).refused ≡ false → (receive (Some frame) starved s).0 ≡ reply.Refused refusal → is_refused_frame refusal ≡ true
+    (frame : Received) (starved : Bool) (s : SecondaryHistory) (refusal : Refusal) → (inward s).refused ≡ false
+    → (receive (Some frame) starved s).0 ≡ reply.Refused refusal → is_refused_frame refusal ≡ true
     → (pending (inward (receive (Some frame) starved s).1) ≡ pending (inward s)) × (secondary_map (receive (Some frame) starved s).1 ≡ secondary_map s)
 
 -- What a primary that loses its connection does: it marks every block of the writes that were unreleased before; its tuple
@@ -241,10 +255,13 @@ RefusedFramesLeaveTheItems =
 pub record LosesItsConnection (p q : PrimaryHistory) : Type 0 where
   pub marks : (block : ℕ) → q.marks block ≡ marking_unreleased p block
   pub tuple : q.tuple ≡ (if (outward p).begun then lost (outward p).loss p.tuple else p.tuple)
-  pub completed : (n place : ℕ) (a : Accepted) → slice_get p.writes n ≡ Some a → a.home ≡ Some (last_index p.connections, place) → is_on_disk a.outcome ≡ true → is_completed q a.write.number ≡ true
+  pub completed : (n place : ℕ) (a : Accepted) → slice_get p.writes n ≡ Some a → a.home ≡ Some (record { index = last_index p.connections; place = place })
+      → is_on_disk a.outcome ≡ true
+      → is_completed q a.write.number ≡ true
 
 -- A primary that refuses a frame does so. The frame itself releases nothing. (An open end has refused none before.)
 abbrev pub RefusedFramesLoseTheConnection : Type 0
 RefusedFramesLoseTheConnection =
-    (frame : Received) (starved : Bool) (p : PrimaryHistory) (refusal : Refusal) → (outward p).refused ≡ false → (ack_in (Some frame) starved p).0 ≡ reply.Refused refusal → is_refused_frame refusal ≡ true
+    (frame : Received) (starved : Bool) (p : PrimaryHistory) (refusal : Refusal) → (outward p).refused ≡ false
+    → (ack_in (Some frame) starved p).0 ≡ reply.Refused refusal → is_refused_frame refusal ≡ true
     → LosesItsConnection p (ack_in (Some frame) starved p).1

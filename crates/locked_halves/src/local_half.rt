@@ -70,8 +70,8 @@ impl<R: Wait + Drop, O: FrameOut + Drop, I: FrameIn + Drop, S: Store + Drop> Pri
         self.node.lock(&self.rt).take_completed(number)
     }
 
-    fn read(&self, alloc: Global, first: u64, count: u64) -> Result<Vec<u8>, Refusal> {
-        self.node.lock(&self.rt).read(alloc, first, count)
+    fn read(&self, first: u64, count: u64) -> Result<Vec<u8>, Refusal> {
+        self.node.lock(&self.rt).read(first, count)
     }
 
     fn send(&self) -> Result<Done, Refusal> {

@@ -1,11 +1,13 @@
 -- The primary takes a frame: the peer's hello with the decision, and then its acknowledgements.
-use Rattle.std.specs.Prelude.{ℕ, zero, suc, nat_lt, ◌==◌, Bool, true, false, ◌&&◌, ◌||◌, not, if◌then◌else◌, [], ◌∷◌, ◌++◌, length, take, find, Option, Some, None, is_none, slice_get, Result, Ok, Err}
+use Rattle.std.specs.Prelude.{ℕ, zero, suc, nat_lt, ◌==◌, Bool, true, false, ◌&&◌, ◌||◌, not, if◌then◌else◌, [], ◌∷◌, ◌++◌, length, take, find, Option, Some}
+use Rattle.std.specs.Prelude.{None, is_none, slice_get, Result, Ok, Err}
 use Rattle.std.specs.List.{list_all}
 use Rattle.blocks.specs.declared.tuple.Tuple.{Tuple}
 use Rattle.blocks.specs.declared.settings.Protocol.{Protocol}
 use Rattle.blocks.specs.declared.settings.Protocol.TheVariants as protocol
 use Rattle.blocks.specs.declared.refusal.Refusal.{Refusal}
-use Rattle.blocks.specs.declared.refusal.Refusal.TheVariants.{NoMemory, NotConnected, NothingThere, BadCommand, BadBarrierAck, UnknownAck, UsedIdentifier, OtherProtocol, OtherSize}
+use Rattle.blocks.specs.declared.refusal.Refusal.TheVariants.{NoMemory, NotConnected, NothingThere, BadCommand, BadBarrierAck, UnknownAck, UsedIdentifier}
+use Rattle.blocks.specs.declared.refusal.Refusal.TheVariants.{OtherProtocol, OtherSize}
 use Rattle.blocks.specs.declared.outcome.Decision.{Decision}
 use Rattle.blocks.specs.declared.outcome.Decision.TheVariants.{NoSync, BitmapSync, FullSync}
 use Rattle.blocks.specs.declared.outcome.What.{What}
@@ -14,9 +16,11 @@ use Rattle.blocks.specs.declared.outcome.Reply.{Reply}
 use Rattle.blocks.specs.declared.outcome.Reply.TheVariants as reply
 use Rattle.blocks.specs.declared.command.Command.TheVariants as command
 use Rattle.model.specs.Stream.{Item, WriteItem, ResyncItem, BarrierItem, SyncUuidItem, is_write, epoch_size, items_of_epoch}
-use Rattle.model.specs.Frames.{Packet, ProtocolFrame, SizesFrame, UuidsFrame, RecvAckFrame, WriteAckFrame, RsWriteAckFrame, BarrierAckFrame, Acknowledged, Received, naming}
+use Rattle.model.specs.Frames.{Packet, ProtocolFrame, SizesFrame, UuidsFrame, RecvAckFrame, WriteAckFrame, RsWriteAckFrame, BarrierAckFrame, Acknowledged}
+use Rattle.model.specs.Frames.{Received, naming}
 use Rattle.model.specs.Identifiers.{stands_in, decision, sync_start}
-use Rattle.model.specs.Primary.{Outward, PrimaryHistory, outward, with_outward, items_sent, same_naming, was_received, was_written, was_resynced, barrier_acknowledged, is_resync}
+use Rattle.model.specs.Primary.{Outward, PrimaryHistory, outward, with_outward, items_sent, same_naming, was_received, was_written, was_resynced}
+use Rattle.model.specs.Primary.{barrier_acknowledged, is_resync}
 use Rattle.model.specs.Marks.{marking_all, clearing, releasing}
 use Rattle.model.specs.PrimarySteps.{follows, succeeding, tested, closing}
 
@@ -41,7 +45,8 @@ begun_with BitmapSync h =
     with_outward (λ c. record c { begun = true; stream = SyncUuidItem word ∷ [] }) (record h { tuple = sync_start word h.tuple })
 begun_with FullSync h =
     let word = (outward h).sync in
-    with_outward (λ c. record c { begun = true; stream = SyncUuidItem word ∷ [] }) (record h { tuple = sync_start word h.tuple; marks = marking_all h.settings.blocks })
+    with_outward (λ c. record c { begun = true; stream = SyncUuidItem word ∷ [] })
+    (record h { tuple = sync_start word h.tuple; marks = marking_all h.settings.blocks })
 
 -- The peer's tuple counts as seen, also where the hello is then refused. The words are tested against it, before the decision.
 abbrev pub meeting : Tuple → PrimaryHistory → Taken
@@ -114,13 +119,16 @@ is_in_turn h number size =
 abbrev pub taking_ack : Packet → PrimaryHistory → PrimaryHistory → Taken
 taking_ack (RecvAckFrame ack) before h =
     let c = outward before in
-    if (is_protocol protocol.B before && names_sent is_write ack c) && not (was_named was_received ack c) then Ok (what.Frame command.RecvAck None, h) else Err (UnknownAck, h)
+    if (is_protocol protocol.B before && names_sent is_write ack c) && not (was_named was_received ack c) then Ok (what.Frame command.RecvAck None, h)
+    else Err (UnknownAck, h)
 taking_ack (WriteAckFrame ack) before h =
     let c = outward before in
-    if (is_protocol protocol.C before && names_sent is_write ack c) && not (was_named was_written ack c) then Ok (what.Frame command.WriteAck None, h) else Err (UnknownAck, h)
+    if (is_protocol protocol.C before && names_sent is_write ack c) && not (was_named was_written ack c) then Ok (what.Frame command.WriteAck None, h)
+    else Err (UnknownAck, h)
 taking_ack (RsWriteAckFrame ack) before h =
     let c = outward before in
-    if names_sent is_resync ack c && not (was_named was_resynced ack c) then Ok (what.Frame command.RsWriteAck None, record h { marks = clearing ack.first h.marks }) else Err (UnknownAck, h)
+    if names_sent is_resync ack c && not (was_named was_resynced ack c)
+    then Ok (what.Frame command.RsWriteAck None, record h { marks = clearing ack.first h.marks }) else Err (UnknownAck, h)
 taking_ack (BarrierAckFrame number size) before h =
     if is_in_turn before number size then Ok (what.Frame command.BarrierAck None, releasing before h) else Err (BadBarrierAck, h)
 taking_ack packet before h = Err (BadCommand, h)

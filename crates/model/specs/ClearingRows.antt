@@ -3,7 +3,8 @@
 use Rattle.std.specs.Prelude.{◌≡◌, List, [], ◌∷◌, ◌++◌, take}
 use Rattle.blocks.specs.declared.command.Command.TheVariants as command
 use Rattle.blocks.specs.SettingsRange.{standard}
-use Rattle.model.specs.Pair.{Event, LocalEvent, LocalFaultEvent, SendEvent, ReceiveEvent, PeerEvent, AckOutEvent, AckInEvent, ResyncEvent, PairHistory, tuples, marked}
+use Rattle.model.specs.Pair.{Event, LocalEvent, LocalFaultEvent, SendEvent, ReceiveEvent, PeerEvent, AckOutEvent, AckInEvent, ResyncEvent, PairHistory, tuples}
+use Rattle.model.specs.Pair.{marked}
 use Rattle.model.specs.Rows.{words, connected, connect, replies, after, fill, done, accepted, item, frame, resynced, completing, with_barrier, with_sync}
 use Rattle.model.specs.ResyncRows.{two_marked, written_alone}
 
@@ -47,7 +48,8 @@ copied_meanwhile = AckInEvent ∷ AckInEvent ∷ ResyncEvent ∷ SendEvent ∷ R
 -- the release clears the last mark, and the resync goes on until the block under way is acknowledged
 pub record ClearedUnderWay : Type 0 where
   pub answers : replies (copied_meanwhile ++ SendEvent ∷ ReceiveEvent ∷ PeerEvent 4 ∷ AckOutEvent ∷ AckInEvent ∷ []) (after over_both_marks two_marked)
-      ≡ with_barrier 1 (completing 3 (frame command.WriteAck)) ∷ completing 4 (frame command.WriteAck) ∷ resynced 3 4 ∷ item command.Barrier 3 ∷ item command.Barrier 3
+      ≡ with_barrier 1 (completing 3 (frame command.WriteAck)) ∷ completing 4 (frame command.WriteAck) ∷ resynced 3 4 ∷ item command.Barrier 3 ∷ item
+      command.Barrier 3
       ∷ frame command.BarrierAck ∷ frame command.BarrierAck ∷ item command.RsDataReply 4 ∷ item command.RsDataReply 4 ∷ done ∷ frame command.RsWriteAck
       ∷ with_sync (with_barrier 2 (frame command.RsWriteAck)) ∷ []
   pub marks : marked (after (over_both_marks ++ copied_meanwhile) two_marked) ≡ []
@@ -87,5 +89,6 @@ failed_here =
 
 -- a failed write clears nothing
 pub record FailedClearsNothing : Type 0 where
-  pub answers : replies (AckOutEvent ∷ AckOutEvent ∷ AckInEvent ∷ AckInEvent ∷ []) (after (take 9 failed_here) two_marked) ≡ frame command.WriteAck ∷ frame command.BarrierAck ∷ frame command.WriteAck ∷ frame command.BarrierAck ∷ []
+  pub answers : replies (AckOutEvent ∷ AckOutEvent ∷ AckInEvent ∷ AckInEvent ∷ []) (after (take 9 failed_here) two_marked) ≡ frame command.WriteAck ∷ frame
+      command.BarrierAck ∷ frame command.WriteAck ∷ frame command.BarrierAck ∷ []
   pub marks : marked (after failed_here two_marked) ≡ 3 ∷ 6 ∷ []

@@ -8,7 +8,8 @@ use Rattle.blocks.specs.SettingsRange.{standard}
 use Rattle.model.specs.Primary.{local_map}
 use Rattle.model.specs.PrimarySteps.{take_completed}
 use Rattle.model.specs.Secondary.{inward, pending, secondary_map, is_drained}
-use Rattle.model.specs.Pair.{Event, LocalEvent, LocalFaultEvent, SendEvent, ReceiveEvent, PeerEvent, PeerFaultEvent, AckOutEvent, AckInEvent, ClosePrimaryEvent, marked, differing}
+use Rattle.model.specs.Pair.{Event, LocalEvent, LocalFaultEvent, SendEvent, ReceiveEvent, PeerEvent, PeerFaultEvent, AckOutEvent, AckInEvent, ClosePrimaryEvent}
+use Rattle.model.specs.Pair.{marked, differing}
 use Rattle.model.specs.Rows.{connected, replies, after, fill, refused, done, accepted, item, frame, completing, with_barrier}
 
 -- 2,048 blocks are two extents
@@ -71,12 +72,14 @@ epochs_of_two = record standard { max_epoch = 2 }
 -- The peer takes a whole epoch and a write of the next one, and fails a write of the first.
 abbrev pub fault_among_others : List Event
 fault_among_others =
-    fill 2 1 170 ∷ fill 3 1 187 ∷ fill 4 1 204 ∷ SendEvent ∷ SendEvent ∷ SendEvent ∷ SendEvent ∷ ReceiveEvent ∷ ReceiveEvent ∷ ReceiveEvent ∷ ReceiveEvent ∷ PeerFaultEvent 0 0 ∷ []
+    fill 2 1 170 ∷ fill 3 1 187 ∷ fill 4 1 204 ∷ SendEvent ∷ SendEvent ∷ SendEvent ∷ SendEvent ∷ ReceiveEvent ∷ ReceiveEvent ∷ ReceiveEvent ∷ ReceiveEvent ∷
+    PeerFaultEvent 0 0 ∷ []
 
 -- The other write of that epoch stays and may still be applied; the one of the later epoch is dropped.
 pub record OthersOfTheEpochStay : Type 0 where
   pub before : map (λ entry. entry.0) (pending (inward (after (take 11 fault_among_others) (connected epochs_of_two)).secondary)) ≡ 0 ∷ 1 ∷ 3 ∷ []
   pub pending : map (λ entry. entry.0) (pending (inward (after fault_among_others (connected epochs_of_two)).secondary)) ≡ 1 ∷ []
-  pub answers : replies (PeerEvent 3 ∷ PeerEvent 0 ∷ PeerEvent 1 ∷ []) (after fault_among_others (connected epochs_of_two)) ≡ refused refusal.UnknownJob ∷ refused refusal.UnknownJob ∷ done ∷ []
+  pub answers : replies (PeerEvent 3 ∷ PeerEvent 0 ∷ PeerEvent 1 ∷ []) (after fault_among_others (connected epochs_of_two)) ≡ refused refusal.UnknownJob ∷
+      refused refusal.UnknownJob ∷ done ∷ []
   pub written : secondary_map (after (fault_among_others ++ PeerEvent 1 ∷ []) (connected epochs_of_two)).secondary 3 ≡ Some (187 ∷ [])
   pub drained : is_drained (after (fault_among_others ++ PeerEvent 1 ∷ []) (connected epochs_of_two)).secondary ≡ true

@@ -9,7 +9,8 @@ use Rattle.model.specs.Primary.{PrimaryHistory, outward}
 use Rattle.model.specs.Pair.{SendEvent, ReceiveEvent, PairHistory}
 use Rattle.model.specs.Rows.{words, connected, after, fill, refused, done, frame}
 use Rattle.model.specs.Contents.{Write}
-use Rattle.model.specs.Frames.{DataFrame, RsDataReplyFrame, BarrierFrame, ProtocolFrame, UuidsFrame, SyncUuidFrame, RecvAckFrame, WriteAckFrame, RsWriteAckFrame, BarrierAckFrame, Acknowledged, Received}
+use Rattle.model.specs.Frames.{DataFrame, RsDataReplyFrame, BarrierFrame, ProtocolFrame, UuidsFrame, SyncUuidFrame, RecvAckFrame, WriteAckFrame}
+use Rattle.model.specs.Frames.{RsWriteAckFrame, BarrierAckFrame, Acknowledged, Received}
 use Rattle.model.specs.Acknowledgements.{ack_in}
 use Rattle.model.specs.Secondary.{SecondaryHistory}
 use Rattle.model.specs.SecondarySteps.{receive, peer}

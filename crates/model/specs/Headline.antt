@@ -7,7 +7,8 @@ use Rattle.blocks.specs.declared.settings.Protocol.TheVariants as protocol
 use Rattle.model.specs.Contents.{BlockMap, Write, covers}
 use Rattle.model.specs.Stream.{Item, WriteItem, contents_of, IsLawful, IsBeginning, IsClosedAt, is_in, is_whole}
 use Rattle.model.specs.Frames.{Received}
-use Rattle.model.specs.Primary.{Completion, Linked, Outward, PrimaryHistory, outward, outward_at, stands, frames_due, items_sent, local_map, unreleased, active_extents}
+use Rattle.model.specs.Primary.{Completion, Linked, Outward, PrimaryHistory, outward, outward_at, stands, frames_due, items_sent, local_map, unreleased}
+use Rattle.model.specs.Primary.{active_extents}
 use Rattle.model.specs.Secondary.{Inward, SecondaryHistory, inward_at, items_taken, map_of, secondary_map, answers_due}
 use Rattle.model.specs.Pair.{same_block}
 
@@ -61,10 +62,12 @@ Promise protocol.C c d write place = is_whole d.applied place (WriteItem write) 
 
 -- Third clause: every write that was completed over the link has what its protocol promises.
 pub record KeepsPromises (p : PrimaryHistory) (s : SecondaryHistory) : Type 0 where
-  pub promised : (n k place : ℕ) (entry : Completion) → slice_get p.journal n ≡ Some entry → entry.kind ≡ Linked → entry.home ≡ Some (k, place)
+  pub promised : (n k place : ℕ) (entry : Completion) → slice_get p.journal n ≡ Some entry → entry.kind ≡ Linked
+      → entry.home ≡ Some (record { index = k; place = place })
       → Promise p.settings.protocol (outward_at p (suc k)) (inward_at s (suc k)) entry.write place
   pub home : (n : ℕ) (entry : Completion) → slice_get p.journal n ≡ Some entry → entry.kind ≡ Linked
-      → (k : ℕ) × (place : ℕ) × (c : Outward) × (entry.home ≡ Some (k, place)) × (slice_get p.connections k ≡ Some c) × (slice_get c.stream place ≡ Some (WriteItem entry.write))
+      → (k : ℕ) × (place : ℕ) × (c : Outward) × (entry.home ≡ Some (record { index = k; place = place })) × (slice_get p.connections k ≡ Some c)
+      × (slice_get c.stream place ≡ Some (WriteItem entry.write))
 
 -- A block of the device is marked. Past its end nothing is.
 abbrev pub is_marked : PrimaryHistory → ℕ → Bool

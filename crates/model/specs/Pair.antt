@@ -1,5 +1,6 @@
 -- A pair: the two histories and the link between them, its fourteen events, and runs over lists of them.
-use Rattle.std.specs.Prelude.{ℕ, ◌-◌, nat_lt, ◌==◌, Bool, true, false, ◌&&◌, not, List, [], ◌∷◌, ◌++◌, length, take, map, filter, Option, Some, None, slice_get, option_map, Ok}
+use Rattle.std.specs.Prelude.{ℕ, ◌-◌, nat_lt, ◌==◌, Bool, true, false, ◌&&◌, not, List, [], ◌∷◌, ◌++◌, length, take, map, filter, Option, Some, None, slice_get}
+use Rattle.std.specs.Prelude.{option_map, Ok}
 use Rattle.blocks.specs.declared.tuple.Tuple.{Tuple}
 use Rattle.blocks.specs.declared.settings.Settings.{Settings}
 use Rattle.blocks.specs.declared.refusal.Refusal.TheVariants.{BadRange, UnknownJob, NotDrained}
@@ -10,7 +11,8 @@ use Rattle.model.specs.Stream.{contents_of, below}
 use Rattle.model.specs.Frames.{Packet, Received}
 use Rattle.model.specs.Refusals.{Test, first_refusal}
 use Rattle.model.specs.Primary.{PrimaryHistory, primary_opening, outward, frames_due, local_map}
-use Rattle.model.specs.PrimarySteps.{open_tests, open_primary, submit, local_done, local_fault, is_unfinished, accepted_at, send, resync_next, resync_fault, close_primary}
+use Rattle.model.specs.PrimarySteps.{open_tests, open_primary, submit, local_done, local_fault, is_unfinished, accepted_at, send, resync_next, resync_fault}
+use Rattle.model.specs.PrimarySteps.{close_primary}
 use Rattle.model.specs.Acknowledgements.{ack_in}
 use Rattle.model.specs.Secondary.{SecondaryHistory, secondary_opening, inward, is_drained, items_taken, secondary_map, answers_due}
 use Rattle.model.specs.SecondarySteps.{open_secondary, receive, peer, peer_fault, peer_tests, ack_out, close_secondary}
@@ -98,7 +100,8 @@ keeps_too_many kept (Some count) = nat_lt count kept
 -- a local write that fails after so many blocks
 abbrev pub local_fault_kept : ℕ → ℕ → PrimaryHistory → Reply × PrimaryHistory
 local_fault_kept number kept h =
-    elim (first_refusal ((not (is_unfinished h number), UnknownJob) ∷ (keeps_too_many kept (option_map (λ accepted. length accepted.write.contents) (accepted_at h number)), BadRange) ∷ [])) [
+    elim (first_refusal ((not (is_unfinished h number), UnknownJob) ∷
+    (keeps_too_many kept (option_map (λ accepted. length accepted.write.contents) (accepted_at h number)), BadRange) ∷ [])) [
       | Some refusal ↦ (reply.Refused refusal, h)
       | None ↦ local_fault number (below kept) h
     ]
@@ -106,7 +109,10 @@ local_fault_kept number kept h =
 -- an item that fails on the peer's disk after so many blocks
 abbrev pub peer_fault_kept : ℕ → ℕ → SecondaryHistory → Reply × SecondaryHistory
 peer_fault_kept place kept h =
-    elim (first_refusal (peer_tests h place ++ (keeps_too_many kept (option_map (λ item. length (contents_of item)) (slice_get (items_taken (inward h)) place)), BadRange) ∷ [])) [
+    elim (first_refusal (peer_tests h place ++ (
+      keeps_too_many kept (option_map (λ item. length (contents_of item)) (slice_get (items_taken (inward h)) place)),
+      BadRange,
+    ) ∷ [])) [
       | Some refusal ↦ (reply.Refused refusal, h)
       | None ↦ peer_fault place (below kept) h
     ]

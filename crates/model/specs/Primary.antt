@@ -1,13 +1,16 @@
 -- The history of a primary, and what is read off it.
-use Rattle.std.specs.Prelude.{ℕ, zero, suc, unwrap_or, ◌-◌, nat_lt, ◌==◌, Bool, true, false, ◌&&◌, ◌||◌, not, if◌then◌else◌, List, [], ◌∷◌, ◌++◌, length, map, filter, find, Option, Some, None, option_map, slice_get, Ok}
+use Rattle.std.specs.Prelude.{ℕ, zero, suc, unwrap_or, ◌-◌, nat_lt, ◌==◌, Bool, true, false, ◌&&◌, ◌||◌, not, if◌then◌else◌, List, [], ◌∷◌, ◌++◌, length, map}
+use Rattle.std.specs.Prelude.{filter, find, Option, Some, None, option_map, slice_get, Ok}
 use Rattle.std.specs.List.{list_any}
+use Rattle.blocks.specs.Positions.{StreamPosition}
 use Rattle.blocks.specs.declared.tuple.Tuple.{Tuple}
 use Rattle.blocks.specs.declared.settings.Settings.{Settings}
 use Rattle.blocks.specs.declared.settings.Protocol.{Protocol}
 use Rattle.blocks.specs.declared.settings.Protocol.TheVariants as protocol
 use Rattle.model.specs.Contents.{BlockMap, Write, covers, Layer, overlay, extent_of}
 use Rattle.model.specs.Stream.{Item, WriteItem, ResyncItem, SyncUuidItem, UuidsItem, epoch_of, placed, below}
-use Rattle.model.specs.Frames.{Packet, RecvAckFrame, WriteAckFrame, RsWriteAckFrame, BarrierAckFrame, Acknowledged, Received, hello_of, frames_of, naming, counting}
+use Rattle.model.specs.Frames.{Packet, RecvAckFrame, WriteAckFrame, RsWriteAckFrame, BarrierAckFrame, Acknowledged, Received, hello_of, frames_of, naming}
+use Rattle.model.specs.Frames.{counting}
 
 -- What the local disk did with a write: nothing yet, all of it, or it failed and these offsets reached the disk.
 pub data LocalOutcome : Type 0 where
@@ -15,12 +18,12 @@ pub data LocalOutcome : Type 0 where
   OnDisk : LocalOutcome
   Failed : (offsets : List ℕ) → LocalOutcome
 
--- An accepted write: how long the journal was when it was accepted, its home (the number of the connection and the place
--- in its stream) or none, and what the local disk did with it.
+-- An accepted write: how long the journal was when it was accepted, its home (the index of the connection and the place in its
+-- stream, both from 0) or none, and what the local disk did with it.
 pub record Accepted : Type 0 where
   pub write : Write
   pub journal_length : ℕ
-  pub home : Option (ℕ × ℕ)
+  pub home : Option StreamPosition
   pub outcome : LocalOutcome
 
 -- How a write was completed: over the link, or without it.
@@ -32,7 +35,7 @@ pub data Kind : Type 0 where
 pub record Completion : Type 0 where
   pub write : Write
   pub kind : Kind
-  pub home : Option (ℕ × ℕ)
+  pub home : Option StreamPosition
 
 -- One connection at the primary's end: its two words, the tuple that its hello names, its stream, how many frames were
 -- pushed, those that were taken, whether the last of them was refused as a protocol error, whether the stream has begun,
@@ -182,9 +185,9 @@ is_answered_by protocol.C c place item = was_written c place item
 abbrev pub is_answered : PrimaryHistory → Accepted → Bool
 is_answered h accepted = elim accepted.home [
   | None ↦ false
-  | Some home ↦ elim (slice_get h.connections home.0) [
+  | Some home ↦ elim (slice_get h.connections home.index) [
     | None ↦ false
-    | Some c ↦ is_answered_by h.settings.protocol c home.1 (WriteItem accepted.write)
+    | Some c ↦ is_answered_by h.settings.protocol c home.place (WriteItem accepted.write)
   ]
 ]
 
@@ -192,7 +195,7 @@ is_answered h accepted = elim accepted.home [
 abbrev pub is_alone : PrimaryHistory → Accepted → Bool
 is_alone h accepted = elim accepted.home [
   | None ↦ true
-  | Some home ↦ elim (slice_get h.connections home.0) [ None ↦ true | Some c ↦ c.closed ]
+  | Some home ↦ elim (slice_get h.connections home.index) [ None ↦ true | Some c ↦ c.closed ]
 ]
 
 -- The states of a write, read off.
@@ -228,14 +231,14 @@ abbrev pub completes : PrimaryHistory → Accepted → Bool
 completes h accepted = is_on_disk accepted.outcome && (is_answered h accepted || is_alone h accepted)
 
 -- the epoch of a write with a home
-abbrev pub home_epoch : PrimaryHistory → ℕ × ℕ → ℕ
-home_epoch h home = elim (slice_get h.connections home.0) [ None ↦ 0 | Some c ↦ epoch_of c.stream home.1 ]
+abbrev pub home_epoch : PrimaryHistory → StreamPosition → ℕ
+home_epoch h home = elim (slice_get h.connections home.index) [ None ↦ 0 | Some c ↦ epoch_of c.stream home.place ]
 
 -- its epoch's BARRIER_ACK was taken
 abbrev pub is_confirmed : PrimaryHistory → Accepted → Bool
 is_confirmed h accepted = elim accepted.home [
   | None ↦ false
-  | Some home ↦ elim (slice_get h.connections home.0) [ None ↦ false | Some c ↦ barrier_acknowledged c (epoch_of c.stream home.1) ]
+  | Some home ↦ elim (slice_get h.connections home.index) [ None ↦ false | Some c ↦ barrier_acknowledged c (epoch_of c.stream home.place) ]
 ]
 
 -- The lowest write that the local disk has neither written nor failed.

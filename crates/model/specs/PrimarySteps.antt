@@ -1,9 +1,12 @@
 -- The local steps of a primary: for each event its tests in order, its effect, and what follows in the same step.
-use Rattle.std.specs.Prelude.{ℕ, suc, ◌-◌, nat_lt, nat_le, ◌==◌, Bool, true, false, ◌&&◌, ◌||◌, not, if◌then◌else◌, List, [], ◌∷◌, ◌++◌, length, map, filter, find, Option, Some, None, is_some, is_none, slice_get, unwrap_or, Result, Ok, Err}
+use Rattle.std.specs.Prelude.{ℕ, suc, ◌-◌, nat_lt, nat_le, ◌==◌, Bool, true, false, ◌&&◌, ◌||◌, not, if◌then◌else◌, List, [], ◌∷◌, ◌++◌, length, map, filter}
+use Rattle.std.specs.Prelude.{find, Option, Some, None, is_some, is_none, slice_get, unwrap_or, Result, Ok, Err}
 use Rattle.std.specs.List.{list_any}
 use Rattle.blocks.specs.declared.tuple.Tuple.{Tuple}
 use Rattle.blocks.specs.declared.refusal.Refusal.{Refusal}
-use Rattle.blocks.specs.declared.refusal.Refusal.TheVariants.{BadRange, Conflict, LogFull, ActivityFull, JournalFull, StreamFull, NoMemory, LocalFault, NotCompleted, NothingToDo, LinkFull, NotConnected, NothingThere, ReadFault, UnknownJob, UsedIdentifier, NotDrained}
+use Rattle.blocks.specs.declared.refusal.Refusal.TheVariants.{BadRange, Conflict, LogFull, ActivityFull, JournalFull, StreamFull, NoMemory, LocalFault}
+use Rattle.blocks.specs.declared.refusal.Refusal.TheVariants.{NotCompleted, NothingToDo, LinkFull, NotConnected, NothingThere, ReadFault, UnknownJob}
+use Rattle.blocks.specs.declared.refusal.Refusal.TheVariants.{UsedIdentifier, NotDrained}
 use Rattle.blocks.specs.declared.outcome.What.{What}
 use Rattle.blocks.specs.declared.outcome.What.TheVariants as what
 use Rattle.blocks.specs.declared.outcome.Reply.{Reply}
@@ -13,7 +16,9 @@ use Rattle.model.specs.Stream.{Item, WriteItem, ResyncItem, BarrierItem, UuidsIt
 use Rattle.model.specs.Frames.{command_of}
 use Rattle.model.specs.Identifiers.{are_fresh, lost, sync_end}
 use Rattle.model.specs.Refusals.{Test, first_refusal}
-use Rattle.model.specs.Primary.{LocalOutcome, Waiting, OnDisk, Failed, Accepted, Linked, Alone, Completion, Outward, PrimaryHistory, outward, last_index, with_outward, stands, frames_due, was_resynced, is_answered, is_waiting, is_open, completes, unreleased, open_writes, local_map, active_extents, is_resync, resync_runs, under_way, marked_blocks, free_block}
+use Rattle.model.specs.Primary.{LocalOutcome, Waiting, OnDisk, Failed, Accepted, Linked, Alone, Completion, Outward, PrimaryHistory, outward, last_index}
+use Rattle.model.specs.Primary.{with_outward, stands, frames_due, was_resynced, is_answered, is_waiting, is_open, completes, unreleased, open_writes, local_map}
+use Rattle.model.specs.Primary.{active_extents, is_resync, resync_runs, under_way, marked_blocks, free_block}
 use Rattle.model.specs.Marks.{marking, marking_unreleased, releasing}
 
 -- What follows an effect in the same step.
@@ -47,7 +52,8 @@ is_settled h c entry =
 abbrev pub epoch_is_over : PrimaryHistory → Bool
 epoch_is_over h =
     let c = outward h in
-    stands c && (list_any (is_settled h c) (items_of_epoch c.stream (last_epoch c.stream)) || nat_le h.settings.max_epoch (epoch_size c.stream (last_epoch c.stream)))
+    stands c && (list_any (is_settled h c) (items_of_epoch c.stream (last_epoch c.stream)) || nat_le h.settings.max_epoch
+    (epoch_size c.stream (last_epoch c.stream)))
 
 -- an item goes to the end of the stream
 abbrev pub appending : Item → PrimaryHistory → PrimaryHistory
@@ -102,7 +108,19 @@ open_tests h sync loss starved =
 -- a new connection, with its words and the tuple of its hello
 abbrev pub opened : PrimaryHistory → ℕ → ℕ → PrimaryHistory
 opened h sync loss =
-    record h { connections = h.connections ++ record { sync = sync; loss = loss; hello = h.tuple; stream = []; pushed = 0; taken = []; refused = false; begun = false; closed = false } ∷ [] }
+    record h {
+      connections = h.connections ++ record {
+        sync = sync;
+        loss = loss;
+        hello = h.tuple;
+        stream = [];
+        pushed = 0;
+        taken = [];
+        refused = false;
+        begun = false;
+        closed = false;
+      } ∷ [];
+    }
 
 -- the primary opens its end
 abbrev pub open_primary : ℕ → ℕ → Bool → PrimaryHistory → Reply × PrimaryHistory
@@ -113,7 +131,8 @@ open_primary sync loss starved h = tested h (open_tests h sync loss starved) (λ
 -- The lowest open write that shares a block with the range, where 0 stands for the block that a resync has under way.
 abbrev pub conflict : PrimaryHistory → Write → Option ℕ
 conflict h write =
-    if list_any (λ entry. elim entry.1 as (λ _. Bool) [ ResyncItem block contents ↦ covers write block | _ ↦ false ]) (elim (stands (outward h)) [ true ↦ under_way (outward h) | false ↦ [] ])
+    if list_any (λ entry. elim entry.1 as (λ _. Bool) [ ResyncItem block contents ↦ covers write block | _ ↦ false ])
+    (elim (stands (outward h)) [ true ↦ under_way (outward h) | false ↦ [] ])
     then Some 0 else slice_get (map (λ accepted. accepted.write.number) (filter (λ accepted. overlap accepted.write write) (open_writes h))) 0
 
 -- no slot can be had: the extent has no unreleased write, and as many others have one as there are slots
@@ -141,13 +160,25 @@ submitted h first contents =
     let write = submission h first contents in
     let c = outward h in
     elim (stands c) [
-      | true ↦ appending (WriteItem write) (record h { writes = h.writes ++ record { write = write; journal_length = length h.journal; home = Some (last_index h.connections, length c.stream); outcome = Waiting } ∷ [] })
-      | false ↦ record h { writes = h.writes ++ record { write = write; journal_length = length h.journal; home = None; outcome = Waiting } ∷ []; marks = marking write h.marks }
+      | true ↦ appending (WriteItem write)
+          (record h {
+            writes = h.writes ++ record {
+              write = write;
+              journal_length = length h.journal;
+              home = Some (record { index = last_index h.connections; place = length c.stream });
+              outcome = Waiting;
+            } ∷ [];
+          })
+      | false ↦ record h {
+        writes = h.writes ++ record { write = write; journal_length = length h.journal; home = None; outcome = Waiting } ∷ [];
+        marks = marking write h.marks;
+      }
     ]
 
 -- the primary accepts a write
 abbrev pub submit : ℕ → List (List ℕ) → Bool → PrimaryHistory → Reply × PrimaryHistory
-submit first contents starved h = tested h (submit_tests h first contents starved) (λ _. succeeding (what.Write (suc (length h.writes))) (submitted h first contents))
+submit first contents starved h = tested h (submit_tests h first contents starved)
+    (λ _. succeeding (what.Write (suc (length h.writes))) (submitted h first contents))
 
 -- The local disk.
 
@@ -231,7 +262,8 @@ closing h =
 
 -- It tells how many writes were completed by it.
 abbrev pub close_primary : PrimaryHistory → Reply × PrimaryHistory
-close_primary h = tested h (((outward h).closed, NotConnected) ∷ []) (λ _. let after = follows (closing h) in (reply.Closed (length after.completed), after.history))
+close_primary h = tested h (((outward h).closed, NotConnected) ∷ [])
+    (λ _. let after = follows (closing h) in (reply.Closed (length after.completed), after.history))
 
 -- Receipts: a completed write's entry, once; 8 for a failed write, once; 9 while it is open.
 abbrev pub take_completed_tests : PrimaryHistory → ℕ → List Test
@@ -247,5 +279,11 @@ receipted number h = record h { receipts = h.receipts ++ number ∷ [] }
 abbrev pub take_completed : ℕ → PrimaryHistory → Result Completion Refusal × PrimaryHistory
 take_completed number h = elim (first_refusal (take_completed_tests h number)) [
   | Some refusal ↦ (Err refusal, h)
-  | None ↦ elim (find (λ entry. entry.write.number == number) h.journal) [ None ↦ (Err LocalFault, receipted number h) | Some entry ↦ (Ok entry, receipted number h) ]
+  | None ↦ elim (find (λ entry. entry.write.number == number) h.journal) [
+    | None ↦ (Err LocalFault, receipted number h)
+    | Some entry ↦ (
+      Ok entry,
+      receipted number h,
+    )
+  ]
 ]

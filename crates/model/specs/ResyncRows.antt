@@ -5,8 +5,10 @@ use Rattle.blocks.specs.declared.outcome.Decision.TheVariants.{BitmapSync, FullS
 use Rattle.blocks.specs.declared.outcome.Reply.TheVariants as reply
 use Rattle.blocks.specs.declared.command.Command.TheVariants as command
 use Rattle.blocks.specs.SettingsRange.{standard}
-use Rattle.model.specs.Pair.{Event, LocalEvent, SendEvent, ReceiveEvent, PeerEvent, AckOutEvent, AckInEvent, ResyncEvent, ResyncFaultEvent, ClosePrimaryEvent, CloseSecondaryEvent, PairHistory, tuples, marked, differing}
-use Rattle.model.specs.Rows.{words, fresh_with, connected, connect, connecting, replies, after, fill, refused, done, accepted, item, frame, decided, resynced, completing, with_barrier, with_sync}
+use Rattle.model.specs.Pair.{Event, LocalEvent, SendEvent, ReceiveEvent, PeerEvent, AckOutEvent, AckInEvent, ResyncEvent, ResyncFaultEvent, ClosePrimaryEvent}
+use Rattle.model.specs.Pair.{CloseSecondaryEvent, PairHistory, tuples, marked, differing}
+use Rattle.model.specs.Rows.{words, fresh_with, connected, connect, connecting, replies, after, fill, refused, done, accepted, item, frame, decided, resynced}
+use Rattle.model.specs.Rows.{completing, with_barrier, with_sync}
 
 -- after both ends closed and opened again, where nothing was written between
 abbrev pub closed_twice : List Event
@@ -18,7 +20,10 @@ pub record NothingMarked : Type 0 where
   pub source : tuples (after (closed_twice ++ connect 9 11) (connected standard)) ≡ (words 7 0 9 1, words 1 0 0 0)
   pub sends : replies (SendEvent ∷ SendEvent ∷ ReceiveEvent ∷ ReceiveEvent ∷ []) (after (closed_twice ++ connect 9 11) (connected standard))
       ≡ item command.SyncUuid 0 ∷ item command.Uuids 1 ∷ item command.SyncUuid 0 ∷ item command.Uuids 1 ∷ []
-  pub adopted : tuples (after (closed_twice ++ connect 9 11 ++ SendEvent ∷ SendEvent ∷ ReceiveEvent ∷ ReceiveEvent ∷ []) (connected standard)) ≡ (words 7 0 9 1, words 7 0 9 1)
+  pub adopted : tuples (after (closed_twice ++ connect 9 11 ++ SendEvent ∷ SendEvent ∷ ReceiveEvent ∷ ReceiveEvent ∷ []) (connected standard)) ≡ (
+    words 7 0 9 1,
+    words 7 0 9 1,
+  )
 
 -- A peer without data takes everything.
 pub record EmptyPeer : Type 0 where
@@ -37,7 +42,8 @@ one_block_resync = connect 5 7 ++ ResyncFaultEvent ∷ ResyncEvent ∷ ResyncEve
 -- what that answers, and what stays marked when the link is lost
 pub record OneBlock : Type 0 where
   pub answers : replies one_block_resync one_block
-      ≡ connecting (decided FullSync) ++ refused refusal.ReadFault ∷ resynced 0 1 ∷ refused refusal.NothingToDo ∷ refused (refusal.Conflict 0) ∷ reply.Closed 0 ∷ []
+      ≡ connecting (decided FullSync) ++ refused refusal.ReadFault ∷ resynced 0 1 ∷ refused refusal.NothingToDo ∷ refused (refusal.Conflict 0) ∷ reply.Closed 0
+      ∷ []
   pub marks : marked (after one_block_resync one_block) ≡ 0 ∷ []
 
 -- Two writes while the link was down, and the resync that copies them.
@@ -70,12 +76,15 @@ pub record WrittenAlone : Type 0 where
 pub record Resynced : Type 0 where
   pub target : tuples (after (SendEvent ∷ ReceiveEvent ∷ []) two_marked) ≡ (words 7 9 1 0, words 9 0 0 0)
   pub first : replies first_copied two_marked
-      ≡ item command.SyncUuid 0 ∷ item command.SyncUuid 0 ∷ resynced 3 1 ∷ item command.RsDataReply 1 ∷ item command.RsDataReply 1 ∷ done ∷ frame command.RsWriteAck ∷ with_barrier 1 (frame command.RsWriteAck) ∷ []
+      ≡ item command.SyncUuid 0 ∷ item command.SyncUuid 0 ∷ resynced 3 1 ∷ item command.RsDataReply 1 ∷ item command.RsDataReply 1 ∷ done ∷ frame
+      command.RsWriteAck ∷ with_barrier 1 (frame command.RsWriteAck) ∷ []
   pub second : replies second_copied (after first_copied two_marked)
-      ≡ resynced 6 3 ∷ item command.Barrier 2 ∷ item command.RsDataReply 3 ∷ item command.Barrier 2 ∷ item command.RsDataReply 3 ∷ done ∷ frame command.BarrierAck ∷ frame command.RsWriteAck
+      ≡ resynced 6 3 ∷ item command.Barrier 2 ∷ item command.RsDataReply 3 ∷ item command.Barrier 2 ∷ item command.RsDataReply 3 ∷ done ∷ frame
+      command.BarrierAck ∷ frame command.RsWriteAck
       ∷ frame command.BarrierAck ∷ with_sync (with_barrier 2 (frame command.RsWriteAck)) ∷ []
   pub source : tuples (after (first_copied ++ second_copied) two_marked) ≡ (words 7 0 9 1, words 9 0 0 0)
-  pub third : replies ended (after (first_copied ++ second_copied) two_marked) ≡ item command.Barrier 4 ∷ item command.Uuids 5 ∷ item command.Barrier 4 ∷ item command.Uuids 5 ∷ []
+  pub third : replies ended (after (first_copied ++ second_copied) two_marked) ≡ item command.Barrier 4 ∷ item command.Uuids 5 ∷ item command.Barrier 4 ∷ item
+      command.Uuids 5 ∷ []
   pub adopted : tuples (after (first_copied ++ second_copied ++ ended) two_marked) ≡ (words 7 0 9 1, words 7 0 9 1)
   pub unmarked : marked (after (first_copied ++ second_copied ++ ended) two_marked) ≡ []
   pub same : differing (after (first_copied ++ second_copied ++ ended) two_marked) ≡ []
@@ -93,7 +102,9 @@ pub record BrokenEnd : Type 0 where
 
 -- Writes during a resync: one that meets the block under way is refused, and an open write keeps its blocks from the resync.
 pub record AmongWrites : Type 0 where
-  pub under_way : replies (ResyncEvent ∷ fill 2 2 204 ∷ fill 6 1 221 ∷ SendEvent ∷ SendEvent ∷ SendEvent ∷ ReceiveEvent ∷ ReceiveEvent ∷ ReceiveEvent ∷ PeerEvent 1 ∷ AckOutEvent ∷ AckInEvent ∷ ResyncEvent ∷ []) two_marked
+  pub under_way : replies (ResyncEvent ∷ fill 2 2 204 ∷ fill 6 1 221 ∷ SendEvent ∷ SendEvent ∷ SendEvent ∷ ReceiveEvent ∷ ReceiveEvent ∷ ReceiveEvent ∷
+      PeerEvent 1 ∷ AckOutEvent ∷ AckInEvent ∷ ResyncEvent ∷ []) two_marked
       ≡ resynced 3 1 ∷ refused (refusal.Conflict 0) ∷ accepted 3 ∷ item command.SyncUuid 0 ∷ item command.RsDataReply 1 ∷ item command.Data 2
-      ∷ item command.SyncUuid 0 ∷ item command.RsDataReply 1 ∷ item command.Data 2 ∷ done ∷ frame command.RsWriteAck ∷ with_barrier 1 (frame command.RsWriteAck) ∷ refused refusal.NothingToDo ∷ []
+      ∷ item command.SyncUuid 0 ∷ item command.RsDataReply 1 ∷ item command.Data 2 ∷ done ∷ frame command.RsWriteAck ∷ with_barrier 1
+      (frame command.RsWriteAck) ∷ refused refusal.NothingToDo ∷ []
   pub passed_over : replies (fill 3 1 204 ∷ ResyncEvent ∷ []) two_marked ≡ accepted 3 ∷ resynced 6 2 ∷ []

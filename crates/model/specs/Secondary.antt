@@ -1,5 +1,6 @@
 -- The history of a secondary, what is read off it, and its local steps.
-use Rattle.std.specs.Prelude.{ℕ, nat_le, ◌==◌, Bool, true, false, ◌&&◌, ◌||◌, not, List, [], ◌++◌, length, drop, filter, find, filter_map, map, Option, None, option_map, unwrap_or, slice_get, suc, Ok, Err}
+use Rattle.std.specs.Prelude.{ℕ, nat_le, ◌==◌, Bool, true, false, ◌&&◌, ◌||◌, not, List, [], ◌++◌, length, drop, filter, find, filter_map, map, Option, None}
+use Rattle.std.specs.Prelude.{option_map, unwrap_or, slice_get, suc, Ok, Err}
 use Rattle.std.specs.List.{list_any, list_all}
 use Rattle.blocks.specs.declared.tuple.Tuple.{Tuple}
 use Rattle.blocks.specs.declared.settings.Settings.{Settings}
@@ -45,7 +46,18 @@ secondary_opening settings disk tuple = record {
 
 -- an end that was never open: a closed one on which nothing happened
 abbrev pub no_inward : SecondaryHistory → Inward
-no_inward h = record { number = 0; base = h.opening_map; hello = h.tuple; taken = []; refused = false; applied = []; gone = []; due = []; pushed = 0; closed = true }
+no_inward h = record {
+  number = 0;
+  base = h.opening_map;
+  hello = h.tuple;
+  taken = [];
+  refused = false;
+  applied = [];
+  gone = [];
+  due = [];
+  pushed = 0;
+  closed = true;
+}
 
 -- the last connection, or a closed one where there was none
 abbrev pub inward : SecondaryHistory → Inward

@@ -1,22 +1,27 @@
 -- The local steps of a secondary: for each event its tests in order, its effect, and the acknowledgements that follow.
-use Rattle.std.specs.Prelude.{ℕ, zero, suc, ◌+◌, nat_lt, nat_le, ◌==◌, Bool, true, false, ◌&&◌, not, if◌then◌else◌, List, [], ◌∷◌, ◌++◌, length, map, filter, Option, Some, None, is_none, slice_get, Result, Ok, Err}
+use Rattle.std.specs.Prelude.{ℕ, zero, suc, ◌+◌, nat_lt, nat_le, ◌==◌, Bool, true, false, ◌&&◌, not, if◌then◌else◌, List, [], ◌∷◌, ◌++◌, length, map, filter}
+use Rattle.std.specs.Prelude.{Option, Some, None, is_none, slice_get, Result, Ok, Err}
 use Rattle.std.specs.List.{list_any, list_all}
 use Rattle.blocks.specs.declared.tuple.Tuple.{Tuple}
 use Rattle.blocks.specs.declared.settings.Protocol.{Protocol}
 use Rattle.blocks.specs.declared.settings.Protocol.TheVariants as protocol
 use Rattle.blocks.specs.declared.refusal.Refusal.{Refusal}
-use Rattle.blocks.specs.declared.refusal.Refusal.TheVariants.{NoMemory, LinkFull, NotConnected, NothingThere, UnknownJob, EpochOpen, PendingFull, BadCommand, BadField, OtherProtocol, OtherSize, NotDrained}
+use Rattle.blocks.specs.declared.refusal.Refusal.TheVariants.{NoMemory, LinkFull, NotConnected, NothingThere, UnknownJob, EpochOpen, PendingFull, BadCommand}
+use Rattle.blocks.specs.declared.refusal.Refusal.TheVariants.{BadField, OtherProtocol, OtherSize, NotDrained}
 use Rattle.blocks.specs.declared.outcome.What.{What}
 use Rattle.blocks.specs.declared.outcome.What.TheVariants as what
 use Rattle.blocks.specs.declared.outcome.Reply.{Reply}
 use Rattle.blocks.specs.declared.outcome.Reply.TheVariants as reply
 use Rattle.blocks.specs.declared.command.Command.TheVariants as command
 use Rattle.model.specs.Contents.{is_range}
-use Rattle.model.specs.Stream.{Item, WriteItem, ResyncItem, number_of, contents_of, epoch_of, last_epoch, epoch_size, items_of_epoch, items_meet, barriers_in, below, within}
-use Rattle.model.specs.Frames.{Packet, DataFrame, RsDataReplyFrame, BarrierFrame, ProtocolFrame, UuidsFrame, SizesFrame, SyncUuidFrame, RecvAckFrame, WriteAckFrame, RsWriteAckFrame, BarrierAckFrame, Received, command_of, naming}
+use Rattle.model.specs.Stream.{Item, WriteItem, ResyncItem, number_of, contents_of, epoch_of, last_epoch, epoch_size, items_of_epoch, items_meet, barriers_in}
+use Rattle.model.specs.Stream.{below, within}
+use Rattle.model.specs.Frames.{Packet, DataFrame, RsDataReplyFrame, BarrierFrame, ProtocolFrame, UuidsFrame, SizesFrame, SyncUuidFrame, RecvAckFrame}
+use Rattle.model.specs.Frames.{WriteAckFrame, RsWriteAckFrame, BarrierAckFrame, Received, command_of, naming}
 use Rattle.model.specs.Refusals.{Test, first_refusal, done_with}
 use Rattle.model.specs.Acknowledgements.{same_protocol}
-use Rattle.model.specs.Secondary.{Inward, SecondaryHistory, inward, with_inward, secondary_map, items_taken, pending, is_drained, answers_due, is_applied_to, is_in_resync}
+use Rattle.model.specs.Secondary.{Inward, SecondaryHistory, inward, with_inward, secondary_map, items_taken, pending, is_drained, answers_due, is_applied_to}
+use Rattle.model.specs.Secondary.{is_in_resync}
 
 -- What follows an effect in the same step: each barrier taken is acknowledged once all of the epochs up to it are applied.
 
@@ -60,7 +65,20 @@ next_number unseen h = suc ((inward h).number + unseen)
 -- a new connection lies over what the disk holds now
 abbrev pub opened_secondary : ℕ → SecondaryHistory → SecondaryHistory
 opened_secondary unseen h =
-    record h { connections = h.connections ++ record { number = next_number unseen h; base = secondary_map h; hello = h.tuple; taken = []; refused = false; applied = []; gone = []; due = []; pushed = 0; closed = false } ∷ [] }
+    record h {
+      connections = h.connections ++ record {
+        number = next_number unseen h;
+        base = secondary_map h;
+        hello = h.tuple;
+        taken = [];
+        refused = false;
+        applied = [];
+        gone = [];
+        due = [];
+        pushed = 0;
+        closed = false;
+      } ∷ [];
+    }
 
 -- the secondary opens its end, and has not seen so many connections of the primary since its last one
 abbrev pub open_secondary : ℕ → SecondaryHistory → Reply × SecondaryHistory
@@ -113,15 +131,18 @@ has_place place = nat_lt place 4294967295
 abbrev pub checking_item : Packet → ℕ → Inward → SecondaryHistory → Checked
 checking_item (DataFrame write at) place c h =
     let items = items_taken c in
-    checked_if ((((at == place) && has_place place) && is_range h.settings write.first (length write.contents)) && (is_above write.number items && is_apart (WriteItem write) items))
+    checked_if ((((at == place) && has_place place) && is_range h.settings write.first (length write.contents))
+    && (is_above write.number items && is_apart (WriteItem write) items))
     (what.Frame command.Data (Some place)) (receiving place (WriteItem write) h)
 checking_item (RsDataReplyFrame block contents at) place c h =
     let items = items_taken c in
-    checked_if ((((at == place) && has_place place) && is_range h.settings block 1) && (is_in_resync c && is_apart (ResyncItem block contents) items)) (what.Frame command.RsDataReply (Some place)) h
+    checked_if ((((at == place) && has_place place) && is_range h.settings block 1) && (is_in_resync c && is_apart (ResyncItem block contents) items))
+    (what.Frame command.RsDataReply (Some place)) h
 checking_item (BarrierFrame number) place c h =
     checked_if (has_place place && (number == last_epoch (items_taken c))) (what.Frame command.Barrier (Some place)) h
 checking_item (SyncUuidFrame word) place c h =
-    checked_if ((has_place place && (place == 0)) && nat_lt 0 word) (what.Frame command.SyncUuid (Some place)) (adopting (record h.tuple { current = word }) false h)
+    checked_if ((has_place place && (place == 0)) && nat_lt 0 word) (what.Frame command.SyncUuid (Some place))
+    (adopting (record h.tuple { current = word }) false h)
 checking_item (UuidsFrame tuple) place c h =
     checked_if (has_place place && is_in_resync c) (what.Frame command.Uuids (Some place)) (adopting tuple true h)
 checking_item packet place c h = Err BadCommand
@@ -145,7 +166,10 @@ take_item frame h =
 abbrev pub receive : Option Received → Bool → SecondaryHistory → Reply × SecondaryHistory
 receive frame starved h =
     let c = inward h in
-    tested_secondary h ((c.closed, NotConnected) ∷ (nat_le h.settings.pending (length (pending c)), PendingFull) ∷ (starved, NoMemory) ∷ (is_none frame, NothingThere) ∷ []) (λ _. elim frame [
+    tested_secondary h ((c.closed, NotConnected) ∷ (nat_le h.settings.pending (length (pending c)), PendingFull) ∷ (starved, NoMemory) ∷ (
+      is_none frame,
+      NothingThere,
+    ) ∷ []) (λ _. elim frame [
       | None ↦ (reply.Refused NothingThere, h)
       | Some taken ↦ take_item taken h
     ])
@@ -174,7 +198,8 @@ offsets_at place offsets = map (λ offset. (place, offset)) offsets
 
 -- Applying a write is acknowledged under C, and applying a resync item always.
 abbrev pub applied_answer : Protocol → ℕ → Item → List Packet
-applied_answer asked place (WriteItem write) = elim asked [ protocol.A ↦ [] | protocol.B ↦ [] | protocol.C ↦ WriteAckFrame (naming place (WriteItem write)) ∷ [] ]
+applied_answer asked place (WriteItem write) =
+    elim asked [ protocol.A ↦ [] | protocol.B ↦ [] | protocol.C ↦ WriteAckFrame (naming place (WriteItem write)) ∷ [] ]
 applied_answer asked place (ResyncItem block contents) = RsWriteAckFrame (naming place (ResyncItem block contents)) ∷ []
 applied_answer asked place _ = []
 

@@ -1,6 +1,8 @@
 -- Receipts of completed writes, and the settlement of two nodes that are brought together at rest.
-use Rattle.std.specs.Prelude.{ℕ, suc, max, ◌==◌, Bool, true, false, not, ◌&&◌, ◌||◌, List, [], ◌∷◌, length, filter, Option, Some, None, is_none, option_map, Result, Ok, Err}
+use Rattle.std.specs.Prelude.{ℕ, max, ◌==◌, Bool, true, false, not, ◌&&◌, ◌||◌, List, [], ◌∷◌, length, filter, Option, Some, None, is_none}
+use Rattle.std.specs.Prelude.{Result, Ok, Err}
 use Rattle.std.specs.List.{list_any}
+use Rattle.blocks.specs.Positions.{StreamPosition, same_position}
 use Rattle.blocks.specs.declared.refusal.Refusal.{Refusal}
 use Rattle.blocks.specs.declared.refusal.Refusal.TheVariants.{ReadFault, StrangeReceipt, NotDrained}
 use Rattle.model.specs.Stream.{has_blocks, placed, below}
@@ -10,14 +12,14 @@ use Rattle.model.specs.Secondary.{Inward, SecondaryHistory, inward, inward_at, i
 use Rattle.model.specs.Pair.{same_block}
 use Rattle.model.specs.Headline.{is_marked}
 
--- A receipt as its caller sees it: the write's number and range, how it was completed, and where it stood: its connection,
--- counted from 1, and its place in the stream.
+-- A receipt as its caller sees it: the write's number and range, how it was completed, and its home, or none: the index of its
+-- connection, and its place in the stream, both from 0.
 pub record Receipt : Type 0 where
   pub number : ℕ
   pub first : ℕ
   pub count : ℕ
   pub kind : Kind
-  pub home : Option (ℕ × ℕ)
+  pub home : Option StreamPosition
 
 -- the receipt of an entry of the journal
 abbrev pub receipt_of : Completion → Receipt
@@ -26,7 +28,7 @@ receipt_of entry = record {
   first = entry.write.first;
   count = length entry.write.contents;
   kind = entry.kind;
-  home = option_map (λ home. (suc home.0, home.1)) entry.home;
+  home = entry.home;
 }
 
 -- two kinds of completion are the same
@@ -36,9 +38,9 @@ same_kind Alone Alone = true
 same_kind _ _ = false
 
 -- two homes are the same
-abbrev pub same_home : Option (ℕ × ℕ) → Option (ℕ × ℕ) → Bool
+abbrev pub same_home : Option StreamPosition → Option StreamPosition → Bool
 same_home None None = true
-same_home (Some a) (Some b) = (a.0 == b.0) && (a.1 == b.1)
+same_home (Some a) (Some b) = same_position a b
 same_home _ _ = false
 
 -- two receipts are the same
@@ -49,7 +51,8 @@ same_receipt a b = ((a.number == b.number) && (a.first == b.first)) && ((a.count
 abbrev pub has_strange : List Completion → List Receipt → List Receipt → Bool
 has_strange journal earlier [] = false
 has_strange journal earlier (receipt ∷ receipts) =
-    (not (list_any (λ entry. same_receipt (receipt_of entry) receipt) journal) || list_any (same_receipt receipt) earlier) || has_strange journal (receipt ∷ earlier) receipts
+    (not (list_any (λ entry. same_receipt (receipt_of entry) receipt) journal) || list_any (same_receipt receipt) earlier)
+    || has_strange journal (receipt ∷ earlier) receipts
 
 -- Both ends are closed, nothing is pending, and the local disk has done or failed every write.
 abbrev pub is_at_rest : PrimaryHistory → SecondaryHistory → Bool
@@ -71,13 +74,20 @@ applied_items d = length (filter (λ entry. has_blocks entry.1 && is_done d entr
 -- on how many blocks that are not marked the disks differ, where a block that only one of them has counts as differing
 abbrev pub unmarked_differences : PrimaryHistory → SecondaryHistory → ℕ
 unmarked_differences p s =
-    length (filter (λ block. not (same_block (local_map p block) (secondary_map s block)) && not (is_marked p block)) (below (max p.settings.blocks s.settings.blocks)))
+    length (filter (λ block. not (same_block (local_map p block) (secondary_map s block)) && not (is_marked p block))
+    (below (max p.settings.blocks s.settings.blocks)))
 
 -- the numbers of a settlement, read off both histories
 abbrev pub settlement : PrimaryHistory → SecondaryHistory → List Receipt → Settlement
 settlement p s receipts =
     let d = inward_at s (length p.connections) in
-    record { sent = items_sent (outward p); taken = length (items_taken d); applied = applied_items d; confirmed = length receipts; unmarked = unmarked_differences p s }
+    record {
+      sent = items_sent (outward p);
+      taken = length (items_taken d);
+      applied = applied_items d;
+      confirmed = length receipts;
+      unmarked = unmarked_differences p s;
+    }
 
 -- When a settlement is refused, in order. `faulty` says that a disk fails a read.
 abbrev pub settle_tests : PrimaryHistory → SecondaryHistory → List Receipt → Bool → List Test

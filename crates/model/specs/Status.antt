@@ -3,14 +3,16 @@ use Rattle.std.specs.Prelude.{ℕ, suc, ◌*◌, nat_lt, nat_le, Bool, true, fal
 use Rattle.std.specs.List.{list_any}
 use Rattle.blocks.specs.declared.settings.Protocol.{Protocol}
 use Rattle.model.specs.Stream.{is_write, has_blocks, last_epoch, items_of_epoch, placed, below}
-use Rattle.model.specs.Primary.{PrimaryHistory, Outward, outward, stands, items_sent, is_answered_by, barrier_acknowledged, open_writes, resync_runs, marked_blocks}
+use Rattle.model.specs.Primary.{PrimaryHistory, Outward, outward, stands, items_sent, is_answered_by, barrier_acknowledged, open_writes, resync_runs}
+use Rattle.model.specs.Primary.{marked_blocks}
 use Rattle.model.specs.Secondary.{SecondaryHistory, Inward, inward, pending, whole}
 
 -- writes of the standing connection that were sent and are not answered
 abbrev pub unanswered : PrimaryHistory → ℕ
 unanswered h =
     let c = outward h in
-    if stands c then length (filter (λ entry. is_write entry.1 && (nat_lt entry.0 (items_sent c) && not (is_answered_by h.settings.protocol c entry.0 entry.1))) (placed c.stream)) else 0
+    if stands c then length (filter (λ entry. is_write entry.1 && (nat_lt entry.0 (items_sent c) && not (is_answered_by h.settings.protocol c entry.0 entry.1)))
+    (placed c.stream)) else 0
 
 -- accepted writes that are neither completed nor failed
 abbrev pub incomplete : PrimaryHistory → ℕ
@@ -21,7 +23,8 @@ abbrev pub open_epochs : PrimaryHistory → ℕ
 open_epochs h =
     let c = outward h in
     if stands c
-    then length (filter (λ epoch. list_any (λ entry. has_blocks entry.1) (items_of_epoch c.stream epoch) && not (barrier_acknowledged c epoch)) (map suc (below (last_epoch c.stream))))
+    then length (filter (λ epoch. list_any (λ entry. has_blocks entry.1) (items_of_epoch c.stream epoch) && not (barrier_acknowledged c epoch))
+    (map suc (below (last_epoch c.stream))))
     else 0
 
 -- marked blocks, in KiB
@@ -77,7 +80,14 @@ primary_words c =
 
 -- the primary's status line (DRBD User's Guide, "Performance indicators")
 abbrev pub primary_line : PrimaryHistory → PrimaryLine
-primary_line h = record { words = primary_words (outward h); protocol = h.settings.protocol; pe = unanswered h; ap = incomplete h; ep = open_epochs h; oos = out_of_sync h }
+primary_line h = record {
+  words = primary_words (outward h);
+  protocol = h.settings.protocol;
+  pe = unanswered h;
+  ap = incomplete h;
+  ep = open_epochs h;
+  oos = out_of_sync h;
+}
 
 -- The secondary's hello is done when it has taken three frames and sent three.
 abbrev pub hello_is_done : Inward → Bool
@@ -95,13 +105,26 @@ pub record SecondaryLine : Type 0 where
 abbrev pub secondary_words : Bool → Inward → Words
 secondary_words consistent c =
     if c.closed || not (hello_is_done c)
-    then record { link = if c.closed then StandAlone else WFReportParams; own_role = Secondary; other_role = Unknown; own_disk = if consistent then Consistent else Inconsistent; other_disk = DUnknown }
+    then record {
+      link = if c.closed then StandAlone else WFReportParams;
+      own_role = Secondary;
+      other_role = Unknown;
+      own_disk = if consistent then Consistent
+          else Inconsistent;
+      other_disk = DUnknown;
+    }
     else if consistent then record { link = Connected; own_role = Secondary; other_role = Primary; own_disk = UpToDate; other_disk = UpToDate }
     else record { link = SyncTarget; own_role = Secondary; other_role = Primary; own_disk = Inconsistent; other_disk = UpToDate }
 
 -- the secondary's status line
 abbrev pub secondary_line : SecondaryHistory → SecondaryLine
-secondary_line h = record { words = secondary_words h.consistent (inward h); protocol = h.settings.protocol; pending = length (pending (inward h)); usable = h.consistent; whole = whole h }
+secondary_line h = record {
+  words = secondary_words h.consistent (inward h);
+  protocol = h.settings.protocol;
+  pending = length (pending (inward h));
+  usable = h.consistent;
+  whole = whole h;
+}
 
 -- Lines of worked examples: a linked primary, a linked secondary, and a primary that stands alone.
 abbrev pub linked_primary : Protocol → ℕ → ℕ → ℕ → ℕ → PrimaryLine

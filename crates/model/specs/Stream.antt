@@ -94,8 +94,10 @@ items_meet a b = ranges_meet (first_of a) (length (contents_of a)) (first_of b) 
 -- block, and no epoch has more writes than may be.
 pub record IsLawful (max_epoch : ℕ) (items : List Item) : Type 0 where
   pub barriers : (place epoch : ℕ) → slice_get items place ≡ Some (BarrierItem epoch) → epoch ≡ epoch_of items place
-  pub rising : (place later : ℕ) (a b : Write) → place < later → slice_get items place ≡ Some (WriteItem a) → slice_get items later ≡ Some (WriteItem b) → a.number < b.number
-  pub apart : (place later : ℕ) (a b : Item) → place < later → epoch_of items place ≡ epoch_of items later → slice_get items place ≡ Some a → slice_get items later ≡ Some b → items_meet a b ≡ false
+  pub rising : (place later : ℕ) (a b : Write) → place < later → slice_get items place ≡ Some (WriteItem a) → slice_get items later ≡ Some (WriteItem b)
+      → a.number < b.number
+  pub apart : (place later : ℕ) (a b : Item) → place < later → epoch_of items place ≡ epoch_of items later → slice_get items place ≡ Some a
+      → slice_get items later ≡ Some b → items_meet a b ≡ false
   pub small : (epoch : ℕ) → epoch_size items epoch ≤ max_epoch
 
 -- A part of a stream: pairs of a place and an offset, each a block of an item.
@@ -116,7 +118,8 @@ is_whole part place item = list_all (λ offset. is_in part place offset) (below 
 
 -- The part has all of the epochs before `epoch` and nothing of those after it.
 pub record IsClosedAt (epoch : ℕ) (items : List Item) (part : Part) : Type 0 where
-  pub before : (place offset : ℕ) (item : Item) → slice_get items place ≡ Some item → epoch_of items place < epoch → offset < length (contents_of item) → is_in part place offset ≡ true
+  pub before : (place offset : ℕ) (item : Item) → slice_get items place ≡ Some item → epoch_of items place < epoch → offset < length (contents_of item)
+      → is_in part place offset ≡ true
   pub after : (place offset : ℕ) → is_in part place offset ≡ true → epoch_of items place ≤ epoch
 
 -- what the items of a part lay over a disk, in the order of the stream

@@ -41,9 +41,11 @@ two_taken = fill 2 1 170 ∷ fill 3 1 187 ∷ SendEvent ∷ SendEvent ∷ SendEv
 -- Faults of the peer's disk with more blocks kept than the item has: at a barrier's place, and at a place that was not taken;
 -- of an item whose turn has not come; and of one whose turn it is.
 abbrev pub faults_in_order : List Event
-faults_in_order = PeerFaultEvent 1 2 ∷ PeerFaultEvent 3 2 ∷ PeerFaultEvent 2 2 ∷ PeerFaultEvent 0 2 ∷ PeerEvent 0 ∷ PeerFaultEvent 0 2 ∷ PeerFaultEvent 2 2 ∷ PeerFaultEvent 2 1 ∷ []
+faults_in_order = PeerFaultEvent 1 2 ∷ PeerFaultEvent 3 2 ∷ PeerFaultEvent 2 2 ∷ PeerFaultEvent 0 2 ∷ PeerEvent 0 ∷ PeerFaultEvent 0 2 ∷ PeerFaultEvent 2 2 ∷
+    PeerFaultEvent 2 1 ∷ []
 
 -- what these answer: only the last fault happens
 pub record FaultsInOrder : Type 0 where
   pub answers : replies faults_in_order (after two_taken (connected short_epochs))
-      ≡ refused refusal.UnknownJob ∷ refused refusal.UnknownJob ∷ refused refusal.EpochOpen ∷ refused refusal.BadRange ∷ done ∷ refused refusal.UnknownJob ∷ refused refusal.BadRange ∷ done ∷ []
+      ≡ refused refusal.UnknownJob ∷ refused refusal.UnknownJob ∷ refused refusal.EpochOpen ∷ refused refusal.BadRange ∷ done ∷ refused refusal.UnknownJob ∷
+      refused refusal.BadRange ∷ done ∷ []

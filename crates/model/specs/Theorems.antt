@@ -70,7 +70,8 @@ EveryRun IsSuch Holds =
 abbrev pub JoinedRuns : (Opening → Type 0) → (PrimaryHistory → SecondaryHistory → Type 0) → Type 0
 JoinedRuns IsSuch Holds =
     (o : Opening) (here : List PrimaryEvent) (there : List SecondaryEvent) → IsSuch o
-    → IsJoined (primary_run here (primary_at o)) (secondary_run there (secondary_at o)) → Holds (primary_run here (primary_at o)) (secondary_run there (secondary_at o))
+    → IsJoined (primary_run here (primary_at o)) (secondary_run there (secondary_at o))
+    → Holds (primary_run here (primary_at o)) (secondary_run there (secondary_at o))
 
 -- The headline, the cover beside it, and the write order, of the pair.
 abbrev pub EveryRunHasTheHeadline : Type 0
@@ -104,7 +105,8 @@ pub record Settles (p : PrimaryHistory) (s : SecondaryHistory) (receipts : List 
   pub exact : numbers ≡ settlement p s receipts
   pub taken : numbers.taken ≤ numbers.sent
   pub unmarked : IsGrounded p s → numbers.unmarked ≡ 0
-  pub confirmed : (i : ℕ) (receipt : Receipt) → slice_get receipts i ≡ Some receipt → (n : ℕ) × (entry : Completion) × (slice_get p.journal n ≡ Some entry) × (receipt ≡ receipt_of entry)
+  pub confirmed : (i : ℕ) (receipt : Receipt) → slice_get receipts i ≡ Some receipt
+      → (n : ℕ) × (entry : Completion) × (slice_get p.journal n ≡ Some entry) × (receipt ≡ receipt_of entry)
   pub once : (i j : ℕ) (receipt : Receipt) → slice_get receipts i ≡ Some receipt → slice_get receipts j ≡ Some receipt → i ≡ j
   pub distinct : (m n : ℕ) (a b : Completion) → slice_get p.journal m ≡ Some a → slice_get p.journal n ≡ Some b → a.write.number ≡ b.write.number → m ≡ n
 
@@ -116,16 +118,19 @@ pub record SettlesAnyhow (p : PrimaryHistory) (s : SecondaryHistory) (receipts :
   pub promises : KeepsPromises p s
   pub exact : numbers ≡ settlement p s receipts
   pub taken : numbers.taken ≤ numbers.sent
-  pub confirmed : (i : ℕ) (receipt : Receipt) → slice_get receipts i ≡ Some receipt → (n : ℕ) × (entry : Completion) × (slice_get p.journal n ≡ Some entry) × (receipt ≡ receipt_of entry)
+  pub confirmed : (i : ℕ) (receipt : Receipt) → slice_get receipts i ≡ Some receipt
+      → (n : ℕ) × (entry : Completion) × (slice_get p.journal n ≡ Some entry) × (receipt ≡ receipt_of entry)
   pub once : (i j : ℕ) (receipt : Receipt) → slice_get receipts i ≡ Some receipt → slice_get receipts j ≡ Some receipt → i ≡ j
   pub distinct : (m n : ℕ) (a b : Completion) → slice_get p.journal m ≡ Some a → slice_get p.journal n ≡ Some b → a.write.number ≡ b.write.number → m ≡ n
 
 -- The joining lemma of two nodes at rest: what a settlement that is not refused says.
 abbrev pub JoinedRunsSettle : Type 0
 JoinedRunsSettle =
-    JoinedRuns IsSoundOpening (λ p s. (receipts : List Receipt) (faulty : Bool) (numbers : Settlement) → settle p s receipts faulty ≡ Ok numbers → Settles p s receipts numbers)
+    JoinedRuns IsSoundOpening (λ p s. (receipts : List Receipt) (faulty : Bool) (numbers : Settlement) → settle p s receipts faulty ≡ Ok numbers
+    → Settles p s receipts numbers)
 
 -- The same for any disks and identifiers.
 abbrev pub JoinedRunsSettleAnyhow : Type 0
 JoinedRunsSettleAnyhow =
-    JoinedRuns HasRanges (λ p s. (receipts : List Receipt) (faulty : Bool) (numbers : Settlement) → settle p s receipts faulty ≡ Ok numbers → SettlesAnyhow p s receipts numbers)
+    JoinedRuns HasRanges (λ p s. (receipts : List Receipt) (faulty : Bool) (numbers : Settlement) → settle p s receipts faulty ≡ Ok numbers
+    → SettlesAnyhow p s receipts numbers)

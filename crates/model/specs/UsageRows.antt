@@ -7,7 +7,8 @@ use Rattle.model.specs.Contents.{filled}
 use Rattle.model.specs.Primary.{Linked, Alone, PrimaryHistory, primary_opening, no_outward, outward_at}
 use Rattle.model.specs.Secondary.{SecondaryHistory, secondary_opening, inward, inward_at, secondary_map, whole}
 use Rattle.model.specs.LocalRuns.{Opens, Closes, primary_run, OpensToo, ClosesToo, secondary_run}
-use Rattle.model.specs.Pair.{Event, LocalEvent, SendEvent, ReceiveEvent, PeerEvent, PeerFaultEvent, AckOutEvent, AckInEvent, ClosePrimaryEvent, CloseSecondaryEvent, PairHistory}
+use Rattle.model.specs.Pair.{Event, LocalEvent, SendEvent, ReceiveEvent, PeerEvent, PeerFaultEvent, AckOutEvent, AckInEvent, ClosePrimaryEvent}
+use Rattle.model.specs.Pair.{CloseSecondaryEvent, PairHistory}
 use Rattle.model.specs.Settlement.{Receipt, settle}
 use Rattle.model.specs.Status.{primary_line, linked_primary, secondary_line, linked_secondary, target_secondary}
 use Rattle.model.specs.Rows.{words, connected, after, fill}
@@ -24,12 +25,15 @@ pub record Usage : Type 0 where
   pub waiting : secondary_line (after (take 16 two_epochs) (connected standard)).secondary ≡ linked_secondary protocol.C 2 0
   pub two_epochs : secondary_line (after two_epochs (connected standard)).secondary ≡ linked_secondary protocol.C 0 1
   pub started : secondary_line (resync_target (SendEvent ∷ ReceiveEvent ∷ [])).secondary ≡ target_secondary protocol.C 0 0
-  pub nearly : secondary_line (resync_target (first_copied ++ second_copied ++ SendEvent ∷ SendEvent ∷ ReceiveEvent ∷ [])).secondary ≡ target_secondary protocol.C 0 2
-  pub ended : secondary_line (resync_target (first_copied ++ second_copied ++ SendEvent ∷ SendEvent ∷ ReceiveEvent ∷ ReceiveEvent ∷ [])).secondary ≡ linked_secondary protocol.C 0 2
+  pub nearly : secondary_line (resync_target (first_copied ++ second_copied ++ SendEvent ∷ SendEvent ∷ ReceiveEvent ∷ [])).secondary ≡ target_secondary
+      protocol.C 0 2
+  pub ended : secondary_line (resync_target (first_copied ++ second_copied ++ SendEvent ∷ SendEvent ∷ ReceiveEvent ∷ ReceiveEvent ∷ [])).secondary ≡
+      linked_secondary protocol.C 0 2
 
 -- A connection that the primary opened and the secondary never saw: its number is passed over, and nothing happened there.
 abbrev pub alone_twice : PrimaryHistory
-alone_twice = primary_run (Opens 5 7 false ∷ Closes ∷ Opens 9 11 false ∷ Closes ∷ []) (primary_opening standard (filled 8 (0 ∷ [])) (words 1 0 0 0) (λ block. false))
+alone_twice = primary_run (Opens 5 7 false ∷ Closes ∷ Opens 9 11 false ∷ Closes ∷ [])
+    (primary_opening standard (filled 8 (0 ∷ [])) (words 1 0 0 0) (λ block. false))
 
 -- the secondary opened the first and the third
 abbrev pub passed_one_over : SecondaryHistory
@@ -51,7 +55,7 @@ failed_item = after (fill 2 1 170 ∷ LocalEvent 1 ∷ SendEvent ∷ ReceiveEven
 
 -- its receipt
 abbrev pub alone_receipt : Receipt
-alone_receipt = record { number = 1; first = 2; count = 1; kind = Alone; home = Some (1, 0) }
+alone_receipt = record { number = 1; first = 2; count = 1; kind = Alone; home = Some (record { index = 0; place = 0 }) }
 
 -- One write that went through, both ends closed.
 abbrev pub one_through : PairHistory
@@ -59,7 +63,7 @@ one_through = after (one_write ++ SendEvent ∷ ReceiveEvent ∷ AckOutEvent ∷
 
 -- its receipt
 abbrev pub linked_receipt : Receipt
-linked_receipt = record { number = 1; first = 2; count = 1; kind = Linked; home = Some (1, 0) }
+linked_receipt = record { number = 1; first = 2; count = 1; kind = Linked; home = Some (record { index = 0; place = 0 }) }
 
 -- nodes of two sizes that never met
 abbrev pub sized_primary : ℕ → (ℕ → Bool) → PrimaryHistory
@@ -72,14 +76,19 @@ sized_secondary blocks = secondary_opening (record standard { blocks = blocks })
 -- Settlements: of a write that went through, of an item that failed though all its blocks reached the disk, with a receipt that
 -- is given twice or is another's, with a write that the local disk has not done, and of disks of two sizes.
 pub record Settlements : Type 0 where
-  pub through : settle one_through.primary one_through.secondary (linked_receipt ∷ []) false ≡ Ok (record { sent = 2; taken = 2; applied = 1; confirmed = 1; unmarked = 0 })
-  pub failed : settle failed_item.primary failed_item.secondary (alone_receipt ∷ []) false ≡ Ok (record { sent = 1; taken = 1; applied = 0; confirmed = 1; unmarked = 0 })
+  pub through : settle one_through.primary one_through.secondary (linked_receipt ∷ []) false ≡ Ok
+      (record { sent = 2; taken = 2; applied = 1; confirmed = 1; unmarked = 0 })
+  pub failed : settle failed_item.primary failed_item.secondary (alone_receipt ∷ []) false ≡ Ok
+      (record { sent = 1; taken = 1; applied = 0; confirmed = 1; unmarked = 0 })
   pub twice : settle one_through.primary one_through.secondary (linked_receipt ∷ linked_receipt ∷ []) false ≡ Err StrangeReceipt
   pub strange : settle one_through.primary one_through.secondary (alone_receipt ∷ []) false ≡ Err StrangeReceipt
   pub faulty : settle one_through.primary one_through.secondary [] true ≡ Err ReadFault
-  pub unfinished : settle (after (fill 2 1 170 ∷ ClosePrimaryEvent ∷ CloseSecondaryEvent ∷ []) (connected standard)).primary (sized_secondary 8) [] false ≡ Err NotDrained
-  pub larger : settle (sized_primary 8 (λ block. false)) (sized_secondary 4) [] false ≡ Ok (record { sent = 0; taken = 0; applied = 0; confirmed = 0; unmarked = 4 })
-  pub smaller : settle (sized_primary 4 (λ block. true)) (sized_secondary 8) [] false ≡ Ok (record { sent = 0; taken = 0; applied = 0; confirmed = 0; unmarked = 4 })
+  pub unfinished : settle (after (fill 2 1 170 ∷ ClosePrimaryEvent ∷ CloseSecondaryEvent ∷ []) (connected standard)).primary
+      (sized_secondary 8) [] false ≡ Err NotDrained
+  pub larger : settle (sized_primary 8 (λ block. false)) (sized_secondary 4) [] false ≡ Ok
+      (record { sent = 0; taken = 0; applied = 0; confirmed = 0; unmarked = 4 })
+  pub smaller : settle (sized_primary 4 (λ block. true)) (sized_secondary 8) [] false ≡ Ok
+      (record { sent = 0; taken = 0; applied = 0; confirmed = 0; unmarked = 4 })
 
 -- The primary's line counts among `pe` a write that was sent and is not answered, and not one that is still to be sent.
 pub record SentAndUnanswered : Type 0 where

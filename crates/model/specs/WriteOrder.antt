@@ -17,8 +17,10 @@ comes_before p earlier later = list_any (λ entry. entry.write.number == earlier
 -- An ordered set: a block of a write brings all blocks of every write that comes before it.
 abbrev pub IsOrdered : PrimaryHistory → Blocks → Type 0
 IsOrdered p set =
-    (m n offset place : ℕ) (earlier later : Accepted) → slice_get p.writes m ≡ Some earlier → slice_get p.writes n ≡ Some later → comes_before p earlier later ≡ true
-    → set later.write.number offset ≡ true → offset < length later.write.contents → place < length earlier.write.contents → set earlier.write.number place ≡ true
+    (m n offset place : ℕ) (earlier later : Accepted) → slice_get p.writes m ≡ Some earlier → slice_get p.writes n ≡ Some later
+    → comes_before p earlier later ≡ true
+    → set later.write.number offset ≡ true → offset < length later.write.contents → place < length earlier.write.contents
+    → set earlier.write.number place ≡ true
 
 -- what a set of blocks has of a write
 abbrev pub layer_of : Blocks → Accepted → Layer
@@ -35,7 +37,8 @@ base_of p s block = elim (has_adopted s) [ true ↦ p.opening_map block | false 
 -- The set has all blocks of each write of the secondary's last connection whose epoch it is whole to.
 abbrev pub HasWholeEpochs : PrimaryHistory → SecondaryHistory → Blocks → Type 0
 HasWholeEpochs p s set =
-    (n k place offset : ℕ) (accepted : Accepted) → slice_get p.writes n ≡ Some accepted → accepted.home ≡ Some (k, place) → suc k ≡ (inward s).number
+    (n k place offset : ℕ) (accepted : Accepted) → slice_get p.writes n ≡ Some accepted → accepted.home ≡ Some (record { index = k; place = place })
+    → suc k ≡ (inward s).number
     → epoch_of (outward_at p (suc k)).stream place ≤ whole s → offset < length accepted.write.contents → set accepted.write.number offset ≡ true
 
 -- Such a set: it is ordered, the secondary's disk is that set of the accepted writes over the base, and it has the epochs that

@@ -8,8 +8,10 @@ use Rattle.blocks.specs.declared.outcome.Reply.{Reply}
 use Rattle.blocks.specs.declared.outcome.Reply.TheVariants as reply
 use Rattle.blocks.specs.declared.command.Command.TheVariants as command
 use Rattle.blocks.specs.SettingsRange.{standard}
-use Rattle.model.specs.Pair.{Event, OpenEvent, LocalEvent, SendEvent, ReceiveEvent, PeerEvent, PeerFaultEvent, AckOutEvent, AckInEvent, ClosePrimaryEvent, tuples, marked, differing}
-use Rattle.model.specs.Rows.{words, fresh, connected, connect, connecting, replies, after, fill, refused, done, accepted, item, frame, decided, completing, with_barrier}
+use Rattle.model.specs.Pair.{Event, OpenEvent, LocalEvent, SendEvent, ReceiveEvent, PeerEvent, PeerFaultEvent, AckOutEvent, AckInEvent, ClosePrimaryEvent}
+use Rattle.model.specs.Pair.{tuples, marked, differing}
+use Rattle.model.specs.Rows.{words, fresh, connected, connect, connecting, replies, after, fill, refused, done, accepted, item, frame, decided, completing}
+use Rattle.model.specs.Rows.{with_barrier}
 use Rattle.model.specs.Status.{primary_line, secondary_line, linked_primary, linked_secondary}
 
 -- one write under protocol C, from its submission to its completion at the peer's acknowledgement
@@ -18,7 +20,8 @@ one_write = fill 2 1 170 ∷ LocalEvent 1 ∷ SendEvent ∷ ReceiveEvent ∷ Pee
 
 -- what one write answers, step by step
 abbrev pub one_write_replies : List Reply
-one_write_replies = accepted 1 ∷ done ∷ item command.Data 0 ∷ item command.Data 0 ∷ done ∷ frame command.WriteAck ∷ with_barrier 1 (completing 1 (frame command.WriteAck)) ∷ []
+one_write_replies = accepted 1 ∷ done ∷ item command.Data 0 ∷ item command.Data 0 ∷ done ∷ frame command.WriteAck ∷ with_barrier 1
+    (completing 1 (frame command.WriteAck)) ∷ []
 
 -- One write under protocol C, from its submission to its completion.
 pub record OneWrite : Type 0 where
@@ -39,7 +42,8 @@ two_in_turn = one_write ++ fill 3 1 187 ∷ SendEvent ∷ ReceiveEvent ∷ AckOu
 -- what that answers, and how the disks differ then
 pub record TwoInTurn : Type 0 where
   pub answers : replies two_in_turn (connected one_at_a_time)
-      ≡ one_write_replies ++ refused refusal.LogFull ∷ item command.Barrier 1 ∷ item command.Barrier 1 ∷ frame command.BarrierAck ∷ frame command.BarrierAck ∷ accepted 2 ∷ []
+      ≡ one_write_replies ++ refused refusal.LogFull ∷ item command.Barrier 1 ∷ item command.Barrier 1 ∷ frame command.BarrierAck ∷ frame command.BarrierAck ∷
+      accepted 2 ∷ []
   pub same : differing (after two_in_turn (connected one_at_a_time)) ≡ []
   pub local : replies (LocalEvent 2 ∷ []) (after two_in_turn (connected one_at_a_time)) ≡ done ∷ []
   pub ahead : differing (after (two_in_turn ++ LocalEvent 2 ∷ []) (connected one_at_a_time)) ≡ 3 ∷ []
@@ -50,8 +54,10 @@ asynchronous = record standard { protocol = protocol.A }
 
 -- protocol A completes a write once it is sent and on the local disk, in either order
 pub record Asynchronous : Type 0 where
-  pub sent_first : replies (fill 2 1 170 ∷ SendEvent ∷ LocalEvent 1 ∷ []) (connected asynchronous) ≡ accepted 1 ∷ item command.Data 0 ∷ with_barrier 1 (completing 1 done) ∷ []
-  pub written_first : replies (fill 2 1 170 ∷ LocalEvent 1 ∷ SendEvent ∷ []) (connected asynchronous) ≡ accepted 1 ∷ done ∷ with_barrier 1 (completing 1 (item command.Data 0)) ∷ []
+  pub sent_first : replies (fill 2 1 170 ∷ SendEvent ∷ LocalEvent 1 ∷ []) (connected asynchronous) ≡ accepted 1 ∷ item command.Data 0 ∷ with_barrier 1
+      (completing 1 done) ∷ []
+  pub written_first : replies (fill 2 1 170 ∷ LocalEvent 1 ∷ SendEvent ∷ []) (connected asynchronous) ≡ accepted 1 ∷ done ∷ with_barrier 1
+      (completing 1 (item command.Data 0)) ∷ []
 
 -- Under protocol B the peer may lose what it has received: the close marks it.
 abbrev pub semisynchronous : Settings
@@ -64,7 +70,8 @@ received_and_lost = fill 2 1 170 ∷ LocalEvent 1 ∷ SendEvent ∷ ReceiveEvent
 -- what that answers: the write was promised as received, and the disks differ in a block that is not marked yet
 pub record ReceivedAndLost : Type 0 where
   pub answers : replies received_and_lost (connected semisynchronous)
-      ≡ accepted 1 ∷ done ∷ item command.Data 0 ∷ item command.Data 0 ∷ frame command.RecvAck ∷ with_barrier 1 (completing 1 (frame command.RecvAck)) ∷ done ∷ []
+      ≡ accepted 1 ∷ done ∷ item command.Data 0 ∷ item command.Data 0 ∷ frame command.RecvAck ∷ with_barrier 1 (completing 1 (frame command.RecvAck)) ∷ done ∷
+      []
   pub unmarked : marked (after received_and_lost (connected semisynchronous)) ≡ []
   pub differs : differing (after received_and_lost (connected semisynchronous)) ≡ 2 ∷ []
   pub closes : replies (ClosePrimaryEvent ∷ []) (after received_and_lost (connected semisynchronous)) ≡ reply.Closed 0 ∷ []
@@ -73,8 +80,10 @@ pub record ReceivedAndLost : Type 0 where
 
 -- A write that overlaps an open one is refused with its number; once that is completed the next stands in the next epoch.
 pub record Overlapping : Type 0 where
-  pub answers : replies (fill 2 3 17 ∷ fill 4 2 34 ∷ LocalEvent 1 ∷ SendEvent ∷ ReceiveEvent ∷ PeerEvent 0 ∷ AckOutEvent ∷ AckInEvent ∷ fill 4 2 34 ∷ SendEvent ∷ SendEvent ∷ []) (connected standard)
-      ≡ accepted 1 ∷ refused (refusal.Conflict 1) ∷ done ∷ item command.Data 0 ∷ item command.Data 0 ∷ done ∷ frame command.WriteAck ∷ with_barrier 1 (completing 1 (frame command.WriteAck))
+  pub answers : replies (fill 2 3 17 ∷ fill 4 2 34 ∷ LocalEvent 1 ∷ SendEvent ∷ ReceiveEvent ∷ PeerEvent 0 ∷ AckOutEvent ∷ AckInEvent ∷ fill 4 2 34 ∷ SendEvent
+      ∷ SendEvent ∷ []) (connected standard)
+      ≡ accepted 1 ∷ refused (refusal.Conflict 1) ∷ done ∷ item command.Data 0 ∷ item command.Data 0 ∷ done ∷ frame command.WriteAck ∷ with_barrier 1
+      (completing 1 (frame command.WriteAck))
       ∷ accepted 2 ∷ item command.Barrier 1 ∷ item command.Data 2 ∷ []
 
 -- The peer starts no item of an epoch before all items of the epochs before it are applied.
@@ -87,18 +96,23 @@ two_epochs =
 -- writes in two epochs, of which the second waits for the first
 pub record TwoEpochs : Type 0 where
   pub answers : replies two_epochs (connected standard)
-      ≡ accepted 1 ∷ accepted 2 ∷ done ∷ done ∷ item command.Data 0 ∷ item command.Data 1 ∷ item command.Data 0 ∷ item command.Data 1 ∷ done ∷ frame command.WriteAck
-      ∷ with_barrier 1 (completing 2 (frame command.WriteAck)) ∷ accepted 3 ∷ item command.Barrier 2 ∷ item command.Data 3 ∷ item command.Barrier 2 ∷ item command.Data 3
+      ≡ accepted 1 ∷ accepted 2 ∷ done ∷ done ∷ item command.Data 0 ∷ item command.Data 1 ∷ item command.Data 0 ∷ item command.Data 1 ∷ done ∷ frame
+      command.WriteAck
+      ∷ with_barrier 1 (completing 2 (frame command.WriteAck)) ∷ accepted 3 ∷ item command.Barrier 2 ∷ item command.Data 3 ∷ item command.Barrier 2 ∷ item
+      command.Data 3
       ∷ refused refusal.EpochOpen ∷ done ∷ done ∷ refused refusal.UnknownJob ∷ frame command.WriteAck ∷ completing 1 (frame command.WriteAck)
       ∷ frame command.BarrierAck ∷ frame command.BarrierAck ∷ frame command.WriteAck ∷ frame command.WriteAck ∷ with_barrier 2 (completing 3 done) ∷ []
 
 -- A link of one frame is full after one, and a log of one write after one.
 pub record Full : Type 0 where
-  pub link : replies (fill 0 1 170 ∷ fill 1 1 187 ∷ SendEvent ∷ SendEvent ∷ ReceiveEvent ∷ SendEvent ∷ SendEvent ∷ []) (connected (record standard { link = 1 }))
+  pub link : replies (fill 0 1 170 ∷ fill 1 1 187 ∷ SendEvent ∷ SendEvent ∷ ReceiveEvent ∷ SendEvent ∷ SendEvent ∷ [])
+      (connected (record standard { link = 1 }))
       ≡ accepted 1 ∷ accepted 2 ∷ item command.Data 0 ∷ refused refusal.LinkFull ∷ item command.Data 0 ∷ item command.Data 1 ∷ refused refusal.NothingThere ∷ []
   pub log : replies (fill 0 1 170 ∷ fill 1 1 187 ∷ []) (connected one_at_a_time) ≡ accepted 1 ∷ refused refusal.LogFull ∷ []
 
 -- What is refused before a connection stands, and what right after it.
 pub record AtTheStart : Type 0 where
-  pub alone : replies (fill 0 1 170 ∷ OpenEvent 0 7 ∷ OpenEvent 5 1 ∷ []) (fresh standard) ≡ refused refusal.NotConnected ∷ refused refusal.UsedIdentifier ∷ refused refusal.UsedIdentifier ∷ []
-  pub linked : replies (OpenEvent 9 11 ∷ AckInEvent ∷ LocalEvent 1 ∷ []) (connected standard) ≡ refused refusal.NotDrained ∷ refused refusal.NothingThere ∷ refused refusal.UnknownJob ∷ []
+  pub alone : replies (fill 0 1 170 ∷ OpenEvent 0 7 ∷ OpenEvent 5 1 ∷ []) (fresh standard) ≡ refused refusal.NotConnected ∷ refused refusal.UsedIdentifier ∷
+      refused refusal.UsedIdentifier ∷ []
+  pub linked : replies (OpenEvent 9 11 ∷ AckInEvent ∷ LocalEvent 1 ∷ []) (connected standard) ≡ refused refusal.NotDrained ∷ refused refusal.NothingThere ∷
+      refused refusal.UnknownJob ∷ []

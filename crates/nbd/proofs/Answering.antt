@@ -1,5 +1,6 @@
 -- What comes of whole messages.
-use Rattle.std.proofs.Common.{◌≡◌, ◌≢◌, ℕ, Bool, true, false, cond, eqb, List, [], ◌∷◌, ◌++◌, length, Some, None, Result, Ok, Err, refl, sym, ap, ◌∙◌, subst, arith}
+use Rattle.std.proofs.Common.{◌≡◌, ◌≢◌, ℕ, Bool, true, false, cond, eqb, List, [], ◌∷◌, ◌++◌, length, Some, None, Result, Ok, Err, refl, sym, ap, ◌∙◌, subst}
+use Rattle.std.proofs.Common.{arith}
 use Rattle.std.specs.List.{AllByRecursion}
 use Rattle.std.proofs.lemmas.Bool.{eqb-true, eqb-false}
 use Rattle.std.proofs.lemmas.List.Concat.{flat_map-cons}
@@ -45,7 +46,8 @@ pub no_payload : (e : Exported) (h : RequestHeader) (c : Command) → judged e h
 no_payload e h c is other = no_payload_as h c (eqb h.kind 1) refl (served_kind e h c is) other
 
 write_only : (a b c d f : Bool)
-    → cond a (Some command.Read) (cond b (Some command.Write) (cond c (Some command.Disconnect) (cond d (Some command.Flush) (cond f (Some command.WriteZeroes) None)))) ≡ Some command.Write
+    → cond a (Some command.Read) (cond b (Some command.Write)
+    (cond c (Some command.Disconnect) (cond d (Some command.Flush) (cond f (Some command.WriteZeroes) None)))) ≡ Some command.Write
     → b ≡ true
 write_only true b c d f is = absurd cc
 write_only false true c d f is = refl
@@ -60,7 +62,8 @@ whole_payload_as h false is = absurd cc
 
 -- a WRITE that is served has its payload
 pub whole_payload : (e : Exported) (h : RequestHeader) → judged e h ≡ Ok command.Write → payload_length h ≡ h.length
-whole_payload e h is = whole_payload_as h (eqb h.kind 1) (write_only (eqb h.kind 0) (eqb h.kind 1) (eqb h.kind 2) (eqb h.kind 3) (eqb h.kind 6) (served_kind e h command.Write is))
+whole_payload e h is = whole_payload_as h (eqb h.kind 1)
+    (write_only (eqb h.kind 0) (eqb h.kind 1) (eqb h.kind 2) (eqb h.kind 3) (eqb h.kind 6) (served_kind e h command.Write is))
 
 -- ---- one message
 
@@ -69,13 +72,16 @@ abbrev finished : Exported → Message → Result Command Errno → Fed
 finished e m r = let first = after_step e (begins m.header r) in then_fed first (fed first.machine m.payload)
 
 -- a message that has no payload, where its header is answered
-served_now : (e : Exported) (h : RequestHeader) (payload : List ℕ) (c : Command) → payload ≡ [] → (finished e (record { header = h; payload = [] }) (Ok c) ≡ answer_as e (record { header = h; payload = [] }) (Ok c))
+served_now : (e : Exported) (h : RequestHeader) (payload : List ℕ) (c : Command) → payload ≡ []
+    → (finished e (record { header = h; payload = [] }) (Ok c) ≡ answer_as e (record { header = h; payload = [] }) (Ok c))
     → finished e (record { header = h; payload = payload }) (Ok c) ≡ answer_as e (record { header = h; payload = payload }) (Ok c)
 served_now e h payload c none is =
     subst (λ (x : List ℕ). finished e (record { header = h; payload = x }) (Ok c) ≡ answer_as e (record { header = h; payload = x }) (Ok c)) (sym none) is
 
-refused_now : (e : Exported) (h : RequestHeader) (errno : Errno) (payload : List ℕ) (t : Bool) → eqb (payload_length h) 0 ≡ t → length payload ≡ payload_length h
-    → (let first = after_step e (cond t (sends (phase.Gather part.Request) (reply_spelling (failure h.cookie errno))) (goes_on (phase.Skip (payload_length h) (refused.Write h.cookie errno)))) in then_fed first (fed first.machine payload))
+refused_now : (e : Exported) (h : RequestHeader) (errno : Errno) (payload : List ℕ) (t : Bool) → eqb (payload_length h) 0 ≡ t
+    → length payload ≡ payload_length h
+    → (let first = after_step e (cond t (sends (phase.Gather part.Request) (reply_spelling (failure h.cookie errno)))
+    (goes_on (phase.Skip (payload_length h) (refused.Write h.cookie errno)))) in then_fed first (fed first.machine payload))
     ≡ answer_as e (record { header = h; payload = payload }) (Err errno)
 unfolding fed skipped
 refused_now e h errno payload true is whole =
@@ -87,14 +93,16 @@ refused_now e h errno payload false is whole =
     let first = after_step e (goes_on (phase.Skip (payload_length h) (refused.Write h.cookie errno))) in
     ap (λ (f : Fed). then_fed first f) (fed_skipped e (payload_length h) (refused.Write h.cookie errno) payload (omega (arith, whole, other)) whole)
 
-finishes : (e : Exported) (m : Message) (r : Result Command Errno) → judged e m.header ≡ r → length m.payload ≡ payload_length m.header → finished e m r ≡ answer_as e m r
+finishes : (e : Exported) (m : Message) (r : Result Command Errno) → judged e m.header ≡ r → length m.payload ≡ payload_length m.header
+    → finished e m r ≡ answer_as e m r
 unfolding fed step
 finishes e m (Ok command.Read) is whole =
     served_now e m.header m.payload command.Read (none_of m.payload (whole ∙ no_payload e m.header command.Read is (λ same. cc))) refl
 finishes e m (Ok command.Write) is whole =
     let long : length m.payload ≡ m.header.length = whole ∙ whole_payload e m.header is in
     let first = after_step e (goes_on (phase.Gather (part.Payload m.header))) in
-    ap (λ (f : Fed). then_fed first f) (fed_whole e (part.Payload m.header) [] m.payload (omega (arith, long, (payload_bounded e m.header is).0)) (omega (arith, long)))
+    ap (λ (f : Fed). then_fed first f) (fed_whole e (part.Payload m.header) [] m.payload (omega (arith, long, (payload_bounded e m.header is).0))
+    (omega (arith, long)))
 finishes e m (Ok command.Disconnect) is whole = ap (λ (f : Fed). then_fed (silent (closed e)) f) (fed_closed e [] m.payload)
 finishes e m (Ok command.Flush) is whole =
     served_now e m.header m.payload command.Flush (none_of m.payload (whole ∙ no_payload e m.header command.Flush is (λ same. cc))) refl

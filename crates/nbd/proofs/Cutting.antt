@@ -20,7 +20,8 @@ unfolding first_pieces
 no_pieces zero first count none = refl
 no_pieces (suc n) first count none = rw none refl
 
-some_pieces : (n first count : ℕ) → 0 < count → first_pieces (suc n) first count ≡ (first, piece first count) ∷ first_pieces n (first + piece first count) (count - piece first count)
+some_pieces : (n first count : ℕ) → 0 < count
+    → first_pieces (suc n) first count ≡ (first, piece first count) ∷ first_pieces n (first + piece first count) (count - piece first count)
 unfolding first_pieces
 some_pieces n first count some = rw (not_zero count some) refl
 
@@ -37,7 +38,8 @@ enough (suc n) (suc m) first (suc count) hn hm =
     ∙ sym (some_pieces m first (suc count) (omega arith))
 
 -- the first range, and the ranges of the rest
-pub pieces_next : (first count : ℕ) → 0 < count → pieces first count ≡ (first, piece first count) ∷ pieces (first + piece first count) (count - piece first count)
+pub pieces_next : (first count : ℕ) → 0 < count
+    → pieces first count ≡ (first, piece first count) ∷ pieces (first + piece first count) (count - piece first count)
 pieces_next first zero some = absurd (omega (arith, some))
 pieces_next first (suc count) some =
     let p = piece first (suc count) in
@@ -57,7 +59,8 @@ joins_first (suc n) first (suc count) h =
     let most = piece_within first (suc count) in
     let end : first + p + (suc count - p) ≡ first + suc count = omega (arith, most) in
     let rest : Joins (first + p) (first_pieces n (first + p) (suc count - p)) (first + suc count) =
-    subst (λ (x : ℕ). Joins (first + p) (first_pieces n (first + p) (suc count - p)) x) end (joins_first n (first + p) (suc count - p) (omega (arith, least, h))) in
+    subst (λ (x : ℕ). Joins (first + p) (first_pieces n (first + p) (suc count - p)) x) end
+    (joins_first n (first + p) (suc count - p) (omega (arith, least, h))) in
     subst (λ (ps : List (ℕ × ℕ)). Joins first ps (first + suc count)) (sym (some_pieces n first (suc count) (omega arith))) (refl, rest)
 
 pub pieces_join : (first count : ℕ) → Joins first (pieces first count) (first + count)
@@ -74,7 +77,12 @@ first_each (suc n) first (suc count) end h le =
     let p = piece first (suc count) in
     let least : 0 < p = piece_some first (suc count) (omega arith) in
     let most = piece_within first (suc count) in
-    let one : IsRange end first p = record { some = least; few = omega arith; inside = omega (arith, most, le); one_extent = in_extent first (suc count) (omega arith) } in
+    let one : IsRange end first p = record {
+      some = least;
+      few = omega arith;
+      inside = omega (arith, most, le);
+      one_extent = in_extent first (suc count) (omega arith);
+    } in
     subst (AllByRecursion (λ p. IsRange end p.0 p.1)) (sym (some_pieces n first (suc count) (omega arith)))
     (one, first_each n (first + p) (suc count - p) end (omega (arith, least, h)) (omega (arith, most, le)))
 
@@ -82,6 +90,7 @@ pub pieces_each : (first count : ℕ) → AllByRecursion (λ p. IsRange (first +
 pieces_each first count = first_each count first count (first + count) (omega arith) (omega arith)
 
 -- the ranges that are left, after one of `k` blocks was taken
-pub next_is : (first count k : ℕ) (left : List (ℕ × ℕ)) → pieces first count ≡ left → 0 < count → k ≡ piece first count → left ≡ (first, k) ∷ pieces (first + k) (count - k)
+pub next_is : (first count k : ℕ) (left : List (ℕ × ℕ)) → pieces first count ≡ left → 0 < count → k ≡ piece first count
+    → left ≡ (first, k) ∷ pieces (first + k) (count - k)
 next_is first count k left view some is =
     sym view ∙ pieces_next first count some ∙ ap (λ (x : ℕ). (first, x) ∷ pieces (first + x) (count - x)) (sym is)

@@ -1,5 +1,6 @@
 -- What comes of bytes, taken several at once.
-use Rattle.std.proofs.Common.{◌≡◌, ℕ, ◌+◌, ◌-◌, ◌<◌, ◌≤◌, true, false, eqb, List, [], ◌∷◌, ◌++◌, length, take, refl, sym, ap, ◌∙◌, subst, append_assoc, arith, eq-eqb}
+use Rattle.std.proofs.Common.{◌≡◌, ℕ, ◌+◌, ◌-◌, ◌<◌, ◌≤◌, true, false, eqb, List, [], ◌∷◌, ◌++◌, length, take, refl, sym, ap, ◌∙◌, subst, append_assoc, arith}
+use Rattle.std.proofs.Common.{eq-eqb}
 use Rattle.std.proofs.lemmas.Bool.{ne_eqb}
 use Rattle.std.proofs.lemmas.List.{append-nil, length-append, length-take, take-append-le}
 use Rattle.std.proofs.Math.Seq.{take-length}
@@ -26,18 +27,21 @@ pub fed_one : (m : Machine) (b : ℕ) → fed m (b ∷ []) ≡ with_byte m.expor
 unfolding fed
 fed_one m b = then_fed_nothing (with_byte m.export m.phase m.held b)
 
-fed_cons : (m : Machine) (b : ℕ) (bs : List ℕ) (first : Fed) → with_byte m.export m.phase m.held b ≡ first → fed m (b ∷ bs) ≡ then_fed first (fed first.machine bs)
+fed_cons : (m : Machine) (b : ℕ) (bs : List ℕ) (first : Fed) → with_byte m.export m.phase m.held b ≡ first
+    → fed m (b ∷ bs) ≡ then_fed first (fed first.machine bs)
 unfolding fed
 fed_cons m b bs first e = ap (λ (f : Fed). then_fed f (fed f.machine bs)) e
 
 -- a byte that comes before the last one of its part
-held_byte : (e : Exported) (p : Part) (held : List ℕ) (b : ℕ) → length held + 1 < wanted p → with_byte e (phase.Gather p) held b ≡ silent (machine e (phase.Gather p) (held ++ b ∷ []))
+held_byte : (e : Exported) (p : Part) (held : List ℕ) (b : ℕ) → length held + 1 < wanted p
+    → with_byte e (phase.Gather p) held b ≡ silent (machine e (phase.Gather p) (held ++ b ∷ []))
 held_byte e p held b short =
     let no : eqb (length held + 1) (wanted p) ≡ false = ne_eqb _ _ (λ same. omega (arith, same, short)) in
     rw no refl
 
 -- the last byte of its part
-last_byte : (e : Exported) (p : Part) (held : List ℕ) (b : ℕ) → length held + 1 ≡ wanted p → with_byte e (phase.Gather p) held b ≡ after_step e (step e p (held ++ b ∷ []))
+last_byte : (e : Exported) (p : Part) (held : List ℕ) (b : ℕ) → length held + 1 ≡ wanted p
+    → with_byte e (phase.Gather p) held b ≡ after_step e (step e p (held ++ b ∷ []))
 last_byte e p held b whole =
     let yes : eqb (length held + 1) (wanted p) ≡ true = eq-eqb _ _ whole in
     rw yes refl
@@ -49,7 +53,8 @@ one_longer : (held : List ℕ) (b : ℕ) → length (held ++ b ∷ []) ≡ lengt
 one_longer held b = length-append held (b ∷ [])
 
 -- less than the rest of a part is held
-pub fed_held : (e : Exported) (p : Part) (held bs : List ℕ) → length held + length bs < wanted p → fed (machine e (phase.Gather p) held) bs ≡ silent (machine e (phase.Gather p) (held ++ bs))
+pub fed_held : (e : Exported) (p : Part) (held bs : List ℕ) → length held + length bs < wanted p
+    → fed (machine e (phase.Gather p) held) bs ≡ silent (machine e (phase.Gather p) (held ++ bs))
 unfolding fed
 fed_held e p held [] short = ap (λ (x : List ℕ). silent (machine e (phase.Gather p) x)) (sym (append-nil held))
 fed_held e p held (b ∷ bs) short =
@@ -60,7 +65,8 @@ fed_held e p held (b ∷ bs) short =
     ∙ ap (λ (x : List ℕ). silent (machine e (phase.Gather p) x)) (one_more held bs b)
 
 -- the rest of a part makes its step
-pub fed_whole : (e : Exported) (p : Part) (held bs : List ℕ) → 0 < length bs → length held + length bs ≡ wanted p → fed (machine e (phase.Gather p) held) bs ≡ after_step e (step e p (held ++ bs))
+pub fed_whole : (e : Exported) (p : Part) (held bs : List ℕ) → 0 < length bs → length held + length bs ≡ wanted p
+    → fed (machine e (phase.Gather p) held) bs ≡ after_step e (step e p (held ++ bs))
 fed_whole e p held [] some whole = absurd (omega (arith, some))
 fed_whole e p held (b ∷ []) some whole = fed_one (machine e (phase.Gather p) held) b ∙ last_byte e p held b (omega (arith, whole))
 fed_whole e p held (b ∷ c ∷ bs) some whole =
@@ -77,7 +83,8 @@ skip_byte e left r b more =
     rw no refl
 
 -- less than what is left to skip
-pub fed_skips : (e : Exported) (left : ℕ) (r : Refused) (bs : List ℕ) → length bs < left → fed (machine e (phase.Skip left r) []) bs ≡ silent (machine e (phase.Skip (left - length bs) r) [])
+pub fed_skips : (e : Exported) (left : ℕ) (r : Refused) (bs : List ℕ) → length bs < left
+    → fed (machine e (phase.Skip left r) []) bs ≡ silent (machine e (phase.Skip (left - length bs) r) [])
 unfolding fed
 fed_skips e left r [] more =
     let same : left ≡ left - 0 = omega arith in
@@ -91,7 +98,8 @@ fed_skips e left r (b ∷ bs) more =
     ∙ ap (λ (n : ℕ). silent (machine e (phase.Skip n r) [])) same
 
 -- all that is left to skip
-pub fed_skipped : (e : Exported) (left : ℕ) (r : Refused) (bs : List ℕ) → 0 < length bs → length bs ≡ left → fed (machine e (phase.Skip left r) []) bs ≡ after_step e (skipped r)
+pub fed_skipped : (e : Exported) (left : ℕ) (r : Refused) (bs : List ℕ) → 0 < length bs → length bs ≡ left
+    → fed (machine e (phase.Skip left r) []) bs ≡ after_step e (skipped r)
 fed_skipped e left r [] some all = absurd (omega (arith, some))
 fed_skipped e left r (b ∷ []) some all =
     let yes : eqb left 1 ≡ true = eq-eqb _ _ (omega (arith, all)) in
@@ -131,7 +139,8 @@ pub adds_nothing : (m : Machine) (bytes : List ℕ) (requests : List Request) �
 adds_nothing m bytes requests = record { machine = refl; sent = sym (append-nil bytes); given = sym (append-nil requests) }
 
 -- less than the rest of a part
-pub held_adds : (e : Exported) (q : Phase) (p : Part) (held bs new : List ℕ) (m : Machine) (bytes : List ℕ) (requests : List Request) → machine e q held ≡ m → q ≡ phase.Gather p
+pub held_adds : (e : Exported) (q : Phase) (p : Part) (held bs new : List ℕ) (m : Machine) (bytes : List ℕ) (requests : List Request) → machine e q held ≡ m
+    → q ≡ phase.Gather p
     → length held + length bs < wanted p → new ≡ held ++ bs → Adds (fed m bs) (machine e q new) bytes bytes requests requests
 held_adds e q p held bs new m bytes requests view_is is short added =
     let start : machine e (phase.Gather p) held ≡ m = ap (λ (x : Phase). machine e x held) (sym is) ∙ view_is in
@@ -151,7 +160,8 @@ whole_is e q p held bs m s view_is is some portion long made =
     ap (λ (x : Stepped). after_step e x) made ∙ sym (fed_whole e p held bs some (omega arith)) ∙ ap (λ (x : Machine). fed x bs) start
 
 -- less than what is left to skip
-pub skip_adds : (e : Exported) (q : Phase) (left : ℕ) (r : Refused) (held bs : List ℕ) (m : Machine) (bytes : List ℕ) (requests : List Request) → machine e q held ≡ m → q ≡ phase.Skip left r
+pub skip_adds : (e : Exported) (q : Phase) (left : ℕ) (r : Refused) (held bs : List ℕ) (m : Machine) (bytes : List ℕ) (requests : List Request)
+    → machine e q held ≡ m → q ≡ phase.Skip left r
     → Waits e q held → length bs < left → Adds (fed m bs) (machine e (phase.Skip (left - length bs) r) held) bytes bytes requests requests
 skip_adds e q left r held bs m bytes requests view_is is waits more =
     let none : held ≡ [] = (subst (λ (x : Phase). Waits e x held) is waits).1 in
@@ -165,7 +175,8 @@ skip_adds e q left r held bs m bytes requests view_is is waits more =
     (adds_nothing (machine e (phase.Skip (left - length bs) r) []) bytes requests))
 
 -- all that is left to skip
-pub skipped_is : (e : Exported) (q : Phase) (left : ℕ) (r : Refused) (held bs : List ℕ) (m : Machine) (s : Stepped) → machine e q held ≡ m → q ≡ phase.Skip left r → Waits e q held → 0 < length bs
+pub skipped_is : (e : Exported) (q : Phase) (left : ℕ) (r : Refused) (held bs : List ℕ) (m : Machine) (s : Stepped) → machine e q held ≡ m
+    → q ≡ phase.Skip left r → Waits e q held → 0 < length bs
     → IsPortion m.phase m.held (length bs) → left ≤ length bs → s ≡ skipped r → after_step e s ≡ fed m bs
 skipped_is e q left r held bs m s view_is is waits some portion long made =
     let none : held ≡ [] = (subst (λ (x : Phase). Waits e x held) is waits).1 in
@@ -175,7 +186,8 @@ skipped_is e q left r held bs m s view_is is waits some portion long made =
     ap (λ (x : Stepped). after_step e x) made ∙ sym (fed_skipped e left r bs some (omega arith)) ∙ ap (λ (x : Machine). fed x bs) start
 
 -- a closed connection
-pub closed_adds : (e : Exported) (q : Phase) (held bs : List ℕ) (m : Machine) (bytes : List ℕ) (requests : List Request) → machine e q held ≡ m → q ≡ phase.Closed → Adds (fed m bs) m bytes bytes requests requests
+pub closed_adds : (e : Exported) (q : Phase) (held bs : List ℕ) (m : Machine) (bytes : List ℕ) (requests : List Request) → machine e q held ≡ m
+    → q ≡ phase.Closed → Adds (fed m bs) m bytes bytes requests requests
 closed_adds e q held bs m bytes requests view_is is =
     let start : machine e phase.Closed held ≡ m = ap (λ (x : Phase). machine e x held) (sym is) ∙ view_is in
     let made : silent m ≡ fed m bs = ap silent (sym start) ∙ sym (fed_closed e held bs) ∙ ap (λ (x : Machine). fed x bs) start in
@@ -187,20 +199,23 @@ pub continues_all : (all : Fed) (bytes : List ℕ) (requests : List Request) →
 continues_all all bytes requests = record { machine = refl; sent = refl; given = refl }
 
 -- a portion was taken off the front of the rest
-pub continues_on : (all : Fed) (m n : Machine) (now later rest : List ℕ) (b0 b1 b2 : List ℕ) (r0 r1 r2 : List Request) → rest ≡ now ++ later → Continues all (fed m rest) b0 b1 r0 r1
+pub continues_on : (all : Fed) (m n : Machine) (now later rest : List ℕ) (b0 b1 b2 : List ℕ) (r0 r1 r2 : List Request) → rest ≡ now ++ later
+    → Continues all (fed m rest) b0 b1 r0 r1
     → Adds (fed m now) n b1 b2 r1 r2 → Continues all (fed n later) b0 b2 r0 r2
 continues_on all m n now later rest b0 b1 b2 r0 r1 r2 split before adds =
     let both : fed m rest ≡ then_fed (fed m now) (fed n later) =
     ap (λ (x : List ℕ). fed m x) split ∙ fed_append m now later ∙ ap (λ (x : Machine). then_fed (fed m now) (fed x later)) (sym adds.machine) in
     record {
       machine = before.machine ∙ ap (λ (f : Fed). f.machine) both;
-      sent = before.sent ∙ ap (λ (f : Fed). b1 ++ f.sent) both ∙ sym (append_assoc b1 (fed m now).sent (fed n later).sent) ∙ ap (λ (x : List ℕ). x ++ (fed n later).sent) (sym adds.sent);
+      sent = before.sent ∙ ap (λ (f : Fed). b1 ++ f.sent) both ∙ sym (append_assoc b1 (fed m now).sent (fed n later).sent)
+          ∙ ap (λ (x : List ℕ). x ++ (fed n later).sent) (sym adds.sent);
       given = before.given ∙ ap (λ (f : Fed). r1 ++ f.requests) both ∙ sym (append_assoc r1 (fed m now).requests (fed n later).requests)
           ∙ ap (λ (x : List Request). x ++ (fed n later).requests) (sym adds.given);
     }
 
 -- nothing is left
-pub continues_end : (all : Fed) (m : Machine) (rest : List ℕ) (b0 b1 : List ℕ) (r0 r1 : List Request) → length rest ≡ 0 → Continues all (fed m rest) b0 b1 r0 r1 → Adds all m b0 b1 r0 r1
+pub continues_end : (all : Fed) (m : Machine) (rest : List ℕ) (b0 b1 : List ℕ) (r0 r1 : List Request) → length rest ≡ 0 → Continues all (fed m rest) b0 b1 r0 r1
+    → Adds all m b0 b1 r0 r1
 unfolding fed
 continues_end all m [] b0 b1 r0 r1 none c = record {
   machine = sym c.machine;

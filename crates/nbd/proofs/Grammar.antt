@@ -1,5 +1,6 @@
 -- A header that is read is spelled so, and a header that is spelled is read so.
-use Rattle.std.proofs.Common.{◌≡◌, ℕ, ◌+◌, ◌^◌, ◌<◌, ◌≤◌, Bool, true, false, cond, eqb, List, ◌++◌, length, Option, Some, None, Result, Ok, Err, refl, sym, ap, ◌∙◌, subst, arith, inl, inr}
+use Rattle.std.proofs.Common.{◌≡◌, ℕ, ◌+◌, ◌^◌, ◌<◌, ◌≤◌, Bool, true, false, cond, eqb, List, ◌++◌, length, Option, Some, None, Result, Ok, Err, refl, sym, ap}
+use Rattle.std.proofs.Common.{◌∙◌, subst, arith, inl, inr}
 use Rattle.std.specs.Prelude.{◌⊎◌, ◌≢◌}
 use Rattle.std.proofs.lemmas.Bool.{eqb-true, eqb-false}
 use Rattle.std.proofs.lemmas.List.{length-append, take_all}
@@ -33,7 +34,8 @@ abbrev to_offset : RequestHeader → List ℕ
 to_offset h = to_cookie h ++ number_bytes 8 h.offset
 
 to_flags_length : (h : RequestHeader) → length (to_flags h) ≡ 6
-to_flags_length h = length-append (number_bytes 4 request_magic) (number_bytes 2 h.flags) ∙ omega (arith, number_bytes_length 4 request_magic, number_bytes_length 2 h.flags)
+to_flags_length h = length-append (number_bytes 4 request_magic) (number_bytes 2 h.flags)
+    ∙ omega (arith, number_bytes_length 4 request_magic, number_bytes_length 2 h.flags)
 
 to_kind_length : (h : RequestHeader) → length (to_kind h) ≡ 8
 to_kind_length h = length-append (to_flags h) (number_bytes 2 h.kind) ∙ omega (arith, to_flags_length h, number_bytes_length 2 h.kind)
@@ -66,7 +68,8 @@ magic_again h =
 
 flags_again : (h : RequestHeader) → FitsFields h → number_in 2 4 (spelling h) ≡ h.flags
 flags_again h fits =
-    within_kind 2 4 h (omega arith) ∙ number_again 2 4 h.flags (number_bytes 4 request_magic) (number_bytes 2 h.kind) (number_bytes_length 4 request_magic) fits.flags
+    within_kind 2 4 h (omega arith)
+    ∙ number_again 2 4 h.flags (number_bytes 4 request_magic) (number_bytes 2 h.kind) (number_bytes_length 4 request_magic) fits.flags
 
 kind_again : (h : RequestHeader) → FitsFields h → number_in 2 6 (spelling h) ≡ h.kind
 kind_again h fits = within_kind 2 6 h (omega arith) ∙ number_last 2 6 h.kind (to_flags h) (to_flags_length h) fits.kind
@@ -139,7 +142,8 @@ to_error r = number_bytes 4 reply_magic ++ number_bytes 4 (error_number r.error)
 
 to_error_length : (r : Reply) → length (to_error r) ≡ 8
 to_error_length r =
-    length-append (number_bytes 4 reply_magic) (number_bytes 4 (error_number r.error)) ∙ omega (arith, number_bytes_length 4 reply_magic, number_bytes_length 4 (error_number r.error))
+    length-append (number_bytes 4 reply_magic) (number_bytes 4 (error_number r.error))
+    ∙ omega (arith, number_bytes_length 4 reply_magic, number_bytes_length 4 (error_number r.error))
 
 pub reply_length : (r : Reply) → length (reply_spelling r) ≡ 16
 unfolding reply_spelling
@@ -177,7 +181,8 @@ reply_again r fits =
     let c = number_bytes 8 r.cookie in
     let len = number_bytes_length 4 reply_magic in
     let magic : number_in 4 0 (m ++ e ++ c) ≡ reply_magic =
-    number_in_front 4 0 (m ++ e) c (omega (arith, to_error_length r)) ∙ number_in_front 4 0 m e (omega (arith, len)) ∙ number_only 4 reply_magic (omega arith) in
+    number_in_front 4 0 (m ++ e) c (omega (arith, to_error_length r)) ∙ number_in_front 4 0 m e (omega (arith, len))
+    ∙ number_only 4 reply_magic (omega arith) in
     let error : number_in 4 4 (m ++ e ++ c) ≡ error_number r.error = number_again 4 4 (error_number r.error) m c len (error_below r.error) in
     let cookie : number_in 8 8 (m ++ e ++ c) ≡ r.cookie = number_last 8 8 r.cookie (m ++ e) (to_error_length r) fits in
     rw (magic, error, cookie) (with_again r.error r.cookie)
@@ -240,7 +245,8 @@ failed_has number cookie (Some f) r known e =
     let is : made ≡ r = cc in
     subst (λ (x : Reply). HasFields number cookie x) is (record { error = errno_number number f known; cookie = refl })
 
-with_has : (b : Bool) (number cookie : ℕ) (r : Reply) → eqb number 0 ≡ b → cond b (Ok (record { cookie = cookie; error = None })) (failed_at (errno_at number) cookie) ≡ Ok r → HasFields number cookie r
+with_has : (b : Bool) (number cookie : ℕ) (r : Reply) → eqb number 0 ≡ b
+    → cond b (Ok (record { cookie = cookie; error = None })) (failed_at (errno_at number) cookie) ≡ Ok r → HasFields number cookie r
 with_has true number cookie r zero e =
     let made : Reply = record { cookie = cookie; error = None } in
     let is : made ≡ r = cc in
@@ -266,11 +272,13 @@ error_fault : (o : Option Errno) (cookie : ℕ) (e : Refusal) → failed_at o co
 error_fault None cookie e is = let same : e ≡ BadField = cc in (refl, same)
 error_fault (Some f) cookie e is = absurd cc
 
-number_fault : (b : Bool) (r : Reply) (o : Option Errno) (cookie : ℕ) (e : Refusal) → cond b (Ok r) (failed_at o cookie) ≡ Err e → (b ≡ false) × (o ≡ None) × (e ≡ BadField)
+number_fault : (b : Bool) (r : Reply) (o : Option Errno) (cookie : ℕ) (e : Refusal) → cond b (Ok r) (failed_at o cookie) ≡ Err e
+    → (b ≡ false) × (o ≡ None) × (e ≡ BadField)
 number_fault true r o cookie e is = absurd cc
 number_fault false r o cookie e is = let p = error_fault o cookie e is in (refl, p.0, p.1)
 
-magic_fault : (b : Bool) (r : Result Reply Refusal) (e : Refusal) → cond b r (Err BadMagic) ≡ Err e → ((b ≡ false) × (e ≡ BadMagic)) ⊎ ((b ≡ true) × (r ≡ Err e))
+magic_fault : (b : Bool) (r : Result Reply Refusal) (e : Refusal) → cond b r (Err BadMagic) ≡ Err e
+    → ((b ≡ false) × (e ≡ BadMagic)) ⊎ ((b ≡ true) × (r ≡ Err e))
 magic_fault true r e is = inr (refl, is)
 magic_fault false r e is = let same : e ≡ BadMagic = cc in inl (refl, same)
 
@@ -281,6 +289,7 @@ reply_fault bytes e is =
     elim (magic_fault (eqb (number_in 4 0 bytes) reply_magic) (reply_with (number_in 4 4 bytes) (number_in 8 8 bytes)) e is) [
       | inl p ↦ inl (eqb-false _ _ p.0, p.1)
       | inr p ↦
-          let q = number_fault (eqb (number_in 4 4 bytes) 0) (record { cookie = number_in 8 8 bytes; error = None }) (errno_at (number_in 4 4 bytes)) (number_in 8 8 bytes) e p.1 in
+          let q = number_fault (eqb (number_in 4 4 bytes) 0) (record { cookie = number_in 8 8 bytes; error = None }) (errno_at (number_in 4 4 bytes))
+          (number_in 8 8 bytes) e p.1 in
           inr (eqb-true _ _ p.0, eqb-false _ _ q.0, q.1, q.2)
     ]

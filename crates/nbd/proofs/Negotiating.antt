@@ -32,7 +32,8 @@ head_length o =
     ∙ omega (arith, head_front o, number_bytes_length 4 (length o.bytes))
 
 -- the header of an option says its number and how many data follow
-head_read : (e : Exported) (no_zeroes : Bool) (o : ClientOption) → FitsOption o → after_option e no_zeroes (head o) ≡ option_begins e no_zeroes o.number (length o.bytes)
+head_read : (e : Exported) (no_zeroes : Bool) (o : ClientOption) → FitsOption o
+    → after_option e no_zeroes (head o) ≡ option_begins e no_zeroes o.number (length o.bytes)
 head_read e no_zeroes o fits =
     let m = number_bytes 8 option_magic in
     let n = number_bytes 4 o.number in
@@ -49,9 +50,11 @@ no_bytes_are_few n none many = grind (arith, nat_tests)
 
 -- the data, after the header
 ends : (e : Exported) (z : Bool) (n : ℕ) (bytes : List ℕ) (none many named : Bool) → eqb (length bytes) 0 ≡ none → nat_lt 8192 (length bytes) ≡ many
-    → (let first = after_step e (cond none (after_reply z (option_replied e z n [])) (cond many (cond named (goes_on phase.Closed) (goes_on (phase.Skip (length bytes) (refused.LongOption z n))))
+    → (let first = after_step e (cond none (after_reply z (option_replied e z n []))
+    (cond many (cond named (goes_on phase.Closed) (goes_on (phase.Skip (length bytes) (refused.LongOption z n))))
     (goes_on (phase.Gather (part.OptionData z n (length bytes)))))) in then_fed first (fed first.machine bytes))
-    ≡ cond many (cond named (silent (closed e)) (record { machine = at_option e z; sent = option_reply n rep_err_too_big []; requests = [] })) (after_step e (after_reply z (option_replied e z n bytes)))
+    ≡ cond many (cond named (silent (closed e)) (record { machine = at_option e z; sent = option_reply n rep_err_too_big []; requests = [] }))
+    (after_step e (after_reply z (option_replied e z n bytes)))
 unfolding fed step skipped
 ends e z n bytes true true named is_none is_many = absurd (omega (arith, no_bytes_are_few (length bytes) is_none is_many))
 ends e z n bytes true false named is_none is_many =
@@ -69,10 +72,12 @@ ends e z n bytes false false named is_none is_many =
     let first = after_step e (goes_on (phase.Gather (part.OptionData z n (length bytes)))) in
     ap (λ (f : Fed). then_fed first f) (fed_whole e (part.OptionData z n (length bytes)) [] bytes (omega (arith, other)) (omega arith))
 
-pub option_is_answered : (e : Exported) (no_zeroes : Bool) (o : ClientOption) → FitsOption o → fed (at_option e no_zeroes) (option_bytes o) ≡ option_answer e no_zeroes o
+pub option_is_answered : (e : Exported) (no_zeroes : Bool) (o : ClientOption) → FitsOption o
+    → fed (at_option e no_zeroes) (option_bytes o) ≡ option_answer e no_zeroes o
 unfolding option_bytes step
 option_is_answered e no_zeroes o fits =
     fed_append (at_option e no_zeroes) (head o) o.bytes
     ∙ ap (λ (f : Fed). then_fed f (fed f.machine o.bytes))
-    (fed_whole e (part.Option no_zeroes) [] (head o) (omega (arith, head_length o)) (omega (arith, head_length o)) ∙ ap (λ (s : Stepped). after_step e s) (head_read e no_zeroes o fits))
+    (fed_whole e (part.Option no_zeroes) [] (head o) (omega (arith, head_length o)) (omega (arith, head_length o))
+    ∙ ap (λ (s : Stepped). after_step e s) (head_read e no_zeroes o fits))
     ∙ ends e no_zeroes o.number o.bytes (eqb (length o.bytes) 0) (nat_lt 8192 (length o.bytes)) (eqb o.number 1) refl refl

@@ -1,5 +1,6 @@
 -- A client's bytes are messages and a rest, and nothing comes of the rest.
-use Rattle.std.proofs.Common.{◌≡◌, ℕ, zero, suc, ◌+◌, ◌-◌, ◌<◌, ◌≤◌, Bool, true, false, cond, eqb, List, [], ◌∷◌, ◌++◌, length, take, drop, Result, Ok, Err, refl, sym, ap, ◌∙◌, subst, append_assoc, arith, inl, inr}
+use Rattle.std.proofs.Common.{◌≡◌, ℕ, zero, suc, ◌+◌, ◌-◌, ◌<◌, ◌≤◌, Bool, true, false, cond, eqb, List, [], ◌∷◌, ◌++◌, length, take, drop, Result, Ok, Err}
+use Rattle.std.proofs.Common.{refl, sym, ap, ◌∙◌, subst, append_assoc, arith, inl, inr}
 use Rattle.std.specs.Prelude.{◌⊎◌, ◌||◌}
 use Rattle.std.proofs.lemmas.Bool.{cases_lt, eqb-true}
 use Rattle.std.proofs.lemmas.List.{length-take, length-drop, take-append-drop}
@@ -39,7 +40,9 @@ no_less n l none less = omega arith
 -- ---- a header, and less than its payload
 
 refused_part : (e : Exported) (h : RequestHeader) (errno : Errno) (back : List ℕ) (t : Bool) → eqb (payload_length h) 0 ≡ t → length back < payload_length h
-    → (m : Machine) × ((let first = after_step e (cond t (sends (phase.Gather part.Request) (reply_spelling (failure h.cookie errno))) (goes_on (phase.Skip (payload_length h) (refused.Write h.cookie errno)))) in then_fed first (fed first.machine back)) ≡ silent m)
+    → (m : Machine) × ((let first =
+    after_step e (cond t (sends (phase.Gather part.Request) (reply_spelling (failure h.cookie errno)))
+    (goes_on (phase.Skip (payload_length h) (refused.Write h.cookie errno)))) in then_fed first (fed first.machine back)) ≡ silent m)
 refused_part e h errno back true is less = absurd (no_less (length back) (payload_length h) (eqb-true _ _ is) less)
 refused_part e h errno back false is less =
     let first = after_step e (goes_on (phase.Skip (payload_length h) (refused.Write h.cookie errno))) in (
@@ -61,7 +64,8 @@ begun e h back (Ok command.WriteZeroes) is less = absurd (no_less _ _ (no_payloa
 begun e h back (Err errno) is less = refused_part e h errno back (eqb (payload_length h) 0) refl less
 
 -- what comes of bytes that begin with 28
-header_first : (e : Exported) (front back : List ℕ) → length front ≡ 28 → fed (at_request e) (front ++ back) ≡ (let first = after_step e (after_header e (header_at front)) in then_fed first (fed first.machine back))
+header_first : (e : Exported) (front back : List ℕ) → length front ≡ 28
+    → fed (at_request e) (front ++ back) ≡ (let first = after_step e (after_header e (header_at front)) in then_fed first (fed first.machine back))
 unfolding step
 header_first e front back long =
     fed_append (at_request e) front back
@@ -74,7 +78,8 @@ rest_parsed e rest is quiet = record { messages = []; rest = rest; each = tt; wh
 
 -- ---- a message, and what comes after it
 
-answers_more : (e : Exported) (m : Message) (ms : List Message) (t : Bool) → is_end (judged e m.header) ≡ t → answers e (m ∷ ms) ≡ cond t (silent (closed e)) (then_fed (answer e m) (answers e ms))
+answers_more : (e : Exported) (m : Message) (ms : List Message) (t : Bool) → is_end (judged e m.header) ≡ t
+    → answers e (m ∷ ms) ≡ cond t (silent (closed e)) (then_fed (answer e m) (answers e ms))
 answers_more e m ms t is = ap (λ (b : Bool). cond b (silent (closed e)) (then_fed (answer e m) (answers e ms))) is
 
 or_first : (a b : Bool) → a ≡ true → a || b ≡ true
@@ -94,7 +99,8 @@ end_more : (e : Exported) (m : Message) (ms : List Message) (rest : List ℕ) �
 end_more e m ms rest (inl ended) = inl (or_second (is_end (judged e m.header)) (has_end e ms) ended)
 end_more e m ms rest (inr is) = inr is
 
-message_parsed : (e : Exported) (m : Message) (tail : List ℕ) (t : Bool) → IsMessage m → is_end (judged e m.header) ≡ t → Parses e tail → Parses e (message_bytes m ++ tail)
+message_parsed : (e : Exported) (m : Message) (tail : List ℕ) (t : Bool) → IsMessage m → is_end (judged e m.header) ≡ t → Parses e tail
+    → Parses e (message_bytes m ++ tail)
 message_parsed e m tail true is end parsed =
     let all : fed (at_request e) (message_bytes m ++ tail) ≡ answers e (m ∷ []) = one_and_rest e m tail true is end ∙ sym (answers_more e m [] true end) in
     record {
@@ -122,7 +128,8 @@ message_parsed e m tail false is go parsed =
 -- ---- all
 
 -- bytes that begin with 28 of which this was read
-read_parsed : (n : ℕ) (e : Exported) (bytes : List ℕ) (r : Result RequestHeader Refusal) → ((tail : List ℕ) → length tail ≤ n → IsBytes tail → Parses e tail) → IsBytes bytes → 28 ≤ length bytes
+read_parsed : (n : ℕ) (e : Exported) (bytes : List ℕ) (r : Result RequestHeader Refusal) → ((tail : List ℕ) → length tail ≤ n → IsBytes tail → Parses e tail)
+    → IsBytes bytes → 28 ≤ length bytes
     → length bytes ≤ suc n → header_at (take 28 bytes) ≡ r → Parses e bytes
 read_parsed n e bytes (Err refusal) next fits long most read =
     let front = take 28 bytes in
@@ -160,18 +167,21 @@ read_parsed n e bytes (Ok h) next fits long most read =
           append_assoc (spelling h) (take l back) tail ∙ ap (λ (x : List ℕ). spelling h ++ x) (take-append-drop l back)
           ∙ ap (λ (x : List ℕ). x ++ back) (sym spells.bytes_are) ∙ same in
           let tail_fits : IsBytes tail = IsBytes_drop l back (IsBytes_drop 28 bytes fits) in
-          subst (Parses e) parts (message_parsed e m tail (is_end (judged e h)) is refl (next tail (omega (arith, length-drop l back, back_len, most, long)) tail_fits))
+          subst (Parses e) parts (message_parsed e m tail (is_end (judged e h)) is refl
+          (next tail (omega (arith, length-drop l back, back_len, most, long)) tail_fits))
     ]
 
 parsed_within : (n : ℕ) (e : Exported) (bytes : List ℕ) → length bytes ≤ n → IsBytes bytes → Parses e bytes
 parsed_within zero e bytes most fits =
     rest_parsed e bytes (inl (omega (arith, most)))
-    (quiet_as (fed (at_request e) bytes) (record { export = e; phase = phase.Gather part.Request; held = bytes }) (fed_held e part.Request [] bytes (omega (arith, most))))
+    (quiet_as (fed (at_request e) bytes) (record { export = e; phase = phase.Gather part.Request; held = bytes })
+    (fed_held e part.Request [] bytes (omega (arith, most))))
 parsed_within (suc n) e bytes most fits =
     elim (cases_lt (length bytes) 28) [
       | inl short ↦
           rest_parsed e bytes (inl short)
-          (quiet_as (fed (at_request e) bytes) (record { export = e; phase = phase.Gather part.Request; held = bytes }) (fed_held e part.Request [] bytes (omega (arith, short))))
+          (quiet_as (fed (at_request e) bytes) (record { export = e; phase = phase.Gather part.Request; held = bytes })
+          (fed_held e part.Request [] bytes (omega (arith, short))))
       | inr long ↦ read_parsed n e bytes (header_at (take 28 bytes)) (parsed_within n e) fits long most refl
     ]
 

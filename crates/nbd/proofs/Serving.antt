@@ -1,5 +1,6 @@
 -- Each request that is given out is inside the device.
-use Rattle.std.proofs.Common.{◌≡◌, ◌≢◌, ℕ, ◌+◌, ◌%◌, ◌<◌, ◌≤◌, Bool, true, false, cond, eqb, List, [], ◌∷◌, ◌++◌, length, Result, Ok, Err, refl, sym, ◌∙◌, subst, arith}
+use Rattle.std.proofs.Common.{◌≡◌, ◌≢◌, ℕ, ◌+◌, ◌%◌, ◌<◌, ◌≤◌, Bool, true, false, cond, eqb, List, [], ◌∷◌, ◌++◌, length, Result, Ok, Err, refl, sym, ◌∙◌}
+use Rattle.std.proofs.Common.{subst, arith}
 use Rattle.std.specs.Prelude.{nat_lt}
 use Rattle.std.specs.List.{AllByRecursion}
 use Rattle.std.proofs.lemmas.Bool.{eqb-true, eqb-false}
@@ -63,7 +64,8 @@ flush_inside e h zeros = record {
   payload = λ same. absurd cc;
 }
 
-cond_gives : (P : Request → Type 0) (b : Bool) (x y : Stepped) → AllByRecursion P x.requests → AllByRecursion P y.requests → AllByRecursion P (cond b x y).requests
+cond_gives : (P : Request → Type 0) (b : Bool) (x y : Stepped) → AllByRecursion P x.requests → AllByRecursion P y.requests
+    → AllByRecursion P (cond b x y).requests
 cond_gives P true x y hx hy = hx
 cond_gives P false x y hx hy = hy
 
@@ -71,7 +73,8 @@ short_read : (h : RequestHeader) → is_long command.Read h.length ≡ false →
 short_read h is = not_above 33554432 h.length is
 
 -- a request that follows its header at once
-begins_inside : (e : Exported) (h : RequestHeader) (r : Result Command Errno) → judged_as e (command_at h.kind) h ≡ r → AllByRecursion (IsInside e.blocks) (begins h r).requests
+begins_inside : (e : Exported) (h : RequestHeader) (r : Result Command Errno) → judged_as e (command_at h.kind) h ≡ r
+    → AllByRecursion (IsInside e.blocks) (begins h r).requests
 begins_inside e h (Ok command.Read) is =
     let s = (served_as e (command_at h.kind) h command.Read is).1 in
     (range_inside e command.Read h [] (λ same. cc) (λ _. short_read h s.short) (λ same. absurd cc) s, tt)
@@ -89,7 +92,8 @@ header_inside e (Ok h) = begins_inside e h (judged e h) refl
 header_inside e (Err refusal) = tt
 
 -- a request that follows its payload
-payload_inside : (e : Exported) (h : RequestHeader) (payload : List ℕ) → judged e h ≡ Ok command.Write → length payload ≡ h.length → IsInside e.blocks (request_of command.Write h payload)
+payload_inside : (e : Exported) (h : RequestHeader) (payload : List ℕ) → judged e h ≡ Ok command.Write → length payload ≡ h.length
+    → IsInside e.blocks (request_of command.Write h payload)
 unfolding judged
 payload_inside e h payload is whole =
     range_inside e command.Write h payload (λ same. cc) (λ same. absurd cc) (λ _. whole) (served_as e (command_at h.kind) h command.Write is).1
@@ -103,7 +107,8 @@ step_inside : (e : Exported) (p : Part) (bytes : List ℕ) → IsDue e p → len
 unfolding step
 step_inside e part.ClientFlags bytes due whole = cond_gives (IsInside e.blocks) (nat_lt (number_in 4 0 bytes) 4) _ _ tt tt
 step_inside e (part.Option no_zeroes) bytes due whole =
-    cond_gives (IsInside e.blocks) (eqb (number_in 8 0 bytes) option_magic) _ _ (option_gives (IsInside e.blocks) e no_zeroes (number_in 4 8 bytes) (number_in 4 12 bytes)) tt
+    cond_gives (IsInside e.blocks) (eqb (number_in 8 0 bytes) option_magic) _ _
+    (option_gives (IsInside e.blocks) e no_zeroes (number_in 4 8 bytes) (number_in 4 12 bytes)) tt
 step_inside e (part.OptionData no_zeroes option length) bytes due whole = tt
 step_inside e part.Request bytes due whole = header_inside e (header_at bytes)
 step_inside e (part.Payload h) bytes due whole = (payload_inside e h bytes due whole, tt)
@@ -145,7 +150,8 @@ byte_goes e (phase.Skip left r) held b waits =
     (λ no. let other = eqb-false _ _ no in record { export = refl; waits = (omega (arith, other, waits.0), refl); inside = tt })
 byte_goes e phase.Closed held b waits = record { export = refl; waits = waits; inside = tt }
 
-pub fed_inside : (e : Exported) (m : Machine) (bytes : List ℕ) → m.export ≡ e → Waits e m.phase m.held → AllByRecursion (IsInside e.blocks) (fed m bytes).requests
+pub fed_inside : (e : Exported) (m : Machine) (bytes : List ℕ) → m.export ≡ e → Waits e m.phase m.held
+    → AllByRecursion (IsInside e.blocks) (fed m bytes).requests
 unfolding fed
 fed_inside e m [] same waits = tt
 fed_inside e m (b ∷ bs) same waits =

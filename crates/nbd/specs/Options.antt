@@ -1,5 +1,6 @@
 -- What the handshake answers (NBD protocol, "Fixed newstyle negotiation", "Option types", "Option reply types").
-use Rattle.std.specs.Prelude.{ℕ, ◌+◌, ◌*◌, ◌==◌, Bool, ◌||◌, ◌&&◌, nat_le, if◌then◌else◌, List, [], ◌++◌, length, replicate, slice_range, bytes_eq, Option, Some, None}
+use Rattle.std.specs.Prelude.{ℕ, ◌+◌, ◌*◌, ◌==◌, Bool, ◌||◌, ◌&&◌, nat_le, if◌then◌else◌, List, [], ◌++◌, length, replicate, slice_range, bytes_eq, Option}
+use Rattle.std.specs.Prelude.{Some, None}
 use Rattle.packets.specs.Numbers.{number_in, number_bytes}
 use Rattle.nbd.specs.declared.options.Next.{Next}
 use Rattle.nbd.specs.declared.options.Next.TheVariants.{Negotiate, Transmit, Close}

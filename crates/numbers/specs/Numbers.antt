@@ -23,5 +23,6 @@ IsDecimal word n = (0 < length word) × (decimal_from 0 word ≡ Some n)
 
 -- the byte that two digits spell, the higher one first
 abbrev pub hexadecimal_byte : List ℕ → Option ℕ
-hexadecimal_byte (high ∷ low ∷ []) = option_and_then (λ tens. option_and_then (λ units. Some (16 * tens + units)) (hexadecimal_digit low)) (hexadecimal_digit high)
+hexadecimal_byte (high ∷ low ∷ []) = option_and_then (λ tens. option_and_then (λ units. Some (16 * tens + units)) (hexadecimal_digit low))
+    (hexadecimal_digit high)
 hexadecimal_byte _ = None

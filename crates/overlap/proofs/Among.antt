@@ -88,7 +88,8 @@ pub find-none : (p : Holding → Bool) (es : List (ℕ × Span)) → ((e : ℕ �
 find-none p [] each = refl
 find-none p (e ∷ es) each = let here = each e (inl refl) in rw here (find-none p es (λ x a. each x (inr a)))
 
-pub none-find : (p : Holding → Bool) (es : List (ℕ × Span)) → option_map (λ h. h.number) (find p (holdings es)) ≡ None → (e : ℕ × Span) → Among e es → p (of_entry e) ≡ false
+pub none-find : (p : Holding → Bool) (es : List (ℕ × Span)) → option_map (λ h. h.number) (find p (holdings es)) ≡ None → (e : ℕ × Span) → Among e es
+    → p (of_entry e) ≡ false
 none-find p [] none e among = absurd among
 none-find p (x ∷ es) none e among = go (none-find p es) (p (of_entry x)) refl among
   where
@@ -103,7 +104,8 @@ pub find-lowest : (p : Holding → Bool) (es : List (ℕ × Span)) → IsStrictl
 find-lowest p [] ordered e among passes least = absurd among
 find-lowest p (x ∷ es) ordered e among passes least = go (find-lowest p es (sorted_tail nat_cmp x.0 (keys_of es) ordered) e) (p (of_entry x)) refl among
   where
-    go : (Among e es → p (of_entry e) ≡ true → ((y : ℕ × Span) → Among y es → p (of_entry y) ≡ true → e.0 ≤ y.0) → option_map (λ h. h.number) (find p (holdings es)) ≡ Some e.0)
+    go : (Among e es → p (of_entry e) ≡ true → ((y : ℕ × Span) → Among y es → p (of_entry y) ≡ true → e.0 ≤ y.0)
+        → option_map (λ h. h.number) (find p (holdings es)) ≡ Some e.0)
         → (b : Bool) → p (of_entry x) ≡ b → Among e (x ∷ es) → option_map (λ h. h.number) (find p (holdings (x ∷ es))) ≡ Some e.0
     go rest true is (inl same) = rw is (ap (λ q. Some q.0) (sym same))
     go rest true is (inr a) = absurd (omega (arith, above_head x e es (sorted_head nat_cmp x.0 (keys_of es) ordered) a, least x (inl refl) is))

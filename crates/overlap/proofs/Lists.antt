@@ -20,16 +20,19 @@ pub is_held-holdings : (number : ℕ) (es : List (ℕ × Span)) → is_some (loo
 is_held-holdings number [] = refl
 is_held-holdings number (e ∷ es) = go (is_held-holdings number es) (e.0 == number) refl
   where
-    go : is_some (lookup (is_at (nat_cmp number)) es) ≡ is_held number (holdings es) → (b : Bool) → (e.0 == number) ≡ b → is_some (lookup (is_at (nat_cmp number)) (e ∷ es)) ≡ is_held number (holdings (e ∷ es))
+    go : is_some (lookup (is_at (nat_cmp number)) es) ≡ is_held number (holdings es) → (b : Bool) → (e.0 == number) ≡ b
+        → is_some (lookup (is_at (nat_cmp number)) (e ∷ es)) ≡ is_held number (holdings (e ∷ es))
     go rest true is = rw (same_test number e.0, is) refl
     go rest false is = rw (same_test number e.0, is) rest
 
-pub holdings-insert : (number : ℕ) (s : Span) (es : List (ℕ × Span)) → is_held number (holdings es) ≡ false → holdings (insert_entry nat_cmp es number s) ≡ holding_too (holding number s.first s.count) (holdings es)
+pub holdings-insert : (number : ℕ) (s : Span) (es : List (ℕ × Span)) → is_held number (holdings es) ≡ false
+    → holdings (insert_entry nat_cmp es number s) ≡ holding_too (holding number s.first s.count) (holdings es)
 holdings-insert number s [] new = refl
 holdings-insert number s (e ∷ es) new = go (holdings-insert number s es) (nat_lt number e.0) (number == e.0) (e.0 == number) refl refl refl
   where
     go : (is_held number (holdings es) ≡ false → holdings (insert_entry nat_cmp es number s) ≡ holding_too (holding number s.first s.count) (holdings es))
-        → (b c d : Bool) → nat_lt number e.0 ≡ b → (number == e.0) ≡ c → (e.0 == number) ≡ d → holdings (insert_entry nat_cmp (e ∷ es) number s) ≡ holding_too (holding number s.first s.count) (holdings (e ∷ es))
+        → (b c d : Bool) → nat_lt number e.0 ≡ b → (number == e.0) ≡ c → (e.0 == number) ≡ d
+        → holdings (insert_entry nat_cmp (e ∷ es) number s) ≡ holding_too (holding number s.first s.count) (holdings (e ∷ es))
     go rest true c d below same back = rw below refl
     go rest false true true below same back = absurd (let no = rw back at new in cc)
     go rest false true false below same back = absurd (grind (arith, nat_tests))
@@ -45,7 +48,8 @@ without-above number (e ∷ es) above =
     let other : (e.0 == number) ≡ false = grind (arith, nat_tests, above.0) in
     rw other (ap (λ hs. holding e.0 e.1.first e.1.count ∷ hs) (without-above number es above.1))
 
-pub holdings-remove : (number : ℕ) (es : List (ℕ × Span)) → IsStrictlySortedBy nat_cmp (keys_of es) → holdings (remove_entry (is_at (nat_cmp number)) es) ≡ without number (holdings es)
+pub holdings-remove : (number : ℕ) (es : List (ℕ × Span)) → IsStrictlySortedBy nat_cmp (keys_of es)
+    → holdings (remove_entry (is_at (nat_cmp number)) es) ≡ without number (holdings es)
 holdings-remove number [] ordered = refl
 holdings-remove number (e ∷ es) ordered = go (holdings-remove number es (sorted_tail nat_cmp e.0 (keys_of es) ordered)) (e.0 == number) refl
   where

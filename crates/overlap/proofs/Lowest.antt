@@ -16,7 +16,8 @@ step-none first a e none = go (reaches first e) refl
     go true is = let some = rw is at none in absurd (cc)
     go false is = (rw is at none, is)
 
-pub fold-none : (first : ℕ) (a : Option ℕ) (bs : List (ℕ × Holder)) → fold (lowest_with first) a bs ≡ None → (a ≡ None) × ((e : ℕ × Holder) → Among e bs → reaches first e ≡ false)
+pub fold-none : (first : ℕ) (a : Option ℕ) (bs : List (ℕ × Holder)) → fold (lowest_with first) a bs ≡ None
+    → (a ≡ None) × ((e : ℕ × Holder) → Among e bs → reaches first e ≡ false)
 fold-none first a [] none = (none, λ e among. absurd among)
 fold-none first a (b ∷ bs) none =
     let rest = fold-none first (lowest_with first a b) bs none in
@@ -112,7 +113,8 @@ front-of b [] e all = tt
 front-of b (x ∷ t) e all = (all.0, front-of b t e all.1)
 
 -- So the last may be looked at first.
-pub fold-last : (first : ℕ) (a : Option ℕ) (t : List (ℕ × Holder)) (e : ℕ × Holder) → fold (lowest_with first) a (t ++ e ∷ []) ≡ fold (lowest_with first) (lowest_with first a e) t
+pub fold-last : (first : ℕ) (a : Option ℕ) (t : List (ℕ × Holder)) (e : ℕ × Holder)
+    → fold (lowest_with first) a (t ++ e ∷ []) ≡ fold (lowest_with first) (lowest_with first a e) t
 fold-last first a [] e = refl
 fold-last first a (b ∷ t) e = fold-last first (lowest_with first a b) t e ∙ ap (λ o. fold (lowest_with first) o t) (with-swap first a b e)
 

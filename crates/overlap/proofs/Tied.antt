@@ -1,5 +1,6 @@
 -- Two maps that are tied stay so, and tell the lowest conflict.
-use Rattle.std.proofs.Common.{ℕ, ◌≡◌, ◌<◌, ◌≤◌, ◌+◌, ◌==◌, ◌⊎◌, inl, inr, ⊎_elim, List, [], ◌∷◌, Bool, true, false, cond, Option, Some, None, refl, sym, ◌∙◌, ap, arith}
+use Rattle.std.proofs.Common.{ℕ, ◌≡◌, ◌<◌, ◌≤◌, ◌+◌, ◌==◌, ◌⊎◌, inl, inr, ⊎_elim, List, [], ◌∷◌, Bool, true, false, cond, Option, Some, None, refl, sym, ◌∙◌}
+use Rattle.std.proofs.Common.{ap, arith}
 use Rattle.std.specs.Prelude.{All, filter, option_map, ◌↔◌}
 use Rattle.std.specs.Ordering.{nat_cmp}
 use Rattle.std.specs.BTreeMap.{BTreeMap, IsOrdered, get, is_at}
@@ -18,7 +19,8 @@ use Rattle.overlap.specs.Maps.{holdings, reaches, lowest_of, AreApart, AreTied, 
 use Rattle.overlap.specs.declared.held.Span.{Span}
 use Rattle.overlap.specs.declared.held.Holder.{Holder}
 use Rattle.overlap.proofs.Lists.{same_test}
-use Rattle.overlap.proofs.Among.{Among, above_head, found, finds, among-filter, among-filtered, of_entry, all-holdings, contains-holdings, find-none, none-find, find-lowest}
+use Rattle.overlap.proofs.Among.{Among, above_head, found, finds, among-filter, among-filtered, of_entry, all-holdings, contains-holdings, find-none, none-find}
+use Rattle.overlap.proofs.Among.{find-lowest}
 use Rattle.overlap.proofs.Lowest.{HasNumber, fold-none, fold-some, fold-least}
 
 -- An update at a key k: at k it says w, and elsewhere what was there, v.
@@ -42,7 +44,8 @@ kept g k q w o x (inl here) none was = absurd (let nothing : g q ≡ None = rw h
 kept g k q w o x (inr there) none was = there.1 ∙ was
 
 -- A key that was not there, put in and taken out again.
-pub updated_back : {X : Type 0} (k q : ℕ) (w v o p : Option X) (g : ℕ → Option X) → g k ≡ None → g q ≡ v → o ≡ cond (is_at (nat_cmp k) q) w v → p ≡ cond (is_at (nat_cmp k) q) None o → p ≡ v
+pub updated_back : {X : Type 0} (k q : ℕ) (w v o p : Option X) (g : ℕ → Option X) → g k ≡ None → g q ≡ v → o ≡ cond (is_at (nat_cmp k) q) w v
+    → p ≡ cond (is_at (nat_cmp k) q) None o → p ≡ v
 updated_back {X} k q w v o p g none is in_ out = go (q == k) refl
   where
     go : (b : Bool) → (q == k) ≡ b → p ≡ v
@@ -50,7 +53,8 @@ updated_back {X} k q w v o p g none is in_ out = go (q == k) refl
     go false at = out ∙ rw (same_test k q, at) (in_ ∙ rw (same_test k q, at) refl)
 
 -- a map that answers as before
-pub tied-same : (n n' : BTreeMap ℕ Span) (f f' : BTreeMap ℕ Holder) → AreTied n f → n'.entries ≡ n.entries → ((q : ℕ) → get nat_cmp f' q ≡ get nat_cmp f q) → AreTied n' f'
+pub tied-same : (n n' : BTreeMap ℕ Span) (f f' : BTreeMap ℕ Holder) → AreTied n f → n'.entries ≡ n.entries → ((q : ℕ) → get nat_cmp f' q ≡ get nat_cmp f q)
+    → AreTied n' f'
 tied-same n n' f f' tied same answers = record {
   forth = λ k s is. let was : get nat_cmp n k ≡ Some s = rw same at is in answers s.first ∙ tied.forth k s was;
   back = λ k h is. rw same (tied.back k h (sym (answers k) ∙ is));
@@ -68,9 +72,13 @@ abbrev pub lowest : ℕ → ℕ → BTreeMap ℕ Holder → Option ℕ
 lowest first last f = lowest_of first (entries_between nat_cmp Unbounded (Included last) f.entries)
 
 -- a list of entries of which any two are apart
-pub apart-list : (es : List (ℕ × Holder)) → IsStrictlySortedBy nat_cmp (keys_of es) → ((x y : ℕ × Holder) → Among x es → Among y es → x.0 < y.0 → x.0 + x.1.count ≤ y.0) → AreApart es
+pub apart-list : (es : List (ℕ × Holder)) → IsStrictlySortedBy nat_cmp (keys_of es)
+    → ((x y : ℕ × Holder) → Among x es → Among y es → x.0 < y.0 → x.0 + x.1.count ≤ y.0) → AreApart es
 apart-list [] ordered each = tt
-apart-list (e ∷ es) ordered each = (after es (λ y among. let above = above_head e y es (sorted_head nat_cmp e.0 (keys_of es) ordered) among in (above, each e y (inl refl) (inr among) above)), apart-list es (sorted_tail nat_cmp e.0 (keys_of es) ordered) (λ x y a b. each x y (inr a) (inr b)))
+apart-list (e ∷ es) ordered each = (
+  after es (λ y among. let above = above_head e y es (sorted_head nat_cmp e.0 (keys_of es) ordered) among in (above, each e y (inl refl) (inr among) above)),
+  apart-list es (sorted_tail nat_cmp e.0 (keys_of es) ordered) (λ x y a b. each x y (inr a) (inr b)),
+)
   where
     after : (xs : List (ℕ × Holder)) → ((y : ℕ × Holder) → Among y xs → EndsBefore e y) → AllByRecursion (EndsBefore e) xs
     after [] all = tt
@@ -111,7 +119,8 @@ module _ (n : BTreeMap ℕ Span) (f : BTreeMap ℕ Holder) (tied : AreTied n f) 
           absurd (grind (arith, nat_tests))
 
   -- a range without a conflict begins after a holding ends, or ends before it begins
-  pub clear-of : (first count : ℕ) → 0 < count → conflict first count (holdings n.entries) ≡ None → (k : ℕ) (h : Holder) → get nat_cmp f k ≡ Some h → (k + h.count ≤ first) ⊎ (first + count ≤ k)
+  pub clear-of : (first count : ℕ) → 0 < count → conflict first count (holdings n.entries) ≡ None → (k : ℕ) (h : Holder) → get nat_cmp f k ≡ Some h
+      → (k + h.count ≤ first) ⊎ (first + count ≤ k)
   clear-of first count some none k h is =
       let by_number = tied.back k h is in
       let among = found h.number (record { first = k; count = h.count }) n.entries by_number in
@@ -133,13 +142,16 @@ module _ (n : BTreeMap ℕ Span) (f : BTreeMap ℕ Holder) (tied : AreTied n f) 
     sized k t is (inl here) = let same : t ≡ s = cc in rw same some
     sized k t is (inr there) = let was : get nat_cmp n k ≡ Some t = cc in tied.some k t was
 
-    forth : (k : ℕ) (t : Span) → get nat_cmp n' k ≡ Some t → Updated number k (Some s) (get nat_cmp n k) (get nat_cmp n' k) → get nat_cmp f' t.first ≡ Some (record { number = k; count = t.count })
+    forth : (k : ℕ) (t : Span) → get nat_cmp n' k ≡ Some t → Updated number k (Some s) (get nat_cmp n k) (get nat_cmp n' k)
+        → get nat_cmp f' t.first ≡ Some (record { number = k; count = t.count })
     forth k t is (inl here) = let same : t ≡ s = cc in rw (same, ← here.0) (updated_here s.first _ _ _ (to_f s.first))
     forth k t is (inr there) =
         let was : get nat_cmp n k ≡ Some t = cc in
         kept (get nat_cmp f) s.first t.first _ _ _ (to_f t.first) no_first (tied.forth k t was)
 
-    back : (k : ℕ) (h : Holder) → get nat_cmp f' k ≡ Some h → Updated s.first k (Some (record { number = number; count = s.count })) (get nat_cmp f k) (get nat_cmp f' k) → get nat_cmp n' h.number ≡ Some (record { first = k; count = h.count })
+    back : (k : ℕ) (h : Holder) → get nat_cmp f' k ≡ Some h
+        → Updated s.first k (Some (record { number = number; count = s.count })) (get nat_cmp f k) (get nat_cmp f' k)
+        → get nat_cmp n' h.number ≡ Some (record { first = k; count = h.count })
     back k h is (inl here) =
         let same : h ≡ record { number = number; count = s.count } = cc in
         rw (same, ← here.0) (updated_here number _ _ _ (to_n number))
@@ -176,12 +188,14 @@ module _ (n : BTreeMap ℕ Span) (f : BTreeMap ℕ Holder) (tied : AreTied n f) 
   -- the holdings that begin up to a block are apart
   pub apart-between : (last : ℕ) → IsOrdered nat_cmp f → AreApart (entries_between nat_cmp Unbounded (Included last) f.entries)
   apart-between last rising =
-      apart-filter (is_inside last) f.entries (apart-list f.entries rising (λ x y a b. tied.apart x.0 y.0 x.1 y.1 (finds x f.entries rising a) (finds y f.entries rising b)))
+      apart-filter (is_inside last) f.entries
+      (apart-list f.entries rising (λ x y a b. tied.apart x.0 y.0 x.1 y.1 (finds x f.entries rising a) (finds y f.entries rising b)))
 
   module _ (first count last : ℕ) (some : 0 < count) (last_is : last + 1 ≡ first + count) (rising : IsOrdered nat_cmp f) where
     -- A holding that meets the range begins in it or before it, and reaches it.
     seen : (e : ℕ × Span) → Among e n.entries → meets first count (of_entry e) ≡ true
-        → Among (e.1.first, record { number = e.0; count = e.1.count }) (entries_between nat_cmp Unbounded (Included last) f.entries) × (reaches first (e.1.first, record { number = e.0; count = e.1.count }) ≡ true)
+        → Among (e.1.first, record { number = e.0; count = e.1.count }) (entries_between nat_cmp Unbounded (Included last) f.entries)
+        × (reaches first (e.1.first, record { number = e.0; count = e.1.count }) ≡ true)
     seen e among met =
         let is = finds e n.entries tied.ordered among in
         let big = tied.some e.0 e.1 is in

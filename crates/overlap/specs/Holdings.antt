@@ -1,5 +1,6 @@
 -- Ranges that are held, each by a number: which of them meet a range, and how they change.
-use Rattle.std.specs.Prelude.{ℕ, ◌≤◌, ◌≡◌, nat_lt, ◌==◌, Bool, true, not, List, [], ◌∷◌, All, Contains, Option, Some, None, min, if◌then◌else◌, filter, find, option_map}
+use Rattle.std.specs.Prelude.{ℕ, ◌≤◌, ◌≡◌, nat_lt, ◌==◌, Bool, true, not, List, [], ◌∷◌, All, Contains, Option, Some, None, min, if◌then◌else◌, filter, find}
+use Rattle.std.specs.Prelude.{option_map}
 use Rattle.std.specs.List.{list_any}
 use Rattle.blocks.specs.Ranges.{ranges_meet}
 

@@ -105,7 +105,8 @@ rs_data_again first place contents rules fp =
     rw (a, b, c, d, r, rest, block) refl
 
 -- the numbers of an acknowledgement are read again
-acknowledgement_again : (ack : Acknowledgement) → 8 * ack.first.0 < 2 ^ 64 → ack.count ≤ 32 → FitsAcknowledgement ack → acknowledgement_at (acknowledgement_bytes ack) ≡ ack
+acknowledgement_again : (ack : Acknowledgement) → 8 * ack.first.0 < 2 ^ 64 → ack.count ≤ 32 → FitsAcknowledgement ack
+    → acknowledgement_at (acknowledgement_bytes ack) ≡ ack
 unfolding acknowledgement_at words
 acknowledgement_again ack sector few fits =
     let f = four 4 (8 * ack.first.0) ack.number (4096 * ack.count) ack.place sector fits.0 (omega arith) fits.1 in

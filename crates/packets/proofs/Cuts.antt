@@ -22,5 +22,6 @@ cut_front xs ys long = ap cut_after (header_front xs ys long)
 pub same_cut : (f g x y : List ℕ) → IsCut f → IsCut g → f ++ x ≡ g ++ y → (f ≡ g) × (x ≡ y)
 same_cut f g x y a b e =
     let n = length f in
-    let other : length g ≡ n = b.whole ∙ sym (cut_front g y b.headed) ∙ ap (λ (row : List ℕ). cut_after (header_at row)) (sym e) ∙ cut_front f x a.headed ∙ sym a.whole in
+    let other : length g ≡ n = b.whole ∙ sym (cut_front g y b.headed) ∙ ap (λ (row : List ℕ). cut_after (header_at row)) (sym e) ∙ cut_front f x a.headed
+    ∙ sym a.whole in
     (sym (take_at f x n refl) ∙ ap (take n) e ∙ take_at g y n other, sym (drop_at f x n refl) ∙ ap (drop n) e ∙ drop_at g y n other)

@@ -1,5 +1,6 @@
 -- The bytes of a number and the number of some bytes are each other's inverse.
-use Rattle.std.proofs.Common.{◌≡◌, ℕ, zero, suc, ◌+◌, ◌*◌, ◌/◌, ◌^◌, ◌<◌, ◌≤◌, List, [], ◌∷◌, ◌++◌, length, take, drop, get_or, refl, sym, ap, ◌∙◌, append_assoc, zero-add, arith}
+use Rattle.std.proofs.Common.{◌≡◌, ℕ, zero, suc, ◌+◌, ◌*◌, ◌/◌, ◌^◌, ◌<◌, ◌≤◌, List, [], ◌∷◌, ◌++◌, length, take, drop, get_or, refl, sym, ap, ◌∙◌}
+use Rattle.std.proofs.Common.{append_assoc, zero-add, arith}
 use Rattle.std.proofs.Math.Nat.{mod-lt}
 use Rattle.std.proofs.Math.Seq.{take-add}
 use Rattle.std.proofs.lemmas.Nat.{div-mul-add}
@@ -72,14 +73,16 @@ unfolding number_in
 number_fits width place bytes h = big_from-lt 0 width (drop place bytes) (IsBytes_drop place bytes h)
 
 -- what stands before a number, and the number's bytes
-pub number_taken : (width place : ℕ) (bytes : List ℕ) → IsBytes bytes → place + width ≤ length bytes → take place bytes ++ number_bytes width (number_in width place bytes) ≡ take (place + width) bytes
+pub number_taken : (width place : ℕ) (bytes : List ℕ) → IsBytes bytes → place + width ≤ length bytes
+    → take place bytes ++ number_bytes width (number_in width place bytes) ≡ take (place + width) bytes
 unfolding number_in number_bytes
 number_taken width place bytes h long =
     let part = take width (drop place bytes) in
     let fits : IsBytes part = IsBytes_take width (drop place bytes) (IsBytes_drop place bytes h) in
     let len : length part ≡ width = omega (arith, length-take width (drop place bytes), length-drop place bytes) in
     let read : big_from 0 width part ≡ big_from 0 width (drop place bytes) = big_from-take 0 width width (drop place bytes) (omega arith) in
-    let again : bytes_high_first width (big_from 0 width part) ≡ part = ap (λ (n : ℕ). bytes_high_first n (big_from 0 n part)) (sym len) ∙ bytes_again part fits in
+    let again : bytes_high_first width (big_from 0 width part) ≡ part = ap (λ (n : ℕ). bytes_high_first n (big_from 0 n part)) (sym len)
+    ∙ bytes_again part fits in
     let same : big_bytes width (big_number width (drop place bytes)) ≡ part = ap (bytes_high_first width) (sym read) ∙ again in
     ap (λ (x : List ℕ). take place bytes ++ x) same ∙ sym (take-add place width bytes)
 
@@ -89,7 +92,8 @@ number_first width bytes h long =
     number_taken width 0 bytes h (omega arith) ∙ ap (λ (n : ℕ). take n bytes) (zero-add width)
 
 -- a number that was written is read again
-pub number_again : (width place n : ℕ) (front back : List ℕ) → length front ≡ place → n < 256 ^ width → number_in width place (front ++ number_bytes width n ++ back) ≡ n
+pub number_again : (width place n : ℕ) (front back : List ℕ) → length front ≡ place → n < 256 ^ width
+    → number_in width place (front ++ number_bytes width n ++ back) ≡ n
 unfolding number_in number_bytes
 number_again width place n front back len fits =
     let at : drop place (front ++ bytes_high_first width n ++ back) ≡ bytes_high_first width n ++ back =

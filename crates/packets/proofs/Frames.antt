@@ -1,5 +1,6 @@
 -- A frame that is read is spelled so, a frame that is spelled is read so, and no spelling begins another.
-use Rattle.std.proofs.Common.{◌≡◌, ℕ, ◌+◌, ◌^◌, ◌<◌, ◌≤◌, Bool, true, false, cond, eqb, List, [], ◌++◌, length, take, drop, Option, Some, None, Result, Ok, Err, refl, sym, ap, ◌∙◌, subst, arith, inl, inr}
+use Rattle.std.proofs.Common.{◌≡◌, ℕ, ◌+◌, ◌^◌, ◌<◌, ◌≤◌, Bool, true, false, cond, eqb, List, [], ◌++◌, length, take, drop, Option, Some, None, Result, Ok, Err}
+use Rattle.std.proofs.Common.{refl, sym, ap, ◌∙◌, subst, arith, inl, inr}
 use Rattle.std.specs.Prelude.{◌⊎◌}
 use Rattle.std.proofs.lemmas.Bool.{eqb-true}
 use Rattle.std.proofs.lemmas.List.{append-nil, length-append, length-drop, take-append-drop, drop_at, take_at}
@@ -116,7 +117,8 @@ header_takes bytes h fits long e =
     let first = number_first 2 bytes fits (omega (arith, long)) in
     let second = number_taken 2 2 bytes fits (omega (arith, long)) in
     let third = number_taken 4 4 bytes fits (omega (arith, long)) in
-    let read : header_bytes h.command h.len ≡ number_bytes 2 (number_in 2 0 bytes) ++ number_bytes 2 (number_in 2 2 bytes) ++ number_bytes 4 (number_in 4 4 bytes) = rw (m, n, r.1) refl in
+    let read : header_bytes h.command h.len ≡ number_bytes 2 (number_in 2 0 bytes) ++ number_bytes 2 (number_in 2 2 bytes)
+    ++ number_bytes 4 (number_in 4 4 bytes) = rw (m, n, r.1) refl in
     sym (read ∙ rw (first, second) third)
 
 number_below : (c : Command) → number_of c < 2 ^ 16
@@ -149,7 +151,8 @@ known (packet.WriteAck _) = refl
 known (packet.RsWriteAck _) = refl
 known (packet.BarrierAck _ _) = refl
 
-row_again : (c : Command) (len : ℕ) → command_at (number_of c) ≡ Some c → is_length c len ≡ true → len < 2 ^ 32 → header_at (header_bytes c len) ≡ Ok (record { command = c; len = len })
+row_again : (c : Command) (len : ℕ) → command_at (number_of c) ≡ Some c → is_length c len ≡ true → len < 2 ^ 32
+    → header_at (header_bytes c len) ≡ Ok (record { command = c; len = len })
 unfolding header_at
 row_again c len named row fits =
     let m = number_bytes 2 magic in
@@ -188,7 +191,8 @@ unfolding spelling
 spelling_payload p = drop_at (header_bytes (command_of p) (length (payload p))) (payload p) 8 (header_bytes_length (command_of p) (length (payload p)))
 
 -- a frame that is read is spelled so
-pub frame_takes : (frame : List ℕ) (h : Header) (p : Packet) → IsBytes frame → length frame ≡ 8 + h.len → header_at frame ≡ Ok h → payload_at h.command (drop 8 frame) ≡ Ok p → IsSpellable p × Spells p frame
+pub frame_takes : (frame : List ℕ) (h : Header) (p : Packet) → IsBytes frame → length frame ≡ 8 + h.len → header_at frame ≡ Ok h
+    → payload_at h.command (drop 8 frame) ≡ Ok p → IsSpellable p × Spells p frame
 unfolding spelling
 frame_takes frame h p fits len e f =
     let rest : length (drop 8 frame) ≡ h.len = omega (arith, length-drop 8 frame, len) in
@@ -212,7 +216,8 @@ packets_are : (p q : Packet) → found p ≡ found q → p ≡ q
 packets_are p q e = cc
 
 -- what a spelled frame is read as
-pub spelled_reads : (frame : List ℕ) (p : Packet) → IsSpellable p → Spells p frame → (header_at frame ≡ Ok (header_of p)) × (length frame ≡ 8 + length (payload p)) × (payload_at (command_of p) (drop 8 frame) ≡ Ok p)
+pub spelled_reads : (frame : List ℕ) (p : Packet) → IsSpellable p → Spells p frame
+    → (header_at frame ≡ Ok (header_of p)) × (length frame ≡ 8 + length (payload p)) × (payload_at (command_of p) (drop 8 frame) ≡ Ok p)
 spelled_reads frame p rules s =
     let is = s.bytes_are in (
       ap header_at (is ∙ sym (append-nil (spelling p))) ∙ header_again p [] rules,
@@ -230,7 +235,8 @@ frame_refused frame h e read refused p rules s =
     cc
 
 -- two packets whose spellings begin the same bytes are one
-pub one_packet : (p q : Packet) (x y : List ℕ) → IsSpellable p → FitsFields p → IsSpellable q → FitsFields q → spelling p ++ x ≡ spelling q ++ y → (p ≡ q) × (x ≡ y)
+pub one_packet : (p q : Packet) (x y : List ℕ) → IsSpellable p → FitsFields p → IsSpellable q → FitsFields q → spelling p ++ x ≡ spelling q ++ y
+    → (p ≡ q) × (x ≡ y)
 one_packet p q x y p_rules p_fields q_rules q_fields e =
     let same = headers_are (header_of p) (header_of q) (sym (header_again p x p_rules) ∙ ap header_at e ∙ header_again q y q_rules) in
     let len : length (payload p) ≡ length (payload q) = ap (λ (h : Header). h.len) same in
@@ -239,8 +245,11 @@ one_packet p q x y p_rules p_fields q_rules q_fields e =
     let frames : spelling p ≡ spelling q = sym (take_at (spelling p) x n refl) ∙ ap (take n) e ∙ take_at (spelling q) y n other in
     let rests : x ≡ y = sym (drop_at (spelling p) x n refl) ∙ ap (drop n) e ∙ drop_at (spelling q) y n other in
     let payloads : payload p ≡ payload q = sym (spelling_payload p) ∙ ap (drop 8) frames ∙ spelling_payload q in
-    let named : command_of p ≡ command_of q = ap (λ (h : Header). h.command) same in
-    (packets_are p q (sym (payload_again p p_rules p_fields) ∙ ap (λ (c : Command). payload_at c (payload p)) named ∙ ap (payload_at (command_of q)) payloads ∙ payload_again q q_rules q_fields), rests)
+    let named : command_of p ≡ command_of q = ap (λ (h : Header). h.command) same in (
+      packets_are p q (sym (payload_again p p_rules p_fields) ∙ ap (λ (c : Command). payload_at c (payload p)) named ∙ ap (payload_at (command_of q)) payloads
+          ∙ payload_again q q_rules q_fields),
+      rests,
+    )
 
 -- the one answer to the spelling of a packet
 pub answers_only : (frame : List ℕ) (r : Result Packet Refusal) → Answers frame r → (p : Packet) → IsSpellable p → Spells p frame → r ≡ Ok p

@@ -57,14 +57,16 @@ abbrev refused : Refusal → Result Packet Refusal
 refused e = Err e
 
 -- the answer where the fields are refused
-pub fields_refused : (hello : Option Command) (frame : List ℕ) (h : Header) (fault answer : Refusal) (awaited : Bool) → IsHeaded h frame → refused fault ≡ payload_at h.command (drop 8 frame)
+pub fields_refused : (hello : Option Command) (frame : List ℕ) (h : Header) (fault answer : Refusal) (awaited : Bool) → IsHeaded h frame
+    → refused fault ≡ payload_at h.command (drop 8 frame)
     → awaited ≡ is_awaited hello h.command → answer ≡ fault_in_hello awaited fault → refused answer ≡ in_hello hello frame (frame_read frame)
 fields_refused hello frame h fault answer awaited headed said expected is =
     let same : awaited ≡ is_expected hello frame = expected ∙ sym (awaited_is hello frame h headed) in
     ap refused (is ∙ ap (λ (b : Bool). fault_in_hello b fault) same) ∙ ap (in_hello hello frame) (said ∙ sym (frame_read_headed frame h headed))
 
 -- and where the frame is refused before its fields
-pub header_refused : (hello : Option Command) (frame : List ℕ) (e : Refusal) → frame_read frame ≡ Err e → (e ≡ BadField → ⊥) → refused e ≡ in_hello hello frame (frame_read frame)
+pub header_refused : (hello : Option Command) (frame : List ℕ) (e : Refusal) → frame_read frame ≡ Err e → (e ≡ BadField → ⊥)
+    → refused e ≡ in_hello hello frame (frame_read frame)
 header_refused hello frame e read other =
     ap refused (sym (other_fault (is_expected hello frame) e other)) ∙ ap (in_hello hello frame) (sym read)
 

@@ -1,5 +1,6 @@
 -- What a payload says is spelled so, and what is spelled so is said.
-use Rattle.std.proofs.Common.{◌≡◌, ℕ, ◌-◌, ◌*◌, ◌/◌, ◌%◌, ◌<◌, ◌≤◌, Bool, true, false, cond, eqb, ltb, ◌&&◌, ◌⊎◌, List, ◌++◌, length, take, drop, Result, Ok, Err, refl, sym, ap, ◌∙◌, subst, arith, inl, inr}
+use Rattle.std.proofs.Common.{◌≡◌, ℕ, ◌-◌, ◌*◌, ◌/◌, ◌%◌, ◌<◌, ◌≤◌, Bool, true, false, cond, eqb, ltb, ◌&&◌, ◌⊎◌, List, ◌++◌, length, take, drop, Result, Ok}
+use Rattle.std.proofs.Common.{Err, refl, sym, ap, ◌∙◌, subst, arith, inl, inr}
 use Rattle.std.proofs.lemmas.Bool.{eqb-true, ltb-true}
 use Rattle.std.proofs.lemmas.List.{length-drop, take-append-drop, take_all}
 use Rattle.blocks.specs.declared.command.Command.{Command}
@@ -86,7 +87,8 @@ uuids_says bytes h len =
       spelled = rw (first, second, third, fourth) (whole 32 bytes len);
     }
 
-barrier_ack_says : (bytes : List ℕ) → IsBytes bytes → length bytes ≡ 8 → Says command.BarrierAck bytes (packet.BarrierAck (number_in 4 0 bytes) (number_in 4 4 bytes))
+barrier_ack_says : (bytes : List ℕ) → IsBytes bytes → length bytes ≡ 8
+    → Says command.BarrierAck bytes (packet.BarrierAck (number_in 4 0 bytes) (number_in 4 4 bytes))
 barrier_ack_says bytes h len =
     let first = number_first 4 bytes h (omega (arith, len)) in
     let second = number_taken 4 4 bytes h (omega (arith, len)) in
@@ -136,7 +138,8 @@ record SaysAcknowledgement (Names : Acknowledgement → Type 0) (bytes : List �
   spelled : acknowledgement_bytes (acknowledgement_at bytes) ≡ bytes
 
 -- bytes whose sector is a block's first and whose size is of whole blocks spell what they say
-acknowledgement_spelled : (bytes : List ℕ) → IsBytes bytes → length bytes ≡ 24 → number_in 8 0 bytes % 8 ≡ 0 → 4096 * (number_in 4 16 bytes / 4096) ≡ number_in 4 16 bytes
+acknowledgement_spelled : (bytes : List ℕ) → IsBytes bytes → length bytes ≡ 24 → number_in 8 0 bytes % 8 ≡ 0
+    → 4096 * (number_in 4 16 bytes / 4096) ≡ number_in 4 16 bytes
     → FitsAcknowledgement (acknowledgement_at bytes) × (acknowledgement_bytes (acknowledgement_at bytes) ≡ bytes)
 unfolding acknowledgement_at
 acknowledgement_spelled bytes h len even size =
@@ -186,19 +189,22 @@ resync_said bytes h len e =
       spelled = s.1;
     }
 
-recv_ack_says : (bytes : List ℕ) (p : Packet) → IsBytes bytes → length bytes ≡ 24 → checked (names_write bytes) (packet.RecvAck (acknowledgement_at bytes)) ≡ Ok p → Says command.RecvAck bytes p
+recv_ack_says : (bytes : List ℕ) (p : Packet) → IsBytes bytes → length bytes ≡ 24
+    → checked (names_write bytes) (packet.RecvAck (acknowledgement_at bytes)) ≡ Ok p → Says command.RecvAck bytes p
 recv_ack_says bytes p h len e =
     let g = passed (names_write bytes) (packet.RecvAck (acknowledgement_at bytes)) p BadField e in
     let s = write_said bytes h len g.0 in
     subst (Says command.RecvAck bytes) g.1 (record { rules = s.names; fields = s.fields; named = refl; spelled = s.spelled })
 
-write_ack_says : (bytes : List ℕ) (p : Packet) → IsBytes bytes → length bytes ≡ 24 → checked (names_write bytes) (packet.WriteAck (acknowledgement_at bytes)) ≡ Ok p → Says command.WriteAck bytes p
+write_ack_says : (bytes : List ℕ) (p : Packet) → IsBytes bytes → length bytes ≡ 24
+    → checked (names_write bytes) (packet.WriteAck (acknowledgement_at bytes)) ≡ Ok p → Says command.WriteAck bytes p
 write_ack_says bytes p h len e =
     let g = passed (names_write bytes) (packet.WriteAck (acknowledgement_at bytes)) p BadField e in
     let s = write_said bytes h len g.0 in
     subst (Says command.WriteAck bytes) g.1 (record { rules = s.names; fields = s.fields; named = refl; spelled = s.spelled })
 
-rs_write_ack_says : (bytes : List ℕ) (p : Packet) → IsBytes bytes → length bytes ≡ 24 → checked (names_resync bytes) (packet.RsWriteAck (acknowledgement_at bytes)) ≡ Ok p → Says command.RsWriteAck bytes p
+rs_write_ack_says : (bytes : List ℕ) (p : Packet) → IsBytes bytes → length bytes ≡ 24
+    → checked (names_resync bytes) (packet.RsWriteAck (acknowledgement_at bytes)) ≡ Ok p → Says command.RsWriteAck bytes p
 rs_write_ack_says bytes p h len e =
     let g = passed (names_resync bytes) (packet.RsWriteAck (acknowledgement_at bytes)) p BadField e in
     let s = resync_said bytes h len g.0 in

@@ -1,5 +1,6 @@
 -- A stream is read in one way.
-use Rattle.std.proofs.Common.{◌≡◌, ℕ, suc, ◌+◌, ◌<◌, List, [], ◌∷◌, ◌++◌, length, take, drop, get_or, drop-cons, Option, Some, None, Result, Ok, Err, refl, sym, ap, ◌∙◌, subst, append_assoc, arith, inl, inr}
+use Rattle.std.proofs.Common.{◌≡◌, ℕ, suc, ◌+◌, ◌<◌, List, [], ◌∷◌, ◌++◌, length, take, drop, get_or, drop-cons, Option, Some, None, Result, Ok, Err, refl, sym}
+use Rattle.std.proofs.Common.{ap, ◌∙◌, subst, append_assoc, arith, inl, inr}
 use Rattle.std.specs.List.{flat_map, AllByRecursion}
 use Rattle.std.proofs.lemmas.List.{length-append, take_at, take-append-le, take-append-drop}
 use Rattle.std.proofs.lemmas.Grind.{flat_map-append}
@@ -75,7 +76,8 @@ same_packets (p ∷ ps) (q ∷ qs) r t f g hp hq er et e =
     let rest = same_packets ps qs r t f g hp.1 hq.1 er et one.1 in
     (ap (λ (x : Packet). x ∷ ps) one.0 ∙ ap (λ (xs : List Packet). q ∷ xs) rest.0, rest.1, rest.2)
 
-pub one_reading : (stream : List ℕ) (ps qs : List Packet) (r t : List ℕ) (f g : Option Refusal) → Reads stream ps r f → Reads stream qs t g → (ps ≡ qs) × (r ≡ t) × (f ≡ g)
+pub one_reading : (stream : List ℕ) (ps qs : List Packet) (r t : List ℕ) (f g : Option Refusal) → Reads stream ps r f → Reads stream qs t g
+    → (ps ≡ qs) × (r ≡ t) × (f ≡ g)
 one_reading stream ps qs r t f g a b = same_packets ps qs r t f g a.each b.each a.end b.end (sym a.whole ∙ b.whole)
 
 -- ---- one answer to a frame
@@ -108,7 +110,8 @@ each_append [] qs hp hq = hq
 each_append (p ∷ ps) qs hp hq = (hp.0, each_append ps qs hp.1 hq)
 
 -- what two pieces give
-pub gives_then : (stream piece left rest : List ℕ) (old mid new : List Packet) → Gives stream old mid left → Gives (left ++ piece) mid new rest → Gives (stream ++ piece) old new rest
+pub gives_then : (stream piece left rest : List ℕ) (old mid new : List Packet) → Gives stream old mid left → Gives (left ++ piece) mid new rest
+    → Gives (stream ++ piece) old new rest
 gives_then stream piece left rest old mid new a b = record {
   packets = a.packets ++ b.packets;
   added = b.added ∙ ap (λ (x : List Packet). x ++ b.packets) a.added ∙ append_assoc old a.packets b.packets;
@@ -135,12 +138,14 @@ fault_stays bytes more refusal is =
     )
 
 -- the packets that an empty list was given are those that the stream reads as
-pub gives_reads : (stream left : List ℕ) (packets : List Packet) (fault : Option Refusal) → Gives stream [] packets left → Ends fault left → Reads stream packets left fault
+pub gives_reads : (stream left : List ℕ) (packets : List Packet) (fault : Option Refusal) → Gives stream [] packets left → Ends fault left
+    → Reads stream packets left fault
 gives_reads stream left packets fault g end =
     subst (λ (ps : List Packet). Reads stream ps left fault) (sym g.added) (record { whole = g.whole; each = g.each; end = end })
 
 -- the same where more of the stream follows a fault
-pub stops_reads : (stream left more : List ℕ) (packets : List Packet) (refusal : Refusal) → Gives stream [] packets left → IsFaultAt left refusal → Reads (stream ++ more) packets (left ++ more) (Some refusal)
+pub stops_reads : (stream left more : List ℕ) (packets : List Packet) (refusal : Refusal) → Gives stream [] packets left → IsFaultAt left refusal
+    → Reads (stream ++ more) packets (left ++ more) (Some refusal)
 stops_reads stream left more packets refusal g fault =
     subst (λ (ps : List Packet). Reads (stream ++ more) ps (left ++ more) (Some refusal)) (sym g.added) (record {
       whole = ap (λ (x : List ℕ). x ++ more) g.whole ∙ append_assoc (spellings g.packets) left more;
@@ -160,7 +165,8 @@ pieces_split {X = X} f pieces i d h =
     ∙ sym (append_assoc (flat_map f (take i pieces)) (f (get_or pieces i d)) (flat_map f (drop (suc i) pieces)))
 
 -- a fault that one of the pieces met
-pub piece_stops : {X : Type 0} (f : X → List ℕ) (pieces : List X) (i : ℕ) (d : X) (held left : List ℕ) (old new : List Packet) (refusal : Refusal) → i < length pieces
+pub piece_stops : {X : Type 0} (f : X → List ℕ) (pieces : List X) (i : ℕ) (d : X) (held left : List ℕ) (old new : List Packet) (refusal : Refusal)
+    → i < length pieces
     → Gives (flat_map f (take i pieces)) [] old held → Gives (held ++ f (get_or pieces i d)) old new left → IsFaultAt left refusal
     → (rest : List ℕ) × Reads (flat_map f pieces) new rest (Some refusal)
 piece_stops f pieces i d held left old new refusal h before given fault =
@@ -170,7 +176,8 @@ piece_stops f pieces i d held left old new refusal h before given fault =
     (left ++ more, subst (λ (stream : List ℕ). Reads stream new (left ++ more) (Some refusal)) (sym (pieces_split f pieces i d h)) read)
 
 -- pieces that make the same bytes read as the same
-pub any_pieces : (pieces others : List (List ℕ)) (a b : List Packet) (f g : Option Refusal) → flat_map (λ piece. piece) pieces ≡ flat_map (λ piece. piece) others
+pub any_pieces : (pieces others : List (List ℕ)) (a b : List Packet) (f g : Option Refusal)
+    → flat_map (λ piece. piece) pieces ≡ flat_map (λ piece. piece) others
     → Decodes pieces a f → Decodes others b g → (a ≡ b) × (f ≡ g)
 any_pieces pieces others a b f g e x y =
     let read : Reads (flat_map (λ piece. piece) others) a x.0 f = subst (λ (stream : List ℕ). Reads stream a x.0 f) e x.1 in

@@ -1,5 +1,6 @@
 -- A decoder's step from one frame to the next.
-use Rattle.std.proofs.Common.{◌≡◌, ℕ, zero, suc, ◌+◌, ◌≤◌, Bool, true, false, cond, eqb, List, [], ◌∷◌, ◌++◌, length, take, drop, Option, Some, None, Result, Ok, Err, refl, sym, ap, ◌∙◌, subst, append_assoc, arith, inl, inr}
+use Rattle.std.proofs.Common.{◌≡◌, ℕ, zero, suc, ◌+◌, ◌≤◌, Bool, true, false, cond, eqb, List, [], ◌∷◌, ◌++◌, length, take, drop, Option, Some, None, Result}
+use Rattle.std.proofs.Common.{Ok, Err, refl, sym, ap, ◌∙◌, subst, append_assoc, arith, inl, inr}
 use Rattle.std.specs.Prelude.{IfErr}
 use Rattle.std.specs.List.{AllByRecursion}
 use Rattle.std.proofs.lemmas.List.{append-nil, length-append, length-drop, take_at, take-append-drop}
@@ -73,7 +74,8 @@ payload_refuses command.RsWriteAck bytes e row h = checked_refuses _ _ e h
 payload_refuses command.BarrierAck bytes e row h = absurd cc
 
 -- the answer to a frame whose header and length are as they have to be
-pub answers_payload : (frame : List ℕ) (h : Header) (r : Result Packet Refusal) → IsBytes frame → length frame ≡ 8 + h.len → header_at frame ≡ Ok h → payload_at h.command (drop 8 frame) ≡ r → Answers frame r
+pub answers_payload : (frame : List ℕ) (h : Header) (r : Result Packet Refusal) → IsBytes frame → length frame ≡ 8 + h.len → header_at frame ≡ Ok h
+    → payload_at h.command (drop 8 frame) ≡ r → Answers frame r
 answers_payload frame h (Ok p) fits long judged said = frame_takes frame h p fits long judged said
 answers_payload frame h (Err e) fits long judged said =
     let rest : length (drop 8 frame) ≡ h.len = omega (arith, length-drop 8 frame, long) in
@@ -99,7 +101,8 @@ magic_has P false r e first next is = let same : BadMagic ≡ e = cc in subst P 
 header_has : (P : Refusal → Type 0) (bytes : List ℕ) (e : Refusal) → P BadMagic → P BadCommand → P BadLength → header_at bytes ≡ Err e → P e
 unfolding header_at
 header_has P bytes e first second third is =
-    magic_has P (eqb (number_in 2 0 bytes) magic) (row_at (command_at (number_in 2 2 bytes)) (number_in 4 4 bytes)) e first (length_has P (command_at (number_in 2 2 bytes)) (number_in 4 4 bytes) e second third) is
+    magic_has P (eqb (number_in 2 0 bytes) magic) (row_at (command_at (number_in 2 2 bytes)) (number_in 4 4 bytes)) e first
+    (length_has P (command_at (number_in 2 2 bytes)) (number_in 4 4 bytes) e second third) is
 
 pub header_fault : (bytes : List ℕ) (e : Refusal) → header_at bytes ≡ Err e → is_fault e ≡ true
 header_fault bytes e is = header_has (λ (x : Refusal). is_fault x ≡ true) bytes e refl refl refl is
@@ -108,7 +111,8 @@ header_fault bytes e is = header_has (λ (x : Refusal). is_fault x ≡ true) byt
 pub header_no_field : (bytes : List ℕ) (e : Refusal) → header_at bytes ≡ Err e → e ≡ BadField → ⊥
 header_no_field bytes e is = header_has (λ (x : Refusal). x ≡ BadField → ⊥) bytes e (λ same. cc) (λ same. cc) (λ same. cc) is
 
-after_known : (r : Result Header Refusal) (frame : List ℕ) (e : Refusal) → ((x : Refusal) → r ≡ Err x → is_fault x ≡ true) → IsFaultAfter r frame e → is_fault e ≡ true
+after_known : (r : Result Header Refusal) (frame : List ℕ) (e : Refusal) → ((x : Refusal) → r ≡ Err x → is_fault x ≡ true) → IsFaultAfter r frame e
+    → is_fault e ≡ true
 after_known (Err fault) frame e known is = ap is_fault is ∙ known fault refl
 after_known (Ok h) frame e known (inl length) = ap is_fault length.1
 after_known (Ok h) frame e known (inr field) = ap is_fault field.1
@@ -152,21 +156,28 @@ frame_header : (bytes frame after : List ℕ) (h : Header) → IsWhole bytes fra
 frame_header bytes frame after h w =
     sym (header_front frame after (omega (arith, w.long))) ∙ ap header_at (sym w.parts) ∙ w.judged
 
-pub whole_goes : (bytes frame after : List ℕ) (h : Header) (p : Packet) → IsWhole bytes frame after h → payload_at h.command (drop 8 frame) ≡ Ok p → IsWritten p × (bytes ≡ spelling p ++ after)
+pub whole_goes : (bytes frame after : List ℕ) (h : Header) (p : Packet) → IsWhole bytes frame after h → payload_at h.command (drop 8 frame) ≡ Ok p
+    → IsWritten p × (bytes ≡ spelling p ++ after)
 whole_goes bytes frame after h p w said =
     let t = frame_takes frame h p w.fits w.long (frame_header bytes frame after h w) said in
     ((t.0, t.1.fields), w.parts ∙ ap (λ (x : List ℕ). x ++ after) t.1.bytes_are)
 
-pub whole_stops : (bytes frame after : List ℕ) (h : Header) (e : Refusal) → IsWhole bytes frame after h → is_length h.command (length (drop 8 frame)) ≡ true → payload_at h.command (drop 8 frame) ≡ Err e → IsFaultAt bytes e
+pub whole_stops : (bytes frame after : List ℕ) (h : Header) (e : Refusal) → IsWhole bytes frame after h → is_length h.command (length (drop 8 frame)) ≡ true
+    → payload_at h.command (drop 8 frame) ≡ Err e → IsFaultAt bytes e
 whole_stops bytes frame after h e w row said =
     let none = frame_refused frame h e (frame_header bytes frame after h w) said in
     let len : length bytes ≡ length frame + length after = ap length w.parts ∙ length-append frame after in
     let front : take (8 + h.len) bytes ≡ frame = ap (take (8 + h.len)) w.parts ∙ take_at frame after (8 + h.len) w.long in
-    let fault : IsFaultWith (Ok h) bytes e = (omega (arith, len, w.long), payload_refuses h.command (drop 8 frame) e row said, subst IsNoSpelling (sym front) none) in
+    let fault : IsFaultWith (Ok h) bytes e = (
+      omega (arith, len, w.long),
+      payload_refuses h.command (drop 8 frame) e row said,
+      subst IsNoSpelling (sym front) none,
+    ) in
     (omega (arith, len, w.long), subst (λ (r : Result Header Refusal). IsFaultWith r bytes e) (sym w.judged) fault)
 
 -- a frame that is what was held and then the front of a piece
-pub joined_whole : (front piece end after frame : List ℕ) (n : ℕ) (h : Header) → end ≡ take n piece → after ≡ drop n piece → frame ≡ front ++ end → length frame ≡ 8 + h.len
+pub joined_whole : (front piece end after frame : List ℕ) (n : ℕ) (h : Header) → end ≡ take n piece → after ≡ drop n piece → frame ≡ front ++ end
+    → length frame ≡ 8 + h.len
     → header_at (front ++ piece) ≡ Ok h → IsBytes front → IsBytes piece → IsWhole (front ++ piece) frame after h
 joined_whole front piece end after frame n h e a f long judged front_fits piece_fits =
     let parts : frame ++ after ≡ front ++ piece =
@@ -195,7 +206,8 @@ spellings_more ps p left after e =
     let all : spellings (ps ++ p ∷ []) ≡ spellings ps ++ spelling p = flat_map-append spelling ps (p ∷ []) ∙ ap (λ (x : List ℕ). spellings ps ++ x) one in
     ap (λ (x : List ℕ). spellings ps ++ x) e ∙ sym (append_assoc (spellings ps) (spelling p) after) ∙ ap (λ (x : List ℕ). x ++ after) (sym all)
 
-pub gives_more : (bytes : List ℕ) (old new : List Packet) (left after : List ℕ) (p : Packet) → Gives bytes old new left → left ≡ spelling p ++ after → IsWritten p → Gives bytes old (new ++ p ∷ []) after
+pub gives_more : (bytes : List ℕ) (old new : List Packet) (left after : List ℕ) (p : Packet) → Gives bytes old new left → left ≡ spelling p ++ after
+    → IsWritten p → Gives bytes old (new ++ p ∷ []) after
 gives_more bytes old new left after p g e w = record {
   packets = g.packets ++ p ∷ [];
   added = ap (λ (x : List Packet). x ++ p ∷ []) g.added ∙ append_assoc old g.packets (p ∷ []);

@@ -54,7 +54,8 @@ NamesResync ack = (8 * ack.first.0 < 2 ^ 64) × (ack.number ≡ 0) × (ack.count
 -- which packets have a spelling: the first block has a sector number, a write's number is not 0, and there
 -- are 1 to 32 whole blocks, or one where it is a resync block
 abbrev pub IsSpellable : Packet → Type 0
-IsSpellable (packet.Data first number place contents) = (8 * first.0 < 2 ^ 64) × (0 < number) × (0 < length contents) × (length contents ≤ 131072) × (4096 * (length contents / 4096) ≡ length contents)
+IsSpellable (packet.Data first number place contents) = (8 * first.0 < 2 ^ 64) × (0 < number) × (0 < length contents) × (length contents ≤ 131072)
+    × (4096 * (length contents / 4096) ≡ length contents)
 IsSpellable (packet.RsDataReply first place contents) = (8 * first.0 < 2 ^ 64) × (length contents ≡ 4096)
 IsSpellable (packet.RecvAck ack) = NamesWrite ack
 IsSpellable (packet.WriteAck ack) = NamesWrite ack

@@ -35,9 +35,11 @@ lent-node : (v w : SecondaryView) → w.outgoing ≡ option_map without_queue v.
 lent-node v w out rest = ap peer.node rest ∙ ap (λ (l : List Packet). record (peer.node v) { pushed = l }) (ap pushed_of out ∙ pushed-lent v.outgoing)
 
 -- Before the first connection there is no queue.
-module _ (v : PairView) (a : SecondaryView) (b : PrimaryView) (result : Result Done Refusal) (was : IsPairView v) (given : GivenOut None v.secondary.outgoing a.outgoing) (same : a ≡ record v.secondary { outgoing = a.outgoing })
+module _ (v : PairView) (a : SecondaryView) (b : PrimaryView) (result : Result Done Refusal) (was : IsPairView v)
+    (given : GivenOut None v.secondary.outgoing a.outgoing) (same : a ≡ record v.secondary { outgoing = a.outgoing })
     (one : TakesOne result v.primary b) (rest : b ≡ record v.primary { core = b.core; incoming = b.incoming }) where
-  none-given : Gave one.frame result (state v).back × IsDirection v.secondary.core.settings.link (record { out = a.outgoing; inn = b.incoming }) × (one.frame ≡ None)
+  none-given : Gave one.frame result (state v).back × IsDirection v.secondary.core.settings.link (record { out = a.outgoing; inn = b.incoming })
+      × (one.frame ≡ None)
   none-given = gave-none v.secondary.core.settings.link (state v).back one.frame result a.outgoing b.incoming was.pair.back given one.link
 
   pub acknowledge-none-step : IsPairStep AckInEvent (is_starved result) (state v) (replied reply.Ok result) (state (record { secondary = a; primary = b }))
@@ -45,9 +47,12 @@ module _ (v : PairView) (a : SecondaryView) (b : PrimaryView) (result : Result D
       (λ frame is. absurd (let nothing : Some frame ≡ None = sym is ∙ none-given.2 in cc)) (sym (lent-node v.secondary a given.left same))
 
   pub acknowledge-none-is : IsPairView (record { secondary = a; primary = b })
-  acknowledge-none-is = view-kept-back AckInEvent (is_starved result) v (record { secondary = a; primary = b }) (replied reply.Ok result) was acknowledge-none-step none-given.1
-      (subst (λ (o : Option OutgoingState). IsDirection v.primary.core.settings.link (record { out = o; inn = a.incoming })) (sym (ap (λ (x : PrimaryView). x.outgoing) rest))
-      (subst (λ (i : Option IncomingState). IsDirection v.primary.core.settings.link (record { out = v.primary.outgoing; inn = i })) (sym (ap (λ (x : SecondaryView). x.incoming) same)) was.pair.there))
+  acknowledge-none-is = view-kept-back AckInEvent (is_starved result) v (record { secondary = a; primary = b })
+      (replied reply.Ok result) was acknowledge-none-step none-given.1
+      (subst (λ (o : Option OutgoingState). IsDirection v.primary.core.settings.link (record { out = o; inn = a.incoming }))
+      (sym (ap (λ (x : PrimaryView). x.outgoing) rest))
+      (subst (λ (i : Option IncomingState). IsDirection v.primary.core.settings.link (record { out = v.primary.outgoing; inn = i }))
+      (sym (ap (λ (x : SecondaryView). x.incoming) same)) was.pair.there))
       (ap (λ (x : SecondaryView). x.steady) same ∙ was.peer) (ap (λ (x : PrimaryView). x.steady) rest ∙ was.local)
 
 -- The queue is lent, a frame is taken, and the queue is back.
@@ -59,7 +64,8 @@ module _ (v : PairView) (a e : SecondaryView) (b c d : PrimaryView) (q back : Qu
     (over : LaidBack back a.outgoing e.outgoing) (e_is : e ≡ record a { outgoing = e.outgoing })
     (told : IsTold (record { out = e.outgoing; inn = d.incoming })) where
   both : Gave one.frame result (state v).back × IsDirection v.secondary.core.settings.link (record { out = e.outgoing; inn = d.incoming })
-  both = gave-over v.secondary.core.settings.link (state v).back q back one.frame result a.outgoing e.outgoing b.incoming c.incoming d.incoming was.pair.back given laid one.link gave over told
+  both = gave-over v.secondary.core.settings.link (state v).back q back one.frame result a.outgoing e.outgoing b.incoming c.incoming d.incoming was.pair.back
+      given laid one.link gave over told
 
   before : local.node b ≡ local.node v.primary
   before = ap local.node b_is ∙ ap (λ (l : List Received). record (local.node v.primary) { taken = l }) (ap taken_of laid ∙ taken-laid q v.primary.incoming)
@@ -68,27 +74,35 @@ module _ (v : PairView) (a e : SecondaryView) (b c d : PrimaryView) (q back : Qu
   after = ap local.node d_is ∙ ap (λ (l : List Received). record (local.node c) { taken = l }) (ap taken_of gave.left ∙ taken-given c.incoming)
 
   steps : primary.NodeSteps (TakesFrame one.frame (is_none one.frame && is_starved result)) (local.node v.primary) (replied reply.Ok result) (local.node d)
-  steps = subst (λ (n : primary.NodeState). primary.NodeSteps (TakesFrame one.frame (is_none one.frame && is_starved result)) n (replied reply.Ok result) (local.node d)) before
-      (subst (λ (n : primary.NodeState). primary.NodeSteps (TakesFrame one.frame (is_none one.frame && is_starved result)) (local.node b) (replied reply.Ok result) n) (sym after) one.step)
+  steps = subst (λ (n : primary.NodeState). primary.NodeSteps (TakesFrame one.frame (is_none one.frame && is_starved result)) n (replied reply.Ok result)
+      (local.node d)) before
+      (subst (λ (n : primary.NodeState). primary.NodeSteps (TakesFrame one.frame (is_none one.frame && is_starved result)) (local.node b)
+      (replied reply.Ok result) n) (sym after) one.step)
 
   grows : (frame : Received) → one.frame ≡ Some frame → (local.node d).taken ≡ (local.node v.primary).taken ++ frame ∷ []
-  grows frame is = ap (λ (n : primary.NodeState). n.taken) after ∙ grew frame b.incoming c.incoming (one.link.took frame is) ∙ ap (λ (n : primary.NodeState). n.taken ++ frame ∷ []) before
+  grows frame is = ap (λ (n : primary.NodeState). n.taken) after ∙ grew frame b.incoming c.incoming (one.link.took frame is)
+      ∙ ap (λ (n : primary.NodeState). n.taken ++ frame ∷ []) before
 
   kept : peer.node v.secondary ≡ peer.node e
-  kept = sym (ap peer.node e_is ∙ ap (λ (l : List Packet). record (peer.node a) { pushed = l }) (ap pushed_of over ∙ pushed-back back a.outgoing) ∙ lent-node v.secondary a given.left a_is)
+  kept = sym (ap peer.node e_is ∙ ap (λ (l : List Packet). record (peer.node a) { pushed = l }) (ap pushed_of over ∙ pushed-back back a.outgoing)
+      ∙ lent-node v.secondary a given.left a_is)
 
   pub acknowledge-step : IsPairStep AckInEvent (is_starved result) (state v) (replied reply.Ok result) (state (record { secondary = e; primary = d }))
   acknowledge-step = acknowledges-step (state v) (state (record { secondary = e; primary = d })) result one.frame both.0 steps grows kept
 
   pub acknowledge-is : IsPairView (record { secondary = e; primary = d })
   acknowledge-is = view-kept-back AckInEvent (is_starved result) v (record { secondary = e; primary = d }) (replied reply.Ok result) was acknowledge-step both.1
-      (subst (λ (o : Option OutgoingState). IsDirection v.primary.core.settings.link (record { out = o; inn = e.incoming })) (sym (ap (λ (x : PrimaryView). x.outgoing) d_is ∙ ap (λ (x : PrimaryView). x.outgoing) c_is ∙ ap (λ (x : PrimaryView). x.outgoing) b_is))
-      (subst (λ (i : Option IncomingState). IsDirection v.primary.core.settings.link (record { out = v.primary.outgoing; inn = i })) (sym (ap (λ (x : SecondaryView). x.incoming) e_is ∙ ap (λ (x : SecondaryView). x.incoming) a_is)) was.pair.there))
+      (subst (λ (o : Option OutgoingState). IsDirection v.primary.core.settings.link (record { out = o; inn = e.incoming }))
+      (sym (ap (λ (x : PrimaryView). x.outgoing) d_is ∙ ap (λ (x : PrimaryView). x.outgoing) c_is ∙ ap (λ (x : PrimaryView). x.outgoing) b_is))
+      (subst (λ (i : Option IncomingState). IsDirection v.primary.core.settings.link (record { out = v.primary.outgoing; inn = i }))
+      (sym (ap (λ (x : SecondaryView). x.incoming) e_is ∙ ap (λ (x : SecondaryView). x.incoming) a_is)) was.pair.there))
       (ap (λ (x : SecondaryView). x.steady) e_is ∙ ap (λ (x : SecondaryView). x.steady) a_is ∙ was.peer)
       (ap (λ (x : PrimaryView). x.steady) d_is ∙ ap (λ (x : PrimaryView). x.steady) c_is ∙ ap (λ (x : PrimaryView). x.steady) b_is ∙ was.local)
 
 -- A queue that was lent does come back.
-pub never-kept : (v : PairView) (a : SecondaryView) (b c d : PrimaryView) (q : QueueState) (result : Result Done Refusal) → IsPairView v → GivenOut (Some q) v.secondary.outgoing a.outgoing → LaidIn q v.primary.incoming b.incoming → TakesOne result b c
+pub never-kept : (v : PairView) (a : SecondaryView) (b c d : PrimaryView) (q : QueueState) (result : Result Done Refusal) → IsPairView v
+    → GivenOut (Some q) v.secondary.outgoing a.outgoing → LaidIn q v.primary.incoming b.incoming → TakesOne result b c
     → (back : Option QueueState) → back ≡ None → GivenBack back c.incoming d.incoming → ⊥
 never-kept v a b c d q result was given laid one back none gave =
-    comes-back v.secondary.core.settings.link (state v).back q one.frame result a.outgoing b.incoming c.incoming d.incoming was.pair.back given laid one.link (subst (λ (o : Option QueueState). GivenBack o c.incoming d.incoming) none gave)
+    comes-back v.secondary.core.settings.link (state v).back q one.frame result a.outgoing b.incoming c.incoming d.incoming was.pair.back given laid one.link
+    (subst (λ (o : Option QueueState). GivenBack o c.incoming d.incoming) none gave)

@@ -15,17 +15,20 @@ starved-alike R NoMemory = refl
 starved-alike R e = refl
 
 -- a call that is done
-pub ok-step : {R : Type 0} (tell : Result R Refusal → Reply) (event : Event) (p q : PairState) (result : Result R Refusal) (done : R) (said : Reply) → result ≡ Ok done → tell (Ok done) ≡ said
+pub ok-step : {R : Type 0} (tell : Result R Refusal → Reply) (event : Event) (p q : PairState) (result : Result R Refusal) (done : R) (said : Reply)
+    → result ≡ Ok done → tell (Ok done) ≡ said
     → IsPairStep event (link.is_starved result) p (tell result) q → IsPairStep event false p said q
 ok-step {R} tell event p q result done said is told steps =
     subst (λ (r : Reply). IsPairStep event false p r q) told (subst (λ (r : Result R Refusal). IsPairStep event (link.is_starved r) p (tell r) q) is steps)
 
 -- one that is refused
-pub err-step : {R : Type 0} (tell : Result R Refusal → Reply) (event : Event) (p q : PairState) (result : Result R Refusal) (e : Refusal) → tell (Err e) ≡ reply.Refused e → result ≡ Err e
+pub err-step : {R : Type 0} (tell : Result R Refusal → Reply) (event : Event) (p q : PairState) (result : Result R Refusal) (e : Refusal)
+    → tell (Err e) ≡ reply.Refused e → result ≡ Err e
     → IsPairStep event (link.is_starved result) p (tell result) q → IsPairStep event (is_starved (reply.Refused e)) p (reply.Refused e) q
 err-step {R} tell event p q result e told is steps =
     subst (λ b. IsPairStep event b p (reply.Refused e) q) (starved-alike R e)
-    (subst (λ (r : Reply). IsPairStep event (link.is_starved {R = R} (Err e)) p r q) told (subst (λ (r : Result R Refusal). IsPairStep event (link.is_starved r) p (tell r) q) is steps))
+    (subst (λ (r : Reply). IsPairStep event (link.is_starved {R = R} (Err e)) p r q) told
+    (subst (λ (r : Result R Refusal). IsPairStep event (link.is_starved r) p (tell r) q) is steps))
 
 -- What is known of one answer.
 

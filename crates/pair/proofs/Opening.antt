@@ -49,23 +49,38 @@ module _ (v : PairView) (was : IsPairView v) (sync loss : ℕ) (is_open drained 
   is-drained h has = sym (says h.secondary has.secondary) ∙ empty
 
   -- the primary refuses it, but for want of memory
-  pub refused-step : (may : Result (Unit {0}) Refusal) → ((h : PrimaryHistory) → primary.NodeHas (local.node v.primary) h → refusal_in may ≡ first_refusal (open_tests h sync loss false)) → (e : Refusal) → may ≡ Err e
+  pub refused-step : (may : Result (Unit {0}) Refusal)
+      → ((h : PrimaryHistory) → primary.NodeHas (local.node v.primary) h → refusal_in may ≡ first_refusal (open_tests h sync loss false)) → (e : Refusal)
+      → may ≡ Err e
       → (result : Result Done Refusal) → result ≡ Err e → IsPairStep (OpenEvent sync loss) (is_starved result) (state v) (replied reply.Ok result) (state v)
-  refused-step may asks e refused result told = subst (λ (r : Result Done Refusal). IsPairStep (OpenEvent sync loss) (is_starved r) (state v) (replied reply.Ok r) (state v)) (sym told)
-      (not-opened sync loss (is_starved {R = Done} (Err e)) (state v) e (λ h has. past-first sync loss (is_starved {R = Done} (Err e)) h (closed h has) (is-drained h has) ∙ may-not sync loss e h.primary (sym (ap refusal_in refused) ∙ asks h.primary has.primary)))
+  refused-step may asks e refused result told =
+      subst (λ (r : Result Done Refusal). IsPairStep (OpenEvent sync loss) (is_starved r) (state v) (replied reply.Ok r) (state v)) (sym told)
+      (not-opened sync loss (is_starved {R = Done} (Err e)) (state v) e
+      (λ h has. past-first sync loss (is_starved {R = Done} (Err e)) h (closed h has) (is-drained h has)
+      ∙ may-not sync loss e h.primary (sym (ap refusal_in refused) ∙ asks h.primary has.primary)))
 
   -- there is no memory for the link
-  pub short-step : (may : Result (Unit {0}) Refusal) → ((h : PrimaryHistory) → primary.NodeHas (local.node v.primary) h → refusal_in may ≡ first_refusal (open_tests h sync loss false)) → may ≡ Ok tt
-      → (result : Result Done Refusal) → result ≡ Err NoMemory → IsPairStep (OpenEvent sync loss) (is_starved result) (state v) (replied reply.Ok result) (state v)
-  short-step may asks fine result told = subst (λ (r : Result Done Refusal). IsPairStep (OpenEvent sync loss) (is_starved r) (state v) (replied reply.Ok r) (state v)) (sym told)
-      (not-opened sync loss true (state v) NoMemory (λ h has. past-first sync loss true h (closed h has) (is-drained h has) ∙ no-link sync loss h.primary (sym (asks h.primary has.primary) ∙ ap refusal_in fine)))
+  pub short-step : (may : Result (Unit {0}) Refusal)
+      → ((h : PrimaryHistory) → primary.NodeHas (local.node v.primary) h → refusal_in may ≡ first_refusal (open_tests h sync loss false)) → may ≡ Ok tt
+      → (result : Result Done Refusal) → result ≡ Err NoMemory
+      → IsPairStep (OpenEvent sync loss) (is_starved result) (state v) (replied reply.Ok result) (state v)
+  short-step may asks fine result told =
+      subst (λ (r : Result Done Refusal). IsPairStep (OpenEvent sync loss) (is_starved r) (state v) (replied reply.Ok r) (state v)) (sym told)
+      (not-opened sync loss true (state v) NoMemory (λ h has. past-first sync loss true h (closed h has) (is-drained h has)
+      ∙ no-link sync loss h.primary (sym (asks h.primary has.primary) ∙ ap refusal_in fine)))
 
   -- the primary's end does not open
-  pub not-opened-step : (w : PrimaryView) (got : Result (Unit {0}) Refusal) (e : Refusal) → got ≡ Err e → w ≡ v.primary → primary.NodeSteps (Opens sync loss (is_starved got)) (local.node v.primary) (replied plainly got) (local.node w)
-      → (result : Result Done Refusal) → result ≡ Err e → IsPairStep (OpenEvent sync loss) (is_starved result) (state v) (replied reply.Ok result) (state (record { primary = w; secondary = v.secondary }))
-  not-opened-step w got e refused same steps result told = subst (λ (r : Result Done Refusal). IsPairStep (OpenEvent sync loss) (is_starved r) (state v) (replied reply.Ok r) (state (record { primary = w; secondary = v.secondary }))) (sym told)
-      (subst (λ (x : PrimaryView). IsPairStep (OpenEvent sync loss) (is_starved {R = Done} (Err e)) (state v) (reply.Refused e) (state (record { primary = x; secondary = v.secondary }))) (sym same)
-      (not-opened sync loss (is_starved {R = Done} (Err e)) (state v) e (λ h has. past-first sync loss (is_starved {R = Done} (Err e)) h (closed h has) (is-drained h has)
+  pub not-opened-step : (w : PrimaryView) (got : Result (Unit {0}) Refusal) (e : Refusal) → got ≡ Err e → w ≡ v.primary
+      → primary.NodeSteps (Opens sync loss (is_starved got)) (local.node v.primary) (replied plainly got) (local.node w)
+      → (result : Result Done Refusal) → result ≡ Err e
+      → IsPairStep (OpenEvent sync loss) (is_starved result) (state v) (replied reply.Ok result) (state (record { primary = w; secondary = v.secondary }))
+  not-opened-step w got e refused same steps result told =
+      subst (λ (r : Result Done Refusal). IsPairStep (OpenEvent sync loss) (is_starved r) (state v) (replied reply.Ok r)
+      (state (record { primary = w; secondary = v.secondary }))) (sym told)
+      (subst (λ (x : PrimaryView). IsPairStep (OpenEvent sync loss) (is_starved {R = Done} (Err e)) (state v) (reply.Refused e)
+      (state (record { primary = x; secondary = v.secondary }))) (sym same)
+      (not-opened sync loss (is_starved {R = Done} (Err e)) (state v) e
+      (λ h has. past-first sync loss (is_starved {R = Done} (Err e)) h (closed h has) (is-drained h has)
       ∙ was-refused sync loss (is_starved {R = Done} (Err e)) e h.primary (here h has))))
     where
       here : (h : PairHistory) → PairHas (state v) h → reply.Refused e ≡ (open_primary sync loss (is_starved {R = Done} (Err e)) h.primary).0
@@ -75,35 +90,46 @@ module _ (v : PairView) (was : IsPairView v) (sync loss : ℕ) (is_open drained 
           ∙ ap (λ b. (open_primary sync loss b h.primary).0) (same-starved (Unit {0}) Done e)
 
   -- The primary's end opened.
-  module _ (w : PrimaryView) (got : Result (Unit {0}) Refusal) (fine : got ≡ Ok tt) (steps : primary.NodeSteps (Opens sync loss (is_starved got)) (local.node v.primary) (replied plainly got) (local.node w)) where
+  module _ (w : PrimaryView) (got : Result (Unit {0}) Refusal) (fine : got ≡ Ok tt)
+      (steps : primary.NodeSteps (Opens sync loss (is_starved got)) (local.node v.primary) (replied plainly got) (local.node w)) where
     opens : primary.NodeSteps (Opens sync loss false) (local.node v.primary) (reply.Ok (done_with what.Nothing)) (local.node w)
-    opens = subst (λ (r : Result (Unit {0}) Refusal). primary.NodeSteps (Opens sync loss (is_starved r)) (local.node v.primary) (replied plainly r) (local.node w)) fine steps
+    opens = subst (λ (r : Result (Unit {0}) Refusal). primary.NodeSteps (Opens sync loss (is_starved r)) (local.node v.primary) (replied plainly r)
+        (local.node w)) fine steps
 
     pub is-counted : v.secondary.core.number < 4294967295
     is-counted = counted v sync loss was.pair.history was.pair.has (opens.said was.pair.history.primary was.pair.has.primary)
 
     -- the secondary's is not refused then
-    pub never : (e : Refusal) (other : Result (Unit {0}) Refusal) (x : SecondaryView) → other ≡ Err e → secondary.NodeSteps (OpensToo 0) (peer.node v.secondary) (from_secondary.replied from_secondary.plainly other) (peer.node x) → ⊥
+    pub never : (e : Refusal) (other : Result (Unit {0}) Refusal) (x : SecondaryView) → other ≡ Err e
+        → secondary.NodeSteps (OpensToo 0) (peer.node v.secondary) (from_secondary.replied from_secondary.plainly other) (peer.node x) → ⊥
     never e other x refused there =
         let h = was.pair.history in
         let said = there.said h.secondary was.pair.has.secondary in
-        never-refused e h.secondary (closed h was.pair.has) (is-drained h was.pair.has) (ap (from_secondary.replied from_secondary.plainly) (sym refused) ∙ said)
+        never-refused e h.secondary (closed h was.pair.has) (is-drained h was.pair.has) (ap (from_secondary.replied from_secondary.plainly) (sym refused)
+        ∙ said)
 
     -- and both are open
-    pub opened-step : (may : Result (Unit {0}) Refusal) → ((h : PrimaryHistory) → primary.NodeHas (local.node v.primary) h → refusal_in may ≡ first_refusal (open_tests h sync loss false)) → may ≡ Ok tt
-        → (x : SecondaryView) (other : Result (Unit {0}) Refusal) → secondary.NodeSteps (OpensToo 0) (peer.node v.secondary) (from_secondary.replied from_secondary.plainly other) (peer.node x)
-        → (done : Done) → done ≡ done_with what.Nothing → IsPairStep (OpenEvent sync loss) false (state v) (reply.Ok done) (state (record { primary = w; secondary = x }))
-    opened-step may asks may_fine x other there done is = subst (λ (d : Done). IsPairStep (OpenEvent sync loss) false (state v) (reply.Ok d) (state (record { primary = w; secondary = x }))) (sym is)
-        (opened sync loss false (state v) (state (record { primary = w; secondary = x })) (reply.Ok (done_with what.Nothing)) (from_secondary.replied from_secondary.plainly other)
+    pub opened-step : (may : Result (Unit {0}) Refusal)
+        → ((h : PrimaryHistory) → primary.NodeHas (local.node v.primary) h → refusal_in may ≡ first_refusal (open_tests h sync loss false)) → may ≡ Ok tt
+        → (x : SecondaryView) (other : Result (Unit {0}) Refusal)
+        → secondary.NodeSteps (OpensToo 0) (peer.node v.secondary) (from_secondary.replied from_secondary.plainly other) (peer.node x)
+        → (done : Done) → done ≡ done_with what.Nothing
+        → IsPairStep (OpenEvent sync loss) false (state v) (reply.Ok done) (state (record { primary = w; secondary = x }))
+    opened-step may asks may_fine x other there done is =
+        subst (λ (d : Done). IsPairStep (OpenEvent sync loss) false (state v) (reply.Ok d) (state (record { primary = w; secondary = x }))) (sym is)
+        (opened sync loss false (state v) (state (record { primary = w; secondary = x })) (reply.Ok (done_with what.Nothing))
+        (from_secondary.replied from_secondary.plainly other)
         (λ h has. past-first sync loss false h (closed h has) (is-drained h has) ∙ sym (asks h.primary has.primary) ∙ ap refusal_in may_fine) opens there)
 
 -- A direction that has both sides.
-pub both-there : (capacity : ℕ) (d : Direction) (o : OutgoingState) (i : IncomingState) → d.out ≡ Some o → d.inn ≡ Some i → AreEnds capacity o i → IsDirection capacity d
+pub both-there : (capacity : ℕ) (d : Direction) (o : OutgoingState) (i : IncomingState) → d.out ≡ Some o → d.inn ≡ Some i → AreEnds capacity o i
+    → IsDirection capacity d
 both-there capacity d o i out inn ends =
     subst (λ (v : Option OutgoingState). IsDirection capacity (record { out = v; inn = d.inn })) (sym out) (i, inn, ends)
 
 -- what the new link holds is what both nodes' settings say
-pub own-link : (v : PairView) → IsPairView v → (settings : Settings) → ((h : PrimaryHistory) → primary.NodeHas (local.node v.primary) h → settings ≡ h.settings) → (settings.link ≡ v.primary.core.settings.link) × (settings.link ≡ v.secondary.core.settings.link)
+pub own-link : (v : PairView) → IsPairView v → (settings : Settings) → ((h : PrimaryHistory) → primary.NodeHas (local.node v.primary) h → settings ≡ h.settings)
+    → (settings.link ≡ v.primary.core.settings.link) × (settings.link ≡ v.secondary.core.settings.link)
 own-link v was settings says =
     let h = was.pair.history in
     let here : settings ≡ h.primary.settings = says h.primary was.pair.has.primary in (

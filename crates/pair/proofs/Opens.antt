@@ -25,8 +25,22 @@ use Rattle.pair.specs.State.{PairView, state}
 
 -- Two ends of a new link.
 pub new-ends : (s : OutState) (t : InState) (capacity : ℕ) → IsUnused s t capacity
-    → AreEnds capacity (outgoing (record { sent = s.sent; number = s.number; past = s.past; partly = None; waiting = option_map (λ q. q.frames) s.queue; room = Some (room_in s.queue) }))
-    (incoming (record { taken = t.taken; number = t.number; past = t.past; is_ready = true; queued = Some (frames_in t.queue); capacity = option_map (λ q. q.capacity) t.queue }))
+    → AreEnds capacity (outgoing (record {
+      sent = s.sent;
+      number = s.number;
+      past = s.past;
+      partly = None;
+      waiting = option_map (λ q. q.frames) s.queue;
+      room = Some (room_in s.queue);
+    }))
+    (incoming (record {
+      taken = t.taken;
+      number = t.number;
+      past = t.past;
+      is_ready = true;
+      queued = Some (frames_in t.queue);
+      capacity = option_map (λ q. q.capacity) t.queue;
+    }))
 new-ends s t capacity unused = rw (unused.sending, unused.taking) (record {
   waiting = [];
   row = refl;
@@ -41,7 +55,8 @@ new-ends s t capacity unused = rw (unused.sending, unused.taking) (record {
 -- Which test refuses.
 
 -- the secondary's own test passes, so the primary's decide
-pub past-first : (sync loss : ℕ) (starved : Bool) (h : PairHistory) → (inward h.secondary).closed ≡ true → is_drained h.secondary ≡ true → first_refusal (open_pair_tests h sync loss starved) ≡ first_refusal (open_tests h.primary sync loss starved)
+pub past-first : (sync loss : ℕ) (starved : Bool) (h : PairHistory) → (inward h.secondary).closed ≡ true → is_drained h.secondary ≡ true
+    → first_refusal (open_pair_tests h sync loss starved) ≡ first_refusal (open_tests h.primary sync loss starved)
 past-first sync loss starved h closed drained =
     ap (λ b. first_refusal ((not (b && is_drained h.secondary), NotDrained) ∷ open_tests h.primary sync loss starved)) closed
     ∙ ap (λ b. first_refusal ((not b, NotDrained) ∷ open_tests h.primary sync loss starved)) drained
@@ -62,30 +77,39 @@ short-refusal false true c is = absurd (cc)
 short-refusal false false true is = absurd (cc)
 short-refusal false false false is = refl
 
-pub may-not : (sync loss : ℕ) (e : Refusal) (h : PrimaryHistory) → Some e ≡ first_refusal (open_tests h sync loss false) → first_refusal (open_tests h sync loss (is_starved {R = Done} (Err e))) ≡ Some e
+pub may-not : (sync loss : ℕ) (e : Refusal) (h : PrimaryHistory) → Some e ≡ first_refusal (open_tests h sync loss false)
+    → first_refusal (open_tests h sync loss (is_starved {R = Done} (Err e))) ≡ Some e
 may-not sync loss e h is = same-refusal (not (outward h).closed) (not (are_fresh sync loss (known_tuples h))) (nat_le 4294967295 (length h.connections)) e is
 
-pub no-link : (sync loss : ℕ) (h : PrimaryHistory) → first_refusal (open_tests h sync loss false) ≡ None → first_refusal (open_tests h sync loss true) ≡ Some NoMemory
+pub no-link : (sync loss : ℕ) (h : PrimaryHistory) → first_refusal (open_tests h sync loss false) ≡ None
+    → first_refusal (open_tests h sync loss true) ≡ Some NoMemory
 no-link sync loss h is = short-refusal (not (outward h).closed) (not (are_fresh sync loss (known_tuples h))) (nat_le 4294967295 (length h.connections)) is
 
 -- what the primary's step was refused for
-pub was-refused : (sync loss : ℕ) (starved : Bool) (e : Refusal) (h : PrimaryHistory) → reply.Refused e ≡ (open_primary sync loss starved h).0 → first_refusal (open_tests h sync loss starved) ≡ Some e
+pub was-refused : (sync loss : ℕ) (starved : Bool) (e : Refusal) (h : PrimaryHistory) → reply.Refused e ≡ (open_primary sync loss starved h).0
+    → first_refusal (open_tests h sync loss starved) ≡ Some e
 was-refused sync loss starved e h said = go (first_refusal (open_tests h sync loss starved)) said
   where
-    go : (v : Option Refusal) → reply.Refused e ≡ (elim v as (λ _. Reply × PrimaryHistory) [ Some refusal ↦ (reply.Refused refusal, h) | None ↦ succeeding what.Nothing (opened h sync loss) ]).0 → v ≡ Some e
+    go : (v : Option Refusal) → reply.Refused e ≡
+        (elim v as (λ _. Reply × PrimaryHistory) [ Some refusal ↦ (reply.Refused refusal, h) | None ↦ succeeding what.Nothing (opened h sync loss) ]).0
+        → v ≡ Some e
     go (Some refusal) said = let same : e ≡ refusal = cc in ap Some (sym same)
     go None said = absurd (cc)
 
 -- it was not refused
-was-done : (sync loss : ℕ) (starved : Bool) (h : PrimaryHistory) → reply.Ok (done_with what.Nothing) ≡ (open_primary sync loss starved h).0 → first_refusal (open_tests h sync loss starved) ≡ None
+was-done : (sync loss : ℕ) (starved : Bool) (h : PrimaryHistory) → reply.Ok (done_with what.Nothing) ≡ (open_primary sync loss starved h).0
+    → first_refusal (open_tests h sync loss starved) ≡ None
 was-done sync loss starved h said = go (first_refusal (open_tests h sync loss starved)) said
   where
-    go : (v : Option Refusal) → reply.Ok (done_with what.Nothing) ≡ (elim v as (λ _. Reply × PrimaryHistory) [ Some refusal ↦ (reply.Refused refusal, h) | None ↦ succeeding what.Nothing (opened h sync loss) ]).0 → v ≡ None
+    go : (v : Option Refusal) → reply.Ok (done_with what.Nothing) ≡
+        (elim v as (λ _. Reply × PrimaryHistory) [ Some refusal ↦ (reply.Refused refusal, h) | None ↦ succeeding what.Nothing (opened h sync loss) ]).0
+        → v ≡ None
     go (Some refusal) said = absurd (cc)
     go None said = refl
 
 -- Then there are fewer connections than 32 bits count, and the secondary has as many.
-pub counted : (v : PairView) (sync loss : ℕ) (h : PairHistory) → PairHas (state v) h → reply.Ok (done_with what.Nothing) ≡ (open_primary sync loss false h.primary).0 → v.secondary.core.number < 4294967295
+pub counted : (v : PairView) (sync loss : ℕ) (h : PairHistory) → PairHas (state v) h
+    → reply.Ok (done_with what.Nothing) ≡ (open_primary sync loss false h.primary).0 → v.secondary.core.number < 4294967295
 counted v sync loss h has said =
     let few = go (not (outward h.primary).closed) (not (are_fresh sync loss (known_tuples h.primary))) (was-done sync loss false h.primary said) in
     let number : v.secondary.core.number ≡ v.primary.core.connections = number-is (state v) h has in
@@ -107,6 +131,11 @@ never-refused e h closed drained said =
     go (first_refusal ((not ((inward h).closed && is_drained h), NotDrained) ∷ []))
     (ap (λ b. first_refusal ((not (b && is_drained h), NotDrained) ∷ [])) closed ∙ ap (λ b. first_refusal ((not b, NotDrained) ∷ [])) drained) said
   where
-    go : (v : Option Refusal) → v ≡ None → reply.Refused e ≡ (elim v as (λ _. Reply × SecondaryHistory) [ Some refusal ↦ (reply.Refused refusal, h) | None ↦ succeeding_secondary what.Nothing (opened_secondary 0 h) ]).0 → ⊥
+    go : (v : Option Refusal) → v ≡ None
+        → reply.Refused e ≡ (elim v as (λ _. Reply × SecondaryHistory) [
+          | Some refusal ↦ (reply.Refused refusal, h)
+          | None ↦ succeeding_secondary what.Nothing
+              (opened_secondary 0 h)
+        ]).0 → ⊥
     go (Some refusal) none said = cc
     go None none said = cc

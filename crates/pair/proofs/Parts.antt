@@ -1,5 +1,6 @@
 -- A pair is made of its parts.
-use Rattle.std.proofs.Common.{ℕ, zero, suc, ◌≡◌, ◌⊎◌, inl, inr, Bool, true, false, ◌&&◌, List, [], ◌∷◌, length, Option, Some, None, slice_get, refl, sym, ◌∙◌, ap, subst, nat_lt, arith}
+use Rattle.std.proofs.Common.{ℕ, zero, suc, ◌≡◌, ◌⊎◌, inl, inr, Bool, true, false, ◌&&◌, List, [], ◌∷◌, length, Option, Some, None, slice_get, refl, sym, ◌∙◌}
+use Rattle.std.proofs.Common.{ap, subst, nat_lt, arith}
 use Rattle.std.specs.Prelude.{is_some, unwrap_or, replicate, if◌then◌else◌, Result, Ok, Err, IfErr, IfOk, IsErr}
 use Rattle.std.specs.Result.{IsErrAnd}
 use Rattle.std.proofs.lemmas.Bool.{both_ways}
@@ -44,16 +45,22 @@ none-there : (capacity : ℕ) (o : Option OutgoingState) (i : Option IncomingSta
 none-there capacity o i out inn = subst (λ (x : Option OutgoingState). IsDirection capacity (record { out = x; inn = i })) (sym out) inn
 
 -- two new nodes
-pub parts-have : (v : PairView) (settings : Settings) (here there : List (List ℕ)) (own peer_tuple : Tuple) (marks : ℕ → Bool) → IsInRange settings → length here ≡ settings.blocks → length there ≡ settings.blocks
-    → primary.NodeHas (local.node v.primary) (primary_opening settings (slice_get here) own marks) → secondary.NodeHas (peer.node v.secondary) (secondary_opening settings (slice_get there) peer_tuple)
+pub parts-have : (v : PairView) (settings : Settings) (here there : List (List ℕ)) (own peer_tuple : Tuple) (marks : ℕ → Bool) → IsInRange settings
+    → length here ≡ settings.blocks → length there ≡ settings.blocks
+    → primary.NodeHas (local.node v.primary) (primary_opening settings (slice_get here) own marks)
+    → secondary.NodeHas (peer.node v.secondary) (secondary_opening settings (slice_get there) peer_tuple)
     → PairHas (state v) (pair_opening settings (slice_get here) (slice_get there) own peer_tuple marks)
 parts-have v settings here there own peer_tuple marks ranges size other first second =
-    pair-opening-has (state v) settings (slice_get here) (slice_get there) own peer_tuple marks ranges (disk-of settings.blocks here size) (disk-of settings.blocks there other) first second
+    pair-opening-has (state v) settings (slice_get here) (slice_get there) own peer_tuple marks ranges (disk-of settings.blocks here size)
+    (disk-of settings.blocks there other) first second
 
 -- and they are a pair
-pub parts-are : (v : PairView) (settings : Settings) (here there : List (List ℕ)) (own peer_tuple : Tuple) (marks : ℕ → Bool) → IsInRange settings → length here ≡ settings.blocks → length there ≡ settings.blocks
-    → primary.NodeHas (local.node v.primary) (primary_opening settings (slice_get here) own marks) → secondary.NodeHas (peer.node v.secondary) (secondary_opening settings (slice_get there) peer_tuple)
-    → v.primary.outgoing ≡ None → v.primary.incoming ≡ None → v.secondary.outgoing ≡ None → v.secondary.incoming ≡ None → v.primary.steady ≡ true → v.secondary.steady ≡ true → IsPairView v
+pub parts-are : (v : PairView) (settings : Settings) (here there : List (List ℕ)) (own peer_tuple : Tuple) (marks : ℕ → Bool) → IsInRange settings
+    → length here ≡ settings.blocks → length there ≡ settings.blocks
+    → primary.NodeHas (local.node v.primary) (primary_opening settings (slice_get here) own marks)
+    → secondary.NodeHas (peer.node v.secondary) (secondary_opening settings (slice_get there) peer_tuple)
+    → v.primary.outgoing ≡ None → v.primary.incoming ≡ None → v.secondary.outgoing ≡ None → v.secondary.incoming ≡ None → v.primary.steady ≡ true
+    → v.secondary.steady ≡ true → IsPairView v
 parts-are v settings here there own peer_tuple marks ranges size other first second out inn back_out back_inn steady steady_too = record {
   pair = record {
     history = pair_opening settings (slice_get here) (slice_get there) own peer_tuple marks;
@@ -73,7 +80,8 @@ filled-is blocks bytes = λ i block. at blocks block i
     at : (blocks block : ℕ) → slice_get (replicate blocks bytes) block ≡ filled blocks bytes block
     at zero block = ap (λ b. if b then Some bytes else None) (let no : nat_lt block 0 ≡ false = grind (arith, nat_tests) in sym no)
     at (suc n) zero = ap (λ b. if b then Some bytes else None) (let yes : nat_lt 0 (suc n) ≡ true = grind (arith, nat_tests) in sym yes)
-    at (suc n) (suc block) = at n block ∙ ap (λ b. if b then Some bytes else None) (let same : nat_lt block n ≡ nat_lt (suc block) (suc n) = grind (arith, nat_tests) in same)
+    at (suc n) (suc block) = at n block
+        ∙ ap (λ b. if b then Some bytes else None) (let same : nat_lt block n ≡ nat_lt (suc block) (suc n) = grind (arith, nat_tests) in same)
 
 pub unmarked-is : (blocks : ℕ) → ◌≡◌ {A = ℕ → Bool} (λ (block : ℕ). unwrap_or (slice_get (replicate blocks false) block) false) (λ (block : ℕ). false)
 unmarked-is blocks = λ i block. at blocks block i
@@ -84,7 +92,8 @@ unmarked-is blocks = λ i block. at blocks block i
     at (suc n) (suc block) = at n block
 
 -- What the secondary refuses, where the primary is made.
-pub refused-there : (settings : Settings) (here there : List (List ℕ)) (own : Tuple) (marks : List Bool) (e : Refusal) → CanBegin settings own marks → length here ≡ settings.blocks
+pub refused-there : (settings : Settings) (here there : List (List ℕ)) (own : Tuple) (marks : List Bool) (e : Refusal) → CanBegin settings own marks
+    → length here ≡ settings.blocks
     → ((e ≡ BadSetting) × (IsInRange settings → length there ≡ settings.blocks → ⊥)) ⊎ ((e ≡ NoMemory) × IsInRange settings × (length there ≡ settings.blocks))
     → ((e ≡ BadSetting) × (CanPair settings here there own marks → ⊥)) ⊎ ((e ≡ NoMemory) × CanPair settings here there own marks)
 refused-there settings here there own marks e begun size (inl bad) = inl (bad.0, λ can. bad.1 can.begin.in_range can.peer_size)
@@ -96,21 +105,32 @@ handed-on (Ok done) x P is p = tt
 handed-on (Err e) x P is p = subst P (sym is.1) p
 
 -- Two zero-filled disks, as the histories have them.
-pub zero-filled : {T : Type 0} (r : Result T Refusal) (v : T → PairState) (settings : Settings) (bytes : List ℕ) (here there : List (List ℕ)) (marks : List Bool) (own peer_tuple : Tuple) → here ≡ replicate settings.blocks bytes → there ≡ replicate settings.blocks bytes
-    → marks ≡ replicate settings.blocks false → IfOk r (λ p. PairHas (v p) (pair_opening settings (slice_get here) (slice_get there) own peer_tuple (λ block. unwrap_or (slice_get marks block) false)))
+pub zero-filled : {T : Type 0} (r : Result T Refusal) (v : T → PairState) (settings : Settings) (bytes : List ℕ) (here there : List (List ℕ))
+    (marks : List Bool) (own peer_tuple : Tuple) → here ≡ replicate settings.blocks bytes → there ≡ replicate settings.blocks bytes
+    → marks ≡ replicate settings.blocks false
+    → IfOk r (λ p. PairHas (v p) (pair_opening settings (slice_get here) (slice_get there) own peer_tuple
+    (λ block. unwrap_or (slice_get marks block) false)))
     → IfOk r (λ p. PairHas (v p) (pair_opening settings (filled settings.blocks bytes) (filled settings.blocks bytes) own peer_tuple (λ block. false)))
 zero-filled (Err e) v settings bytes here there marks own peer_tuple a b c has = tt
 zero-filled (Ok p) v settings bytes here there marks own peer_tuple a b c has =
-    subst (λ (m : ℕ → Bool). PairHas (v p) (pair_opening settings (filled settings.blocks bytes) (filled settings.blocks bytes) own peer_tuple m)) (ap {B = ℕ → Bool} (λ (l : List Bool) (block : ℕ). unwrap_or (slice_get l block) false) c ∙ unmarked-is settings.blocks)
-    (subst (λ (m : BlockMap). PairHas (v p) (pair_opening settings (filled settings.blocks bytes) m own peer_tuple (λ block. unwrap_or (slice_get marks block) false))) (ap slice_get b ∙ filled-is settings.blocks bytes)
-    (subst (λ (m : BlockMap). PairHas (v p) (pair_opening settings m (slice_get there) own peer_tuple (λ block. unwrap_or (slice_get marks block) false))) (ap slice_get a ∙ filled-is settings.blocks bytes) has))
+    subst (λ (m : ℕ → Bool). PairHas (v p) (pair_opening settings (filled settings.blocks bytes) (filled settings.blocks bytes) own peer_tuple m))
+    (ap {B = ℕ → Bool} (λ (l : List Bool) (block : ℕ). unwrap_or (slice_get l block) false) c ∙ unmarked-is settings.blocks)
+    (subst (λ (m : BlockMap). PairHas (v p)
+    (pair_opening settings (filled settings.blocks bytes) m own peer_tuple (λ block. unwrap_or (slice_get marks block) false))) (ap slice_get b
+    ∙ filled-is settings.blocks bytes)
+    (subst (λ (m : BlockMap). PairHas (v p) (pair_opening settings m (slice_get there) own peer_tuple (λ block. unwrap_or (slice_get marks block) false)))
+    (ap slice_get a ∙ filled-is settings.blocks bytes) has))
 
 -- Equal disks differ on no block, so that no mark is wanting.
-zero-equal : (settings : Settings) (bytes : List ℕ) (block : ℕ) → same_block (filled settings.blocks bytes block) (filled settings.blocks bytes block) ≡ false → (nat_lt block settings.blocks && false) ≡ true
-zero-equal settings bytes block differs = absurd (both_ways (same_block (filled settings.blocks bytes block) (filled settings.blocks bytes block)) differs (equal-same (filled settings.blocks bytes block) (filled settings.blocks bytes block) refl))
+zero-equal : (settings : Settings) (bytes : List ℕ) (block : ℕ) → same_block (filled settings.blocks bytes block) (filled settings.blocks bytes block) ≡ false
+    → (nat_lt block settings.blocks && false) ≡ true
+zero-equal settings bytes block differs =
+    absurd (both_ways (same_block (filled settings.blocks bytes block) (filled settings.blocks bytes block)) differs
+    (equal-same (filled settings.blocks bytes block) (filled settings.blocks bytes block) refl))
 
 -- They have honest identifiers, whatever is marked.
-pub zero-honest : (settings : Settings) (bytes : List ℕ) → WasHonest (pair_opening settings (filled settings.blocks bytes) (filled settings.blocks bytes) (words 1 0 0 0) (words 1 0 0 0) (λ _. false))
+pub zero-honest : (settings : Settings) (bytes : List ℕ)
+    → WasHonest (pair_opening settings (filled settings.blocks bytes) (filled settings.blocks bytes) (words 1 0 0 0) (words 1 0 0 0) (λ _. false))
 zero-honest settings bytes = record {
   own_data = omega (arith);
   same_current = λ _. zero-equal settings bytes;
@@ -118,5 +138,7 @@ zero-honest settings bytes = record {
 }
 
 -- They are grounded.
-pub zero-grounded : (settings : Settings) (bytes : List ℕ) → let h = pair_opening settings (filled settings.blocks bytes) (filled settings.blocks bytes) (words 1 0 0 0) (words 1 0 0 0) (λ _. false) in IsGrounded h.primary h.secondary
+pub zero-grounded : (settings : Settings) (bytes : List ℕ)
+    → let h = pair_opening settings (filled settings.blocks bytes) (filled settings.blocks bytes) (words 1 0 0 0) (words 1 0 0 0)
+    (λ _. false) in IsGrounded h.primary h.secondary
 zero-grounded settings bytes = inr (zero-equal settings bytes)

@@ -34,9 +34,11 @@ lent-node : (v w : PrimaryView) → w.outgoing ≡ option_map without_queue v.ou
 lent-node v w out rest = ap local.node rest ∙ ap (λ (l : List Packet). record (local.node v) { pushed = l }) (ap pushed_of out ∙ pushed-lent v.outgoing)
 
 -- Before the first connection there is no queue.
-module _ (v : PairView) (a : PrimaryView) (b : SecondaryView) (result : Result Done Refusal) (was : IsPairView v) (given : GivenOut None v.primary.outgoing a.outgoing) (same : a ≡ record v.primary { outgoing = a.outgoing })
+module _ (v : PairView) (a : PrimaryView) (b : SecondaryView) (result : Result Done Refusal) (was : IsPairView v)
+    (given : GivenOut None v.primary.outgoing a.outgoing) (same : a ≡ record v.primary { outgoing = a.outgoing })
     (one : ReceivesOne result v.secondary b) (rest : b ≡ record v.secondary { core = b.core; incoming = b.incoming }) where
-  none-given : Gave one.frame result (state v).there × IsDirection v.primary.core.settings.link (record { out = a.outgoing; inn = b.incoming }) × (one.frame ≡ None)
+  none-given : Gave one.frame result (state v).there × IsDirection v.primary.core.settings.link (record { out = a.outgoing; inn = b.incoming })
+      × (one.frame ≡ None)
   none-given = gave-none v.primary.core.settings.link (state v).there one.frame result a.outgoing b.incoming was.pair.there given one.link
 
   pub receive-none-step : IsPairStep ReceiveEvent (is_starved result) (state v) (replied (λ done. done) result) (state (record { primary = a; secondary = b }))
@@ -44,9 +46,12 @@ module _ (v : PairView) (a : PrimaryView) (b : SecondaryView) (result : Result D
       (λ frame is. absurd (let nothing : Some frame ≡ None = sym is ∙ none-given.2 in cc)) (sym (lent-node v.primary a given.left same))
 
   pub receive-none-is : IsPairView (record { primary = a; secondary = b })
-  receive-none-is = view-kept ReceiveEvent (is_starved result) v (record { primary = a; secondary = b }) (replied (λ done. done) result) was receive-none-step none-given.1
-      (subst (λ (o : Option OutgoingState). IsDirection v.secondary.core.settings.link (record { out = o; inn = a.incoming })) (sym (ap (λ (x : SecondaryView). x.outgoing) rest))
-      (subst (λ (i : Option IncomingState). IsDirection v.secondary.core.settings.link (record { out = v.secondary.outgoing; inn = i })) (sym (ap (λ (x : PrimaryView). x.incoming) same)) was.pair.back))
+  receive-none-is = view-kept ReceiveEvent (is_starved result) v (record { primary = a; secondary = b }) (replied (λ done. done) result) was receive-none-step
+      none-given.1
+      (subst (λ (o : Option OutgoingState). IsDirection v.secondary.core.settings.link (record { out = o; inn = a.incoming }))
+      (sym (ap (λ (x : SecondaryView). x.outgoing) rest))
+      (subst (λ (i : Option IncomingState). IsDirection v.secondary.core.settings.link (record { out = v.secondary.outgoing; inn = i }))
+      (sym (ap (λ (x : PrimaryView). x.incoming) same)) was.pair.back))
       (ap (λ (x : PrimaryView). x.steady) same ∙ was.local) (ap (λ (x : SecondaryView). x.steady) rest ∙ was.peer)
 
 -- The queue is lent, a frame is taken, and the queue is back.
@@ -58,7 +63,8 @@ module _ (v : PairView) (a e : PrimaryView) (b c d : SecondaryView) (q back : Qu
     (over : LaidBack back a.outgoing e.outgoing) (e_is : e ≡ record a { outgoing = e.outgoing })
     (told : IsTold (record { out = e.outgoing; inn = d.incoming })) where
   both : Gave one.frame result (state v).there × IsDirection v.primary.core.settings.link (record { out = e.outgoing; inn = d.incoming })
-  both = gave-over v.primary.core.settings.link (state v).there q back one.frame result a.outgoing e.outgoing b.incoming c.incoming d.incoming was.pair.there given laid one.link gave over told
+  both = gave-over v.primary.core.settings.link (state v).there q back one.frame result a.outgoing e.outgoing b.incoming c.incoming d.incoming was.pair.there
+      given laid one.link gave over told
 
   before : peer.node b ≡ peer.node v.secondary
   before = ap peer.node b_is ∙ ap (λ (l : List Received). record (peer.node v.secondary) { taken = l }) (ap taken_of laid ∙ taken-laid q v.secondary.incoming)
@@ -66,28 +72,37 @@ module _ (v : PairView) (a e : PrimaryView) (b c d : SecondaryView) (q back : Qu
   after : peer.node d ≡ peer.node c
   after = ap peer.node d_is ∙ ap (λ (l : List Received). record (peer.node c) { taken = l }) (ap taken_of gave.left ∙ taken-given c.incoming)
 
-  steps : secondary.NodeSteps (Receives one.frame (is_none one.frame && is_starved result)) (peer.node v.secondary) (replied (λ done. done) result) (peer.node d)
-  steps = subst (λ (n : secondary.NodeState). secondary.NodeSteps (Receives one.frame (is_none one.frame && is_starved result)) n (replied (λ done. done) result) (peer.node d)) before
-      (subst (λ (n : secondary.NodeState). secondary.NodeSteps (Receives one.frame (is_none one.frame && is_starved result)) (peer.node b) (replied (λ done. done) result) n) (sym after) one.step)
+  steps : secondary.NodeSteps (Receives one.frame (is_none one.frame && is_starved result)) (peer.node v.secondary) (replied (λ done. done) result)
+      (peer.node d)
+  steps = subst (λ (n : secondary.NodeState). secondary.NodeSteps (Receives one.frame (is_none one.frame && is_starved result)) n
+      (replied (λ done. done) result) (peer.node d)) before
+      (subst (λ (n : secondary.NodeState). secondary.NodeSteps (Receives one.frame (is_none one.frame && is_starved result)) (peer.node b)
+      (replied (λ done. done) result) n) (sym after) one.step)
 
   grows : (frame : Received) → one.frame ≡ Some frame → (peer.node d).taken ≡ (peer.node v.secondary).taken ++ frame ∷ []
-  grows frame is = ap (λ (n : secondary.NodeState). n.taken) after ∙ grew frame b.incoming c.incoming (one.link.took frame is) ∙ ap (λ (n : secondary.NodeState). n.taken ++ frame ∷ []) before
+  grows frame is = ap (λ (n : secondary.NodeState). n.taken) after ∙ grew frame b.incoming c.incoming (one.link.took frame is)
+      ∙ ap (λ (n : secondary.NodeState). n.taken ++ frame ∷ []) before
 
   kept : local.node v.primary ≡ local.node e
-  kept = sym (ap local.node e_is ∙ ap (λ (l : List Packet). record (local.node a) { pushed = l }) (ap pushed_of over ∙ pushed-back back a.outgoing) ∙ lent-node v.primary a given.left a_is)
+  kept = sym (ap local.node e_is ∙ ap (λ (l : List Packet). record (local.node a) { pushed = l }) (ap pushed_of over ∙ pushed-back back a.outgoing)
+      ∙ lent-node v.primary a given.left a_is)
 
   pub receive-step : IsPairStep ReceiveEvent (is_starved result) (state v) (replied (λ done. done) result) (state (record { primary = e; secondary = d }))
   receive-step = receives-step (state v) (state (record { primary = e; secondary = d })) result one.frame both.0 steps grows kept
 
   pub receive-is : IsPairView (record { primary = e; secondary = d })
   receive-is = view-kept ReceiveEvent (is_starved result) v (record { primary = e; secondary = d }) (replied (λ done. done) result) was receive-step both.1
-      (subst (λ (o : Option OutgoingState). IsDirection v.secondary.core.settings.link (record { out = o; inn = e.incoming })) (sym (ap (λ (x : SecondaryView). x.outgoing) d_is ∙ ap (λ (x : SecondaryView). x.outgoing) c_is ∙ ap (λ (x : SecondaryView). x.outgoing) b_is))
-      (subst (λ (i : Option IncomingState). IsDirection v.secondary.core.settings.link (record { out = v.secondary.outgoing; inn = i })) (sym (ap (λ (x : PrimaryView). x.incoming) e_is ∙ ap (λ (x : PrimaryView). x.incoming) a_is)) was.pair.back))
+      (subst (λ (o : Option OutgoingState). IsDirection v.secondary.core.settings.link (record { out = o; inn = e.incoming }))
+      (sym (ap (λ (x : SecondaryView). x.outgoing) d_is ∙ ap (λ (x : SecondaryView). x.outgoing) c_is ∙ ap (λ (x : SecondaryView). x.outgoing) b_is))
+      (subst (λ (i : Option IncomingState). IsDirection v.secondary.core.settings.link (record { out = v.secondary.outgoing; inn = i }))
+      (sym (ap (λ (x : PrimaryView). x.incoming) e_is ∙ ap (λ (x : PrimaryView). x.incoming) a_is)) was.pair.back))
       (ap (λ (x : PrimaryView). x.steady) e_is ∙ ap (λ (x : PrimaryView). x.steady) a_is ∙ was.local)
       (ap (λ (x : SecondaryView). x.steady) d_is ∙ ap (λ (x : SecondaryView). x.steady) c_is ∙ ap (λ (x : SecondaryView). x.steady) b_is ∙ was.peer)
 
 -- A queue that was lent does come back.
-pub never-kept : (v : PairView) (a : PrimaryView) (b c d : SecondaryView) (q : QueueState) (result : Result Done Refusal) → IsPairView v → GivenOut (Some q) v.primary.outgoing a.outgoing → LaidIn q v.secondary.incoming b.incoming → ReceivesOne result b c
+pub never-kept : (v : PairView) (a : PrimaryView) (b c d : SecondaryView) (q : QueueState) (result : Result Done Refusal) → IsPairView v
+    → GivenOut (Some q) v.primary.outgoing a.outgoing → LaidIn q v.secondary.incoming b.incoming → ReceivesOne result b c
     → (back : Option QueueState) → back ≡ None → GivenBack back c.incoming d.incoming → ⊥
 never-kept v a b c d q result was given laid one back none gave =
-    comes-back v.primary.core.settings.link (state v).there q one.frame result a.outgoing b.incoming c.incoming d.incoming was.pair.there given laid one.link (subst (λ (o : Option QueueState). GivenBack o c.incoming d.incoming) none gave)
+    comes-back v.primary.core.settings.link (state v).there q one.frame result a.outgoing b.incoming c.incoming d.incoming was.pair.there given laid one.link
+    (subst (λ (o : Option QueueState). GivenBack o c.incoming d.incoming) none gave)

@@ -21,7 +21,8 @@ length-mapped [] = refl
 length-mapped (x ∷ xs) = ap suc (length-mapped xs)
 
 -- nothing happened yet
-pub none-ran : (events : List Event) (replies : List Reply) (len capacity : ℕ) (p : PairView) → replies ≡ [] → len ≡ 0 → length events ≤ capacity → HasRun events 0 replies len capacity p p
+pub none-ran : (events : List Event) (replies : List Reply) (len capacity : ℕ) (p : PairView) → replies ≡ [] → len ≡ 0 → length events ≤ capacity
+    → HasRun events 0 replies len capacity p p
 none-ran events replies len capacity p none empty room = record {
   ran = subst (λ (r : List Reply). Ran [] r (state p) (state p)) (sym none) (ran-none (state p));
   told = ap length none;
@@ -30,10 +31,13 @@ none-ran events replies len capacity p none empty room = record {
 }
 
 -- one event more
-pub one-ran : (events : List Event) (count : ℕ) (replies after : List Reply) (len capacity later : ℕ) (start now next : PairView) (event : Event) (one : Reply) → HasRun events count replies len capacity start now → count < length events
-    → event ≡ slice_index_or events count event → IsPairStep (event_of event) (is_starved one) (state now) one (state next) → after ≡ replies ++ one ∷ [] → later ≡ len + 1 → HasRun events (count + 1) after later capacity start next
+pub one-ran : (events : List Event) (count : ℕ) (replies after : List Reply) (len capacity later : ℕ) (start now next : PairView) (event : Event) (one : Reply)
+    → HasRun events count replies len capacity start now → count < length events
+    → event ≡ slice_index_or events count event → IsPairStep (event_of event) (is_starved one) (state now) one (state next) → after ≡ replies ++ one ∷ []
+    → later ≡ len + 1 → HasRun events (count + 1) after later capacity start next
 one-ran events count replies after len capacity later start now next event one was within item step grown more = record {
-  ran = subst (λ (l : List model.Event). Ran l after (state start) (state next)) (sym listed) (subst (λ (r : List Reply). Ran (map event_of (take count events) ++ event_of event ∷ []) r (state start) (state next)) (sym grown)
+  ran = subst (λ (l : List model.Event). Ran l after (state start) (state next)) (sym listed)
+      (subst (λ (r : List Reply). Ran (map event_of (take count events) ++ event_of event ∷ []) r (state start) (state next)) (sym grown)
       (ran-more (map event_of (take count events)) replies (event_of event) one (state start) (state now) (state next) same was.ran step));
   told = (let n = ap length grown in let m = length-append replies (one ∷ []) in let k = was.told in omega (arith, n, m, k));
   room = was.room;
@@ -41,17 +45,20 @@ one-ran events count replies after len capacity later start now next event one w
 }
   where
     same : length (map event_of (take count events)) ≡ length replies
-    same = let a = length-mapped (take count events) in let b = length-take-le count events (omega (arith, within)) in let k = was.told in omega (arith, a, b, k)
+    same = let a = length-mapped (take count events) in let b = length-take-le count events (omega (arith, within)) in let k =
+        was.told in omega (arith, a, b, k)
 
     counts : count + 1 ≡ suc count
     counts = omega arith
 
     listed : map event_of (take (count + 1) events) ≡ map event_of (take count events) ++ event_of event ∷ []
     listed =
-        ap (λ n. map event_of (take n events)) counts ∙ ap (map event_of) (take-suc events count event within) ∙ mapped (take count events) (slice_index_or events count event ∷ [])
+        ap (λ n. map event_of (take n events)) counts ∙ ap (map event_of) (take-suc events count event within)
+        ∙ mapped (take count events) (slice_index_or events count event ∷ [])
         ∙ ap (λ (e : Event). map event_of (take count events) ++ event_of e ∷ []) (sym item)
 
 -- all of them
-pub all-ran : (events : List Event) (count : ℕ) (replies : List Reply) (len capacity : ℕ) (start now : PairView) → HasRun events count replies len capacity start now → count ≡ length events → Ran (map event_of events) replies (state start) (state now)
+pub all-ran : (events : List Event) (count : ℕ) (replies : List Reply) (len capacity : ℕ) (start now : PairView)
+    → HasRun events count replies len capacity start now → count ≡ length events → Ran (map event_of events) replies (state start) (state now)
 all-ran events count replies len capacity start now was all =
     subst (λ (l : List Event). Ran (map event_of l) replies (state start) (state now)) (ap (λ n. take n events) all ∙ take-length events) was.ran

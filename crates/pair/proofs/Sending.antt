@@ -32,7 +32,8 @@ send-step v w result was sends steps = sends-step (state v) (state (record v { p
 
 pub send-is : (v : PairView) (w : PrimaryView) (result : Result Done Refusal) → IsPairView v → link.Sends result v.primary.outgoing w.outgoing
     → primary.NodeSteps (Sends (has_room result) (is_starved result)) (local.node v.primary) (from_primary.replied reply.Ok result) (local.node w)
-    → w.incoming ≡ v.primary.incoming → w.steady ≡ true → IsTold (record { out = w.outgoing; inn = v.secondary.incoming }) → IsPairView (record v { primary = w })
+    → w.incoming ≡ v.primary.incoming → w.steady ≡ true → IsTold (record { out = w.outgoing; inn = v.secondary.incoming })
+    → IsPairView (record v { primary = w })
 send-is v w result was sends steps inn steady told =
     view-kept SendEvent (is_starved result) v (record v { primary = w }) (from_primary.replied reply.Ok result) was (send-step v w result was sends steps)
     (sent-over v.primary.core.settings.link (state v).there result w.outgoing was.pair.there sends told)
@@ -42,15 +43,19 @@ send-is v w result was sends steps inn steady told =
 -- The secondary's push.
 
 pub answer-step : (v : PairView) (w : SecondaryView) (result : Result Done Refusal) → IsPairView v → link.Sends result v.secondary.outgoing w.outgoing
-    → secondary.NodeSteps (Acknowledges (has_room result) (is_starved result)) (peer.node v.secondary) (from_secondary.replied (λ done. done) result) (peer.node w)
+    → secondary.NodeSteps (Acknowledges (has_room result) (is_starved result)) (peer.node v.secondary) (from_secondary.replied (λ done. done) result)
+    (peer.node w)
     → IsPairStep AckOutEvent (is_starved result) (state v) (from_secondary.replied (λ done. done) result) (state (record v { secondary = w }))
 answer-step v w result was sends steps = answers-step (state v) (state (record v { secondary = w })) result was.pair.back sends steps refl
 
 pub answer-is : (v : PairView) (w : SecondaryView) (result : Result Done Refusal) → IsPairView v → link.Sends result v.secondary.outgoing w.outgoing
-    → secondary.NodeSteps (Acknowledges (has_room result) (is_starved result)) (peer.node v.secondary) (from_secondary.replied (λ done. done) result) (peer.node w)
-    → w.incoming ≡ v.secondary.incoming → w.steady ≡ true → IsTold (record { out = w.outgoing; inn = v.primary.incoming }) → IsPairView (record v { secondary = w })
+    → secondary.NodeSteps (Acknowledges (has_room result) (is_starved result)) (peer.node v.secondary) (from_secondary.replied (λ done. done) result)
+    (peer.node w)
+    → w.incoming ≡ v.secondary.incoming → w.steady ≡ true → IsTold (record { out = w.outgoing; inn = v.primary.incoming })
+    → IsPairView (record v { secondary = w })
 answer-is v w result was sends steps inn steady told =
-    view-kept AckOutEvent (is_starved result) v (record v { secondary = w }) (from_secondary.replied (λ done. done) result) was (answer-step v w result was sends steps)
+    view-kept AckOutEvent (is_starved result) v (record v { secondary = w }) (from_secondary.replied (λ done. done) result) was
+    (answer-step v w result was sends steps)
     (subst (λ (i : Option IncomingState). IsDirection v.primary.core.settings.link (record { out = v.primary.outgoing; inn = i })) (sym inn) was.pair.there)
     (sent-over v.secondary.core.settings.link (state v).back result w.outgoing was.pair.back sends told)
     was.local steady

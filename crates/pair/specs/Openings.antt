@@ -15,4 +15,5 @@ pub record CanPair (settings : Settings) (local peer : List (List ℕ)) (own : T
 
 -- two zero-filled disks with the tuple 1,0,0,0, and no marks
 abbrev pub zero_filled : Settings → PairHistory
-zero_filled settings = pair_opening settings (filled settings.blocks (replicate 4096 0)) (filled settings.blocks (replicate 4096 0)) (words 1 0 0 0) (words 1 0 0 0) (λ _. false)
+zero_filled settings = pair_opening settings (filled settings.blocks (replicate 4096 0)) (filled settings.blocks (replicate 4096 0)) (words 1 0 0 0)
+    (words 1 0 0 0) (λ _. false)

@@ -10,7 +10,7 @@ mod queries;
 mod runs;
 mod steps;
 
-pub use blocks::{Decision, Done, Reply, What};
+pub use blocks::{Block, Decision, Done, MemStore, Refusal, Reply, Settings, Tuple, What};
 pub use event::{Event, Side};
 pub use pair::{LocalNode, Pair, PeerNode};
 pub use runs::run;

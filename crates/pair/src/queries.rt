@@ -9,7 +9,7 @@ ghost use Rattle.pair.specs.State.{state};
 ghost use Rattle.pair_steps.specs.State.{PairHas};
 
 use crate::{LocalNode, Pair, PeerNode, Side};
-use blocks::{BLOCK_BYTES, Block, Refusal, Tuple};
+use blocks::{Block, Refusal, Store, Tuple};
 
 impl Pair {
     /// The generation identifiers of the primary, and those of the secondary.
@@ -41,23 +41,21 @@ impl Pair {
         }
     }
 
-    /// Whether the two disks differ in a block. Past their end they do not. It changes nothing, and takes no
-    /// memory.
-    pub fn differs(&mut self, block: Block) -> bool
-        ensures differs { (h : PairHistory) → PairHas (state self.old) h → result ≡ differs h block.0 }
-        ensures same { self.new ≡ self.old }
+    /// Whether the two disks differ in a block, compared where it lies. Past their end they do not.
+    pub fn differs(&self, block: Block) -> bool
+        ensures { (h : PairHistory) → PairHas (state self.now) h → result ≡ differs h block.0 }
     {
-        let mut local = [0u8; BLOCK_BYTES];
-        let mut peer = [0u8; BLOCK_BYTES];
-        let read_local = self.primary.read_block(block, &mut local).is_ok();
-        let read_peer = self.secondary.read_block(block, &mut peer).is_ok();
-        if read_local != read_peer {
+        let local = self.primary.store();
+        let peer = self.secondary.store();
+        let is_local = block.0 < u64::from(local.blocks());
+        let is_peer = block.0 < u64::from(peer.blocks());
+        if is_local != is_peer {
             return true;
         }
-        if !read_local {
+        if !is_local {
             return false;
         }
-        local != peer
+        local.block(block) != peer.block(block)
     }
 
     /// The primary, for reading.

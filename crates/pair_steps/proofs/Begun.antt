@@ -18,7 +18,8 @@ abbrev pub HasBegun : PrimaryHistory → Type 0
 HasBegun h = list_any (λ (c : Outward). c.begun) h.connections ≡ true
 
 -- a change of the last connection that leaves it begun
-changes : (f : Outward → Outward) → ((c : Outward) → c.begun ≡ true → (f c).begun ≡ true) → (cs : List Outward) → list_any (λ (c : Outward). c.begun) cs ≡ true → list_any (λ (c : Outward). c.begun) (change_last f cs) ≡ true
+changes : (f : Outward → Outward) → ((c : Outward) → c.begun ≡ true → (f c).begun ≡ true) → (cs : List Outward) → list_any (λ (c : Outward). c.begun) cs ≡ true
+    → list_any (λ (c : Outward). c.begun) (change_last f cs) ≡ true
 changes f kept [] has = absurd (cc)
 changes f kept (c ∷ []) has = elim (cases_Bool c.begun) [
   | inl begun ↦ or_left (f c).begun false (kept c begun)
@@ -26,20 +27,47 @@ changes f kept (c ∷ []) has = elim (cases_Bool c.begun) [
 ]
 changes f kept (c ∷ d ∷ cs) has = elim (cases_Bool c.begun) [
   | inl begun ↦ or_left c.begun (list_any (λ (x : Outward). x.begun) (change_last f (d ∷ cs))) begun
-  | inr new ↦ or_right c.begun (list_any (λ (x : Outward). x.begun) (change_last f (d ∷ cs))) (changes f kept (d ∷ cs) (sym (ap (λ b. b || list_any (λ (x : Outward). x.begun) (d ∷ cs)) new) ∙ has))
+  | inr new ↦ or_right c.begun (list_any (λ (x : Outward). x.begun) (change_last f (d ∷ cs)))
+      (changes f kept (d ∷ cs) (sym (ap (λ b. b || list_any (λ (x : Outward). x.begun) (d ∷ cs)) new) ∙ has))
 ]
 
 opens : (h : PrimaryHistory) (sync loss : ℕ) → HasBegun h → HasBegun (opened h sync loss)
 opens h sync loss has =
-    let new : Outward = record { sync = sync; loss = loss; hello = h.tuple; stream = []; pushed = 0; taken = []; refused = false; begun = false; closed = false } in
+    let new : Outward = record {
+      sync = sync;
+      loss = loss;
+      hello = h.tuple;
+      stream = [];
+      pushed = 0;
+      taken = [];
+      refused = false;
+      begun = false;
+      closed = false;
+    } in
     list_any-append (λ (c : Outward). c.begun) h.connections (new ∷ []) ∙ or_left (list_any (λ (c : Outward). c.begun) h.connections) false has
 
 submits : (h : PrimaryHistory) (first : ℕ) (contents : List (List ℕ)) → HasBegun h → HasBegun (submitted h first contents)
 submits h first contents has = go (stands (outward h))
   where
     go : (b : Bool) → HasBegun (elim b as (λ _. PrimaryHistory) [
-      | true ↦ appending (WriteItem (submission h first contents)) (record h { writes = h.writes ++ record { write = submission h first contents; journal_length = length h.journal; home = Some (last_index h.connections, length (outward h).stream); outcome = Waiting } ∷ [] })
-      | false ↦ record h { writes = h.writes ++ record { write = submission h first contents; journal_length = length h.journal; home = None; outcome = Waiting } ∷ []; marks = marking (submission h first contents) h.marks }
+      | true ↦ appending (WriteItem (submission h first contents))
+          (record h {
+            writes = h.writes ++ record {
+              write = submission h first contents;
+              journal_length = length h.journal;
+              home = Some (record { index = last_index h.connections; place = length (outward h).stream });
+              outcome = Waiting;
+            } ∷ [];
+          })
+      | false ↦ record h {
+        writes = h.writes ++ record {
+          write = submission h first contents;
+          journal_length = length h.journal;
+          home = None;
+          outcome = Waiting;
+        } ∷ [];
+        marks = marking (submission h first contents) h.marks;
+      }
     ])
     go true = changes _ (λ c is. is) h.connections has
     go false = has
@@ -47,7 +75,12 @@ submits h first contents has = go (stands (outward h))
 faults : (h : PrimaryHistory) (number : ℕ) (offsets : List ℕ) → HasBegun h → HasBegun (faulted number offsets h)
 faults h number offsets has = go (accepted_at h number)
   where
-    go : (v : Option Accepted) → HasBegun (elim v as (λ _. PrimaryHistory) [ None ↦ h | Some accepted ↦ with_outcome number (Failed (within (length accepted.write.contents) offsets)) (record h { marks = marking accepted.write h.marks }) ])
+    go : (v : Option Accepted) → HasBegun
+        (elim v as (λ _. PrimaryHistory) [
+          | None ↦ h
+          | Some accepted ↦ with_outcome number (Failed (within (length accepted.write.contents) offsets))
+              (record h { marks = marking accepted.write h.marks })
+        ])
     go None = has
     go (Some accepted) = has
 
@@ -59,7 +92,8 @@ begins h FullSync has = changes _ (λ c is. refl) h.connections has
 -- Every move keeps it.
 begun-kept : IsKeptByMoves HasBegun HasBegun
 begun-kept = record {
-  following = following-from HasBegun HasBegun HasBegun (λ h has. has) (λ g over has. changes _ (λ c is. is) g.connections has) (λ g on has. has) (λ g over has. changes _ (λ c is. is) g.connections has) (λ g has. has);
+  following = following-from HasBegun HasBegun HasBegun (λ h has. has) (λ g over has. changes _ (λ c is. is) g.connections has) (λ g on has. has)
+      (λ g over has. changes _ (λ c is. is) g.connections has) (λ g has. has);
   opens = λ h sync loss closed fresh has. opens h sync loss has;
   submits = λ h first contents may has. submits h first contents has;
   writes = λ h number waits has. has;
@@ -71,7 +105,8 @@ begun-kept = record {
   applies = λ h ack standing begun may has. changes _ (λ c is. is) h.connections has;
   clears = λ h ack standing begun may has. changes _ (λ c is. is) h.connections has;
   confirms = λ h number size standing begun turn has. changes _ (λ c is. is) h.connections has;
-  refuses = λ h frame peer standing has. changes (λ (c : Outward). record c { closed = true }) (λ c is. is) (change_last refusing (change_last (with_frame frame) h.connections))
+  refuses = λ h frame peer standing has. changes (λ (c : Outward). record c { closed = true }) (λ c is. is)
+      (change_last refusing (change_last (with_frame frame) h.connections))
       (changes refusing (λ c is. is) (change_last (with_frame frame) h.connections) (changes (with_frame frame) (λ c is. is) h.connections has));
   resyncs = λ h block runs alone is has. changes _ (λ c is. is) h.connections has;
   closes = λ h standing has. changes _ (λ c is. is) h.connections has;

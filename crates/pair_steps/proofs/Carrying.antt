@@ -19,9 +19,12 @@ some-is : {X : Type 0} (x y : X) → Some x ≡ Some y → x ≡ y
 some-is x y same = cc
 
 -- the queue as it came back
-came-back : {R : Type 0} (capacity : ℕ) (out : OutgoingState) (inn : IncomingState) (q : QueueState) (frame : Option Received) (result : Result R Refusal) (later : Option IncomingState) (back : QueueState)
-    → IsLent capacity out inn q → (after : IncomingState) → Takes frame result (Some (taking_from q inn)) later → later ≡ Some after → (back.taken ≡ after.frames) × ((after.queued ≡ Some back.frames) × (after.capacity ≡ Some back.capacity))
-    → (after.frames ++ back.frames ≡ inn.frames ++ q.frames) × (back.capacity ≡ capacity) × (length back.frames ≤ length q.frames) × ((one : Received) → frame ≡ Some one → after.taken ≡ inn.taken ++ one ∷ [])
+came-back : {R : Type 0} (capacity : ℕ) (out : OutgoingState) (inn : IncomingState) (q : QueueState) (frame : Option Received) (result : Result R Refusal)
+    (later : Option IncomingState) (back : QueueState)
+    → IsLent capacity out inn q → (after : IncomingState) → Takes frame result (Some (taking_from q inn)) later → later ≡ Some after
+    → (back.taken ≡ after.frames) × ((after.queued ≡ Some back.frames) × (after.capacity ≡ Some back.capacity))
+    → (after.frames ++ back.frames ≡ inn.frames ++ q.frames) × (back.capacity ≡ capacity) × (length back.frames ≤ length q.frames) × ((one : Received)
+    → frame ≡ Some one → after.taken ≡ inn.taken ++ one ∷ [])
 came-back capacity out inn q None result later back l after takes there whose =
     let kept = takes.kept refl in
     let same : record (taking_from q inn) { is_ready = kept.0 } ≡ after = some-is _ after (sym kept.1 ∙ there) in
@@ -41,7 +44,8 @@ came-back capacity out inn q (Some one) result later back l after takes there wh
     let queued : drop 1 q.frames ≡ back.frames = some-is _ back.frames (ap (λ (i : IncomingState). i.queued) now ∙ whose.1.0) in
     let size : q.capacity ≡ back.capacity = some-is q.capacity back.capacity (ap (λ (i : IncomingState). i.capacity) now ∙ whose.1.1) in
     let frames : took.frames ≡ after.frames = ap (λ (i : IncomingState). i.frames) now in
-    let row : took.frames ++ drop 1 q.frames ≡ inn.frames ++ q.frames = subst (λ (i : IncomingState). SameRow i (with_received one took.frames took.ready i)) (sym was) took.row in (
+    let row : took.frames ++ drop 1 q.frames ≡ inn.frames ++ q.frames = subst (λ (i : IncomingState). SameRow i (with_received one took.frames took.ready i))
+    (sym was) took.row in (
       ap (λ l. l ++ back.frames) (sym frames) ∙ ap (λ l. took.frames ++ l) (sym queued) ∙ row,
       sym size ∙ l.size,
       (let n = ap length queued in let m = length-drop 1 q.frames in omega (arith, n, m)),
@@ -49,8 +53,10 @@ came-back capacity out inn q (Some one) result later back l after takes there wh
     )
 
 -- What a queue holds that came back is what the sending side has sent.
-pub lay-back : {R : Type 0} (capacity : ℕ) (out : OutgoingState) (inn : IncomingState) (q : QueueState) (frame : Option Received) (result : Result R Refusal) (later ended : Option IncomingState) (back : QueueState)
-    → AreEnds capacity out inn → IsQueueOf q out → Takes frame result (Some (taking_from q inn)) later → GivenBack (Some back) later ended → out.frames ≡ back.taken ++ back.frames
+pub lay-back : {R : Type 0} (capacity : ℕ) (out : OutgoingState) (inn : IncomingState) (q : QueueState) (frame : Option Received) (result : Result R Refusal)
+    (later ended : Option IncomingState) (back : QueueState)
+    → AreEnds capacity out inn → IsQueueOf q out → Takes frame result (Some (taking_from q inn)) later → GivenBack (Some back) later ended
+    → out.frames ≡ back.taken ++ back.frames
 lay-back {R} capacity out inn q frame result later ended back ends whose takes given = go later takes given
   where
     go : (v : Option IncomingState) → Takes frame result (Some (taking_from q inn)) v → GivenBack (Some back) v ended → out.frames ≡ back.taken ++ back.frames
@@ -62,24 +68,34 @@ lay-back {R} capacity out inn q frame result later ended back ends whose takes g
         l.rest ∙ sym now.0 ∙ ap (λ t. t ++ back.frames) (sym was.0)
 
 -- The frame that was taken was the next one, and the direction is as it is between two calls.
-pub carried : {R : Type 0} (capacity : ℕ) (out : OutgoingState) (inn : IncomingState) (q : QueueState) (frame : Option Received) (result : Result R Refusal) (later ended : Option IncomingState) (back : QueueState)
+pub carried : {R : Type 0} (capacity : ℕ) (out : OutgoingState) (inn : IncomingState) (q : QueueState) (frame : Option Received) (result : Result R Refusal)
+    (later ended : Option IncomingState) (back : QueueState)
     → AreEnds capacity out inn → IsQueueOf q out → Takes frame result (Some (taking_from q inn)) later → GivenBack (Some back) later ended
     → IsTold (record { out = Some (with_queue back (without_queue out)); inn = ended })
-    → Gave frame result (record { out = Some out; inn = Some inn }) × IsDirection capacity (record { out = Some (with_queue back (without_queue out)); inn = ended })
+    → Gave frame result (record { out = Some out; inn = Some inn })
+    × IsDirection capacity (record { out = Some (with_queue back (without_queue out)); inn = ended })
 carried {R} capacity out inn q frame result later ended back ends whose takes given told = go later takes given
   where
     go : (v : Option IncomingState) → Takes frame result (Some (taking_from q inn)) v → GivenBack (Some back) v ended
-        → Gave frame result (record { out = Some out; inn = Some inn }) × IsDirection capacity (record { out = Some (with_queue back (without_queue out)); inn = ended })
+        → Gave frame result (record { out = Some out; inn = Some inn })
+        × IsDirection capacity (record { out = Some (with_queue back (without_queue out)); inn = ended })
     go None takes given = absurd (let none : Some back ≡ None = given.none refl in cc)
     go (Some after) takes given =
         let l = lent capacity out inn q ends whose in
         let was = given.whose after back refl refl in
         let now = came-back capacity out inn q frame result (Some after) back l after takes refl was in
-        let t : AreTold (with_queue back (without_queue out)) (empty_handed after) = told (with_queue back (without_queue out)) (empty_handed after) refl given.left in
+        let t : AreTold (with_queue back (without_queue out)) (empty_handed after) = told (with_queue back (without_queue out))
+        (empty_handed after) refl given.left in
         let whole : AreTold out after = record { begins = t.begins; pushed = t.pushed; taken = t.taken } in
         let begins : BeginsPushed after.taken out.pushed = whole.begins (back.frames, now.0 ∙ sym l.rest) in (
           record {
-            took = λ one is. record { out = out; inn = inn; out_there = refl; in_there = refl; next = took-next out inn one (subst (λ (t : List Received). BeginsPushed t out.pushed) (now.3 one is) begins) };
+            took = λ one is. record {
+              out = out;
+              inn = inn;
+              out_there = refl;
+              in_there = refl;
+              next = took-next out inn one (subst (λ (t : List Received). BeginsPushed t out.pushed) (now.3 one is) begins);
+            };
             none = λ is nothing. record { out = out; inn = inn; out_there = refl; in_there = refl; next = none-next capacity out inn q ends l (empty nothing) };
           },
           (empty_handed after, given.left, ends-back capacity out inn after q back l was.0 now.1 now.0 now.2 whole),
@@ -92,14 +108,19 @@ carried {R} capacity out inn q frame result later ended back ends whose takes gi
             subst (λ (i : IncomingState). IfSome i.queued (λ frames. frames ≡ [])) (sym same) e.2
 
 -- What was pushed waits behind the others, where the link had room.
-pub sent-over : {R : Type 0} (capacity : ℕ) (d : Direction) (result : Result R Refusal) (out : Option OutgoingState) → IsDirection capacity d → Sends result d.out out → IsTold (record d { out = out }) → IsDirection capacity (record d { out = out })
+pub sent-over : {R : Type 0} (capacity : ℕ) (d : Direction) (result : Result R Refusal) (out : Option OutgoingState) → IsDirection capacity d
+    → Sends result d.out out → IsTold (record d { out = out }) → IsDirection capacity (record d { out = out })
 sent-over {R} capacity d result out is sends told = go d.out refl is result refl
   where
-    go : (v : Option OutgoingState) → d.out ≡ v → elim v as (λ _. Type 0) [ None ↦ d.inn ≡ None | Some o ↦ (inn : IncomingState) × (d.inn ≡ Some inn) × AreEnds capacity o inn ]
+    go : (v : Option OutgoingState) → d.out ≡ v
+        → elim v as (λ _. Type 0) [ None ↦ d.inn ≡ None | Some o ↦ (inn : IncomingState) × (d.inn ≡ Some inn) × AreEnds capacity o inn ]
         → (r : Result R Refusal) → result ≡ r → IsDirection capacity (record d { out = out })
-    go None none is (Ok done) ok = absurd (let p : PushedOne d.out out = subst (λ (r : Result R Refusal). OnOk r (PushedOne d.out out)) ok sends.pushed in let no : None ≡ Some p.before = sym none ∙ p.there in cc)
+    go None none is (Ok done) ok = absurd
+        (let p : PushedOne d.out out = subst (λ (r : Result R Refusal). OnOk r (PushedOne d.out out)) ok sends.pushed in let no : None ≡ Some p.before =
+        sym none ∙ p.there in cc)
     go None none is (Err e) err =
-        let k = subst (λ (r : Result R Refusal). OnErr r ((partly : Option (List Packet)) × (out ≡ option_map (λ (o : OutgoingState). record o { partly = partly }) d.out))) err sends.kept in
+        let k = subst (λ (r : Result R Refusal). OnErr r
+        ((partly : Option (List Packet)) × (out ≡ option_map (λ (o : OutgoingState). record o { partly = partly }) d.out))) err sends.kept in
         let same : out ≡ None = k.1 ∙ ap (option_map (λ (o : OutgoingState). record o { partly = k.0 })) none in
         subst (λ (v : Option OutgoingState). IsDirection capacity (record d { out = v })) (sym same) is
     go (Some o) there is (Ok done) ok =
@@ -110,6 +131,7 @@ sent-over {R} capacity d result out is sends told = go d.out refl is result refl
         subst (λ (v : Option OutgoingState). IsDirection capacity (record d { out = v })) (sym now)
         (is.0, is.1, ends-pushed capacity o is.0 p.packet p.frame is.2 room (told (with_pushed p.packet p.frame o) is.0 now is.1))
     go (Some o) there is (Err e) err =
-        let k = subst (λ (r : Result R Refusal). OnErr r ((partly : Option (List Packet)) × (out ≡ option_map (λ (o : OutgoingState). record o { partly = partly }) d.out))) err sends.kept in
+        let k = subst (λ (r : Result R Refusal). OnErr r
+        ((partly : Option (List Packet)) × (out ≡ option_map (λ (o : OutgoingState). record o { partly = partly }) d.out))) err sends.kept in
         let now : out ≡ Some (record o { partly = k.0 }) = k.1 ∙ ap (option_map (λ (o : OutgoingState). record o { partly = k.0 })) there in
         subst (λ (v : Option OutgoingState). IsDirection capacity (record d { out = v })) (sym now) (is.0, is.1, ends-kept capacity o is.0 k.0 is.2)

@@ -7,7 +7,8 @@ use Rattle.model.specs.Pair.{Event, PairHistory, same_block, run}
 use Rattle.model.specs.Primary.{PrimaryHistory}
 use Rattle.model.specs.Secondary.{SecondaryHistory}
 use Rattle.model.specs.Theorems.{pair_at, marks_at, IsSoundOpening}
-use Rattle.model.specs.Headline.{TakesABeginning, StaysClosed, StaysClosedToo, HoldsEarlierEpochs, KeepsPromises, MarksDifferences, CoversDifferences, Cover, opening_marked}
+use Rattle.model.specs.Headline.{TakesABeginning, StaysClosed, StaysClosedToo, HoldsEarlierEpochs, KeepsPromises, MarksDifferences, CoversDifferences, Cover}
+use Rattle.model.specs.Headline.{opening_marked}
 use Rattle.model.specs.WriteOrder.{KeepsWriteOrder, IsUnharmed}
 use Rattle.laws.proofs.Theorems.Headline.{every_beginning, every_epochs, every_promises, every_marks, every_close}
 use Rattle.laws.proofs.Theorems.Cover.{every_cover}
@@ -18,7 +19,8 @@ use Rattle.pair_steps.proofs.Grounded.{grounded-kept}
 use Rattle.pair_steps.specs.Steps.{HasClauses}
 
 -- the history of a run
-from-run : (Holds : PrimaryHistory → SecondaryHistory → Type 0) (h : PairHistory) (is : IsRun h) → Holds (run is.events (pair_at is.opening)).1.primary (run is.events (pair_at is.opening)).1.secondary → Holds h.primary h.secondary
+from-run : (Holds : PrimaryHistory → SecondaryHistory → Type 0) (h : PairHistory) (is : IsRun h)
+    → Holds (run is.events (pair_at is.opening)).1.primary (run is.events (pair_at is.opening)).1.secondary → Holds h.primary h.secondary
 from-run Holds h is holds = subst (λ (x : PairHistory). Holds x.primary x.secondary) is.is holds
 
 -- what the secondary took is a beginning of a lawful stream, each write once
@@ -39,9 +41,11 @@ sound h is honest =
     let here = opens-here h is in
     let there = opens-there h is in
     let marked : (block : ℕ) → opening_marked h.primary block ≡ marks_at is.opening block
-    = λ block. ap (λ (s : Settings). nat_lt block s.blocks && h.primary.opening_marks block) here.settings ∙ ap (λ (m : ℕ → Bool). nat_lt block is.opening.settings.blocks && m block) here.marks in
+    = λ block. ap (λ (s : Settings). nat_lt block s.blocks && h.primary.opening_marks block) here.settings
+    ∙ ap (λ (m : ℕ → Bool). nat_lt block is.opening.settings.blocks && m block) here.marks in
     let covers : Cover (opening_marked h.primary) h.primary.opening_map h.secondary.opening_map → Cover (marks_at is.opening) is.opening.local is.opening.peer
-    = λ cover block differs. sym (marked block) ∙ cover block (ap (λ (m : BlockMap). same_block (m block) (h.secondary.opening_map block)) here.disk ∙ ap (λ (m : BlockMap). same_block (is.opening.local block) (m block)) there.disk ∙ differs) in
+    = λ cover block differs. sym (marked block) ∙ cover block (ap (λ (m : BlockMap). same_block (m block) (h.secondary.opening_map block)) here.disk
+    ∙ ap (λ (m : BlockMap). same_block (is.opening.local block) (m block)) there.disk ∙ differs) in
     record {
       ranges = is.ranges;
       local = is.local;
@@ -49,7 +53,9 @@ sound h is honest =
       identifiers = record {
         own_data = subst (λ (t : Tuple). 0 < t.current) here.tuple honest.own_data;
         same_current = λ same. covers (honest.same_current (ap (λ (t : Tuple). t.current) there.tuple ∙ same ∙ sym (ap (λ (t : Tuple). t.current) here.tuple)));
-        from_bitmap = λ some same. covers (honest.from_bitmap (subst (λ (t : Tuple). 0 < t.bitmap) (sym here.tuple) some) (ap (λ (t : Tuple). t.current) there.tuple ∙ same ∙ sym (ap (λ (t : Tuple). t.bitmap) here.tuple)));
+        from_bitmap = λ some same. covers
+            (honest.from_bitmap (subst (λ (t : Tuple). 0 < t.bitmap) (sym here.tuple) some) (ap (λ (t : Tuple). t.current) there.tuple ∙ same
+            ∙ sym (ap (λ (t : Tuple). t.bitmap) here.tuple)));
       };
     }
 
@@ -66,9 +72,21 @@ pub order : (h : PairHistory) → IsRun h → WasHonest h → IsUnharmed h.prima
 order h is honest = from-run (λ p s. IsUnharmed p s → KeepsWriteOrder p s) h is (every_write_order is.opening is.events is.shares (sound h is honest))
 
 -- a closed end stays as it is, but for what is still applied
-pub closed : (h : PairHistory) → IsRun h → (more : List (Event × Bool)) → StaysClosed h.primary (run more h).1.primary × StaysClosedToo h.secondary (run more h).1.secondary
-closed h is more = subst (λ (x : PairHistory). StaysClosed x.primary (run more x).1.primary × StaysClosedToo x.secondary (run more x).1.secondary) is.is (every_close is.opening is.events more)
+pub closed : (h : PairHistory) → IsRun h → (more : List (Event × Bool))
+    → StaysClosed h.primary (run more h).1.primary × StaysClosedToo h.secondary (run more h).1.secondary
+closed h is more = subst (λ (x : PairHistory). StaysClosed x.primary (run more x).1.primary × StaysClosedToo x.secondary (run more x).1.secondary) is.is
+    (every_close is.opening is.events more)
 
 -- all of them
 pub has-clauses : (h : PairHistory) → IsRun h → HasClauses h
-has-clauses h is = record { beginning = beginning h is; closed = closed h is; epochs = epochs h is; promises = promises h is; marks = marks h is; cover = cover h is; order = order h is; honest = λ more. honest-kept more h is; grounded = λ more. grounded-kept more h is }
+has-clauses h is = record {
+  beginning = beginning h is;
+  closed = closed h is;
+  epochs = epochs h is;
+  promises = promises h is;
+  marks = marks h is;
+  cover = cover h is;
+  order = order h is;
+  honest = λ more. honest-kept more h is;
+  grounded = λ more. grounded-kept more h is;
+}

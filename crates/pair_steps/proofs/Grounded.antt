@@ -17,7 +17,8 @@ use Rattle.pair_steps.proofs.Stepping.{is-run-more, same-opening}
 linked : (h : PairHistory) → IsRun h → IsLinkedPair h
 linked h is =
     let o = is.opening in
-    subst IsLinkedPair is.is (leads-run is.events (pair_at o) (record { homes = homes-opening o.settings o.local o.own o.marks; pairs = tt; counted = λ j d at. absurd (cc) })).1
+    subst IsLinkedPair is.is (leads-run is.events (pair_at o)
+    (record { homes = homes-opening o.settings o.local o.own o.marks; pairs = tt; counted = λ j d at. absurd (cc) })).1
 
 -- what began stays begun
 begun-after : (event : Event) (starved : Bool) (h : PairHistory) → IsRun h → HasBegun h.primary → HasBegun (step event starved h).1.primary
@@ -27,7 +28,8 @@ begun-after event starved h is has =
 
 -- the opening marks cover the opening disks of two histories that begin alike
 same-cover : (o : Opening) (h k : PairHistory) → HasOpening o h.primary → HasOpeningToo o h.secondary → HasOpening o k.primary → HasOpeningToo o k.secondary
-    → Cover (opening_marked h.primary) h.primary.opening_map h.secondary.opening_map → Cover (opening_marked k.primary) k.primary.opening_map k.secondary.opening_map
+    → Cover (opening_marked h.primary) h.primary.opening_map h.secondary.opening_map
+    → Cover (opening_marked k.primary) k.primary.opening_map k.secondary.opening_map
 same-cover o h k here there later later-too cover block differs =
     ap (λ (s : Settings). nat_lt block s.blocks && k.primary.opening_marks block) (later.settings ∙ sym here.settings)
     ∙ ap (λ (m : ℕ → Bool). nat_lt block h.primary.settings.blocks && m block) (later.marks ∙ sym here.marks)
@@ -38,7 +40,8 @@ same-cover o h k here there later later-too cover block differs =
     )
 
 -- a step keeps it
-grounded-after : (event : Event) (starved : Bool) (h : PairHistory) → IsRun h → IsGrounded h.primary h.secondary → IsGrounded (step event starved h).1.primary (step event starved h).1.secondary
+grounded-after : (event : Event) (starved : Bool) (h : PairHistory) → IsRun h → IsGrounded h.primary h.secondary
+    → IsGrounded (step event starved h).1.primary (step event starved h).1.secondary
 grounded-after event starved h is (inl begun) = inl (begun-after event starved h is begun)
 grounded-after event starved h is (inr cover) =
     let later = is-run-more event starved h is in
@@ -48,7 +51,8 @@ grounded-after event starved h is (inr cover) =
     (subst (λ (o : Opening). HasOpeningToo o (step event starved h).1.secondary) same (opens-there (step event starved h).1 later)) cover)
 
 -- and so does every run
-pub grounded-kept : (events : List (Event × Bool)) (h : PairHistory) → IsRun h → IsGrounded h.primary h.secondary → IsGrounded (run events h).1.primary (run events h).1.secondary
+pub grounded-kept : (events : List (Event × Bool)) (h : PairHistory) → IsRun h → IsGrounded h.primary h.secondary
+    → IsGrounded (run events h).1.primary (run events h).1.secondary
 grounded-kept [] h is grounded = grounded
 grounded-kept (first ∷ events) h is grounded =
     grounded-kept events (step first.0 first.1 h).1 (is-run-more first.0 first.1 h is) (grounded-after first.0 first.1 h is grounded)

@@ -15,29 +15,37 @@ use Rattle.pair_steps.proofs.Stepping.{is-run-more, same-opening}
 pub opens-here : (h : PairHistory) (is : IsRun h) → HasOpening is.opening h.primary
 opens-here h is =
     let runs = every_run_is_joined is.opening is.events in
-    subst (λ (x : PairHistory). HasOpening is.opening x.primary) is.is (subst (HasOpening is.opening) (sym runs.primary) (kept-opening-primary is.opening runs.here))
+    subst (λ (x : PairHistory). HasOpening is.opening x.primary) is.is
+    (subst (HasOpening is.opening) (sym runs.primary) (kept-opening-primary is.opening runs.here))
 
 -- the secondary's likewise
 pub opens-there : (h : PairHistory) (is : IsRun h) → HasOpeningToo is.opening h.secondary
 opens-there h is =
     let runs = every_run_is_joined is.opening is.events in
-    subst (λ (x : PairHistory). HasOpeningToo is.opening x.secondary) is.is (subst (HasOpeningToo is.opening) (sym runs.secondary) (kept-opening-secondary is.opening runs.there))
+    subst (λ (x : PairHistory). HasOpeningToo is.opening x.secondary) is.is
+    (subst (HasOpeningToo is.opening) (sym runs.secondary) (kept-opening-secondary is.opening runs.there))
 
 -- two histories that begin alike
 same-beginning : (o : Opening) (h k : PairHistory) → HasOpening o h.primary → HasOpeningToo o h.secondary → HasOpening o k.primary → HasOpeningToo o k.secondary
     → WasHonest h → WasHonest k
 same-beginning o h k here there later later-too honest =
-    subst (λ (s : Settings). IsHonest k.primary.opening_tuple k.secondary.opening_tuple (λ block. nat_lt block s.blocks && k.primary.opening_marks block) k.primary.opening_map k.secondary.opening_map)
+    subst (λ (s : Settings). IsHonest k.primary.opening_tuple k.secondary.opening_tuple (λ block. nat_lt block s.blocks && k.primary.opening_marks block)
+    k.primary.opening_map k.secondary.opening_map)
     (here.settings ∙ sym later.settings)
-    (subst (λ (m : ℕ → Bool). IsHonest k.primary.opening_tuple k.secondary.opening_tuple (λ block. nat_lt block h.primary.settings.blocks && m block) k.primary.opening_map k.secondary.opening_map)
+    (subst (λ (m : ℕ → Bool). IsHonest k.primary.opening_tuple k.secondary.opening_tuple (λ block. nat_lt block h.primary.settings.blocks && m block)
+    k.primary.opening_map k.secondary.opening_map)
     (here.marks ∙ sym later.marks)
-    (subst (λ (m : BlockMap). IsHonest k.primary.opening_tuple k.secondary.opening_tuple (λ block. nat_lt block h.primary.settings.blocks && h.primary.opening_marks block) m k.secondary.opening_map)
+    (subst (λ (m : BlockMap). IsHonest k.primary.opening_tuple k.secondary.opening_tuple
+    (λ block. nat_lt block h.primary.settings.blocks && h.primary.opening_marks block) m k.secondary.opening_map)
     (here.disk ∙ sym later.disk)
-    (subst (λ (m : BlockMap). IsHonest k.primary.opening_tuple k.secondary.opening_tuple (λ block. nat_lt block h.primary.settings.blocks && h.primary.opening_marks block) h.primary.opening_map m)
+    (subst (λ (m : BlockMap). IsHonest k.primary.opening_tuple k.secondary.opening_tuple
+    (λ block. nat_lt block h.primary.settings.blocks && h.primary.opening_marks block) h.primary.opening_map m)
     (there.disk ∙ sym later-too.disk)
-    (subst (λ (t : Tuple). IsHonest t k.secondary.opening_tuple (λ block. nat_lt block h.primary.settings.blocks && h.primary.opening_marks block) h.primary.opening_map h.secondary.opening_map)
+    (subst (λ (t : Tuple). IsHonest t k.secondary.opening_tuple (λ block. nat_lt block h.primary.settings.blocks && h.primary.opening_marks block)
+    h.primary.opening_map h.secondary.opening_map)
     (here.tuple ∙ sym later.tuple)
-    (subst (λ (t : Tuple). IsHonest h.primary.opening_tuple t (λ block. nat_lt block h.primary.settings.blocks && h.primary.opening_marks block) h.primary.opening_map h.secondary.opening_map)
+    (subst (λ (t : Tuple). IsHonest h.primary.opening_tuple t (λ block. nat_lt block h.primary.settings.blocks && h.primary.opening_marks block)
+    h.primary.opening_map h.secondary.opening_map)
     (there.tuple ∙ sym later-too.tuple) honest)))))
 
 -- a step keeps it

@@ -16,7 +16,8 @@ there-kept : (h : PairHistory) (is : IsRun h) → h.secondary.settings ≡ is.op
 there-kept h is = (opens-there h is).settings
 
 -- Some history is had after a step, where both directions are as they are between two calls.
-pub pair-kept : (event : Event) (starved : Bool) (p q : PairState) (said : Reply) → IsPair p → IsPairStep event starved p said q → IsDirection p.primary.settings.link q.there → IsDirection p.secondary.settings.link q.back → IsPair q
+pub pair-kept : (event : Event) (starved : Bool) (p q : PairState) (said : Reply) → IsPair p → IsPairStep event starved p said q
+    → IsDirection p.primary.settings.link q.there → IsDirection p.secondary.settings.link q.back → IsPair q
 pair-kept event starved p q said was steps there back = record {
   history = (step event starved h).1;
   has = after;
@@ -31,10 +32,14 @@ pair-kept event starved p q said was steps there back = record {
     after = steps.after h was.has
 
     here : p.primary.settings ≡ q.primary.settings
-    here = was.has.primary.leaves.core.rest.settings ∙ here-kept h was.has.run ∙ sym (ap (λ (o : Opening). o.settings) (same-opening event starved h was.has.run)) ∙ sym (here-kept (step event starved h).1 (is-run-more event starved h was.has.run)) ∙ sym after.primary.leaves.core.rest.settings
+    here = was.has.primary.leaves.core.rest.settings ∙ here-kept h was.has.run
+        ∙ sym (ap (λ (o : Opening). o.settings) (same-opening event starved h was.has.run))
+        ∙ sym (here-kept (step event starved h).1 (is-run-more event starved h was.has.run)) ∙ sym after.primary.leaves.core.rest.settings
 
     over : p.secondary.settings ≡ q.secondary.settings
-    over = was.has.secondary.leaves.core.settings ∙ there-kept h was.has.run ∙ sym (ap (λ (o : Opening). o.peer_settings) (same-opening event starved h was.has.run)) ∙ sym (there-kept (step event starved h).1 (is-run-more event starved h was.has.run)) ∙ sym after.secondary.leaves.core.settings
+    over = was.has.secondary.leaves.core.settings ∙ there-kept h was.has.run
+        ∙ sym (ap (λ (o : Opening). o.peer_settings) (same-opening event starved h was.has.run))
+        ∙ sym (there-kept (step event starved h).1 (is-run-more event starved h was.has.run)) ∙ sym after.secondary.leaves.core.settings
 
 -- both nodes have the same settings
 pub same-settings : (p : PairState) (h : PairHistory) → PairHas p h → p.secondary.settings ≡ h.primary.settings

@@ -33,54 +33,87 @@ taken-given (Some i) = refl
 
 -- What is asked of the queue where it is laid in, and where it is laid back.
 
-pub may-lay : (capacity : ℕ) (d : Direction) (q : QueueState) (out : Option OutgoingState) → IsDirection capacity d → GivenOut (Some q) d.out out → IfSome d.inn (λ i. q.taken ≡ i.frames)
+pub may-lay : (capacity : ℕ) (d : Direction) (q : QueueState) (out : Option OutgoingState) → IsDirection capacity d → GivenOut (Some q) d.out out
+    → IfSome d.inn (λ i. q.taken ≡ i.frames)
 may-lay capacity d q out is given = go d.out refl is
   where
-    go : (v : Option OutgoingState) → d.out ≡ v → elim v as (λ _. Type 0) [ None ↦ d.inn ≡ None | Some o ↦ (inn : IncomingState) × (d.inn ≡ Some inn) × AreEnds capacity o inn ] → IfSome d.inn (λ i. q.taken ≡ i.frames)
+    go : (v : Option OutgoingState) → d.out ≡ v
+        → elim v as (λ _. Type 0) [ None ↦ d.inn ≡ None | Some o ↦ (inn : IncomingState) × (d.inn ≡ Some inn) × AreEnds capacity o inn ]
+        → IfSome d.inn (λ i. q.taken ≡ i.frames)
     go None there none = subst (λ (v : Option IncomingState). IfSome v (λ i. q.taken ≡ i.frames)) (sym none) tt
-    go (Some o) there ends = subst (λ (v : Option IncomingState). IfSome v (λ i. q.taken ≡ i.frames)) (sym ends.1) (lent capacity o ends.0 q ends.2 (given.whose o q there refl)).taken
+    go (Some o) there ends = subst (λ (v : Option IncomingState). IfSome v (λ i. q.taken ≡ i.frames)) (sym ends.1)
+        (lent capacity o ends.0 q ends.2 (given.whose o q there refl)).taken
 
-pub may-lay-back : {R : Type 0} (capacity : ℕ) (d : Direction) (q back : QueueState) (frame : Option Received) (result : Result R Refusal) (out : Option OutgoingState) (inn later ended : Option IncomingState)
-    → IsDirection capacity d → GivenOut (Some q) d.out out → LaidIn q d.inn inn → Takes frame result inn later → GivenBack (Some back) later ended → IfSome out (λ o. o.frames ≡ back.taken ++ back.frames)
+pub may-lay-back : {R : Type 0} (capacity : ℕ) (d : Direction) (q back : QueueState) (frame : Option Received) (result : Result R Refusal)
+    (out : Option OutgoingState) (inn later ended : Option IncomingState)
+    → IsDirection capacity d → GivenOut (Some q) d.out out → LaidIn q d.inn inn → Takes frame result inn later → GivenBack (Some back) later ended
+    → IfSome out (λ o. o.frames ≡ back.taken ++ back.frames)
 may-lay-back {R} capacity d q back frame result out inn later ended is given laid takes gave = go d.out refl is
   where
-    go : (v : Option OutgoingState) → d.out ≡ v → elim v as (λ _. Type 0) [ None ↦ d.inn ≡ None | Some o ↦ (inn : IncomingState) × (d.inn ≡ Some inn) × AreEnds capacity o inn ] → IfSome out (λ o. o.frames ≡ back.taken ++ back.frames)
-    go None there none = subst (λ (v : Option OutgoingState). IfSome v (λ o. o.frames ≡ back.taken ++ back.frames)) (sym (given.left ∙ ap (option_map without_queue) there)) tt
+    go : (v : Option OutgoingState) → d.out ≡ v
+        → elim v as (λ _. Type 0) [ None ↦ d.inn ≡ None | Some o ↦ (inn : IncomingState) × (d.inn ≡ Some inn) × AreEnds capacity o inn ]
+        → IfSome out (λ o. o.frames ≡ back.taken ++ back.frames)
+    go None there none = subst (λ (v : Option OutgoingState). IfSome v (λ o. o.frames ≡ back.taken ++ back.frames))
+        (sym (given.left ∙ ap (option_map without_queue) there)) tt
     go (Some o) there ends =
         let now : inn ≡ Some (taking_from q ends.0) = laid ∙ ap (option_map (taking_from q)) ends.1 in
         subst (λ (v : Option OutgoingState). IfSome v (λ o. o.frames ≡ back.taken ++ back.frames)) (sym (given.left ∙ ap (option_map without_queue) there))
-        (lay-back capacity o ends.0 q frame result later ended back ends.2 (given.whose o q there refl) (subst (λ (v : Option IncomingState). Takes frame result v later) now takes) gave)
+        (lay-back capacity o ends.0 q frame result later ended back ends.2 (given.whose o q there refl)
+        (subst (λ (v : Option IncomingState). Takes frame result v later) now takes) gave)
 
 -- The queue was there: the frame that was taken is the next one, and the direction is as it was before.
-pub gave-over : {R : Type 0} (capacity : ℕ) (d : Direction) (q back : QueueState) (frame : Option Received) (result : Result R Refusal) (out ended_out : Option OutgoingState) (inn later ended : Option IncomingState)
-    → IsDirection capacity d → GivenOut (Some q) d.out out → LaidIn q d.inn inn → Takes frame result inn later → GivenBack (Some back) later ended → LaidBack back out ended_out
+pub gave-over : {R : Type 0} (capacity : ℕ) (d : Direction) (q back : QueueState) (frame : Option Received) (result : Result R Refusal)
+    (out ended_out : Option OutgoingState) (inn later ended : Option IncomingState)
+    → IsDirection capacity d → GivenOut (Some q) d.out out → LaidIn q d.inn inn → Takes frame result inn later → GivenBack (Some back) later ended
+    → LaidBack back out ended_out
     → IsTold (record { out = ended_out; inn = ended }) → Gave frame result d × IsDirection capacity (record { out = ended_out; inn = ended })
 gave-over {R} capacity d q back frame result out ended_out inn later ended is given laid takes gave over told = go d.out refl is
   where
-    go : (v : Option OutgoingState) → d.out ≡ v → elim v as (λ _. Type 0) [ None ↦ d.inn ≡ None | Some o ↦ (inn : IncomingState) × (d.inn ≡ Some inn) × AreEnds capacity o inn ]
+    go : (v : Option OutgoingState) → d.out ≡ v
+        → elim v as (λ _. Type 0) [ None ↦ d.inn ≡ None | Some o ↦ (inn : IncomingState) × (d.inn ≡ Some inn) × AreEnds capacity o inn ]
         → Gave frame result d × IsDirection capacity (record { out = ended_out; inn = ended })
     go None there none =
         absurd (let nothing : Some q ≡ None = given.none there in cc)
     go (Some o) there ends =
         let now : inn ≡ Some (taking_from q ends.0) = laid ∙ ap (option_map (taking_from q)) ends.1 in
-        let last : ended_out ≡ Some (with_queue back (without_queue o)) = over ∙ ap (option_map (with_queue back)) (given.left ∙ ap (option_map without_queue) there) in
-        let done = carried capacity o ends.0 q frame result later ended back ends.2 (given.whose o q there refl) (subst (λ (v : Option IncomingState). Takes frame result v later) now takes) gave
+        let last : ended_out ≡ Some (with_queue back (without_queue o)) = over
+        ∙ ap (option_map (with_queue back)) (given.left ∙ ap (option_map without_queue) there) in
+        let done = carried capacity o ends.0 q frame result later ended back ends.2 (given.whose o q there refl)
+        (subst (λ (v : Option IncomingState). Takes frame result v later) now takes) gave
         (subst (λ (v : Option OutgoingState). IsTold (record { out = v; inn = ended })) last told) in (
           record {
-            took = λ one is. let g = done.0.took one is in record { out = g.out; inn = g.inn; out_there = there ∙ g.out_there; in_there = ends.1 ∙ g.in_there; next = g.next };
-            none = λ is nothing. let g = done.0.none is nothing in record { out = g.out; inn = g.inn; out_there = there ∙ g.out_there; in_there = ends.1 ∙ g.in_there; next = g.next };
+            took = λ one is. let g = done.0.took one is in record {
+              out = g.out;
+              inn = g.inn;
+              out_there = there ∙ g.out_there;
+              in_there = ends.1
+                  ∙ g.in_there;
+              next = g.next;
+            };
+            none = λ is nothing. let g = done.0.none is nothing in record {
+              out = g.out;
+              inn = g.inn;
+              out_there = there ∙ g.out_there;
+              in_there = ends.1
+                  ∙ g.in_there;
+              next = g.next;
+            };
           },
           subst (λ (v : Option OutgoingState). IsDirection capacity (record { out = v; inn = ended })) (sym last) done.1,
         )
 
 -- There is no queue before the first connection: nothing was taken.
-pub gave-none : {R : Type 0} (capacity : ℕ) (d : Direction) (frame : Option Received) (result : Result R Refusal) (out : Option OutgoingState) (inn : Option IncomingState)
-    → IsDirection capacity d → GivenOut None d.out out → Takes frame result d.inn inn → Gave frame result d × IsDirection capacity (record { out = out; inn = inn }) × (frame ≡ None)
+pub gave-none : {R : Type 0} (capacity : ℕ) (d : Direction) (frame : Option Received) (result : Result R Refusal) (out : Option OutgoingState)
+    (inn : Option IncomingState)
+    → IsDirection capacity d → GivenOut None d.out out → Takes frame result d.inn inn
+    → Gave frame result d × IsDirection capacity (record { out = out; inn = inn }) × (frame ≡ None)
 gave-none {R} capacity d frame result out inn is given takes = go d.out refl is frame refl
   where
-    go : (v : Option OutgoingState) → d.out ≡ v → elim v as (λ _. Type 0) [ None ↦ d.inn ≡ None | Some o ↦ (inn : IncomingState) × (d.inn ≡ Some inn) × AreEnds capacity o inn ]
+    go : (v : Option OutgoingState) → d.out ≡ v
+        → elim v as (λ _. Type 0) [ None ↦ d.inn ≡ None | Some o ↦ (inn : IncomingState) × (d.inn ≡ Some inn) × AreEnds capacity o inn ]
         → (f : Option Received) → frame ≡ f → Gave frame result d × IsDirection capacity (record { out = out; inn = inn }) × (frame ≡ None)
-    go (Some o) there ends f same = absurd (let t : false ≡ is_some o.waiting = given.there o there in let w : is_some o.waiting ≡ true = ap is_some ends.2.count in cc)
+    go (Some o) there ends f same = absurd (let t : false ≡ is_some o.waiting = given.there o there in let w : is_some o.waiting ≡ true =
+        ap is_some ends.2.count in cc)
     go None there none (Some one) same = absurd (let t = takes.took one same in let nothing : None ≡ Some t.before = sym none ∙ t.there in cc)
     go None there none None same =
         let after : inn ≡ None = (let k = takes.kept same in k.1 ∙ ap (option_map (λ (i : IncomingState). record i { is_ready = k.0 })) none) in (
@@ -88,12 +121,14 @@ gave-none {R} capacity d frame result out inn is given takes = go d.out refl is 
             took = λ one is. absurd (let nothing : None ≡ Some one = sym same ∙ is in cc);
             none = λ is nothing. absurd (let e = takes.empty nothing in let no_side : None ≡ Some e.0 = sym none ∙ e.1 in cc);
           },
-          subst (λ (v : Option OutgoingState). IsDirection capacity (record { out = v; inn = inn })) (sym (given.left ∙ ap (option_map without_queue) there)) after,
+          subst (λ (v : Option OutgoingState). IsDirection capacity (record { out = v; inn = inn })) (sym (given.left ∙ ap (option_map without_queue) there))
+              after,
           same,
         )
 
 -- A queue that was lent comes back.
-pub comes-back : {R : Type 0} (capacity : ℕ) (d : Direction) (q : QueueState) (frame : Option Received) (result : Result R Refusal) (out : Option OutgoingState) (inn later ended : Option IncomingState)
+pub comes-back : {R : Type 0} (capacity : ℕ) (d : Direction) (q : QueueState) (frame : Option Received) (result : Result R Refusal) (out : Option OutgoingState)
+    (inn later ended : Option IncomingState)
     → IsDirection capacity d → GivenOut (Some q) d.out out → LaidIn q d.inn inn → Takes frame result inn later → GivenBack None later ended → ⊥
 comes-back {R} capacity d q frame result out inn later ended is given laid takes gave = go d.out refl is
   where
@@ -113,6 +148,7 @@ comes-back {R} capacity d q frame result out inn later ended is given laid takes
         let both : false ≡ true = there ∙ full in
         cc
 
-    go : (v : Option OutgoingState) → d.out ≡ v → elim v as (λ _. Type 0) [ None ↦ d.inn ≡ None | Some o ↦ (inn : IncomingState) × (d.inn ≡ Some inn) × AreEnds capacity o inn ] → ⊥
+    go : (v : Option OutgoingState) → d.out ≡ v
+        → elim v as (λ _. Type 0) [ None ↦ d.inn ≡ None | Some o ↦ (inn : IncomingState) × (d.inn ≡ Some inn) × AreEnds capacity o inn ] → ⊥
     go None there none = let nothing : Some q ≡ None = given.none there in cc
     go (Some o) there ends = lies (taking_from q ends.0) (laid ∙ ap (option_map (taking_from q)) ends.1) refl frame refl

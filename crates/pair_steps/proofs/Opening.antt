@@ -20,7 +20,9 @@ use Rattle.pair_steps.specs.State.{PairHas, PairState, IsPairStep, primary_of, s
 use Rattle.pair_steps.proofs.Stepping.{is-run-more}
 
 -- one of the tests refuses
-pub not-opened : (sync loss : ℕ) (starved : Bool) (p : PairState) (e : Refusal) → ((h : PairHistory) → PairHas p h → first_refusal (open_pair_tests h sync loss starved) ≡ Some e) → IsPairStep (OpenEvent sync loss) starved p (reply.Refused e) p
+pub not-opened : (sync loss : ℕ) (starved : Bool) (p : PairState) (e : Refusal)
+    → ((h : PairHistory) → PairHas p h → first_refusal (open_pair_tests h sync loss starved) ≡ Some e)
+    → IsPairStep (OpenEvent sync loss) starved p (reply.Refused e) p
 not-opened sync loss starved p e refuses = record {
   said = λ h has. sym (ap (λ (r : Reply × PairHistory). r.0) (does h has));
   after = λ h has. subst (PairHas p) (sym (ap (λ (r : Reply × PairHistory). r.1) (does h has))) has;
@@ -29,17 +31,23 @@ not-opened sync loss starved p e refuses = record {
     does : (h : PairHistory) → PairHas p h → open_pair sync loss starved h ≡ (reply.Refused e, h)
     does h has = ap (λ (v : Option Refusal). elim v as (λ _. Reply × PairHistory) [
       | Some refusal ↦ (reply.Refused refusal, h)
-      | None ↦ let primary = open_primary sync loss starved h.primary in (primary.0, record { primary = primary.1; secondary = (open_secondary 0 h.secondary).1 })
+      | None ↦ let primary = open_primary sync loss starved h.primary in (
+        primary.0,
+        record { primary = primary.1; secondary = (open_secondary 0 h.secondary).1 },
+      )
     ]) (refuses h has)
 
 -- none of them does, and both nodes opened
-pub opened : (sync loss : ℕ) (starved : Bool) (p q : PairState) (said other : Reply) → ((h : PairHistory) → PairHas p h → first_refusal (open_pair_tests h sync loss starved) ≡ None)
-    → primary.NodeSteps (Opens sync loss starved) (primary_of p) said (primary_of q) → secondary.NodeSteps (OpensToo 0) (secondary_of p) other (secondary_of q) → IsPairStep (OpenEvent sync loss) starved p said q
+pub opened : (sync loss : ℕ) (starved : Bool) (p q : PairState) (said other : Reply)
+    → ((h : PairHistory) → PairHas p h → first_refusal (open_pair_tests h sync loss starved) ≡ None)
+    → primary.NodeSteps (Opens sync loss starved) (primary_of p) said (primary_of q) → secondary.NodeSteps (OpensToo 0) (secondary_of p) other (secondary_of q)
+    → IsPairStep (OpenEvent sync loss) starved p said q
 opened sync loss starved p q said other passes here there = record {
   said = λ h has. here.said h.primary has.primary ∙ sym (ap (λ (r : Reply × PairHistory). r.0) (does h has));
   after = λ h has. record {
     primary = subst (λ (r : Reply × PairHistory). primary.NodeHas (primary_of q) r.1.primary) (sym (does h has)) (here.after h.primary has.primary);
-    secondary = subst (λ (r : Reply × PairHistory). secondary.NodeHas (secondary_of q) r.1.secondary) (sym (does h has)) (there.after h.secondary has.secondary);
+    secondary = subst (λ (r : Reply × PairHistory). secondary.NodeHas (secondary_of q) r.1.secondary) (sym (does h has))
+        (there.after h.secondary has.secondary);
     run = is-run-more (OpenEvent sync loss) starved h has.run;
   };
 }
@@ -50,12 +58,17 @@ opened sync loss starved p q said other passes here there = record {
     does : (h : PairHistory) → PairHas p h → open_pair sync loss starved h ≡ both h
     does h has = ap (λ (v : Option Refusal). elim v as (λ _. Reply × PairHistory) [
       | Some refusal ↦ (reply.Refused refusal, h)
-      | None ↦ let primary = open_primary sync loss starved h.primary in (primary.0, record { primary = primary.1; secondary = (open_secondary 0 h.secondary).1 })
+      | None ↦ let primary = open_primary sync loss starved h.primary in (
+        primary.0,
+        record { primary = primary.1; secondary = (open_secondary 0 h.secondary).1 },
+      )
     ]) (passes h has)
 
 -- Two nodes at an opening are a pair, with no link yet.
-pub pair-opening-has : (p : PairState) (settings : Settings) (local peer : BlockMap) (own peer_tuple : Tuple) (marks : ℕ → Bool) → IsInRange settings → IsDisk settings.blocks local → IsDisk settings.blocks peer
-    → primary.NodeHas (primary_of p) (primary_opening settings local own marks) → secondary.NodeHas (secondary_of p) (secondary_opening settings peer peer_tuple) → PairHas p (pair_opening settings local peer own peer_tuple marks)
+pub pair-opening-has : (p : PairState) (settings : Settings) (local peer : BlockMap) (own peer_tuple : Tuple) (marks : ℕ → Bool) → IsInRange settings
+    → IsDisk settings.blocks local → IsDisk settings.blocks peer
+    → primary.NodeHas (primary_of p) (primary_opening settings local own marks)
+    → secondary.NodeHas (secondary_of p) (secondary_opening settings peer peer_tuple) → PairHas p (pair_opening settings local peer own peer_tuple marks)
 pair-opening-has p settings local peer own peer_tuple marks ranges here there first second = record {
   primary = first;
   secondary = second;

@@ -29,7 +29,8 @@ linked h is = subst IsLinkedPair is.is (leads-run is.events (pair_at is.opening)
 })).1
 
 -- the last of two lists that are related
-pairs-last : {X Y : Type 0} (R : X → Y → Type 0) (none : X) (other : Y) (xs : List X) (ys : List Y) → R none other → Pairs R xs ys → R (last_of none xs) (last_of other ys)
+pairs-last : {X Y : Type 0} (R : X → Y → Type 0) (none : X) (other : Y) (xs : List X) (ys : List Y) → R none other → Pairs R xs ys
+    → R (last_of none xs) (last_of other ys)
 pairs-last R none other [] [] first all = first
 pairs-last R none other [] (y ∷ ys) first all = absurd all
 pairs-last R none other (x ∷ xs) [] first all = absurd all
@@ -38,7 +39,8 @@ pairs-last R none other (x ∷ xs) (y ∷ ys) first all = pairs-last R x y xs ys
 -- the last connections of a run are linked
 last-linked : (h : PairHistory) → IsRun h → AreLinked h.primary.settings h.secondary.settings (outward h.primary) (inward h.secondary)
 last-linked h is =
-    pairs-last (AreLinked h.primary.settings h.secondary.settings) (no_outward h.primary.tuple) (no_inward h.secondary) h.primary.connections h.secondary.connections
+    pairs-last (AreLinked h.primary.settings h.secondary.settings) (no_outward h.primary.tuple) (no_inward h.secondary) h.primary.connections
+    h.secondary.connections
     (record { out = (_, refl); back = (_, refl); sent = omega arith; answered = omega arith }) (linked h is).pairs
 
 -- What the nodes' lists say of the last connection.
@@ -57,39 +59,46 @@ taken-back-is p h inn has there = ap taken_of (sym there) ∙ has.primary.leaves
 
 -- What comes next.
 
-pub next-is : (p : PairState) (h : PairHistory) (out : OutgoingState) (inn : IncomingState) → PairHas p h → p.there.out ≡ Some out → p.there.inn ≡ Some inn → next_frame h ≡ next_of out inn
+pub next-is : (p : PairState) (h : PairHistory) (out : OutgoingState) (inn : IncomingState) → PairHas p h → p.there.out ≡ Some out → p.there.inn ≡ Some inn
+    → next_frame h ≡ next_of out inn
 next-is p h out inn has there here =
     ap (λ (l : List Packet). option_map (λ packet. Ok packet) (slice_get l (length (inward h.secondary).taken))) (sym (pushed-is p h out has there))
     ∙ ap (λ (l : List Received). option_map (λ packet. Ok packet) (slice_get out.pushed (length l))) (sym (taken-is p h inn has here))
 
-pub next-back-is : (p : PairState) (h : PairHistory) (out : OutgoingState) (inn : IncomingState) → PairHas p h → p.back.out ≡ Some out → p.back.inn ≡ Some inn → next_answer h ≡ next_of out inn
+pub next-back-is : (p : PairState) (h : PairHistory) (out : OutgoingState) (inn : IncomingState) → PairHas p h → p.back.out ≡ Some out → p.back.inn ≡ Some inn
+    → next_answer h ≡ next_of out inn
 next-back-is p h out inn has there here =
     ap (λ (l : List Packet). option_map (λ packet. Ok packet) (slice_get l (length (outward h.primary).taken))) (sym (answers-is p h out has there))
     ∙ ap (λ (l : List Received). option_map (λ packet. Ok packet) (slice_get out.pushed (length l))) (sym (taken-back-is p h inn has here))
 
 -- Whether there is room.
 
-waiting-is : (capacity pushed taken : ℕ) (out : OutgoingState) (inn : IncomingState) (ends : AreEnds capacity out inn) → length out.pushed ≡ pushed → length inn.taken ≡ taken → pushed - taken ≡ length ends.waiting
+waiting-is : (capacity pushed taken : ℕ) (out : OutgoingState) (inn : IncomingState) (ends : AreEnds capacity out inn) → length out.pushed ≡ pushed
+    → length inn.taken ≡ taken → pushed - taken ≡ length ends.waiting
 waiting-is capacity pushed taken out inn ends sent came =
     let rows = ap length ends.row ∙ length-append inn.frames ends.waiting in
     let a = ends.told.pushed in
     let b = ends.told.taken in
     omega (arith, rows, a, b, sent, came)
 
-pub room-is : (p : PairState) (h : PairHistory) (capacity : ℕ) (out : OutgoingState) (inn : IncomingState) → PairHas p h → (ends : AreEnds capacity out inn) → h.primary.settings.link ≡ capacity → p.there.out ≡ Some out → p.there.inn ≡ Some inn
+pub room-is : (p : PairState) (h : PairHistory) (capacity : ℕ) (out : OutgoingState) (inn : IncomingState) → PairHas p h → (ends : AreEnds capacity out inn)
+    → h.primary.settings.link ≡ capacity → p.there.out ≡ Some out → p.there.inn ≡ Some inn
     → has_room h ≡ nat_lt (length ends.waiting) capacity
 room-is p h capacity out inn has ends size there here =
     let link = last-linked h has.run in
-    let sent = ap length (pushed-is p h out has there) ∙ length-take-le (outward h.primary).pushed (frames_due h.primary.settings (outward h.primary)) link.sent in
+    let sent = ap length (pushed-is p h out has there)
+    ∙ length-take-le (outward h.primary).pushed (frames_due h.primary.settings (outward h.primary)) link.sent in
     let came = ap length (taken-is p h inn has here) in
     let waits = waiting-is capacity (outward h.primary).pushed (length (inward h.secondary).taken) out inn ends sent came in
     ap (λ n. nat_lt n h.primary.settings.link) waits ∙ ap (nat_lt (length ends.waiting)) size
 
-pub room-back-is : (p : PairState) (h : PairHistory) (capacity : ℕ) (out : OutgoingState) (inn : IncomingState) → PairHas p h → (ends : AreEnds capacity out inn) → h.secondary.settings.link ≡ capacity → p.back.out ≡ Some out → p.back.inn ≡ Some inn
+pub room-back-is : (p : PairState) (h : PairHistory) (capacity : ℕ) (out : OutgoingState) (inn : IncomingState) → PairHas p h
+    → (ends : AreEnds capacity out inn) → h.secondary.settings.link ≡ capacity → p.back.out ≡ Some out → p.back.inn ≡ Some inn
     → answers_have_room h ≡ nat_lt (length ends.waiting) capacity
 room-back-is p h capacity out inn has ends size there here =
     let link = last-linked h has.run in
-    let sent = ap length (answers-is p h out has there) ∙ length-take-le (inward h.secondary).pushed (answers_due h.secondary.settings (inward h.secondary)) link.answered in
+    let sent = ap length (answers-is p h out has there)
+    ∙ length-take-le (inward h.secondary).pushed (answers_due h.secondary.settings (inward h.secondary)) link.answered in
     let came = ap length (taken-back-is p h inn has here) in
     let waits = waiting-is capacity (inward h.secondary).pushed (length (outward h.primary).taken) out inn ends sent came in
     ap (λ n. nat_lt n h.secondary.settings.link) waits ∙ ap (nat_lt (length ends.waiting)) size
@@ -99,9 +108,11 @@ pub number-is : (p : PairState) (h : PairHistory) → PairHas p h → p.secondar
 number-is p h has =
     let links = linked h has.run in
     let same = pairs-length (AreLinked h.primary.settings h.secondary.settings) h.primary.connections h.secondary.connections links.pairs in
-    has.secondary.leaves.core.last.number ∙ last-number (last-at (no_inward h.secondary) h.secondary.connections) ∙ sym same ∙ sym has.primary.leaves.core.rest.connections
+    has.secondary.leaves.core.last.number ∙ last-number (last-at (no_inward h.secondary) h.secondary.connections) ∙ sym same
+    ∙ sym has.primary.leaves.core.rest.connections
   where
-    last-number : (h.secondary.connections ≡ []) ⊎ (slice_get h.secondary.connections (length h.secondary.connections - 1) ≡ Some (inward h.secondary)) → (inward h.secondary).number ≡ length h.secondary.connections
+    last-number : (h.secondary.connections ≡ []) ⊎ (slice_get h.secondary.connections (length h.secondary.connections - 1) ≡ Some (inward h.secondary))
+        → (inward h.secondary).number ≡ length h.secondary.connections
     last-number (inl none) = ap (λ (l : List Inward). (last_of (no_inward h.secondary) l).number) none ∙ sym (ap length none)
     last-number (inr at) =
         let within = slice_get_within h.secondary.connections (length h.secondary.connections - 1) (inward h.secondary) at in

@@ -1,5 +1,6 @@
 -- A direction of the link: its queue goes over to the side that takes, for one frame, and comes back.
-use Rattle.std.proofs.Common.{ℕ, zero, suc, ◌≡◌, ◌≤◌, ◌<◌, ◌-◌, ◌+◌, List, [], ◌∷◌, ◌++◌, length, map, Option, Some, None, Ok, slice_get, refl, sym, ◌∙◌, ap, subst, arith}
+use Rattle.std.proofs.Common.{ℕ, zero, suc, ◌≡◌, ◌≤◌, ◌<◌, ◌-◌, ◌+◌, List, [], ◌∷◌, ◌++◌, length, map, Option, Some, None, Ok, slice_get, refl, sym, ◌∙◌, ap}
+use Rattle.std.proofs.Common.{subst, arith}
 use Rattle.std.specs.Prelude.{option_map, IfSome}
 use Rattle.std.proofs.lemmas.List.{append_assoc, length-append}
 use Rattle.std.proofs.lemmas.Option.{slice_get-map, slice_get_past}
@@ -51,7 +52,8 @@ lent capacity out inn q ends whose =
     }
 
 -- A packet was pushed: it waits behind the others.
-pub ends-pushed : (capacity : ℕ) (out : OutgoingState) (inn : IncomingState) (packet : Packet) (frame : List ℕ) → AreEnds capacity out inn → IfSome out.room (λ n. n ≡ 0 → ⊥) → AreTold (with_pushed packet frame out) inn
+pub ends-pushed : (capacity : ℕ) (out : OutgoingState) (inn : IncomingState) (packet : Packet) (frame : List ℕ) → AreEnds capacity out inn
+    → IfSome out.room (λ n. n ≡ 0 → ⊥) → AreTold (with_pushed packet frame out) inn
     → AreEnds capacity (with_pushed packet frame out) inn
 ends-pushed capacity out inn packet frame ends room told =
     let free : capacity - length ends.waiting ≡ 0 → ⊥ = subst (λ (v : Option ℕ). IfSome v (λ n. n ≡ 0 → ⊥)) ends.room room in
@@ -69,12 +71,14 @@ ends-pushed capacity out inn packet frame ends room told =
       told = told;
     }
   where
-    less : (n : ℕ) → n ≡ capacity - length ends.waiting → (capacity - length ends.waiting ≡ 0 → ⊥) → length ends.waiting ≤ capacity → length ends.waiting < capacity
+    less : (n : ℕ) → n ≡ capacity - length ends.waiting → (capacity - length ends.waiting ≡ 0 → ⊥) → length ends.waiting ≤ capacity
+        → length ends.waiting < capacity
     less zero same free few = absurd (free (sym same))
     less (suc n) same free few = omega (arith, same, few)
 
 -- One went in part, or none.
-pub ends-kept : (capacity : ℕ) (out : OutgoingState) (inn : IncomingState) (partly : Option (List Packet)) → AreEnds capacity out inn → AreEnds capacity (record out { partly = partly }) inn
+pub ends-kept : (capacity : ℕ) (out : OutgoingState) (inn : IncomingState) (partly : Option (List Packet)) → AreEnds capacity out inn
+    → AreEnds capacity (record out { partly = partly }) inn
 ends-kept capacity out inn partly ends = record {
   waiting = ends.waiting;
   row = ends.row;
@@ -109,7 +113,8 @@ ends-back capacity out inn after q back l taken size row fewer told = record {
 -- A frame that was taken is the next one.
 pub took-next : (out : OutgoingState) (inn : IncomingState) (one : Received) → BeginsPushed (inn.taken ++ one ∷ []) out.pushed → next_of out inn ≡ Some one
 took-next out inn one b =
-    let here : slice_get (map ok b.front) (length inn.taken) ≡ Some one = subst (λ (l : List Received). slice_get l (length inn.taken) ≡ Some one) b.each (get-end inn.taken one) in
+    let here : slice_get (map ok b.front) (length inn.taken) ≡ Some one = subst (λ (l : List Received). slice_get l (length inn.taken) ≡ Some one) b.each
+    (get-end inn.taken one) in
     go (slice_get b.front (length inn.taken)) refl (sym (slice_get-map ok b.front (length inn.taken)) ∙ here)
   where
     ok : Packet → Received
@@ -120,7 +125,8 @@ took-next out inn one b =
     go (Some packet) at is = ap (option_map ok) (get-beginning b.front out.pushed (length inn.taken) packet b.begins at) ∙ is
 
 -- Where nothing waits there is none.
-pub none-next : (capacity : ℕ) (out : OutgoingState) (inn : IncomingState) (q : QueueState) → AreEnds capacity out inn → IsLent capacity out inn q → q.frames ≡ [] → next_of out inn ≡ None
+pub none-next : (capacity : ℕ) (out : OutgoingState) (inn : IncomingState) (q : QueueState) → AreEnds capacity out inn → IsLent capacity out inn q
+    → q.frames ≡ [] → next_of out inn ≡ None
 none-next capacity out inn q ends l none =
     let rows = ap length l.rest ∙ length-append inn.frames q.frames in
     let empty : length q.frames ≡ 0 = ap length none in

@@ -20,20 +20,27 @@ answered-more (e ∷ events) (r ∷ replies) event one same =
 run-more : (events : List (Event × Bool)) (event : Event) (starved : Bool) (h : PairHistory)
     → run (events ++ (event, starved) ∷ []) h ≡ ((run events h).0 ++ (step event starved (run events h).1).0 ∷ [], (step event starved (run events h).1).1)
 run-more [] event starved h = refl
-run-more (first ∷ events) event starved h = ap (λ (r : List Reply × PairHistory). ((step first.0 first.1 h).0 ∷ r.0, r.1)) (run-more events event starved (step first.0 first.1 h).1)
+run-more (first ∷ events) event starved h = ap (λ (r : List Reply × PairHistory). ((step first.0 first.1 h).0 ∷ r.0, r.1))
+    (run-more events event starved (step first.0 first.1 h).1)
 
 -- one event more
-pub ran-more : (events : List Event) (replies : List Reply) (event : Event) (one : Reply) (p q next : PairState) → length events ≡ length replies → Ran events replies p q → IsPairStep event (is_starved one) q one next
+pub ran-more : (events : List Event) (replies : List Reply) (event : Event) (one : Reply) (p q next : PairState) → length events ≡ length replies
+    → Ran events replies p q → IsPairStep event (is_starved one) q one next
     → Ran (events ++ event ∷ []) (replies ++ one ∷ []) p next
 ran-more events replies event one p q next same ran steps = record {
   said = λ h has.
       let now = ran.after h has in
-      ap (λ (l : List Reply). l ++ one ∷ []) (ran.said h has) ∙ ap (λ (r : Reply). (run (answered events replies) h).0 ++ r ∷ []) (steps.said (run (answered events replies) h).1 now)
+      ap (λ (l : List Reply). l ++ one ∷ []) (ran.said h has)
+      ∙ ap (λ (r : Reply). (run (answered events replies) h).0 ++ r ∷ []) (steps.said (run (answered events replies) h).1 now)
       ∙ sym (ap (λ (r : List Reply × PairHistory). r.0) (all h));
   after = λ h has.
       subst (λ (r : List Reply × PairHistory). PairHas next r.1) (sym (all h)) (steps.after (run (answered events replies) h).1 (ran.after h has));
 }
   where
     all : (h : PairHistory) → run (answered (events ++ event ∷ []) (replies ++ one ∷ [])) h
-        ≡ ((run (answered events replies) h).0 ++ (step event (is_starved one) (run (answered events replies) h).1).0 ∷ [], (step event (is_starved one) (run (answered events replies) h).1).1)
-    all h = ap (λ (l : List (Event × Bool)). run l h) (answered-more events replies event one same) ∙ run-more (answered events replies) event (is_starved one) h
+        ≡ (
+          (run (answered events replies) h).0 ++ (step event (is_starved one) (run (answered events replies) h).1).0 ∷ [],
+          (step event (is_starved one) (run (answered events replies) h).1).1,
+        )
+    all h = ap (λ (l : List (Event × Bool)). run l h) (answered-more events replies event one same)
+        ∙ run-more (answered events replies) event (is_starved one) h

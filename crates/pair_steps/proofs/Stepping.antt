@@ -1,5 +1,6 @@
 -- The nodes' steps are the pair's: those of one node alone, and those that push.
-use Rattle.std.proofs.Common.{ℕ, zero, suc, ◌≡◌, ◌≤◌, ◌-◌, nat_lt, nat_le, Bool, true, false, not, List, [], ◌∷◌, ◌++◌, length, Option, Some, None, Result, Ok, Err, refl, sym, ◌∙◌, ap, subst, arith}
+use Rattle.std.proofs.Common.{ℕ, zero, suc, ◌≡◌, ◌≤◌, ◌-◌, nat_lt, nat_le, Bool, true, false, not, List, [], ◌∷◌, ◌++◌, length, Option, Some, None, Result, Ok}
+use Rattle.std.proofs.Common.{Err, refl, sym, ◌∙◌, ap, subst, arith}
 use Rattle.std.specs.Prelude.{IfSome, OnOk}
 use Rattle.std.proofs.lemmas.Bool.{lt-ltb}
 use Rattle.std.proofs.lemmas.Bool.Decides.{nat_tests}
@@ -31,7 +32,8 @@ use Rattle.pair_steps.specs.State.{Direction, AreEnds, IsDirection, IsRun, PairH
 
 -- Runs.
 
-run-more : (events : List (Event × Bool)) (event : Event) (starved : Bool) (h : PairHistory) → (run (events ++ (event, starved) ∷ []) h).1 ≡ (step event starved (run events h).1).1
+run-more : (events : List (Event × Bool)) (event : Event) (starved : Bool) (h : PairHistory)
+    → (run (events ++ (event, starved) ∷ []) h).1 ≡ (step event starved (run events h).1).1
 run-more [] event starved h = refl
 run-more (first ∷ events) event starved h = run-more events event starved (step first.0 first.1 h).1
 
@@ -54,25 +56,30 @@ same-opening event starved h is = refl
 -- A step of one node.
 
 -- on whichever history the pair has, the event is this step of the primary
-pub on-primary : (event : Event) (starved : Bool) (p q : PairState) (said : Reply) (f : PrimaryHistory → Reply × PrimaryHistory) → ((h : PairHistory) → PairHas p h → step event starved h ≡ on_primary f h)
+pub on-primary : (event : Event) (starved : Bool) (p q : PairState) (said : Reply) (f : PrimaryHistory → Reply × PrimaryHistory)
+    → ((h : PairHistory) → PairHas p h → step event starved h ≡ on_primary f h)
     → primary.IsStep f (primary_of p) said (primary_of q) → secondary_of p ≡ secondary_of q → IsPairStep event starved p said q
 on-primary event starved p q said f does steps same = record {
   said = λ h has. steps.said h.primary has.primary ∙ sym (ap (λ (r : Reply × PairHistory). r.0) (does h has));
   after = λ h has. record {
     primary = subst (λ (r : Reply × PairHistory). primary.NodeHas (primary_of q) r.1.primary) (sym (does h has)) (steps.after h.primary has.primary);
-    secondary = subst (λ (r : Reply × PairHistory). secondary.NodeHas (secondary_of q) r.1.secondary) (sym (does h has)) (subst (λ (n : secondary.NodeState). secondary.NodeHas n h.secondary) same has.secondary);
+    secondary = subst (λ (r : Reply × PairHistory). secondary.NodeHas (secondary_of q) r.1.secondary) (sym (does h has))
+        (subst (λ (n : secondary.NodeState). secondary.NodeHas n h.secondary) same has.secondary);
     run = is-run-more event starved h has.run;
   };
 }
 
 -- the same of the secondary
-pub on-secondary : (event : Event) (starved : Bool) (p q : PairState) (said : Reply) (f : SecondaryHistory → Reply × SecondaryHistory) → ((h : PairHistory) → PairHas p h → step event starved h ≡ on_secondary f h)
+pub on-secondary : (event : Event) (starved : Bool) (p q : PairState) (said : Reply) (f : SecondaryHistory → Reply × SecondaryHistory)
+    → ((h : PairHistory) → PairHas p h → step event starved h ≡ on_secondary f h)
     → secondary.IsStep f (secondary_of p) said (secondary_of q) → primary_of p ≡ primary_of q → IsPairStep event starved p said q
 on-secondary event starved p q said f does steps same = record {
   said = λ h has. steps.said h.secondary has.secondary ∙ sym (ap (λ (r : Reply × PairHistory). r.0) (does h has));
   after = λ h has. record {
-    primary = subst (λ (r : Reply × PairHistory). primary.NodeHas (primary_of q) r.1.primary) (sym (does h has)) (subst (λ (n : primary.NodeState). primary.NodeHas n h.primary) same has.primary);
-    secondary = subst (λ (r : Reply × PairHistory). secondary.NodeHas (secondary_of q) r.1.secondary) (sym (does h has)) (steps.after h.secondary has.secondary);
+    primary = subst (λ (r : Reply × PairHistory). primary.NodeHas (primary_of q) r.1.primary) (sym (does h has))
+        (subst (λ (n : primary.NodeState). primary.NodeHas n h.primary) same has.primary);
+    secondary = subst (λ (r : Reply × PairHistory). secondary.NodeHas (secondary_of q) r.1.secondary) (sym (does h has))
+        (steps.after h.secondary has.secondary);
     run = is-run-more event starved h has.run;
   };
 }
@@ -82,11 +89,14 @@ on-secondary event starved p q said f does steps same = record {
 -- a step by the tests of a push
 abbrev pushes : {X : Type 0} → Bool → Bool → Bool → Bool → X → Reply × X → Reply × X
 pushes {X} closed nothing starved room h done =
-    elim (first_refusal ((closed, NotConnected) ∷ (nothing, NothingThere) ∷ (starved, NoMemory) ∷ (not room, LinkFull) ∷ [])) as (λ _. Reply × X) [ Some refusal ↦ (reply.Refused refusal, h) | None ↦ done ]
+    elim (first_refusal ((closed, NotConnected) ∷ (nothing, NothingThere) ∷ (starved, NoMemory) ∷ (not room, LinkFull) ∷ [])) as
+    (λ _. Reply × X) [ Some refusal ↦ (reply.Refused refusal, h) | None ↦ done ]
 
 -- where the answer does not show in the reply, it does not matter
-same-room : {X : Type 0} (closed nothing starved room other : Bool) (h : X) (done : Reply × X) (d : Done) (one : Reply) → done.0 ≡ reply.Ok d → one ≡ (pushes closed nothing starved room h done).0
-    → ((x : Done) → one ≡ reply.Ok x → room ≡ other) → (one ≡ reply.Refused LinkFull → room ≡ other) → pushes closed nothing starved room h done ≡ pushes closed nothing starved other h done
+same-room : {X : Type 0} (closed nothing starved room other : Bool) (h : X) (done : Reply × X) (d : Done) (one : Reply) → done.0 ≡ reply.Ok d
+    → one ≡ (pushes closed nothing starved room h done).0
+    → ((x : Done) → one ≡ reply.Ok x → room ≡ other) → (one ≡ reply.Refused LinkFull → room ≡ other)
+    → pushes closed nothing starved room h done ≡ pushes closed nothing starved other h done
 same-room true nothing starved room other h done d one ok said accepted full = refl
 same-room false true starved room other h done d one ok said accepted full = refl
 same-room false false true room other h done d one ok said accepted full = refl
@@ -94,12 +104,19 @@ same-room false false false true other h done d one ok said accepted full = ap (
 same-room false false false false other h done d one ok said accepted full = ap (λ b. pushes false false false b h done) (full said)
 
 -- a direction that was pushed to had room, and one that was full had none
-room-says : (capacity : ℕ) (d : Direction) (result : Result Done Refusal) (later : Option OutgoingState) (other : Bool) → IsDirection capacity d → Sends result d.out later
-    → ((out : OutgoingState) (inn : IncomingState) → d.out ≡ Some out → d.inn ≡ Some inn → (ends : AreEnds capacity out inn) → other ≡ nat_lt (length ends.waiting) capacity)
+room-says : (capacity : ℕ) (d : Direction) (result : Result Done Refusal) (later : Option OutgoingState) (other : Bool) → IsDirection capacity d
+    → Sends result d.out later
+    → ((out : OutgoingState) (inn : IncomingState) → d.out ≡ Some out → d.inn ≡ Some inn → (ends : AreEnds capacity out inn)
+    → other ≡ nat_lt (length ends.waiting) capacity)
     → ((x : Done) → result ≡ Ok x → true ≡ other) × (result ≡ Err LinkFull → false ≡ other)
-room-says capacity d result later other is sends counted = (λ x ok. go-ok d.out refl is (subst (λ (r : Result Done Refusal). OnOk r (PushedOne d.out later)) ok sends.pushed), λ full. go-full d.out refl is (sends.full full))
+room-says capacity d result later other is sends counted = (
+  λ x ok. go-ok d.out refl is (subst (λ (r : Result Done Refusal). OnOk r (PushedOne d.out later)) ok sends.pushed),
+  λ full. go-full d.out refl is (sends.full full),
+)
   where
-    go-ok : (v : Option OutgoingState) → d.out ≡ v → elim v as (λ _. Type 0) [ None ↦ d.inn ≡ None | Some o ↦ (inn : IncomingState) × (d.inn ≡ Some inn) × AreEnds capacity o inn ] → PushedOne d.out later → true ≡ other
+    go-ok : (v : Option OutgoingState) → d.out ≡ v
+        → elim v as (λ _. Type 0) [ None ↦ d.inn ≡ None | Some o ↦ (inn : IncomingState) × (d.inn ≡ Some inn) × AreEnds capacity o inn ] → PushedOne d.out later
+        → true ≡ other
     go-ok None none is p = absurd (let no : None ≡ Some p.before = sym none ∙ p.there in cc)
     go-ok (Some o) there is p =
         let was : o ≡ p.before = (let same : Some o ≡ Some p.before = sym there ∙ p.there in cc) in
@@ -111,7 +128,8 @@ room-says capacity d result later other is sends counted = (λ x ok. go-ok d.out
         less zero same free = absurd (free (sym same))
         less (suc n) same free = lt-ltb (length is.2.waiting) capacity (omega (arith, same))
 
-    go-full : (v : Option OutgoingState) → d.out ≡ v → elim v as (λ _. Type 0) [ None ↦ d.inn ≡ None | Some o ↦ (inn : IncomingState) × (d.inn ≡ Some inn) × AreEnds capacity o inn ]
+    go-full : (v : Option OutgoingState) → d.out ≡ v
+        → elim v as (λ _. Type 0) [ None ↦ d.inn ≡ None | Some o ↦ (inn : IncomingState) × (d.inn ≡ Some inn) × AreEnds capacity o inn ]
         → (before : OutgoingState) × (d.out ≡ Some before) × IfSome before.room (λ n. n ≡ 0) → false ≡ other
     go-full None none is f = absurd (let no : None ≡ Some f.0 = sym none ∙ f.1 in cc)
     go-full (Some o) there is f =
@@ -121,11 +139,13 @@ room-says capacity d result later other is sends counted = (λ x ok. go-ok d.out
         sym (counted o is.0 there is.1 is.2 ∙ (let no : capacity ≤ length is.2.waiting = omega (arith, full) in grind (arith, nat_tests)))
 
 -- what a reply says of the link is what the result says
-ok-room : (tell : Result Done Refusal → Reply) → ((e : Refusal) → tell (Err e) ≡ reply.Refused e) → (other : Bool) (r : Result Done Refusal) → ((x : Done) → r ≡ Ok x → true ≡ other) → (x : Done) → tell r ≡ reply.Ok x → has_room r ≡ other
+ok-room : (tell : Result Done Refusal → Reply) → ((e : Refusal) → tell (Err e) ≡ reply.Refused e) → (other : Bool) (r : Result Done Refusal)
+    → ((x : Done) → r ≡ Ok x → true ≡ other) → (x : Done) → tell r ≡ reply.Ok x → has_room r ≡ other
 ok-room tell refuses other (Ok d) says x ok = says d refl
 ok-room tell refuses other (Err e) says x ok = absurd (let no : reply.Refused e ≡ reply.Ok x = sym (refuses e) ∙ ok in cc)
 
-full-room : (tell : Result Done Refusal → Reply) → ((e : Refusal) → tell (Err e) ≡ reply.Refused e) → ((d : Done) → (x : Done) × (tell (Ok d) ≡ reply.Ok x)) → (other : Bool) (r : Result Done Refusal) → (r ≡ Err LinkFull → false ≡ other)
+full-room : (tell : Result Done Refusal → Reply) → ((e : Refusal) → tell (Err e) ≡ reply.Refused e) → ((d : Done) → (x : Done) × (tell (Ok d) ≡ reply.Ok x))
+    → (other : Bool) (r : Result Done Refusal) → (r ≡ Err LinkFull → false ≡ other)
     → tell r ≡ reply.Refused LinkFull → has_room r ≡ other
 full-room tell refuses tells other (Ok d) says full = absurd (let no : reply.Ok (tells d).0 ≡ reply.Refused LinkFull = sym (tells d).1 ∙ full in cc)
 full-room tell refuses tells other (Err e) says full =
@@ -135,7 +155,8 @@ full-room tell refuses tells other (Err e) says full =
 
 -- The primary sends.
 pub sends-step : (p q : PairState) (result : Result Done Refusal) → IsDirection p.primary.settings.link p.there → Sends result p.there.out q.there.out
-    → primary.NodeSteps (SendsOne (has_room result) (is_starved result)) (primary_of p) (from_primary.replied reply.Ok result) (primary_of q) → secondary_of p ≡ secondary_of q
+    → primary.NodeSteps (SendsOne (has_room result) (is_starved result)) (primary_of p) (from_primary.replied reply.Ok result) (primary_of q)
+    → secondary_of p ≡ secondary_of q
     → IsPairStep SendEvent (is_starved result) p (from_primary.replied reply.Ok result) q
 sends-step p q result is sends steps same =
     on-primary SendEvent (is_starved result) p q (from_primary.replied reply.Ok result) (send (has_room result) (is_starved result))
@@ -143,22 +164,34 @@ sends-step p q result is sends steps same =
   where
     does : (h : PairHistory) → PairHas p h → send (has_room result) (is_starved result) h.primary ≡ send (has_room_there h) (is_starved result) h.primary
     does h has =
-        let says = room-says p.primary.settings.link p.there result q.there.out (has_room_there h) is sends (λ out inn there here ends. room-is p h p.primary.settings.link out inn has ends (ap (λ (x : Settings). x.link) (sym has.primary.leaves.core.rest.settings)) there here) in
-        same-room (outward h.primary).closed (nat_le (length (frames_due h.primary.settings (outward h.primary))) (outward h.primary).pushed) (is_starved result) (has_room result) (has_room_there h) h.primary
-        (succeeding (sending h.primary) (with_outward (λ c. record c { pushed = suc c.pushed }) h.primary)) _ (from_primary.replied reply.Ok result) refl (steps.said h.primary has.primary)
-        (ok-room (from_primary.replied reply.Ok) (λ e. refl) (has_room_there h) result says.0) (full-room (from_primary.replied reply.Ok) (λ e. refl) (λ d. (d, refl)) (has_room_there h) result says.1)
+        let says = room-says p.primary.settings.link p.there result q.there.out (has_room_there h) is sends
+        (λ out inn there here ends. room-is p h p.primary.settings.link out inn has ends
+        (ap (λ (x : Settings). x.link) (sym has.primary.leaves.core.rest.settings)) there here) in
+        same-room (outward h.primary).closed (nat_le (length (frames_due h.primary.settings (outward h.primary))) (outward h.primary).pushed)
+        (is_starved result) (has_room result) (has_room_there h) h.primary
+        (succeeding (sending h.primary) (with_outward (λ c. record c { pushed = suc c.pushed }) h.primary)) _ (from_primary.replied reply.Ok result) refl
+        (steps.said h.primary has.primary)
+        (ok-room (from_primary.replied reply.Ok) (λ e. refl) (has_room_there h) result says.0)
+        (full-room (from_primary.replied reply.Ok) (λ e. refl) (λ d. (d, refl)) (has_room_there h) result says.1)
 
 -- The secondary sends what it owes.
 pub answers-step : (p q : PairState) (result : Result Done Refusal) → IsDirection p.secondary.settings.link p.back → Sends result p.back.out q.back.out
-    → secondary.NodeSteps (Acknowledges (has_room result) (is_starved result)) (secondary_of p) (from_secondary.replied (λ done. done) result) (secondary_of q) → primary_of p ≡ primary_of q
+    → secondary.NodeSteps (Acknowledges (has_room result) (is_starved result)) (secondary_of p) (from_secondary.replied (λ done. done) result) (secondary_of q)
+    → primary_of p ≡ primary_of q
     → IsPairStep AckOutEvent (is_starved result) p (from_secondary.replied (λ done. done) result) q
 answers-step p q result is sends steps same =
     on-secondary AckOutEvent (is_starved result) p q (from_secondary.replied (λ done. done) result) (ack_out (has_room result) (is_starved result))
     (λ h has. ap (λ (r : Reply × SecondaryHistory). (r.0, record h { secondary = r.1 })) (sym (does h has))) steps same
   where
-    does : (h : PairHistory) → PairHas p h → ack_out (has_room result) (is_starved result) h.secondary ≡ ack_out (answers_have_room h) (is_starved result) h.secondary
+    does : (h : PairHistory) → PairHas p h
+        → ack_out (has_room result) (is_starved result) h.secondary ≡ ack_out (answers_have_room h) (is_starved result) h.secondary
     does h has =
-        let says = room-says p.secondary.settings.link p.back result q.back.out (answers_have_room h) is sends (λ out inn there here ends. room-back-is p h p.secondary.settings.link out inn has ends (ap (λ (x : Settings). x.link) (sym has.secondary.leaves.core.settings)) there here) in
-        same-room (inward h.secondary).closed (nat_le (length (answers_due h.secondary.settings (inward h.secondary))) (inward h.secondary).pushed) (is_starved result) (has_room result) (answers_have_room h) h.secondary
-        (reply.Ok (done_with (answering_with h.secondary)), with_inward (λ c. record c { pushed = suc c.pushed }) h.secondary) _ (from_secondary.replied (λ done. done) result) refl (steps.said h.secondary has.secondary)
-        (ok-room (from_secondary.replied (λ done. done)) (λ e. refl) (answers_have_room h) result says.0) (full-room (from_secondary.replied (λ done. done)) (λ e. refl) (λ d. (d, refl)) (answers_have_room h) result says.1)
+        let says = room-says p.secondary.settings.link p.back result q.back.out (answers_have_room h) is sends
+        (λ out inn there here ends. room-back-is p h p.secondary.settings.link out inn has ends
+        (ap (λ (x : Settings). x.link) (sym has.secondary.leaves.core.settings)) there here) in
+        same-room (inward h.secondary).closed (nat_le (length (answers_due h.secondary.settings (inward h.secondary))) (inward h.secondary).pushed)
+        (is_starved result) (has_room result) (answers_have_room h) h.secondary
+        (reply.Ok (done_with (answering_with h.secondary)), with_inward (λ c. record c { pushed = suc c.pushed }) h.secondary) _
+        (from_secondary.replied (λ done. done) result) refl (steps.said h.secondary has.secondary)
+        (ok-room (from_secondary.replied (λ done. done)) (λ e. refl) (answers_have_room h) result says.0)
+        (full-room (from_secondary.replied (λ done. done)) (λ e. refl) (λ d. (d, refl)) (answers_have_room h) result says.1)

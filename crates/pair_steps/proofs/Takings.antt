@@ -1,5 +1,6 @@
 -- The nodes' steps are the pair's: those that take a frame.
-use Rattle.std.proofs.Common.{◌≡◌, ◌⊎◌, inl, inr, nat_le, Bool, true, false, not, ◌&&◌, List, [], ◌∷◌, ◌++◌, length, Option, Some, None, Result, Ok, Err, refl, sym, ◌∙◌, ap, arith}
+use Rattle.std.proofs.Common.{◌≡◌, ◌⊎◌, inl, inr, nat_le, Bool, true, false, not, ◌&&◌, List, [], ◌∷◌, ◌++◌, length, Option, Some, None, Result, Ok, Err, refl}
+use Rattle.std.proofs.Common.{sym, ◌∙◌, ap, arith}
 use Rattle.std.specs.Prelude.{is_none}
 use Rattle.std.proofs.lemmas.List.{length-append}
 use Rattle.blocks.specs.declared.refusal.Refusal.{Refusal}
@@ -29,30 +30,39 @@ use Rattle.pair_steps.proofs.Stepping.{on-primary, on-secondary}
 -- a step that takes, by its tests: the last is that there is nothing
 abbrev takes-by : {X : Type 0} → (Bool → List Test) → X → (Received → Reply × X) → Option Received → Reply × X
 takes-by {X} tests h take frame =
-    elim (first_refusal (tests (is_none frame))) as (λ _. Reply × X) [ Some refusal ↦ (reply.Refused refusal, h) | None ↦ elim frame as (λ _. Reply × X) [ None ↦ (reply.Refused NothingThere, h) | Some one ↦ take one ] ]
+    elim (first_refusal (tests (is_none frame))) as
+    (λ _. Reply × X) [
+      | Some refusal ↦ (reply.Refused refusal, h)
+      | None ↦ elim frame as
+          (λ _. Reply × X) [ None ↦ (reply.Refused NothingThere, h) | Some one ↦ take one ]
+    ]
 
 -- Where the tests before it refuse, it does not matter what the link would give; and where they do not, nothing was there.
 
 none-of-two : {X : Type 0} (a b : Bool) (ra rb : Refusal) (h : X) (take : Received → Reply × X) (next : Option Received) (one : Reply)
     → one ≡ (takes-by (λ none. (a, ra) ∷ (b, rb) ∷ (none, NothingThere) ∷ []) h take None).0 → (one ≡ reply.Refused NothingThere → next ≡ None)
-    → takes-by (λ none. (a, ra) ∷ (b, rb) ∷ (none, NothingThere) ∷ []) h take None ≡ takes-by (λ none. (a, ra) ∷ (b, rb) ∷ (none, NothingThere) ∷ []) h take next
+    → takes-by (λ none. (a, ra) ∷ (b, rb) ∷ (none, NothingThere) ∷ []) h take None ≡ takes-by (λ none. (a, ra) ∷ (b, rb) ∷ (none, NothingThere) ∷ []) h take
+    next
 none-of-two true b ra rb h take next one said none = refl
 none-of-two false true ra rb h take next one said none = refl
 none-of-two false false ra rb h take next one said none = ap (takes-by (λ none. (false, ra) ∷ (false, rb) ∷ (none, NothingThere) ∷ []) h take) (sym (none said))
 
 none-of-three : {X : Type 0} (a b c : Bool) (ra rb rc : Refusal) (h : X) (take : Received → Reply × X) (next : Option Received) (one : Reply)
     → one ≡ (takes-by (λ none. (a, ra) ∷ (b, rb) ∷ (c, rc) ∷ (none, NothingThere) ∷ []) h take None).0 → (one ≡ reply.Refused NothingThere → next ≡ None)
-    → takes-by (λ none. (a, ra) ∷ (b, rb) ∷ (c, rc) ∷ (none, NothingThere) ∷ []) h take None ≡ takes-by (λ none. (a, ra) ∷ (b, rb) ∷ (c, rc) ∷ (none, NothingThere) ∷ []) h take next
+    → takes-by (λ none. (a, ra) ∷ (b, rb) ∷ (c, rc) ∷ (none, NothingThere) ∷ []) h take None ≡ takes-by
+    (λ none. (a, ra) ∷ (b, rb) ∷ (c, rc) ∷ (none, NothingThere) ∷ []) h take next
 none-of-three true b c ra rb rc h take next one said none = refl
 none-of-three false true c ra rb rc h take next one said none = refl
 none-of-three false false true ra rb rc h take next one said none = refl
-none-of-three false false false ra rb rc h take next one said none = ap (takes-by (λ none. (false, ra) ∷ (false, rb) ∷ (false, rc) ∷ (none, NothingThere) ∷ []) h take) (sym (none said))
+none-of-three false false false ra rb rc h take next one said none =
+    ap (takes-by (λ none. (false, ra) ∷ (false, rb) ∷ (false, rc) ∷ (none, NothingThere) ∷ []) h take) (sym (none said))
 
 -- a list is not itself with one more
 longer : {X : Type 0} (xs : List X) (x : X) → xs ≡ xs ++ x ∷ [] → ⊥
 longer xs x same = let n = ap length same ∙ length-append xs (x ∷ []) in absurd (omega (arith, n))
 
-refused-of : (tell : Result Done Refusal → Reply) → ((e : Refusal) → tell (Err e) ≡ reply.Refused e) → ((d : Done) → (x : Done) × (tell (Ok d) ≡ reply.Ok x)) → (r : Result Done Refusal) (e : Refusal) → tell r ≡ reply.Refused e → r ≡ Err e
+refused-of : (tell : Result Done Refusal → Reply) → ((e : Refusal) → tell (Err e) ≡ reply.Refused e) → ((d : Done) → (x : Done) × (tell (Ok d) ≡ reply.Ok x))
+    → (r : Result Done Refusal) (e : Refusal) → tell r ≡ reply.Refused e → r ≡ Err e
 refused-of tell refuses tells (Ok d) e is = absurd (let no : reply.Ok (tells d).0 ≡ reply.Refused e = sym (tells d).1 ∙ is in cc)
 refused-of tell refuses tells (Err x) e is = let same : reply.Refused x ≡ reply.Refused e = sym (refuses x) ∙ is in let one : x ≡ e = cc in ap Err one
 
@@ -71,15 +81,19 @@ starved-or (Err e) = go e
 -- The secondary takes a frame.
 pub receives-step : (p q : PairState) (result : Result Done Refusal) (frame : Option Received) → Gave frame result p.there
     → secondary.NodeSteps (Receives frame (is_none frame && is_starved result)) (secondary_of p) (from_secondary.replied (λ done. done) result) (secondary_of q)
-    → ((one : Received) → frame ≡ Some one → (secondary_of q).taken ≡ (secondary_of p).taken ++ one ∷ []) → primary_of p ≡ primary_of q → IsPairStep ReceiveEvent (is_starved result) p (from_secondary.replied (λ done. done) result) q
+    → ((one : Received) → frame ≡ Some one → (secondary_of q).taken ≡ (secondary_of p).taken ++ one ∷ []) → primary_of p ≡ primary_of q
+    → IsPairStep ReceiveEvent (is_starved result) p (from_secondary.replied (λ done. done) result) q
 receives-step p q result None gave steps grows same =
     on-secondary ReceiveEvent (is_starved result) p q (from_secondary.replied (λ done. done) result) (receive None (is_starved result))
     (λ h has. ap (λ (r : Reply × SecondaryHistory). (r.0, record h { secondary = r.1 })) (sym (does h has))) steps same
   where
     does : (h : PairHistory) → PairHas p h → receive None (is_starved result) h.secondary ≡ receive (next_frame h) (is_starved result) h.secondary
-    does h has = none-of-three (inward h.secondary).closed (nat_le h.secondary.settings.pending (length (pending (inward h.secondary)))) (is_starved result) NotConnected PendingFull NoMemory h.secondary (λ frame. take_item frame h.secondary) (next_frame h)
+    does h has = none-of-three (inward h.secondary).closed (nat_le h.secondary.settings.pending (length (pending (inward h.secondary))))
+        (is_starved result) NotConnected PendingFull NoMemory h.secondary (λ frame. take_item frame h.secondary) (next_frame h)
         (from_secondary.replied (λ done. done) result) (steps.said h.secondary has.secondary)
-        (λ nothing. let g = gave.none refl (refused-of (from_secondary.replied (λ done. done)) (λ e. refl) (λ d. (d, refl)) result NothingThere nothing) in next-is p h g.out g.inn has g.out_there g.in_there ∙ g.next)
+        (λ nothing. let g = gave.none refl
+        (refused-of (from_secondary.replied (λ done. done)) (λ e. refl) (λ d. (d, refl)) result NothingThere nothing) in next-is p h g.out g.inn has
+        g.out_there g.in_there ∙ g.next)
 receives-step p q result (Some one) gave steps grows same =
     on-secondary ReceiveEvent (is_starved result) p q (from_secondary.replied (λ done. done) result) (receive (Some one) false)
     (λ h has. ap (λ (r : Reply × SecondaryHistory). (r.0, record h { secondary = r.1 })) (sym (does h has))) steps same
@@ -95,9 +109,11 @@ receives-step p q result (Some one) gave steps grows same =
       | inl fine ↦ fine
       | inr short ↦
           let said : from_secondary.replied (λ (done : Done). done) result ≡ (receive (Some one) false h.secondary).0 = steps.said h.secondary has.secondary in
-          let refused : reply.Refused NoMemory ≡ (receive (next_frame h) false h.secondary).0 = ap (from_secondary.replied (λ (done : Done). done)) (sym short) ∙ said ∙ ap (λ (f : Option Received). (receive f false h.secondary).0) (sym (next h has)) in
+          let refused : reply.Refused NoMemory ≡ (receive (next_frame h) false h.secondary).0 = ap (from_secondary.replied (λ (done : Done). done)) (sym short)
+          ∙ said ∙ ap (λ (f : Option Received). (receive f false h.secondary).0) (sym (next h has)) in
           let still : (step ReceiveEvent false h).1 ≡ h = refused_steps_change_nothing ReceiveEvent false h NoMemory (sym refused) refl in
-          let kept : (receive (Some one) false h.secondary).1 ≡ h.secondary = ap (λ (f : Option Received). (receive f false h.secondary).1) (sym (next h has)) ∙ ap (λ (x : PairHistory). x.secondary) still in
+          let kept : (receive (Some one) false h.secondary).1 ≡ h.secondary = ap (λ (f : Option Received). (receive f false h.secondary).1) (sym (next h has))
+          ∙ ap (λ (x : PairHistory). x.secondary) still in
           let after = steps.after h.secondary has.secondary in
           let more = sym (grows one refl) ∙ after.leaves.taken ∙ ap (λ (x : SecondaryHistory). (inward x).taken) kept ∙ sym has.secondary.leaves.taken in
           absurd (longer (secondary_of p).taken one (sym more))
@@ -109,15 +125,18 @@ receives-step p q result (Some one) gave steps grows same =
 -- The primary takes a frame.
 pub acknowledges-step : (p q : PairState) (result : Result Done Refusal) (frame : Option Received) → Gave frame result p.back
     → primary.NodeSteps (Takes frame (is_none frame && is_starved result)) (primary_of p) (from_primary.replied reply.Ok result) (primary_of q)
-    → ((one : Received) → frame ≡ Some one → (primary_of q).taken ≡ (primary_of p).taken ++ one ∷ []) → secondary_of p ≡ secondary_of q → IsPairStep AckInEvent (is_starved result) p (from_primary.replied reply.Ok result) q
+    → ((one : Received) → frame ≡ Some one → (primary_of q).taken ≡ (primary_of p).taken ++ one ∷ []) → secondary_of p ≡ secondary_of q
+    → IsPairStep AckInEvent (is_starved result) p (from_primary.replied reply.Ok result) q
 acknowledges-step p q result None gave steps grows same =
     on-primary AckInEvent (is_starved result) p q (from_primary.replied reply.Ok result) (ack_in None (is_starved result))
     (λ h has. ap (λ (r : Reply × PrimaryHistory). (r.0, record h { primary = r.1 })) (sym (does h has))) steps same
   where
     does : (h : PairHistory) → PairHas p h → ack_in None (is_starved result) h.primary ≡ ack_in (next_answer h) (is_starved result) h.primary
-    does h has = none-of-two (outward h.primary).closed (not (outward h.primary).begun && is_starved result) NotConnected NoMemory h.primary (λ frame. take_frame frame h.primary) (next_answer h)
+    does h has = none-of-two (outward h.primary).closed (not (outward h.primary).begun && is_starved result) NotConnected NoMemory h.primary
+        (λ frame. take_frame frame h.primary) (next_answer h)
         (from_primary.replied reply.Ok result) (steps.said h.primary has.primary)
-        (λ nothing. let g = gave.none refl (refused-of (from_primary.replied reply.Ok) (λ e. refl) (λ d. (d, refl)) result NothingThere nothing) in next-back-is p h g.out g.inn has g.out_there g.in_there ∙ g.next)
+        (λ nothing. let g = gave.none refl (refused-of (from_primary.replied reply.Ok) (λ e. refl) (λ d. (d, refl)) result NothingThere nothing) in next-back-is
+        p h g.out g.inn has g.out_there g.in_there ∙ g.next)
 acknowledges-step p q result (Some one) gave steps grows same =
     on-primary AckInEvent (is_starved result) p q (from_primary.replied reply.Ok result) (ack_in (Some one) false)
     (λ h has. ap (λ (r : Reply × PrimaryHistory). (r.0, record h { primary = r.1 })) (sym (does h has))) steps same
@@ -133,9 +152,11 @@ acknowledges-step p q result (Some one) gave steps grows same =
       | inl fine ↦ fine
       | inr short ↦
           let said : from_primary.replied reply.Ok result ≡ (ack_in (Some one) false h.primary).0 = steps.said h.primary has.primary in
-          let refused : reply.Refused NoMemory ≡ (ack_in (next_answer h) false h.primary).0 = ap (from_primary.replied reply.Ok) (sym short) ∙ said ∙ ap (λ (f : Option Received). (ack_in f false h.primary).0) (sym (next h has)) in
+          let refused : reply.Refused NoMemory ≡ (ack_in (next_answer h) false h.primary).0 = ap (from_primary.replied reply.Ok) (sym short) ∙ said
+          ∙ ap (λ (f : Option Received). (ack_in f false h.primary).0) (sym (next h has)) in
           let still : (step AckInEvent false h).1 ≡ h = refused_steps_change_nothing AckInEvent false h NoMemory (sym refused) refl in
-          let kept : (ack_in (Some one) false h.primary).1 ≡ h.primary = ap (λ (f : Option Received). (ack_in f false h.primary).1) (sym (next h has)) ∙ ap (λ (x : PairHistory). x.primary) still in
+          let kept : (ack_in (Some one) false h.primary).1 ≡ h.primary = ap (λ (f : Option Received). (ack_in f false h.primary).1) (sym (next h has))
+          ∙ ap (λ (x : PairHistory). x.primary) still in
           let after = steps.after h.primary has.primary in
           let more = sym (grows one refl) ∙ after.leaves.taken ∙ ap (λ (x : PrimaryHistory). (outward x).taken) kept ∙ sym has.primary.leaves.taken in
           absurd (longer (primary_of p).taken one (sym more))

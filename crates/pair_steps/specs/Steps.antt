@@ -4,7 +4,8 @@ use Rattle.blocks.specs.declared.refusal.Refusal.{Refusal}
 use Rattle.blocks.specs.declared.outcome.Done.{Done}
 use Rattle.blocks.specs.declared.outcome.Reply.TheVariants as reply
 use Rattle.model.specs.Frames.{Received}
-use Rattle.model.specs.Headline.{TakesABeginning, StaysClosed, StaysClosedToo, HoldsEarlierEpochs, KeepsPromises, MarksDifferences, CoversDifferences, IsGrounded}
+use Rattle.model.specs.Headline.{TakesABeginning, StaysClosed, StaysClosedToo, HoldsEarlierEpochs, KeepsPromises, MarksDifferences, CoversDifferences}
+use Rattle.model.specs.Headline.{IsGrounded}
 use Rattle.model.specs.LocalRuns.{Sends, Takes, Receives, Acknowledges}
 use Rattle.model.specs.Pair.{Event, SendEvent, ReceiveEvent, AckOutEvent, AckInEvent, PairHistory, run}
 use Rattle.model.specs.WriteOrder.{KeepsWriteOrder, IsUnharmed}
@@ -21,14 +22,16 @@ use Rattle.pair_steps.specs.State.{IsDirection, IsPairStep, IsRun, PairState, Wa
 abbrev pub SendsAreSteps : Type 0
 SendsAreSteps =
     (p q : PairState) (result : Result Done Refusal) → IsDirection p.primary.settings.link p.there → link.Sends result p.there.out q.there.out
-    → primary.NodeSteps (Sends (has_room result) (is_starved result)) (primary_of p) (from_primary.replied reply.Ok result) (primary_of q) → secondary_of p ≡ secondary_of q
+    → primary.NodeSteps (Sends (has_room result) (is_starved result)) (primary_of p) (from_primary.replied reply.Ok result) (primary_of q)
+    → secondary_of p ≡ secondary_of q
     → IsPairStep SendEvent (is_starved result) p (from_primary.replied reply.Ok result) q
 
 -- the same of the secondary's
 abbrev pub AnswersAreSteps : Type 0
 AnswersAreSteps =
     (p q : PairState) (result : Result Done Refusal) → IsDirection p.secondary.settings.link p.back → link.Sends result p.back.out q.back.out
-    → secondary.NodeSteps (Acknowledges (has_room result) (is_starved result)) (secondary_of p) (from_secondary.replied (λ done. done) result) (secondary_of q) → primary_of p ≡ primary_of q
+    → secondary.NodeSteps (Acknowledges (has_room result) (is_starved result)) (secondary_of p) (from_secondary.replied (λ done. done) result) (secondary_of q)
+    → primary_of p ≡ primary_of q
     → IsPairStep AckOutEvent (is_starved result) p (from_secondary.replied (λ done. done) result) q
 
 -- What the secondary takes is the next of what the primary pushed.

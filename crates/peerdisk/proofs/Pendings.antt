@@ -1,5 +1,6 @@
 -- What each call answers, by the pending items.
-use Rattle.std.proofs.Common.{ℕ, suc, unwrap_or, ◌≡◌, ◌<◌, ◌≤◌, Bool, true, false, List, [], ◌∷◌, ◌++◌, length, Option, Some, None, Ok, Err, refl, ◌∙◌, ap, arith, nat_eq, nat_lt, nat_le}
+use Rattle.std.proofs.Common.{ℕ, suc, unwrap_or, ◌≡◌, ◌<◌, ◌≤◌, Bool, true, false, List, [], ◌∷◌, ◌++◌, length, Option, Some, None, Ok, Err, refl, ◌∙◌, ap}
+use Rattle.std.proofs.Common.{arith, nat_eq, nat_lt, nat_le}
 use Rattle.std.specs.Prelude.{All, filter, is_some, option_map, slice_get, if◌then◌else◌}
 use Rattle.std.specs.List.{AllByRecursion, list_any}
 use Rattle.std.proofs.lemmas.Bool.{lt-leb}
@@ -33,7 +34,8 @@ order-without {X} k (p ∷ ps) order = go (order-without k ps order.1) (nat_eq k
     go rest true is = rw is order.1
     go rest false is = rw is (all-without (λ later. p.epoch ≤ later.epoch) k ps order.0, rest)
 
-pub all-filter : {X : Type 0} (P : Pending X → Type 0) (test : Pending X → Bool) (ps : List (Pending X)) → AllByRecursion P ps → AllByRecursion P (filter test ps)
+pub all-filter : {X : Type 0} (P : Pending X → Type 0) (test : Pending X → Bool) (ps : List (Pending X)) → AllByRecursion P ps
+    → AllByRecursion P (filter test ps)
 all-filter P test [] all = tt
 all-filter {X} P test (p ∷ ps) all = go (all-filter P test ps all.1) (test p) refl
   where
@@ -64,7 +66,8 @@ order-push p (q ∷ ps) order late =
     (all-push (λ later. q.epoch ≤ later.epoch) p ps order.0 here, order-push p ps order.1 (tail_all (λ q. q.epoch ≤ p.epoch) q ps late))
 
 pub put-room : {X : Type 0} (limit reach : ℕ) (p : Pending X) (ps : List (Pending X)) → length ps < limit
-    → (Ok tt, record { limit = limit; pending = ps ++ p ∷ []; reach = reach }) ≡ put p.place p.epoch p.item false (record { limit = limit; pending = ps; reach = reach })
+    → (Ok tt, record { limit = limit; pending = ps ++ p ∷ []; reach = reach }) ≡ put p.place p.epoch p.item false
+    (record { limit = limit; pending = ps; reach = reach })
 put-room limit reach p ps room =
     let not_full : nat_le limit (length ps) ≡ false = lt-leb limit (length ps) room in
     rw not_full refl
@@ -74,13 +77,15 @@ pub start-none : {X : Type 0} (k : ℕ) (ps : List (Pending X)) → at_place k p
 start-none k ps none = rw none refl
 
 -- The lowest place has the oldest epoch.
-none_earlier : {X : Type 0} (first epoch : ℕ) (ps : List (Pending X)) → AllByRecursion (λ later. first ≤ later.epoch) ps → epoch ≤ first → list_any (λ q. nat_lt q.epoch epoch) ps ≡ false
+none_earlier : {X : Type 0} (first epoch : ℕ) (ps : List (Pending X)) → AllByRecursion (λ later. first ≤ later.epoch) ps → epoch ≤ first
+    → list_any (λ q. nat_lt q.epoch epoch) ps ≡ false
 none_earlier first epoch [] all old = refl
 none_earlier first epoch (p ∷ ps) all old =
     let here : nat_lt p.epoch epoch ≡ false = grind (arith, nat_tests, all.0) in
     rw here (none_earlier first epoch ps all.1 old)
 
-earlier-first : {X : Type 0} (p : Pending X) (ps : List (Pending X)) (epoch : ℕ) → AreInOrder (p ∷ ps) → list_any (λ q. nat_lt q.epoch epoch) (p ∷ ps) ≡ nat_lt p.epoch epoch
+earlier-first : {X : Type 0} (p : Pending X) (ps : List (Pending X)) (epoch : ℕ) → AreInOrder (p ∷ ps)
+    → list_any (λ q. nat_lt q.epoch epoch) (p ∷ ps) ≡ nat_lt p.epoch epoch
 earlier-first {X} p ps epoch order = go (nat_lt p.epoch epoch) refl
   where
     go : (b : Bool) → nat_lt p.epoch epoch ≡ b → list_any (λ q. nat_lt q.epoch epoch) (p ∷ ps) ≡ nat_lt p.epoch epoch

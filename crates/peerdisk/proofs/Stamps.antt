@@ -1,5 +1,6 @@
 -- The stamps of the blocks, and the blocks that they give an epoch.
-use Rattle.std.proofs.Common.{ℕ, zero, suc, ◌≡◌, ◌+◌, ◌<◌, ◌≤◌, ◌==◌, Bool, true, false, ◌||◌, List, [], ◌∷◌, ◌++◌, length, refl, sym, ◌∙◌, ap, arith, length-append, add-one, ◌-◌, ◌⊎◌, inl, inr, replicate, get_or}
+use Rattle.std.proofs.Common.{ℕ, zero, suc, ◌≡◌, ◌+◌, ◌<◌, ◌≤◌, ◌==◌, Bool, true, false, ◌||◌, List, [], ◌∷◌, ◌++◌, length, refl, sym, ◌∙◌, ap, arith}
+use Rattle.std.proofs.Common.{length-append, add-one, ◌-◌, ◌⊎◌, inl, inr, replicate, get_or}
 use Rattle.std.specs.Prelude.{All, map}
 use Rattle.std.specs.List.{list_any}
 use Rattle.std.proofs.Math.ListN.{set}
@@ -33,7 +34,8 @@ past epoch next (x ∷ stamps) less all =
     let other : (x == next) ≡ false = grind (arith, nat_tests) in
     rw other (ap (λ more. false ∷ more) (past epoch next stamps less (All-tail (λ stamp. stamp ≤ epoch) x stamps all)))
 
-pub none_stamped : (epoch next : ℕ) (stamps : List ℕ) (size : ℕ) → epoch < next → All (λ stamp. stamp ≤ epoch) stamps → length stamps ≡ size → stamped next stamps ≡ none_of size
+pub none_stamped : (epoch next : ℕ) (stamps : List ℕ) (size : ℕ) → epoch < next → All (λ stamp. stamp ≤ epoch) stamps → length stamps ≡ size
+    → stamped next stamps ≡ none_of size
 none_stamped epoch next stamps size less all long = past epoch next stamps less all ∙ all_false stamps (below size) (long ∙ sym (length-below size))
 
 pub none_zero : (next n size : ℕ) → 0 < next → n ≡ size → stamped next (replicate n 0) ≡ none_of size
@@ -96,12 +98,15 @@ stamp-at epoch stamps first index x from within read =
     rw same (has-stamped epoch stamps index x within ∙ ap (λ y. y == epoch) (sym read))
 
 -- Blocks are added one after another.
-pub stamped-set : (epoch : ℕ) (stamps : List ℕ) (i k : ℕ) → i < length stamps → has (stamped epoch (set stamps i epoch)) k ≡ (has (stamped epoch stamps) k || (k == i))
+pub stamped-set : (epoch : ℕ) (stamps : List ℕ) (i k : ℕ) → i < length stamps
+    → has (stamped epoch (set stamps i epoch)) k ≡ (has (stamped epoch stamps) k || (k == i))
 stamped-set epoch [] i k within = absurd (omega arith)
 stamped-set epoch (x ∷ stamps) zero zero within = let same : (epoch == epoch) ≡ true = grind (arith, nat_tests) in rw same (sym (or-true (x == epoch)))
-stamped-set epoch (x ∷ stamps) zero (suc k) within = let other : (suc k == zero) ≡ false = grind (arith, nat_tests) in rw other (sym (or-false (has (stamped epoch stamps) k)))
+stamped-set epoch (x ∷ stamps) zero (suc k) within = let other : (suc k == zero) ≡ false =
+    grind (arith, nat_tests) in rw other (sym (or-false (has (stamped epoch stamps) k)))
 stamped-set epoch (x ∷ stamps) (suc i) zero within = let other : (zero == suc i) ≡ false = grind (arith, nat_tests) in rw other (sym (or-false (x == epoch)))
-stamped-set epoch (x ∷ stamps) (suc i) (suc k) within = let same : (suc k == suc i) ≡ (k == i) = grind (arith, nat_tests) in rw same (stamped-set epoch stamps i k (omega arith))
+stamped-set epoch (x ∷ stamps) (suc i) (suc k) within = let same : (suc k == suc i) ≡ (k == i) =
+    grind (arith, nat_tests) in rw same (stamped-set epoch stamps i k (omega arith))
 
 -- of these blocks, those from the first one up to an index are added
 abbrev pub AddedTo : ℕ → ℕ → List Bool → List Bool → Type 0
@@ -110,17 +115,21 @@ AddedTo first index before now = (k : ℕ) → has now k ≡ (has before k || is
 pub added-none : (first : ℕ) (before : List Bool) → AddedTo first first before before
 added-none first before k = let none : is_between first (first - first) k ≡ false = grind (arith, nat_tests) in rw none (sym (or-false (has before k)))
 
-pub added-one : (epoch first index : ℕ) (before : List Bool) (stamps : List ℕ) → first ≤ index → index < length stamps → AddedTo first index before (stamped epoch stamps)
+pub added-one : (epoch first index : ℕ) (before : List Bool) (stamps : List ℕ) → first ≤ index → index < length stamps
+    → AddedTo first index before (stamped epoch stamps)
     → AddedTo first (index + 1) before (stamped epoch (set stamps index epoch))
 added-one epoch first index before stamps from within added k =
     let more : (is_between first (index - first) k || (k == index)) ≡ is_between first (index + 1 - first) k = grind (arith, nat_tests) in
-    stamped-set epoch stamps index k within ∙ ap (λ b. b || (k == index)) (added k) ∙ or-or (has before k) (is_between first (index - first) k) (k == index) ∙ ap (λ b. has before k || b) more
+    stamped-set epoch stamps index k within ∙ ap (λ b. b || (k == index)) (added k) ∙ or-or (has before k) (is_between first (index - first) k) (k == index)
+    ∙ ap (λ b. has before k || b) more
 
-pub added-all : (first count : ℕ) (before now : List Bool) → length now ≡ length before → AddedTo first (first + count) before now → now ≡ adding first count before
+pub added-all : (first count : ℕ) (before now : List Bool) → length now ≡ length before → AddedTo first (first + count) before now
+    → now ≡ adding first count before
 added-all first count before now long added =
     let f = λ (block : ℕ). has before block || is_between first count block in
     let same : first + count - first ≡ count = omega arith in
-    bools_same now (adding first count before) (long ∙ sym (length-flags (length before) f)) (λ (k : ℕ) (within : k < length now). added k ∙ ap (λ n. has before k || is_between first n k) same ∙ sym (has-flags (length before) f k (rw (← long) within)))
+    bools_same now (adding first count before) (long ∙ sym (length-flags (length before) f)) (λ (k : ℕ) (within : k < length now). added k
+    ∙ ap (λ n. has before k || is_between first n k) same ∙ sym (has-flags (length before) f k (rw (← long) within)))
 
 -- Blocks are looked up one after another.
 pub any-more : (p : ℕ → Bool) (n m : ℕ) → m ≡ n + 1 → list_any p (below n) ≡ false → p n ≡ false → list_any p (below m) ≡ false

@@ -1,11 +1,13 @@
 -- Receipts are held against the journal by their numbers.
-use Rattle.std.proofs.Common.{ℕ, zero, suc, ◌≡◌, ◌+◌, ◌-◌, ◌<◌, ◌≤◌, inl, inr, Bool, true, false, not, ◌&&◌, ◌||◌, List, [], ◌∷◌, length, drop, replicate, Option, Some, None, slice_get, slice_set, refl, sym, ◌∙◌, ap, subst, arith, ◌==◌}
+use Rattle.std.proofs.Common.{ℕ, zero, suc, ◌≡◌, ◌+◌, ◌-◌, ◌<◌, ◌≤◌, inl, inr, Bool, true, false, not, ◌&&◌, ◌||◌, List, [], ◌∷◌, length, drop, replicate}
+use Rattle.std.proofs.Common.{Option, Some, None, slice_get, slice_set, refl, sym, ◌∙◌, ap, subst, arith, ◌==◌}
 use Rattle.std.specs.Prelude.{find, is_some, option_map, unwrap_or}
 use Rattle.std.specs.List.{list_any, AllByRecursion}
 use Rattle.std.proofs.lemmas.Bool.{both_ways, and_parts, eqb-true, eq-eqb, false_from_ne_true, cases_lt}
 use Rattle.std.proofs.lemmas.List.{length-set}
 use Rattle.std.proofs.Math.ListN.{drop_of_length-le}
 use Rattle.std.proofs.lemmas.Option.{slice_get_within, slice_get_past}
+use Rattle.blocks.specs.Positions.{StreamPosition}
 use Rattle.model.specs.Contents.{Write}
 use Rattle.model.specs.Primary.{Kind, Linked, Alone, Accepted, Completion, PrimaryHistory, is_failed, is_completed}
 use Rattle.model.specs.Settlement.{Receipt, receipt_of, same_kind, same_home, same_receipt, has_strange}
@@ -21,7 +23,7 @@ use Rattle.primary_steps.proofs.Common.Reached.{reached-ordered}
 use Rattle.primary_steps.proofs.Common.Numbers.{any-some, get-map}
 use Rattle.primary_steps.proofs.Receipts.Journal.{IsNumbered, failed-open, entry-is, write-is}
 use Rattle.primary_core.specs.Entries.{is_unconfirmed}
-use Rattle.primary.specs.Receipts.{is_entry_of, is_found, is_home, kind_of}
+use Rattle.primary.specs.Receipts.{is_entry_of, is_found, kind_of}
 
 -- two truth values that follow from each other are the same
 same-truth : (a b : Bool) → (a ≡ true → b ≡ true) → (b ≡ true → a ≡ true) → a ≡ b
@@ -37,7 +39,8 @@ in_journal h receipt = list_any (λ (entry : Completion). same_receipt (receipt_
 -- what receipts that are the same agree in
 number-of : (a b : Receipt) → same_receipt a b ≡ true → a.number ≡ b.number
 number-of a b same =
-    let parts = and_parts ((a.number == b.number) && (a.first == b.first)) ((a.count == b.count) && (same_kind a.kind b.kind && same_home a.home b.home)) same in
+    let parts = and_parts ((a.number == b.number) && (a.first == b.first)) ((a.count == b.count) && (same_kind a.kind b.kind && same_home a.home b.home))
+    same in
     eqb-true a.number b.number (and_parts (a.number == b.number) (a.first == b.first) parts.0).0
 
 kind-back : (k : Kind) → kind_of (is_linked k) ≡ k
@@ -55,7 +58,11 @@ module _ (s : PrimaryState) (h : PrimaryHistory) (reached : IsReached h) (left :
   known : IsNumbered h
   known =
       let k = (reached-ordered h reached).ordered.0 in
-      record { numbered = k.tracked.homes.numbered; on_disk = k.tracked.on_disk; journal = subst JournalIsAccepted reached.is (journal-run reached.settings reached.disk reached.tuple reached.marks reached.events) }
+      record {
+        numbered = k.tracked.homes.numbered;
+        on_disk = k.tracked.on_disk;
+        journal = subst JournalIsAccepted reached.is (journal-run reached.settings reached.disk reached.tuple reached.marks reached.events);
+      }
 
   once : Once (λ (entry : Completion). entry.write.number) h.journal
   once = (reached-ordered h reached).ordered.0.numbers.1
@@ -89,7 +96,8 @@ module _ (s : PrimaryState) (h : PrimaryHistory) (reached : IsReached h) (left :
       }
 
   -- where no write has the number
-  none-there : (receipt : Receipt) → ((index : ℕ) (accepted : Accepted) → slice_get h.writes index ≡ Some accepted → receipt.number ≡ suc index → ⊥) → entry_at receipt.number s ≡ None → in_journal h receipt ≡ is_found receipt s
+  none-there : (receipt : Receipt) → ((index : ℕ) (accepted : Accepted) → slice_get h.writes index ≡ Some accepted → receipt.number ≡ suc index → ⊥)
+      → entry_at receipt.number s ≡ None → in_journal h receipt ≡ is_found receipt s
   none-there receipt none nothing =
       false_from_ne_true (in_journal h receipt) (λ listed. let home = home-of receipt listed in none home.index home.accepted home.there home.number)
       ∙ sym (ap (λ (v : Option Entry). elim v as (λ _. Bool) [ None ↦ false | Some entry ↦ is_entry_of entry receipt ]) nothing)
@@ -109,11 +117,20 @@ module _ (s : PrimaryState) (h : PrimaryHistory) (reached : IsReached h) (left :
         any-pick (λ (entry : Completion). entry.write.number == a.write.number) h.journal home.place home.entry home.at
         (eq-eqb home.entry.write.number a.write.number (number-of (receipt_of home.entry) receipt home.same ∙ sym own))
 
-    by-fate : (failed : Bool) → is_failed a.outcome ≡ failed → (found : Option Completion) → find (λ (entry : Completion). entry.write.number == a.write.number) h.journal ≡ found
-        → in_journal h receipt ≡ is_entry_of (record { first = a.write.first; count = length a.write.contents; fate = elim failed as (λ _. Fate) [ true ↦ Failed | false ↦ fate_in found ]; taken = (entry_of h a).taken }) receipt
-    by-fate true fails found is = false_from_ne_true (in_journal h receipt) (λ listed. both_ways (is_completed h a.write.number) (failed-open h known n a at fails) (completed listed))
+    by-fate : (failed : Bool) → is_failed a.outcome ≡ failed → (found : Option Completion)
+        → find (λ (entry : Completion). entry.write.number == a.write.number) h.journal ≡ found
+        → in_journal h receipt ≡ is_entry_of
+        (record {
+          first = a.write.first;
+          count = length a.write.contents;
+          fate = elim failed as (λ _. Fate) [ true ↦ Failed | false ↦ fate_in found ];
+          taken = (entry_of h a).taken;
+        }) receipt
+    by-fate true fails found is = false_from_ne_true (in_journal h receipt)
+        (λ listed. both_ways (is_completed h a.write.number) (failed-open h known n a at fails) (completed listed))
     by-fate false works None is = false_from_ne_true (in_journal h receipt) (λ listed.
-        let some : true ≡ false = sym (completed listed) ∙ (any-some (λ (entry : Completion). entry.write.number == a.write.number) h.journal ∙ ap is_some is) in absurd (cc))
+        let some : true ≡ false = sym (completed listed)
+        ∙ (any-some (λ (entry : Completion). entry.write.number == a.write.number) h.journal ∙ ap is_some is) in absurd (cc))
     by-fate false works (Some c) is =
         let place = pick-found (λ (entry : Completion). entry.write.number == a.write.number) h.journal c is in
         let write : c.write ≡ a.write = write-is h known n a at s left.rest.entries c is in
@@ -121,18 +138,22 @@ module _ (s : PrimaryState) (h : PrimaryHistory) (reached : IsReached h) (left :
         let journal : in_journal h receipt ≡ same_receipt (receipt_of c) receipt = same-truth (in_journal h receipt) (same_receipt (receipt_of c) receipt)
         (λ listed.
         let home = home-of receipt listed in
-        let one : home.place ≡ place.0 = once home.place place.0 home.entry c home.at place.1 (number-of (receipt_of home.entry) receipt home.same ∙ sym (ap (λ (w : Write). w.number) write ∙ own)) in
+        let one : home.place ≡ place.0 = once home.place place.0 home.entry c home.at place.1 (number-of (receipt_of home.entry) receipt home.same
+        ∙ sym (ap (λ (w : Write). w.number) write ∙ own)) in
         let it : home.entry ≡ c = same-at h.journal place.0 home.entry c (subst (λ (k : ℕ). slice_get h.journal k ≡ Some home.entry) one home.at) place.1 in
         subst (λ (x : Completion). same_receipt (receipt_of x) receipt ≡ true) it home.same)
         (λ same. any-pick (λ (entry : Completion). same_receipt (receipt_of entry) receipt) h.journal place.0 c place.1 same) in
         journal
-        ∙ (shuffled (c.write.number == receipt.number) (c.write.first == receipt.first) (length c.write.contents == receipt.count) (same_kind c.kind receipt.kind && is_home c.home receipt.home) numbers
-        ∙ λ i. (((write i).first == receipt.first) && (length (write i).contents == receipt.count)) && (same_kind (sym (kind-back c.kind) i) receipt.kind && is_home c.home receipt.home))
+        ∙ (shuffled (c.write.number == receipt.number) (c.write.first == receipt.first) (length c.write.contents == receipt.count)
+        (same_kind c.kind receipt.kind && same_home c.home receipt.home) numbers
+        ∙ λ i. (((write i).first == receipt.first) && (length (write i).contents == receipt.count))
+        && (same_kind (sym (kind-back c.kind) i) receipt.kind && same_home c.home receipt.home))
 
     is-there : in_journal h receipt ≡ is_found receipt s
     is-there =
         by-fate (is_failed a.outcome) refl (find (λ (entry : Completion). entry.write.number == a.write.number) h.journal) refl
-        ∙ sym (ap (λ (v : Option Entry). elim v as (λ _. Bool) [ None ↦ false | Some entry ↦ is_entry_of entry receipt ]) (ap (λ (m : ℕ). entry_at m s) number ∙ entry-is h known n a at s left.rest.entries))
+        ∙ sym (ap (λ (v : Option Entry). elim v as (λ _. Bool) [ None ↦ false | Some entry ↦ is_entry_of entry receipt ]) (ap (λ (m : ℕ). entry_at m s) number
+        ∙ entry-is h known n a at s left.rest.entries))
 
   pub journal-has : (receipt : Receipt) → in_journal h receipt ≡ is_found receipt s
   journal-has receipt = by-number receipt.number refl
@@ -146,7 +167,8 @@ module _ (s : PrimaryState) (h : PrimaryHistory) (reached : IsReached h) (left :
           by-place None none = none-there receipt (λ index accepted at number.
               let same : index ≡ n = omega (arith, is, number) in
               let wrong : Some accepted ≡ None = sym at ∙ (ap (slice_get h.writes) same ∙ none) in absurd (cc))
-              (ap (λ (m : ℕ). entry_at m s) is ∙ (ap (λ (l : List Entry). slice_get l n) left.rest.entries.entries ∙ (get-map (entry_of h) h.writes n ∙ ap (option_map (entry_of h)) none)))
+              (ap (λ (m : ℕ). entry_at m s) is
+              ∙ (ap (λ (l : List Entry). slice_get l n) left.rest.entries.entries ∙ (get-map (entry_of h) h.writes n ∙ ap (option_map (entry_of h)) none)))
 
 -- Two receipts of one entry are the same.
 
@@ -158,13 +180,13 @@ kinds Linked Alone b one two = absurd (cc)
 kinds Alone Alone Linked one two = absurd (cc)
 kinds Alone Linked b one two = absurd (cc)
 
-homes : (k a b : Option (ℕ × ℕ)) → same_home k a ≡ true → same_home k b ≡ true → same_home a b ≡ true
+homes : (k a b : Option StreamPosition) → same_home k a ≡ true → same_home k b ≡ true → same_home a b ≡ true
 homes None None None one two = refl
 homes (Some k) (Some a) (Some b) one two =
-    let first = and_parts (k.0 == a.0) (k.1 == a.1) one in
-    let second = and_parts (k.0 == b.0) (k.1 == b.1) two in
-    let x = eq-eqb a.0 b.0 (sym (eqb-true k.0 a.0 first.0) ∙ eqb-true k.0 b.0 second.0) in
-    let y = eq-eqb a.1 b.1 (sym (eqb-true k.1 a.1 first.1) ∙ eqb-true k.1 b.1 second.1) in
+    let first = and_parts (k.index == a.index) (k.place == a.place) one in
+    let second = and_parts (k.index == b.index) (k.place == b.place) two in
+    let x = eq-eqb a.index b.index (sym (eqb-true k.index a.index first.0) ∙ eqb-true k.index b.index second.0) in
+    let y = eq-eqb a.place b.place (sym (eqb-true k.place a.place first.1) ∙ eqb-true k.place b.place second.1) in
     λ i. x i && y i
 homes None None (Some b) one two = absurd (cc)
 homes None (Some a) b one two = absurd (cc)
@@ -184,14 +206,14 @@ same-of entry a b one two number = go entry.fate one two
     go Open one two = absurd (cc)
     go Failed one two = absurd (cc)
     go (Completed linked home) one two =
-        let h : Option (ℕ × ℕ) = option_map (λ home. (suc home.0, home.1)) home in
-        let p = and_parts ((entry.first == a.first) && (entry.count == a.count)) (same_kind (kind_of linked) a.kind && same_home h a.home) one in
-        let q = and_parts ((entry.first == b.first) && (entry.count == b.count)) (same_kind (kind_of linked) b.kind && same_home h b.home) two in
+        let p = and_parts ((entry.first == a.first) && (entry.count == a.count)) (same_kind (kind_of linked) a.kind && same_home home a.home) one in
+        let q = and_parts ((entry.first == b.first) && (entry.count == b.count)) (same_kind (kind_of linked) b.kind && same_home home b.home) two in
         let pf = and_parts (entry.first == a.first) (entry.count == a.count) p.0 in
         let qf = and_parts (entry.first == b.first) (entry.count == b.count) q.0 in
-        let pk = and_parts (same_kind (kind_of linked) a.kind) (same_home h a.home) p.1 in
-        let qk = and_parts (same_kind (kind_of linked) b.kind) (same_home h b.home) q.1 in
-        λ i. (eq-eqb a.number b.number number i && equal-too entry.first a.first b.first pf.0 qf.0 i) && (equal-too entry.count a.count b.count pf.1 qf.1 i && (kinds (kind_of linked) a.kind b.kind pk.0 qk.0 i && homes h a.home b.home pk.1 qk.1 i))
+        let pk = and_parts (same_kind (kind_of linked) a.kind) (same_home home a.home) p.1 in
+        let qk = and_parts (same_kind (kind_of linked) b.kind) (same_home home b.home) q.1 in
+        λ i. (eq-eqb a.number b.number number i && equal-too entry.first a.first b.first pf.0 qf.0 i)
+        && (equal-too entry.count a.count b.count pf.1 qf.1 i && (kinds (kind_of linked) a.kind b.kind pk.0 qk.0 i && homes home a.home b.home pk.1 qk.1 i))
 
 same-found : (s : PrimaryState) (a b : Receipt) → is_found a s ≡ true → is_found b s ≡ true → a.number ≡ b.number → same_receipt a b ≡ true
 same-found s a b one two number = go (entry_at a.number s) refl
@@ -201,7 +223,8 @@ same-found s a b one two number = go (entry_at a.number s) refl
 
     go : (v : Option Entry) → entry_at a.number s ≡ v → same_receipt a b ≡ true
     go None is = let wrong : false ≡ true = sym (ap (λ (w : Option Entry). by w a) is) ∙ one in absurd (cc)
-    go (Some entry) is = same-of entry a b (sym (ap (λ (w : Option Entry). by w a) is) ∙ one) (sym (ap (λ (m : ℕ). by (entry_at m s) b) (sym number) ∙ ap (λ (w : Option Entry). by w b) is) ∙ two) number
+    go (Some entry) is = same-of entry a b (sym (ap (λ (w : Option Entry). by w a) is)
+        ∙ one) (sym (ap (λ (m : ℕ). by (entry_at m s) b) (sym number) ∙ ap (λ (w : Option Entry). by w b) is) ∙ two) number
 
 -- The flags.
 
@@ -211,7 +234,8 @@ unconfirmed-set zero k flags within = refl
 unconfirmed-set (suc n) k flags within = go n k flags within ∙ λ i. is_unconfirmed (suc n) flags && not (sym (same k n) i)
   where
     same : (a b : ℕ) → (suc a == suc b) ≡ (a == b)
-    same a b = same-truth (suc a == suc b) (a == b) (λ is. eq-eqb a b (let e = eqb-true (suc a) (suc b) is in omega arith)) (λ is. eq-eqb (suc a) (suc b) (ap suc (eqb-true a b is)))
+    same a b = same-truth (suc a == suc b) (a == b) (λ is. eq-eqb a b (let e = eqb-true (suc a) (suc b) is in omega arith))
+        (λ is. eq-eqb (suc a) (suc b) (ap suc (eqb-true a b is)))
 
     plain : (b : Bool) → b ≡ (b && true)
     plain true = refl
@@ -221,11 +245,14 @@ unconfirmed-set (suc n) k flags within = go n k flags within ∙ λ i. is_unconf
     none true = refl
     none false = refl
 
-    go : (n k : ℕ) (flags : List Bool) → k < length flags → not (unwrap_or (slice_get (slice_set flags k true) n) true) ≡ (not (unwrap_or (slice_get flags n) true) && not (k == n))
+    go : (n k : ℕ) (flags : List Bool) → k < length flags
+        → not (unwrap_or (slice_get (slice_set flags k true) n) true) ≡ (not (unwrap_or (slice_get flags n) true) && not (k == n))
     go n k [] within = absurd (omega arith)
     go zero zero (x ∷ flags) within = none (not x)
-    go (suc n) zero (x ∷ flags) within = plain (not (unwrap_or (slice_get flags n) true)) ∙ λ i. not (unwrap_or (slice_get flags n) true) && not (sym (false_from_ne_true (0 == suc n) (λ is. let e = eqb-true 0 (suc n) is in omega arith)) i)
-    go zero (suc k) (x ∷ flags) within = plain (not x) ∙ λ i. not x && not (sym (false_from_ne_true (suc k == 0) (λ is. let e = eqb-true (suc k) 0 is in omega arith)) i)
+    go (suc n) zero (x ∷ flags) within = plain (not (unwrap_or (slice_get flags n) true))
+        ∙ λ i. not (unwrap_or (slice_get flags n) true) && not (sym (false_from_ne_true (0 == suc n) (λ is. let e = eqb-true 0 (suc n) is in omega arith)) i)
+    go zero (suc k) (x ∷ flags) within = plain (not x)
+        ∙ λ i. not x && not (sym (false_from_ne_true (suc k == 0) (λ is. let e = eqb-true (suc k) 0 is in omega arith)) i)
     go (suc n) (suc k) (x ∷ flags) within = go n k flags (omega arith) ∙ λ i. not (unwrap_or (slice_get flags n) true) && not (sym (same k n) i)
 
 -- none is confirmed at first
@@ -237,13 +264,16 @@ unconfirmed-first (suc n) (suc count) less = unconfirmed-first n count (omega ar
 -- Receipts are gone through. What was given before is confirmed, and all the rest is not.
 pub record IsConfirming (s : PrimaryState) (receipts : List Receipt) (i : ℕ) (flags : List Bool) : Type 0 where
   pub earlier : List Receipt
-  pub strange : (h : PrimaryHistory) → ((r : Receipt) → list_any (λ (entry : Completion). same_receipt (receipt_of entry) r) h.journal ≡ is_found r s) → has_strange h.journal [] receipts ≡ has_strange h.journal earlier (drop i receipts)
+  pub strange : (h : PrimaryHistory) → ((r : Receipt) → list_any (λ (entry : Completion). same_receipt (receipt_of entry) r) h.journal ≡ is_found r s)
+      → has_strange h.journal [] receipts ≡ has_strange h.journal earlier (drop i receipts)
   pub size : length flags ≡ length s.entries
-  pub flagged : (n : ℕ) → is_unconfirmed n flags ≡ (is_unconfirmed n (replicate (length s.entries) false) && not (list_any (λ (e : Receipt). e.number == n) earlier))
+  pub flagged : (n : ℕ) → is_unconfirmed n flags ≡
+      (is_unconfirmed n (replicate (length s.entries) false) && not (list_any (λ (e : Receipt). e.number == n) earlier))
   pub each : AllByRecursion (λ (e : Receipt). is_found e s ≡ true) earlier
 
 -- none was gone through
-pub confirming-first : (s : PrimaryState) (receipts : List Receipt) (flags : List Bool) → flags ≡ replicate (length s.entries) false → length flags ≡ length s.entries → IsConfirming s receipts 0 flags
+pub confirming-first : (s : PrimaryState) (receipts : List Receipt) (flags : List Bool) → flags ≡ replicate (length s.entries) false
+    → length flags ≡ length s.entries → IsConfirming s receipts 0 flags
 confirming-first s receipts flags is size = record {
   earlier = [];
   strange = λ h same. refl;
@@ -272,27 +302,39 @@ entry-there s r found = go r.number refl
         by-place (Some entry) at = unconfirmed-first n (length s.entries) (slice_get_within s.entries n entry at)
 
 -- one that was given before has the number of one that was
-given-numbers : (s : PrimaryState) (r : Receipt) (earlier : List Receipt) → is_found r s ≡ true → AllByRecursion (λ (e : Receipt). is_found e s ≡ true) earlier → list_any (same_receipt r) earlier ≡ list_any (λ (e : Receipt). e.number == r.number) earlier
+given-numbers : (s : PrimaryState) (r : Receipt) (earlier : List Receipt) → is_found r s ≡ true → AllByRecursion (λ (e : Receipt). is_found e s ≡ true) earlier
+    → list_any (same_receipt r) earlier ≡ list_any (λ (e : Receipt). e.number == r.number) earlier
 given-numbers s r [] found all = refl
-given-numbers s r (e ∷ earlier) found all = λ i. same-truth (same_receipt r e) (e.number == r.number) (λ same. eq-eqb e.number r.number (sym (number-of r e same))) (λ same. same-found s r e found all.0 (sym (eqb-true e.number r.number same))) i || given-numbers s r earlier found all.1 i
+given-numbers s r (e ∷ earlier) found all = λ i. same-truth (same_receipt r e) (e.number == r.number)
+    (λ same. eq-eqb e.number r.number (sym (number-of r e same))) (λ same. same-found s r e found all.0 (sym (eqb-true e.number r.number same))) i
+    || given-numbers s r earlier found all.1 i
 
-module _ (s : PrimaryState) (receipts : List Receipt) (i : ℕ) (flags : List Bool) (was : IsConfirming s receipts i flags) (r : Receipt) (next : drop i receipts ≡ r ∷ drop (i + 1) receipts) where
+module _ (s : PrimaryState) (receipts : List Receipt) (i : ℕ) (flags : List Bool) (was : IsConfirming s receipts i flags) (r : Receipt)
+    (next : drop i receipts ≡ r ∷ drop (i + 1) receipts) where
   -- whether it is strange, by what the calls said of it
   strange-by : (h : PrimaryHistory) → ((r : Receipt) → list_any (λ (entry : Completion). same_receipt (receipt_of entry) r) h.journal ≡ is_found r s)
-      → has_strange h.journal [] receipts ≡ ((not (is_found r s) || list_any (same_receipt r) was.earlier) || has_strange h.journal (r ∷ was.earlier) (drop (i + 1) receipts))
-  strange-by h same = was.strange h same ∙ (ap (has_strange h.journal was.earlier) next ∙ λ k. (not (same r k) || list_any (same_receipt r) was.earlier) || has_strange h.journal (r ∷ was.earlier) (drop (i + 1) receipts))
+      → has_strange h.journal [] receipts ≡ ((not (is_found r s) || list_any (same_receipt r) was.earlier) || has_strange h.journal (r ∷ was.earlier)
+      (drop (i + 1) receipts))
+  strange-by h same = was.strange h same
+      ∙ (ap (has_strange h.journal was.earlier) next
+      ∙ λ k. (not (same r k) || list_any (same_receipt r) was.earlier) || has_strange h.journal (r ∷ was.earlier) (drop (i + 1) receipts))
 
   given-flag : is_found r s ≡ true → is_unconfirmed r.number flags ≡ not (list_any (same_receipt r) was.earlier)
   given-flag found = was.flagged r.number ∙ λ k. entry-there s r found k && not (sym (given-numbers s r was.earlier found was.each) k)
 
   -- it is not found
-  pub strange-missing : (h : PrimaryHistory) → ((r : Receipt) → list_any (λ (entry : Completion). same_receipt (receipt_of entry) r) h.journal ≡ is_found r s) → is_found r s ≡ false → has_strange h.journal [] receipts ≡ true
-  strange-missing h same missing = strange-by h same ∙ ap (λ b. (not b || list_any (same_receipt r) was.earlier) || has_strange h.journal (r ∷ was.earlier) (drop (i + 1) receipts)) missing
+  pub strange-missing : (h : PrimaryHistory) → ((r : Receipt) → list_any (λ (entry : Completion). same_receipt (receipt_of entry) r) h.journal ≡ is_found r s)
+      → is_found r s ≡ false → has_strange h.journal [] receipts ≡ true
+  strange-missing h same missing = strange-by h same
+      ∙ ap (λ b. (not b || list_any (same_receipt r) was.earlier) || has_strange h.journal (r ∷ was.earlier) (drop (i + 1) receipts)) missing
 
   -- it was given before
-  pub strange-given : (h : PrimaryHistory) → ((r : Receipt) → list_any (λ (entry : Completion). same_receipt (receipt_of entry) r) h.journal ≡ is_found r s) → is_found r s ≡ true → is_unconfirmed r.number flags ≡ false → has_strange h.journal [] receipts ≡ true
-  strange-given h same found given = strange-by h same ∙ (ap (λ b. (not b || list_any (same_receipt r) was.earlier) || has_strange h.journal (r ∷ was.earlier) (drop (i + 1) receipts)) found
-      ∙ ap (λ b. b || has_strange h.journal (r ∷ was.earlier) (drop (i + 1) receipts)) (turned (list_any (same_receipt r) was.earlier) (sym (given-flag found) ∙ given)))
+  pub strange-given : (h : PrimaryHistory) → ((r : Receipt) → list_any (λ (entry : Completion). same_receipt (receipt_of entry) r) h.journal ≡ is_found r s)
+      → is_found r s ≡ true → is_unconfirmed r.number flags ≡ false → has_strange h.journal [] receipts ≡ true
+  strange-given h same found given = strange-by h same
+      ∙ (ap (λ b. (not b || list_any (same_receipt r) was.earlier) || has_strange h.journal (r ∷ was.earlier) (drop (i + 1) receipts)) found
+      ∙ ap (λ b. b || has_strange h.journal (r ∷ was.earlier) (drop (i + 1) receipts)) (turned (list_any (same_receipt r) was.earlier) (sym (given-flag found)
+      ∙ given)))
     where
       turned : (b : Bool) → not b ≡ false → b ≡ true
       turned true is = refl
@@ -302,8 +344,10 @@ module _ (s : PrimaryState) (receipts : List Receipt) (i : ℕ) (flags : List Bo
   pub confirming-next : is_found r s ≡ true → is_unconfirmed r.number flags ≡ true → IsConfirming s receipts (i + 1) (slice_set flags (r.number - 1) true)
   confirming-next found fresh = record {
     earlier = r ∷ was.earlier;
-    strange = λ h same. strange-by h same ∙ (ap (λ b. (not b || list_any (same_receipt r) was.earlier) || has_strange h.journal (r ∷ was.earlier) (drop (i + 1) receipts)) found
-        ∙ ap (λ b. b || has_strange h.journal (r ∷ was.earlier) (drop (i + 1) receipts)) (turned (list_any (same_receipt r) was.earlier) (sym (given-flag found) ∙ fresh)));
+    strange = λ h same. strange-by h same
+        ∙ (ap (λ b. (not b || list_any (same_receipt r) was.earlier) || has_strange h.journal (r ∷ was.earlier) (drop (i + 1) receipts)) found
+        ∙ ap (λ b. b || has_strange h.journal (r ∷ was.earlier) (drop (i + 1) receipts)) (turned (list_any (same_receipt r) was.earlier) (sym (given-flag found)
+        ∙ fresh)));
     size = length-set flags (r.number - 1) true ∙ was.size;
     flagged = λ n. set n r.number refl fresh;
     each = (found, was.each);
@@ -326,7 +370,9 @@ module _ (s : PrimaryState) (receipts : List Receipt) (i : ℕ) (flags : List Bo
         | inr past ↦ let wrong : false ≡ true = sym (ap (λ (v : Option Bool). not (unwrap_or v true)) (slice_get_past flags m past)) ∙ some in absurd (cc)
       ]
 
-      set : (n m : ℕ) → r.number ≡ m → is_unconfirmed m flags ≡ true → is_unconfirmed n (slice_set flags (r.number - 1) true) ≡ (is_unconfirmed n (replicate (length s.entries) false) && not ((r.number == n) || list_any (λ (e : Receipt). e.number == n) was.earlier))
+      set : (n m : ℕ) → r.number ≡ m → is_unconfirmed m flags ≡ true
+          → is_unconfirmed n (slice_set flags (r.number - 1) true) ≡
+          (is_unconfirmed n (replicate (length s.entries) false) && not ((r.number == n) || list_any (λ (e : Receipt). e.number == n) was.earlier))
       set n zero is some = absurd (cc)
       set n (suc m) is some =
           let index : r.number - 1 ≡ m = omega (arith, is) in
@@ -334,7 +380,8 @@ module _ (s : PrimaryState) (receipts : List Receipt) (i : ℕ) (flags : List Bo
           ∙ (unconfirmed-set n m flags (within m some)
           ∙ (ap (λ b. b && not (suc m == n)) (was.flagged n)
           ∙ (move (is_unconfirmed n (replicate (length s.entries) false)) (list_any (λ (e : Receipt). e.number == n) was.earlier) (suc m == n)
-          ∙ ap (λ (k : ℕ). is_unconfirmed n (replicate (length s.entries) false) && not ((k == n) || list_any (λ (e : Receipt). e.number == n) was.earlier)) (sym is))))
+          ∙ ap (λ (k : ℕ). is_unconfirmed n (replicate (length s.entries) false) && not ((k == n) || list_any (λ (e : Receipt). e.number == n) was.earlier))
+          (sym is))))
 
 -- all were gone through, and none was strange
 pub confirming-all : (s : PrimaryState) (receipts : List Receipt) (i : ℕ) (flags : List Bool) → IsConfirming s receipts i flags → length receipts ≤ i

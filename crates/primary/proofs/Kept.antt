@@ -1,5 +1,6 @@
 -- What a call keeps of a node.
-use Rattle.std.proofs.Common.{ℕ, zero, suc, ◌≡◌, ◌≤◌, Bool, true, false, List, ◌∷◌, [], Option, Some, None, Ok, slice_get, length, refl, sym, ◌∙◌, ap, subst, arith, nat_lt}
+use Rattle.std.proofs.Common.{ℕ, zero, suc, ◌≡◌, ◌≤◌, Bool, true, false, List, ◌∷◌, [], Option, Some, None, Ok, slice_get, length, refl, sym, ◌∙◌, ap, subst}
+use Rattle.std.proofs.Common.{arith, nat_lt}
 use Rattle.std.specs.Prelude.{is_some, unwrap_or}
 use Rattle.std.proofs.lemmas.Bool.{both_ways}
 use Rattle.std.proofs.lemmas.Bool.Decides.{nat_tests}
@@ -36,7 +37,8 @@ numbered-kept None i s t same was = tt
 numbered-kept (Some o) None s t same was = tt
 
 -- A call that leaves both sides of the link, opens no end and begins no stream.
-pub kept-is : (v : PrimaryView) (core : PrimaryState) (disk : List (List ℕ)) (faults : ℕ) (steady : Bool) → IsNode v → NodeIsHad (node (record v { core = core; disk = disk })) → IsStill v.core core → (stands core ≡ true → stands v.core ≡ true)
+pub kept-is : (v : PrimaryView) (core : PrimaryState) (disk : List (List ℕ)) (faults : ℕ) (steady : Bool) → IsNode v
+    → NodeIsHad (node (record v { core = core; disk = disk })) → IsStill v.core core → (stands core ≡ true → stands v.core ≡ true)
     → IsNode (record v { core = core; disk = disk; faults = faults; steady = steady })
 kept-is v core disk faults steady was had still standing = record {
   had = had;
@@ -48,16 +50,20 @@ kept-is v core disk faults steady was had still standing = record {
 }
 
 -- A call that takes no frame, pushes none and leaves the disk.
-pub plain-is : (event : PrimaryEvent) (v : PrimaryView) (core : PrimaryState) (reply : Reply) → IsPlain event → IsNode v → NodeSteps event (node v) reply (node (record v { core = core })) → IsNode (record v { core = core })
+pub plain-is : (event : PrimaryEvent) (v : PrimaryView) (core : PrimaryState) (reply : Reply) → IsPlain event → IsNode v
+    → NodeSteps event (node v) reply (node (record v { core = core })) → IsNode (record v { core = core })
 plain-is event v core reply plain was steps =
     let still = plain-still event (node v) (node (record v { core = core })) reply plain was.had steps in
     kept-is v core v.disk v.faults v.steady was (node-had event (node v) reply (node (record v { core = core })) was.had steps) still.0 still.1
 
 -- A new node.
-pub new-has : (settings : Settings) (disk : List (List ℕ)) (tuple : Tuple) (given marks : List Bool) (s : PrimaryState) → CanBegin settings tuple given × (s ≡ fresh settings tuple given) → given ≡ marks → length disk ≡ settings.blocks
-    → NodeHas (record { core = s; disk = disk; pushed = []; taken = [] }) (primary_opening settings (slice_get disk) tuple (λ block. unwrap_or (slice_get marks block) false))
+pub new-has : (settings : Settings) (disk : List (List ℕ)) (tuple : Tuple) (given marks : List Bool) (s : PrimaryState)
+    → CanBegin settings tuple given × (s ≡ fresh settings tuple given) → given ≡ marks → length disk ≡ settings.blocks
+    → NodeHas (record { core = s; disk = disk; pushed = []; taken = [] })
+    (primary_opening settings (slice_get disk) tuple (λ block. unwrap_or (slice_get marks block) false))
 new-has settings disk tuple given marks s may same size =
-    subst (λ (x : PrimaryState). NodeHas (record { core = x; disk = disk; pushed = []; taken = [] }) (primary_opening settings (slice_get disk) tuple (λ block. unwrap_or (slice_get marks block) false))) (sym (may.1 ∙ ap (fresh settings tuple) same))
+    subst (λ (x : PrimaryState). NodeHas (record { core = x; disk = disk; pushed = []; taken = [] })
+    (primary_opening settings (slice_get disk) tuple (λ block. unwrap_or (slice_get marks block) false))) (sym (may.1 ∙ ap (fresh settings tuple) same))
     (opening-has settings disk tuple marks may.0.in_range (λ block. some-get disk block ∙ ap (nat_lt block) size) (ap length (sym same) ∙ may.0.size))
   where
     some-get : {X : Type 0} (xs : List X) (n : ℕ) → is_some (slice_get xs n) ≡ nat_lt n (length xs)
@@ -66,7 +72,8 @@ new-has settings disk tuple given marks s may same size =
     some-get (x ∷ xs) (suc n) = some-get xs n ∙ grind (arith, nat_tests)
 
 -- so some history is had
-pub new-is : (settings : Settings) (disk : List (List ℕ)) (tuple : Tuple) (marks : List Bool) (s : PrimaryState) (faults : ℕ) (steady : Bool) → CanBegin settings tuple marks × (s ≡ fresh settings tuple marks) → length disk ≡ settings.blocks
+pub new-is : (settings : Settings) (disk : List (List ℕ)) (tuple : Tuple) (marks : List Bool) (s : PrimaryState) (faults : ℕ) (steady : Bool)
+    → CanBegin settings tuple marks × (s ≡ fresh settings tuple marks) → length disk ≡ settings.blocks
     → IsNode (record { core = s; disk = disk; outgoing = None; incoming = None; faults = faults; steady = steady })
 new-is settings disk tuple marks s faults steady may size = record {
   had = record { history = _; has = new-has settings disk tuple marks marks s may refl size };

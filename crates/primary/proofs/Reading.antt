@@ -1,5 +1,6 @@
 -- Which ranges of its disk a node reads.
-use Rattle.std.proofs.Common.{ℕ, ◌≡◌, ◌+◌, ◌-◌, ◌*◌, ◌/◌, ◌<◌, ◌≤◌, inl, inr, Bool, true, false, List, [], ◌∷◌, ◌++◌, length, take, drop, Some, slice_get, refl, sym, ◌∙◌, ap, subst, arith, length-append, length-drop, append_assoc, drop-drop}
+use Rattle.std.proofs.Common.{ℕ, ◌≡◌, ◌+◌, ◌-◌, ◌*◌, ◌/◌, ◌<◌, ◌≤◌, inl, inr, Bool, true, false, List, [], ◌∷◌, ◌++◌, length, take, drop, Some, slice_get, refl}
+use Rattle.std.proofs.Common.{sym, ◌∙◌, ap, subst, arith, length-append, length-drop, append_assoc, drop-drop}
 use Rattle.std.proofs.Math.Seq.{take-append_seam, take-length}
 use Rattle.std.proofs.lemmas.List.{length-take}
 use Rattle.std.proofs.lemmas.Bool.{cases_lt, false_from_ne_true}
@@ -15,16 +16,20 @@ use Rattle.primary.specs.State.{PrimaryView, IsNode, node}
 
 -- a disk has the blocks of the device
 device-size : (v : PrimaryView) (blocks : ℕ) → IsNode v → blocks ≡ length v.disk → blocks ≡ v.core.settings.blocks
-device-size v blocks was size = size ∙ (disk-size (node v) was.had.history was.had.has ∙ ap (λ (s : Settings). s.blocks) (sym was.had.has.leaves.core.rest.settings))
+device-size v blocks was size = size
+    ∙ (disk-size (node v) was.had.history was.had.has ∙ ap (λ (s : Settings). s.blocks) (sym was.had.has.leaves.core.rest.settings))
 
 -- What is no range of the disk is none of the device.
-pub not-range : (v w : PrimaryView) (blocks first count : ℕ) → IsNode v → v ≡ w → blocks ≡ length v.disk → (IsRange blocks first count → ⊥) → is_range w.core.settings first count ≡ false
+pub not-range : (v w : PrimaryView) (blocks first count : ℕ) → IsNode v → v ≡ w → blocks ≡ length v.disk → (IsRange blocks first count → ⊥)
+    → is_range w.core.settings first count ≡ false
 not-range v w blocks first count was is size none =
     subst (λ (x : PrimaryView). is_range x.core.settings first count ≡ false) is
-    (false_from_ne_true (is_range v.core.settings first count) (λ fits. none (subst (λ n. IsRange n first count) (sym (device-size v blocks was size)) (range-tests v.core.settings first count fits))))
+    (false_from_ne_true (is_range v.core.settings first count)
+    (λ fits. none (subst (λ n. IsRange n first count) (sym (device-size v blocks was size)) (range-tests v.core.settings first count fits))))
 
 -- a range of the disk is one of the device
-pub one-range : (v w : PrimaryView) (blocks first count : ℕ) → IsNode v → v ≡ w → blocks ≡ length v.disk → IsRange blocks first count → is_range w.core.settings first count ≡ true
+pub one-range : (v w : PrimaryView) (blocks first count : ℕ) → IsNode v → v ≡ w → blocks ≡ length v.disk → IsRange blocks first count
+    → is_range w.core.settings first count ≡ true
 one-range v w blocks first count was is size fits =
     subst (λ (x : PrimaryView). is_range x.core.settings first count ≡ true) is
     (tests-range v.core.settings first count (subst (λ n. IsRange n first count) (device-size v blocks was size) fits))
@@ -43,14 +48,17 @@ one-block buffer size =
     let one : length buffer / 4096 ≡ 1 = omega arith in
     ap (λ n. cut 4096 n buffer) one ∙ ap (λ (l : List ℕ). l ∷ []) (ap (λ n. take n buffer) (sym size) ∙ take-length buffer)
 
-pub read-more : (items held buffer : List ℕ) (n offset count first : ℕ) (disk : List (List ℕ)) → held ≡ items → length items ≡ n → n ≡ 4096 * count → offset < count → length buffer ≡ 4096 → slice_get disk (first + offset) ≡ Some buffer
+pub read-more : (items held buffer : List ℕ) (n offset count first : ℕ) (disk : List (List ℕ)) → held ≡ items → length items ≡ n → n ≡ 4096 * count
+    → offset < count → length buffer ≡ 4096 → slice_get disk (first + offset) ≡ Some buffer
     → ((k : ℕ) → k < offset → slice_get (blocks_of 4096 items) k ≡ slice_get disk (first + k))
-    → (after : List ℕ) → after ≡ take n (put_part (offset * 4096) (offset * 4096 + 4096 - offset * 4096) held buffer ++ drop (length (put_part (offset * 4096) (offset * 4096 + 4096 - offset * 4096) held buffer)) items)
+    → (after : List ℕ) → after ≡ take n (put_part (offset * 4096) (offset * 4096 + 4096 - offset * 4096) held buffer
+    ++ drop (length (put_part (offset * 4096) (offset * 4096 + 4096 - offset * 4096) held buffer)) items)
     → (length after ≡ 4096 * count) × ((k : ℕ) → k < offset + 1 → slice_get (blocks_of 4096 after) k ≡ slice_get disk (first + k))
 read-more items held buffer n offset count first disk same long many less size read before after is = (
   ap length new ∙ (long_still ∙ many),
   λ k within. let total = all in elim (cases_lt k offset) [
-    | inl early ↦ ap (λ (l : List (List ℕ)). slice_get l k) blocks ∙ (written-before (blocks_of 4096 items) (buffer ∷ []) offset k (omega arith) early ∙ before k early)
+    | inl early ↦ ap (λ (l : List (List ℕ)). slice_get l k) blocks
+        ∙ (written-before (blocks_of 4096 items) (buffer ∷ []) offset k (omega arith) early ∙ before k early)
     | inr late ↦
         let last : k ≡ offset = omega arith in
         let index : k - offset ≡ 0 = omega arith in
@@ -67,12 +75,14 @@ read-more items held buffer n offset count first disk same long many less size r
     held_long = ap length same ∙ long
 
     long_still : length (put_part (offset * 4096) (offset * 4096 + 4096 - offset * 4096) held buffer) ≡ n
-    long_still = let long_held = held_long in put-length (offset * 4096) (offset * 4096 + 4096 - offset * 4096) held buffer (omega arith) (omega arith) ∙ held_long
+    long_still = let long_held = held_long in put-length (offset * 4096) (offset * 4096 + 4096 - offset * 4096) held buffer (omega arith) (omega arith)
+        ∙ held_long
 
     new : after ≡ put_part (offset * 4096) (offset * 4096 + 4096 - offset * 4096) held buffer
     new = is ∙ (ap (λ m. take m (part ++ drop (length part) items)) (sym long_still) ∙ take-append_seam part (drop (length part) items))
 
-    spread : put_part (offset * 4096) (offset * 4096 + 4096 - offset * 4096) held buffer ≡ take (offset * 4096) items ++ buffer ++ drop (offset * 4096 + length buffer) items
+    spread : put_part (offset * 4096) (offset * 4096 + 4096 - offset * 4096) held buffer ≡ take (offset * 4096) items ++ buffer
+        ++ drop (offset * 4096 + length buffer) items
     spread =
         let rest : offset * 4096 + 4096 - offset * 4096 ≡ length buffer = omega arith in
         ap (λ (l : List ℕ). put_part (offset * 4096) (offset * 4096 + 4096 - offset * 4096) l buffer) same
@@ -92,5 +102,6 @@ read-more items held buffer n offset count first disk same long many less size r
         ∙ (blocks_of-written offset 1 items buffer image (omega arith) (omega arith) ∙ ap (overwritten (blocks_of 4096 items) offset) (one-block buffer size))
 
 -- a part of the bytes of a block's size
-pub part-size : (offset count : ℕ) (held : List ℕ) → length held ≡ 4096 * count → offset < count → length (take (offset * 4096 + 4096 - offset * 4096) (drop (offset * 4096) held)) ≡ 4096
+pub part-size : (offset count : ℕ) (held : List ℕ) → length held ≡ 4096 * count → offset < count
+    → length (take (offset * 4096 + 4096 - offset * 4096) (drop (offset * 4096) held)) ≡ 4096
 part-size offset count held long less = simp (length-take, length-drop) (omega arith)

@@ -1,5 +1,6 @@
 -- A node sends what it owes.
-use Rattle.std.proofs.Common.{ℕ, ◌≡◌, ◌⊎◌, inl, inr, ◌≤◌, Bool, true, false, List, [], ◌∷◌, ◌++◌, Option, Some, None, Result, Ok, Err, refl, sym, ◌∙◌, ap, subst}
+use Rattle.std.proofs.Common.{ℕ, ◌≡◌, ◌⊎◌, inl, inr, ◌≤◌, Bool, true, false, List, [], ◌∷◌, ◌++◌, Option, Some, None, Result, Ok, Err, refl, sym, ◌∙◌, ap}
+use Rattle.std.proofs.Common.{subst}
 use Rattle.std.specs.Prelude.{IfErr, IfSome, IsOk}
 use Rattle.std.specs.Option.{option_map}
 use Rattle.blocks.specs.declared.refusal.Refusal.{Refusal}
@@ -18,29 +19,35 @@ use Rattle.primary_steps.specs.Transitions.{owed, due, send}
 use Rattle.primary_steps.specs.Node.{NodeState, NodeSteps}
 use Rattle.primary_steps.specs.Steps.{replied}
 use Rattle.primary_steps.proofs.Node.Runs.{node-had}
-use Rattle.primary_steps.proofs.Node.Sends.{due-open, due-refused, of-due, send_owed, send_at, send-not-due, send-starved, send-full, node-not-pushed, node-pushes, pushes-connections, pushes-stood}
+use Rattle.primary_steps.proofs.Node.Sends.{due-open, due-refused, of-due, send_owed, send_at, send-not-due, send-starved, send-full, node-not-pushed}
+use Rattle.primary_steps.proofs.Node.Sends.{node-pushes, pushes-connections, pushes-stood}
 use Rattle.primary.specs.State.{PrimaryView, IsNode, IsDue, IsNumbered, node, pushed_of}
 
 -- A frame that is not pushed.
 
 -- the step as the refusal tells what the link and the memory said
-as-told : (n : NodeState) (e : Refusal) (room starved : Bool) → has_room {R = Done} (Err e) ≡ room → is_starved {R = Done} (Err e) ≡ starved → NodeSteps (Sends room starved) n (reply.Refused e) n
+as-told : (n : NodeState) (e : Refusal) (room starved : Bool) → has_room {R = Done} (Err e) ≡ room → is_starved {R = Done} (Err e) ≡ starved
+    → NodeSteps (Sends room starved) n (reply.Refused e) n
     → NodeSteps (Sends (has_room {R = Done} (Err e)) (is_starved {R = Done} (Err e))) n (reply.Refused e) n
 as-told n e room starved is so steps =
-    subst (λ (b : Bool). NodeSteps (Sends b (is_starved {R = Done} (Err e))) n (reply.Refused e) n) (sym is) (subst (λ (b : Bool). NodeSteps (Sends room b) n (reply.Refused e) n) (sym so) steps)
+    subst (λ (b : Bool). NodeSteps (Sends b (is_starved {R = Done} (Err e))) n (reply.Refused e) n) (sym is)
+    (subst (λ (b : Bool). NodeSteps (Sends room b) n (reply.Refused e) n) (sym so) steps)
 
 ok-is : {X : Type 0} (r : Result X Refusal) → IsOk r → (x : X) × (r ≡ Ok x)
 ok-is (Ok x) is = (x, refl)
 ok-is (Err e) is = absurd (cc)
 
 -- nothing is due, or there is no memory for the packet
-pub not-due-steps : (v : PrimaryView) → IsNode v → (e : Refusal) (said : Result Done Refusal) → said ≡ Err e → (due v.core ≡ Err e) ⊎ ((e ≡ NoMemory) × IsOk (due v.core))
+pub not-due-steps : (v : PrimaryView) → IsNode v → (e : Refusal) (said : Result Done Refusal) → said ≡ Err e
+    → (due v.core ≡ Err e) ⊎ ((e ≡ NoMemory) × IsOk (due v.core))
     → NodeSteps (Sends (has_room said) (is_starved said)) (node v) (replied reply.Ok said) (node v)
 not-due-steps v before e said told why =
     subst (λ (r : Result Done Refusal). NodeSteps (Sends (has_room r) (is_starved r)) (node v) (replied reply.Ok r) (node v)) (sym told) (elim why [
       | inl none ↦ elim (due-refused v.core e none) [
-        | inl shut ↦ as-told (node v) e true false (ap (λ x. has_room {R = Done} (Err x)) shut) (ap (λ x. is_starved {R = Done} (Err x)) shut) (node-not-pushed (node v) true false e (send-not-due true false v.core e none))
-        | inr nothing ↦ as-told (node v) e true false (ap (λ x. has_room {R = Done} (Err x)) nothing) (ap (λ x. is_starved {R = Done} (Err x)) nothing) (node-not-pushed (node v) true false e (send-not-due true false v.core e none))
+        | inl shut ↦ as-told (node v) e true false (ap (λ x. has_room {R = Done} (Err x)) shut) (ap (λ x. is_starved {R = Done} (Err x)) shut)
+            (node-not-pushed (node v) true false e (send-not-due true false v.core e none))
+        | inr nothing ↦ as-told (node v) e true false (ap (λ x. has_room {R = Done} (Err x)) nothing) (ap (λ x. is_starved {R = Done} (Err x)) nothing)
+            (node-not-pushed (node v) true false e (send-not-due true false v.core e none))
       ]
       | inr starved ↦
           let packet = ok-is (due v.core) starved.1 in
@@ -65,28 +72,34 @@ starved-owes v w said e is told owes =
     (subst (λ (x : PrimaryView). e ≡ NoMemory → owes_blocks x.core ≡ true) is owes)
 
 -- the step of a push that the link or the memory refused
-pub not-pushed-steps : (v : PrimaryView) → IsNode v → (o p : OutgoingState) (packet : Packet) (e : Refusal) (said : Result Done Refusal) → v.outgoing ≡ Some o → due v.core ≡ Ok packet → said ≡ Err e → ((e ≡ LinkFull → ⊥) → e ≡ NoMemory) → p.pushed ≡ o.pushed
+pub not-pushed-steps : (v : PrimaryView) → IsNode v → (o p : OutgoingState) (packet : Packet) (e : Refusal) (said : Result Done Refusal) → v.outgoing ≡ Some o
+    → due v.core ≡ Ok packet → said ≡ Err e → ((e ≡ LinkFull → ⊥) → e ≡ NoMemory) → p.pushed ≡ o.pushed
     → NodeSteps (Sends (has_room said) (is_starved said)) (node v) (replied reply.Ok said) (node (record v { outgoing = Some p }))
 not-pushed-steps v before o p packet e said there is told memory pushed =
     let same : node v ≡ node (record v { outgoing = Some p }) = λ i. record (node v) { pushed = (ap (λ x. pushed_of x) there ∙ sym pushed) i } in
     subst (λ (n : NodeState). NodeSteps (Sends (has_room said) (is_starved said)) (node v) (replied reply.Ok said) n) same
-    (subst (λ (r : Result Done Refusal). NodeSteps (Sends (has_room r) (is_starved r)) (node v) (replied reply.Ok r) (node v)) (sym told) (elim (full-or-not e) [
-      | inl full ↦ as-told (node v) e false false (ap (λ x. has_room {R = Done} (Err x)) full) (ap (λ x. is_starved {R = Done} (Err x)) full) (node-not-pushed (node v) false false e (send-full v.core packet is ∙ ap Err (sym full)))
+    (subst (λ (r : Result Done Refusal). NodeSteps (Sends (has_room r) (is_starved r)) (node v) (replied reply.Ok r) (node v)) (sym told)
+    (elim (full-or-not e) [
+      | inl full ↦ as-told (node v) e false false (ap (λ x. has_room {R = Done} (Err x)) full) (ap (λ x. is_starved {R = Done} (Err x)) full)
+          (node-not-pushed (node v) false false e (send-full v.core packet is ∙ ap Err (sym full)))
       | inr other ↦
           let short = memory other in
-          as-told (node v) e true true (ap (λ x. has_room {R = Done} (Err x)) short) (ap (λ x. is_starved {R = Done} (Err x)) short) (node-not-pushed (node v) true true e (send-starved v.core packet is ∙ ap Err (sym short)))
+          as-told (node v) e true true (ap (λ x. has_room {R = Done} (Err x)) short) (ap (λ x. is_starved {R = Done} (Err x)) short)
+          (node-not-pushed (node v) true true e (send-starved v.core packet is ∙ ap Err (sym short)))
     ]))
 
 -- what the side of the link says of it
 pub nothing-sent : (o : Option OutgoingState) (e : Refusal) (said : Result Done Refusal) → said ≡ Err e → (e ≡ LinkFull → ⊥) → link.Sends said o o
-nothing-sent o e said told none = subst (λ (r : Result Done Refusal). link.Sends r o o) (sym told) (record { pushed = tt; kept = kept o; full = λ is. absurd (none (let same : e ≡ LinkFull = cc in same)) })
+nothing-sent o e said told none = subst (λ (r : Result Done Refusal). link.Sends r o o) (sym told)
+    (record { pushed = tt; kept = kept o; full = λ is. absurd (none (let same : e ≡ LinkFull = cc in same)) })
   where
     kept : (o : Option OutgoingState) → (partly : Option (List Packet)) × (o ≡ option_map (λ (x : OutgoingState). record x { partly = partly }) o)
     kept None = (None, refl)
     kept (Some x) = (x.partly, refl)
 
 -- where nothing was due
-pub not-due-sent : (v : PrimaryView) → IsNode v → (now : Option OutgoingState) (e : Refusal) (said : Result Done Refusal) → said ≡ Err e → (due v.core ≡ Err e) ⊎ ((e ≡ NoMemory) × IsOk (due v.core)) → link.Sends said now now
+pub not-due-sent : (v : PrimaryView) → IsNode v → (now : Option OutgoingState) (e : Refusal) (said : Result Done Refusal) → said ≡ Err e
+    → (due v.core ≡ Err e) ⊎ ((e ≡ NoMemory) × IsOk (due v.core)) → link.Sends said now now
 not-due-sent v before now e said told why = nothing-sent now e said told (λ full. elim why [
   | inl none ↦ elim (due-refused v.core e none) [
     | inl shut ↦ let no : NotConnected ≡ LinkFull = sym shut ∙ full in absurd (cc)
@@ -96,12 +109,14 @@ not-due-sent v before now e said told why = nothing-sent now e said told (λ ful
 ])
 
 -- where a packet went in part, or not at all
-pub part-sent : (o p : OutgoingState) (now : Option OutgoingState) (e : Refusal) (said : Result Done Refusal) → now ≡ Some o → said ≡ Err e → p ≡ record o { partly = p.partly } → (e ≡ LinkFull → IfSome o.room (λ n. n ≡ 0)) → link.Sends said now (Some p)
-part-sent o p now e said there told same full = subst (λ (x : Option OutgoingState). link.Sends said x (Some p)) (sym there) (subst (λ (r : Result Done Refusal). link.Sends r (Some o) (Some p)) (sym told) (record {
-  pushed = tt;
-  kept = (p.partly, ap Some same);
-  full = λ is. (o, refl, full (let same : e ≡ LinkFull = cc in same));
-}))
+pub part-sent : (o p : OutgoingState) (now : Option OutgoingState) (e : Refusal) (said : Result Done Refusal) → now ≡ Some o → said ≡ Err e
+    → p ≡ record o { partly = p.partly } → (e ≡ LinkFull → IfSome o.room (λ n. n ≡ 0)) → link.Sends said now (Some p)
+part-sent o p now e said there told same full = subst (λ (x : Option OutgoingState). link.Sends said x (Some p)) (sym there)
+    (subst (λ (r : Result Done Refusal). link.Sends r (Some o) (Some p)) (sym told) (record {
+      pushed = tt;
+      kept = (p.partly, ap Some same);
+      full = λ is. (o, refl, full (let same : e ≡ LinkFull = cc in same));
+    }))
 
 -- A frame that is pushed.
 
@@ -118,8 +133,10 @@ module _ (v : PrimaryView) (before : IsNode v) (o p : OutgoingState) (frame : Li
   -- the step of a push
   pub sent-steps : NodeSteps (Sends true false) (node v) (reply.Ok done) (node (record v { core = core; outgoing = Some p }))
   sent-steps =
-      let more : pushed_of v.outgoing ++ packet ∷ [] ≡ p.pushed = ap (λ x. pushed_of x ++ packet ∷ []) there ∙ sym (ap (λ (x : OutgoingState). x.pushed) pushed) in
-      subst (λ (l : List Packet). NodeSteps (Sends true false) (node v) (reply.Ok done) (record (node v) { core = core; pushed = l })) more (node-pushes (node v) packet done core is as-sent)
+      let more : pushed_of v.outgoing ++ packet ∷ [] ≡ p.pushed = ap (λ x. pushed_of x ++ packet ∷ []) there
+      ∙ sym (ap (λ (x : OutgoingState). x.pushed) pushed) in
+      subst (λ (l : List Packet). NodeSteps (Sends true false) (node v) (reply.Ok done) (record (node v) { core = core; pushed = l })) more
+      (node-pushes (node v) packet done core is as-sent)
 
   -- a node it stays
   pub sent-is : IsNode (record v { core = core; outgoing = Some p })
@@ -135,5 +152,7 @@ module _ (v : PrimaryView) (before : IsNode v) (o p : OutgoingState) (frame : Li
       numbered : (i : Option IncomingState) → IsNumbered (Some o) i v.core → IsNumbered (Some p) i core
       numbered None was = tt
       numbered (Some i) was =
-          let same : core.connections ≡ v.core.connections = pushes-connections (node v) packet done core is as-sent before.had in
-          (subst (λ n. n ≤ core.connections) (sym (ap (λ (x : OutgoingState). x.number) pushed)) (subst (λ n. o.number ≤ n) (sym same) was.0), subst (λ n. i.number ≤ n) (sym same) was.1)
+          let same : core.connections ≡ v.core.connections = pushes-connections (node v) packet done core is as-sent before.had in (
+            subst (λ n. n ≤ core.connections) (sym (ap (λ (x : OutgoingState). x.number) pushed)) (subst (λ n. o.number ≤ n) (sym same) was.0),
+            subst (λ n. i.number ≤ n) (sym same) was.1,
+          )

@@ -49,15 +49,18 @@ taken-same None new is = ap taken_of is.1
 taken-same (Some i) new is = ap taken_of is.1
 
 -- the call says so
-pub takes-none : (v now : PrimaryView) → IsNode v → (new : Option IncomingState) (e : Refusal) (result : Result Done Refusal) → v ≡ now → result ≡ Err e → IsReadied v.incoming new
-    → (e ≡ NothingThere → (before : IncomingState) × (v.incoming ≡ Some before) × IfSome before.queued (λ frames. frames ≡ [])) → (ack_in None (is_starved {R = Done} (Err e)) v.core).0 ≡ Err e
+pub takes-none : (v now : PrimaryView) → IsNode v → (new : Option IncomingState) (e : Refusal) (result : Result Done Refusal) → v ≡ now → result ≡ Err e
+    → IsReadied v.incoming new
+    → (e ≡ NothingThere → (before : IncomingState) × (v.incoming ≡ Some before) × IfSome before.queued (λ frames. frames ≡ []))
+    → (ack_in None (is_starved {R = Done} (Err e)) v.core).0 ≡ Err e
     → TakesOne result now (record v { incoming = new })
 takes-none v now before new e result is told ready empty refused =
     subst (λ (w : PrimaryView). TakesOne result w (record v { incoming = new })) is
     (subst (λ (r : Result Done Refusal). TakesOne r v (record v { incoming = new })) (sym told) (record {
       frame = None;
       link = record { took = λ frame none. absurd (cc); kept = λ none. ready; empty = λ nothing. empty (let same : e ≡ NothingThere = cc in same) };
-      step = subst (λ (l : List Received). NodeSteps (Takes None (is_starved {R = Done} (Err e))) (node v) (reply.Refused e) (record (node v) { taken = l })) (sym (taken-same v.incoming new ready)) (node-not-taken (node v) (is_starved {R = Done} (Err e)) e refused);
+      step = subst (λ (l : List Received). NodeSteps (Takes None (is_starved {R = Done} (Err e))) (node v) (reply.Refused e) (record (node v) { taken = l }))
+          (sym (taken-same v.incoming new ready)) (node-not-taken (node v) (is_starved {R = Done} (Err e)) e refused);
     }))
 
 -- A frame was taken.
@@ -86,8 +89,10 @@ some-queued : (v : Option (List (List ℕ))) → IfSome v (λ frames. (false ≡
 some-queued None exact = tt
 some-queued (Some frames) exact = λ is. absurd (both_ways false refl (exact.1 is))
 
-module _ (v : PrimaryView) (before : IsNode v) (i x j : IncomingState) (read : Result packets.Packet Refusal) (result : Result Done Refusal) (core : PrimaryState) (there : v.incoming ≡ Some i)
-    (some : is_some v.core.end ≡ true) (readied : (ready : Bool) × (x ≡ record i { is_ready = ready })) (is : (result, core) ≡ take_at (received read) v.core) (taken : j ≡ with_received (received read) j.frames j.is_ready x) where
+module _ (v : PrimaryView) (before : IsNode v) (i x j : IncomingState) (read : Result packets.Packet Refusal) (result : Result Done Refusal)
+    (core : PrimaryState) (there : v.incoming ≡ Some i)
+    (some : is_some v.core.end ≡ true) (readied : (ready : Bool) × (x ≡ record i { is_ready = ready })) (is : (result, core) ≡ take_at (received read) v.core)
+    (taken : j ≡ with_received (received read) j.frames j.is_ready x) where
   after : j ≡ with_received (received read) j.frames j.is_ready i
   after = taken ∙ ap (with_received (received read) j.frames j.is_ready) readied.1
 
@@ -95,10 +100,12 @@ module _ (v : PrimaryView) (before : IsNode v) (i x j : IncomingState) (read : R
   taken-more = ap (λ y. taken_of y ++ received read ∷ []) there ∙ sym (ap (λ (y : IncomingState). y.taken) after)
 
   takes-step : NodeSteps (Takes (Some (received read)) false) (node v) (replied reply.Ok result) (node (record v { core = core; incoming = Some j }))
-  takes-step = subst (λ (l : List Received). NodeSteps (Takes (Some (received read)) false) (node v) (replied reply.Ok result) (record (node v) { core = core; taken = l })) taken-more (node-takes (node v) (received read) result core some is)
+  takes-step = subst (λ (l : List Received). NodeSteps (Takes (Some (received read)) false) (node v) (replied reply.Ok result)
+      (record (node v) { core = core; taken = l })) taken-more (node-takes (node v) (received read) result core some is)
 
   -- what the link and the history say of it
-  pub takes-some : (now : PrimaryView) → v ≡ now → SameRow x j → IfSome x.queued (λ frames. (false ≡ true) ↔ (frames ≡ [])) → (received read ≡ Err NothingThere → ⊥) → TakesOne result now (record v { core = core; incoming = Some j })
+  pub takes-some : (now : PrimaryView) → v ≡ now → SameRow x j → IfSome x.queued (λ frames. (false ≡ true) ↔ (frames ≡ []))
+      → (received read ≡ Err NothingThere → ⊥) → TakesOne result now (record v { core = core; incoming = Some j })
   takes-some now same row queued other = subst (λ (w : PrimaryView). TakesOne result w (record v { core = core; incoming = Some j })) same (record {
     frame = Some (received read);
     link = record {
@@ -120,7 +127,8 @@ module _ (v : PrimaryView) (before : IsNode v) (i x j : IncomingState) (read : R
   -- a node it stays, with room for the next frame where its stream stands
   pub takes-is : IfOk read (λ p. has_blocks p ≡ false → j.is_ready ≡ true) → IsNode (record v { core = core; incoming = Some j })
   takes-is room = record {
-    had = node-had (Takes (Some (received read)) false) (node v) (replied reply.Ok result) (node (record v { core = core; incoming = Some j })) before.had takes-step;
+    had = node-had (Takes (Some (received read)) false) (node v) (replied reply.Ok result) (node (record v { core = core; incoming = Some j })) before.had
+        takes-step;
     out_there = λ standing. before.out_there some;
     in_there = λ standing. refl;
     begun = begun-kept v.outgoing v.core core still before.begun;
@@ -135,8 +143,12 @@ module _ (v : PrimaryView) (before : IsNode v) (i x j : IncomingState) (read : R
 
       numbered : (o : Option OutgoingState) → IsNumbered o (Some i) v.core → IsNumbered o (Some j) core
       numbered None was = tt
-      numbered (Some o) was = (subst (λ n. o.number ≤ n) (sym still.connections) was.0, subst (λ n. n ≤ core.connections) (sym (ap (λ (y : IncomingState). y.number) after)) (subst (λ n. i.number ≤ n) (sym still.connections) was.1))
+      numbered (Some o) was = (
+        subst (λ n. o.number ≤ n) (sym still.connections) was.0,
+        subst (λ n. n ≤ core.connections) (sym (ap (λ (y : IncomingState). y.number) after)) (subst (λ n. i.number ≤ n) (sym still.connections) was.1),
+      )
 
-      ready : (r : Result packets.Packet Refusal) → IfOk r (λ p. has_blocks p ≡ false → j.is_ready ≡ true) → (packet : Packet) → received r ≡ Ok packet → IsShort packet → j.is_ready ≡ true
+      ready : (r : Result packets.Packet Refusal) → IfOk r (λ p. has_blocks p ≡ false → j.is_ready ≡ true) → (packet : Packet) → received r ≡ Ok packet
+          → IsShort packet → j.is_ready ≡ true
       ready (Err fault) room packet same short = absurd (cc)
       ready (Ok p) room packet same short = room (short-packet p (subst IsShort (let equal : packet ≡ meaning p = cc in equal) short))

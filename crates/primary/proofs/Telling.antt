@@ -2,6 +2,7 @@
 use Rattle.std.proofs.Common.{ℕ, suc, ◌≡◌, ◌<◌, ◌≤◌, Bool, true, false, Option, Some, None, Result, Ok, Err, refl, sym, ◌∙◌, ap, subst, arith}
 use Rattle.std.specs.Prelude.{ok_or}
 use Rattle.std.specs.Option.{option_map}
+use Rattle.blocks.specs.Positions.{StreamPosition}
 use Rattle.blocks.specs.declared.refusal.Refusal.{Refusal}
 use Rattle.blocks.specs.declared.refusal.Refusal.TheVariants.{NotCompleted}
 use Rattle.blocks.specs.declared.outcome.What.TheVariants as what
@@ -15,44 +16,54 @@ use Rattle.primary_steps.specs.Leaves.{is_linked}
 use Rattle.primary_steps.specs.Node.{IsStep, take_receipt}
 use Rattle.primary_steps.specs.Transitions.{take_completed}
 use Rattle.primary_steps.proofs.Node.Keeps.{receipts-keeps}
-use Rattle.primary_steps.proofs.Node.Receipts.{home-within, node-receipt, node-receipted, receipt_with}
+use Rattle.primary_steps.proofs.Node.Receipts.{node-receipt, node-receipted, receipt_with}
 use Rattle.primary.specs.Receipts.{kind_of, receipt_in}
 use Rattle.primary.specs.State.{PrimaryView, IsNode, node}
 use Rattle.primary.proofs.Kept.{plain-is}
 
 -- the receipt of a completed write
-receipt-as : (number : ℕ) (entry : Entry) (kind : Kind) (home : Option (ℕ × ℕ)) → entry.fate ≡ Completed (is_linked kind) home → receipt_in number entry ≡ Some (receipt_with number entry kind home)
+receipt-as : (number : ℕ) (entry : Entry) (kind : Kind) (home : Option StreamPosition) → entry.fate ≡ Completed (is_linked kind) home
+    → receipt_in number entry ≡ Some (receipt_with number entry kind home)
 receipt-as number entry kind home is = ap of is ∙ ap (λ k. Some (record (receipt_with number entry kind home) { kind = k })) (as-kind kind)
   where
     of : Fate → Option Receipt
     of fate = elim fate [
       | Open ↦ None
       | Failed ↦ None
-      | Completed linked home ↦ Some (record { number = number; first = entry.first; count = entry.count; kind = kind_of linked; home = option_map (λ home. (suc home.0, home.1)) home })
+      | Completed linked home ↦ Some (record {
+        number = number;
+        first = entry.first;
+        count = entry.count;
+        kind = kind_of linked;
+        home = home;
+      })
     ]
 
     as-kind : (k : Kind) → kind_of (is_linked k) ≡ k
     as-kind Linked = refl
     as-kind Alone = refl
 
-module _ (v : PrimaryView) (before : IsNode v) (number : ℕ) (got : Result Entry Refusal) (core : PrimaryState) (is : (got, core) ≡ take_completed number v.core) where
-  -- a node it stays
-  pub receipt-is : IsNode (record v { core = core })
-  receipt-is = plain-is (Receipts number) v core (reply.Ok (done_with what.Nothing)) (receipts-keeps number) before (node-receipted (node v) number got core is)
+module _ (v : PrimaryView) (before : IsNode v) (number : ℕ) (got : Result Entry Refusal) (core : PrimaryState) (is : (got, core) ≡ take_completed number v.core)
+  where
+    -- a node it stays
+    pub receipt-is : IsNode (record v { core = core })
+    receipt-is = plain-is (Receipts number) v core (reply.Ok (done_with what.Nothing)) (receipts-keeps number) before
+        (node-receipted (node v) number got core is)
 
-  -- there is none to take
-  pub receipt-refused : (e : Refusal) (told : Result Receipt Refusal) → got ≡ Err e → told ≡ Err e → IsStep (take_receipt number) (node v) told (node (record v { core = core }))
-  receipt-refused e told was said = node-receipt (node v) number got core is told (λ x at. said ∙ ap Err (let same : Err e ≡ Err x = sym was ∙ at in let equal : e ≡ x = cc in equal)) (λ entry kind home at fate. let no : Err e ≡ Ok entry = sym was ∙ at in absurd (cc))
+    -- there is none to take
+    pub receipt-refused : (e : Refusal) (told : Result Receipt Refusal) → got ≡ Err e → told ≡ Err e
+        → IsStep (take_receipt number) (node v) told (node (record v { core = core }))
+    receipt-refused e told was said = node-receipt (node v) number got core is told (λ x at. said
+        ∙ ap Err (let same : Err e ≡ Err x = sym was ∙ at in let equal : e ≡ x = cc in equal)) (λ entry kind home at fate. let no : Err e ≡ Ok entry = sym was
+        ∙ at in absurd (cc))
 
-  -- it is told as the entry has it
-  pub receipt-given : (entry : Entry) (told : Result Receipt Refusal) → got ≡ Ok entry → told ≡ ok_or (receipt_in number entry) NotCompleted → IsStep (take_receipt number) (node v) told (node (record v { core = core }))
-  receipt-given entry told was said =
-      node-receipt (node v) number got core is told (λ x at. let no : Ok entry ≡ Err x = sym was ∙ at in absurd (cc))
-      (λ other kind home at fate.
-      let both : Ok entry ≡ Ok other = sym was ∙ at in
-      let same : entry ≡ other = cc in
-      said ∙ (ap (λ (e : Entry). ok_or (receipt_in number e) NotCompleted) same ∙ ap (λ (r : Option Receipt). ok_or r NotCompleted) (receipt-as number other kind home fate)))
-
-  -- the number of its connection can be counted from 1
-  pub receipt-counts : (entry : Entry) (connections : ℕ) → connections ≡ v.core.connections → connections < 4294967296 → got ≡ Ok entry → (linked : Bool) (home : ℕ × ℕ) → entry.fate ≡ Completed linked (Some home) → home.0 < 4294967295
-  receipt-counts entry connections counted fits was linked home fate = let inside = home-within (node v) number got core is before.had entry linked home was fate in omega arith
+    -- it is told as the entry has it
+    pub receipt-given : (entry : Entry) (told : Result Receipt Refusal) → got ≡ Ok entry → told ≡ ok_or (receipt_in number entry) NotCompleted
+        → IsStep (take_receipt number) (node v) told (node (record v { core = core }))
+    receipt-given entry told was said =
+        node-receipt (node v) number got core is told (λ x at. let no : Ok entry ≡ Err x = sym was ∙ at in absurd (cc))
+        (λ other kind home at fate.
+        let both : Ok entry ≡ Ok other = sym was ∙ at in
+        let same : entry ≡ other = cc in
+        said ∙ (ap (λ (e : Entry). ok_or (receipt_in number e) NotCompleted) same
+        ∙ ap (λ (r : Option Receipt). ok_or r NotCompleted) (receipt-as number other kind home fate)))

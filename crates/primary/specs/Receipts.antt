@@ -1,6 +1,7 @@
 -- A receipt as its caller sees it.
 use Rattle.std.specs.Prelude.{ℕ, suc, Bool, true, false, ◌==◌, ◌&&◌, Option, Some, None}
 use Rattle.std.specs.Option.{option_map}
+use Rattle.blocks.specs.Positions.{StreamPosition}
 use Rattle.model.specs.Primary.{Kind, Linked, Alone}
 use Rattle.primary_steps.specs.Core.{Entry, Open, Failed, Completed, PrimaryState}
 use Rattle.primary_steps.specs.Transitions.{entry_at}
@@ -18,6 +19,15 @@ kind_as kind.Alone = Alone
 abbrev pub receipt_as : Inside → model.Receipt
 receipt_as r = record { number = r.number; first = r.first; count = r.count; kind = kind_as r.kind; home = r.home }
 
+-- and back
+abbrev pub kind_from : Kind → receipts.Kind
+kind_from Linked = kind.Linked
+kind_from Alone = kind.Alone
+
+-- the fields of a receipt
+abbrev pub receipt_from : model.Receipt → Inside
+receipt_from r = record { number = r.number; first = r.first; count = r.count; kind = kind_from r.kind; home = r.home }
+
 -- over the link, or without the peer
 abbrev pub kind_of : Bool → Kind
 kind_of true = Linked
@@ -28,19 +38,22 @@ abbrev pub receipt_in : ℕ → Entry → Option model.Receipt
 receipt_in number entry = elim entry.fate [
   | Open ↦ None
   | Failed ↦ None
-  | Completed linked home ↦ Some (record { number = number; first = entry.first; count = entry.count; kind = kind_of linked; home = option_map (λ home. (suc home.0, home.1)) home })
+  | Completed linked home ↦ Some (record {
+    number = number;
+    first = entry.first;
+    count = entry.count;
+    kind = kind_of linked;
+    home = home;
+  })
 ]
-
--- a home in a receipt is this one, whose connection is counted from 0
-abbrev pub is_home : Option (ℕ × ℕ) → Option (ℕ × ℕ) → Bool
-is_home home told = model.same_home (option_map (λ home. (suc home.0, home.1)) home) told
 
 -- the receipt is that of this entry, but for the number
 abbrev pub is_entry_of : Entry → model.Receipt → Bool
 is_entry_of entry receipt = elim entry.fate [
   | Open ↦ false
   | Failed ↦ false
-  | Completed linked home ↦ ((entry.first == receipt.first) && (entry.count == receipt.count)) && (model.same_kind (kind_of linked) receipt.kind && is_home home receipt.home)
+  | Completed linked home ↦ ((entry.first == receipt.first) && (entry.count == receipt.count))
+      && (model.same_kind (kind_of linked) receipt.kind && model.same_home home receipt.home)
 ]
 
 -- the receipt is that of a completed write

@@ -1,13 +1,13 @@
 //! The comparison of receipts with the journal.
 ghost use Rattle.std.specs.Prelude.{◌≡◌, [], not};
 ghost use Rattle.model.specs.Primary.{PrimaryHistory};
-ghost use Rattle.model.specs.Settlement.{has_strange};
+ghost use Rattle.model.specs.Settlement.{has_strange, same_home};
 ghost use Rattle.primary_steps.specs.Node.{NodeHas};
-ghost use Rattle.primary.specs.Receipts.{is_entry_of, is_found, is_home};
+ghost use Rattle.primary.specs.Receipts.{is_entry_of, is_found};
 ghost use Rattle.primary.specs.State.{node};
 
 use crate::{Kind, Primary, Receipt};
-use blocks::Store;
+use blocks::{Store, StreamPosition};
 use link::{FrameIn, FrameOut};
 use primary_core::{Entry, Fate, PrimaryCore};
 
@@ -49,17 +49,17 @@ fn is_entry_of(entry: &Entry, receipt: &Receipt) -> bool
     entry.first() == receipt.first().0
         && entry.count() == receipt.count()
         && kind == receipt.kind()
-        && is_home(home, receipt.home())
+        && same_home(home, receipt.home())
 }
 
-// Whether a receipt has this home, whose connection is counted from 0.
-fn is_home(home: Option<(u32, u32)>, told: Option<(u32, u32)>) -> bool
-    ensures { result ≡ is_home home told }
+// Whether two homes are the same.
+fn same_home(home: Option<StreamPosition>, told: Option<StreamPosition>) -> bool
+    ensures { result ≡ same_home home told }
 {
     match (home, told) {
         (None, None) => true,
-        (Some((connection, place)), Some((told_connection, told_place))) => {
-            told_connection.checked_sub(1) == Some(connection) && place == told_place
+        (Some(home), Some(told)) => {
+            home.connection() == told.connection() && home.place() == told.place()
         }
         _ => false,
     }

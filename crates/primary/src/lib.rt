@@ -17,6 +17,9 @@ mod state;
 mod submit;
 mod usage;
 
+pub use blocks::{Block, Done, Refusal, Settings, Store, Tuple};
+pub use endpoint::{Incoming, Outgoing};
+pub use link::{FrameIn, FrameOut};
 pub use parts::Unlinked;
 pub use primary_core::{Entry, Fate};
 pub use receipts::{Kind, Receipt};

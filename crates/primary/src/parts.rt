@@ -51,6 +51,14 @@ impl<O: FrameOut + Drop, I: FrameIn + Drop, S: Store + Drop> Primary<O, I, S> {
         (Unlinked { alloc, core, store }, outgoing, incoming)
     }
 
+    /// The disk of the node, for reading.
+    pub fn store(&self) -> &S
+        ensures contents { S.contents result.now ≡ self.now.disk }
+        ensures faults { S.faults result.now ≡ self.now.faults }
+    {
+        &self.store
+    }
+
     /// The disk of the node, which ends with it.
     pub fn into_store(self) -> S
         ensures { S.contents result ≡ self.disk }

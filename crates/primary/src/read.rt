@@ -10,7 +10,6 @@ ghost use Rattle.primary.specs.State.{node};
 use crate::Primary;
 use blocks::{BLOCK_BYTES, Block, Range, Refusal, Store};
 use link::{FrameIn, FrameOut};
-use std::alloc::Global;
 
 impl<O: FrameOut + Drop, I: FrameIn + Drop, S: Store + Drop> Primary<O, I, S> {
     /// Reads a block of the disk into a buffer of 4,096 bytes.
@@ -39,7 +38,7 @@ impl<O: FrameOut + Drop, I: FrameIn + Drop, S: Store + Drop> Primary<O, I, S> {
     ///
     /// `BadRange` (1) if they are not that, else `NoMemory` (7) if there is no room for their
     /// bytes, else `ReadFault` (14) if the disk fails.
-    pub fn read(&mut self, alloc: Global, first: u64, count: u64) -> Result<Vec<u8>, Refusal>
+    pub fn read(&mut self, first: u64, count: u64) -> Result<Vec<u8>, Refusal>
         ensures read { IfOk result (λ bytes. (h : PrimaryHistory) → NodeHas (node self.old) h → IsRead (local_map h) first count bytes.items) }
         ensures rest { self.new ≡ record self.old { faults = self.new.faults; steady = self.new.steady } }
         ensures works { self.old.steady ≡ true → self.new.steady ≡ true }
@@ -51,7 +50,7 @@ impl<O: FrameOut + Drop, I: FrameIn + Drop, S: Store + Drop> Primary<O, I, S> {
             ⊎ ((e ≡ ReadFault) × (is_range self.old.core.settings first count ≡ true) × (self.old.faults < self.new.faults)))) }
     {
         let range = Range::new(first, count, self.store.blocks())?;
-        let mut bytes = Vec::from_elem(alloc, 0u8, range.count as usize * BLOCK_BYTES)?;
+        let mut bytes = Vec::from_elem(self.alloc, 0u8, range.count as usize * BLOCK_BYTES)?;
         for offset in 0..range.count {
             let at = offset as usize * BLOCK_BYTES;
             let block = Block(range.first.0 + offset);

@@ -1,12 +1,11 @@
 //! Receipts of completed writes.
-ghost use Rattle.std.specs.Prelude.{ℕ, ◌≡◌, ◌<◌, Bool, Some};
-ghost use Rattle.primary_steps.specs.Core.{Completed};
+ghost use Rattle.std.specs.Prelude.{◌≡◌};
 ghost use Rattle.primary_steps.specs.Node.{IsStep, take_receipt};
 ghost use Rattle.primary.specs.Receipts.{kind_as, receipt_in};
 ghost use Rattle.primary.specs.State.{node};
 
 use crate::Primary;
-use blocks::{Block, Refusal, Store};
+use blocks::{Block, Refusal, Store, StreamPosition};
 use link::{FrameIn, FrameOut};
 use primary_core::{Entry, Fate};
 use std::marker::Model;
@@ -21,14 +20,13 @@ pub enum Kind {
 }
 
 /// That a write was completed, and how. Only `take_completed` makes one, once for each write.
-#[derive(Drop)]
+#[derive(Drop, Debug, PartialEq, Eq)]
 pub struct Receipt {
     number: u64,
     first: u64,
     count: u64,
     kind: Kind,
-    // The connection, counted from 1, and the place in its stream.
-    home: Option<(u32, u32)>,
+    home: Option<StreamPosition>,
 }
 
 impl Model for Receipt {
@@ -36,15 +34,19 @@ impl Model for Receipt {
 
     ghost Value = { Denoted };
 
-    ghost use Rattle.primary.specs.Receipts.{receipt_as};
+    ghost use Rattle.primary.specs.Given.{given_back};
+    ghost use Rattle.primary.specs.Receipts.{receipt_as, receipt_from};
 
     ghost view = { receipt_as };
+
+    ghost inverse = { receipt_from };
+
+    ghost inverse_ok = { λ a _. given_back a };
 }
 
 impl Receipt {
-    // The receipt of a completed write; none of one that is not. The connection of its home was opened.
+    // The receipt of a completed write; none of one that is not.
     fn of(number: u64, entry: &Entry) -> Option<Receipt>
-        requires { (linked : Bool) (home : ℕ × ℕ) → entry.now.fate ≡ Completed linked (Some home) → home.0 < 4294967295 }
         ensures { result ≡ receipt_in number entry.now }
     {
         let Fate::Completed { linked, home } = entry.fate() else {
@@ -55,7 +57,7 @@ impl Receipt {
             first: entry.first(),
             count: entry.count(),
             kind: if linked { Kind::Linked } else { Kind::Alone },
-            home: home.map(|(connection, place)| (connection + 1, place)),
+            home,
         })
     }
 
@@ -87,8 +89,8 @@ impl Receipt {
         self.kind
     }
 
-    /// Its connection, counted from 1, and its place in the stream, if it has one.
-    pub fn home(&self) -> Option<(u32, u32)>
+    /// Where it stood in a connection's stream, if it did.
+    pub fn home(&self) -> Option<StreamPosition>
         ensures { result ≡ self.now.home }
     {
         self.home
@@ -105,8 +107,6 @@ impl<O: FrameOut + Drop, I: FrameIn + Drop, S: Store + Drop> Primary<O, I, S> {
         ensures step { IsStep (take_receipt number) (node self.old) result (node self.new) }
         ensures rest { self.new ≡ record self.old { core = self.new.core } }
     {
-        // Of so many connections the receipt's one is counted.
-        let _connections = self.core.connections();
         let entry = self.core.take_completed(number)?;
         match Receipt::of(number, &entry) {
             Some(receipt) => Ok(receipt),

@@ -27,7 +27,8 @@ epochs-after : Option ℕ → ℕ → EpochsState → Option ℕ × EpochsState
 epochs-after connection number e = (home_in connection number e).1
 
 -- where a stream stands, little is due after the write
-owing-two : (connection number : ℕ) (end : Option EndState) (l m : LogState) (barrier : Option ℕ) → m.connection ≡ Some connection → (let after : Option ℕ × EpochsState = (barrier, m.epochs) in after ≡ (placed number l.epochs).1) → owing barrier end m ≤ 2
+owing-two : (connection number : ℕ) (end : Option EndState) (l m : LogState) (barrier : Option ℕ) → m.connection ≡ Some connection
+    → (let after : Option ℕ × EpochsState = (barrier, m.epochs) in after ≡ (placed number l.epochs).1) → owing barrier end m ≤ 2
 owing-two connection number None l m barrier at is = omega arith
 owing-two connection number (Some e) l m barrier at is =
     let item = places-item number l.epochs in
@@ -36,7 +37,8 @@ owing-two connection number (Some e) l m barrier at is =
     rw (at, ap (λ (p : Option ℕ × EpochsState). p.0) is, ap (λ (p : Option ℕ × EpochsState). p.1) is) (omega arith)
 
 -- with its barrier, where a stream stands
-pub owing-accepted : (end : Option EndState) (connection : Option ℕ) (first count : ℕ) (contents : List ℕ) (l : LogState) → l.connection ≡ connection → is_some connection ≡ true
+pub owing-accepted : (end : Option EndState) (connection : Option ℕ) (first count : ℕ) (contents : List ℕ) (l : LogState) → l.connection ≡ connection
+    → is_some connection ≡ true
     → owing (accepting first count contents l).0.barrier end (accepting first count contents l).1 ≤ 2
 owing-accepted end None first count contents l at stands = absurd (cc)
 owing-accepted end (Some connection) first count contents l at stands =
@@ -48,11 +50,13 @@ pub owing-left : (end : Option EndState) (connection : Option ℕ) (first count 
 owing-left None connection first count contents l at = inl (omega arith)
 owing-left (Some e) None first count contents l at = inr (rw at (omega arith))
 owing-left (Some e) (Some connection) first count contents l at =
-    let two = owing-two connection (l.accepted + 1) (Some e) l (accepting first count contents l).1 (accepting first count contents l).0.barrier at (rw at refl) in
+    let two = owing-two connection (l.accepted + 1) (Some e) l (accepting first count contents l).1 (accepting first count contents l).0.barrier at
+    (rw at refl) in
     inl (omega (arith, two))
 
 -- the stream has places still
-places-some : (connection number : ℕ) (end : Option EndState) (l m : LogState) → m.connection ≡ Some connection → l.epochs.places < 4294967288 → m.epochs ≡ (placed number l.epochs).1.1 → m.epochs.places + places_owing end m ≤ 4294967290
+places-some : (connection number : ℕ) (end : Option EndState) (l m : LogState) → m.connection ≡ Some connection → l.epochs.places < 4294967288
+    → m.epochs ≡ (placed number l.epochs).1.1 → m.epochs.places + places_owing end m ≤ 4294967290
 places-some connection number None l m at few is =
     let item = places-item number l.epochs in
     let places = item.places in
@@ -65,18 +69,22 @@ places-some connection number (Some e) l m at few is =
     let resync = few-bool e.resync in
     rw (at, is) (omega arith)
 
-places-none : (end : Option EndState) (l m : LogState) → l.connection ≡ None → m.connection ≡ None → m.epochs ≡ l.epochs → l.epochs.places + places_owing end l ≤ 4294967290 → m.epochs.places + places_owing end m ≤ 4294967290
+places-none : (end : Option EndState) (l m : LogState) → l.connection ≡ None → m.connection ≡ None → m.epochs ≡ l.epochs
+    → l.epochs.places + places_owing end l ≤ 4294967290 → m.epochs.places + places_owing end m ≤ 4294967290
 places-none None l m at there is few = let was = rw at at few in rw (there, is) was
 places-none (Some e) l m at there is few = let was = rw at at few in rw (there, is) was
 
-pub places-accepted : (end : Option EndState) (connection : Option ℕ) (first count : ℕ) (contents : List ℕ) (l : LogState) → l.connection ≡ connection → (is_some connection && nat_le 4294967288 l.epochs.places) ≡ false
-    → l.epochs.places + places_owing end l ≤ 4294967290 → (accepting first count contents l).1.epochs.places + places_owing end (accepting first count contents l).1 ≤ 4294967290
+pub places-accepted : (end : Option EndState) (connection : Option ℕ) (first count : ℕ) (contents : List ℕ) (l : LogState) → l.connection ≡ connection
+    → (is_some connection && nat_le 4294967288 l.epochs.places) ≡ false
+    → l.epochs.places + places_owing end l ≤ 4294967290
+    → (accepting first count contents l).1.epochs.places + places_owing end (accepting first count contents l).1 ≤ 4294967290
 places-accepted end None first count contents l at room few = places-none end l (accepting first count contents l).1 at at (rw at refl) few
 places-accepted end (Some connection) first count contents l at room few =
     places-some connection (l.accepted + 1) end l (accepting first count contents l).1 at (below-limit l.epochs.places room) (rw at refl)
 
 -- a write is taken in
-pub sound-accepted : (s : PrimaryState) (first count : ℕ) (contents : List ℕ) → IsSound s → first + count ≤ s.settings.blocks → length contents ≡ 4096 * count → (stands s && nat_le 4294967288 s.log.epochs.places) ≡ false
+pub sound-accepted : (s : PrimaryState) (first count : ℕ) (contents : List ℕ) → IsSound s → first + count ≤ s.settings.blocks → length contents ≡ 4096 * count
+    → (stands s && nat_le 4294967288 s.log.epochs.places) ≡ false
     → IsSound (taken_in first count contents s).1
 sound-accepted s first count contents is inside whole room = record {
   in_range = is.in_range;

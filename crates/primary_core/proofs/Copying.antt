@@ -27,10 +27,13 @@ pub record Chosen (s : PrimaryState) (e : EndState) (block : ℕ) : Type 0 where
   pub inside : block < length s.marks
 
 next-inside : (marks : List Bool) (held : List Holding) (block : ℕ) → next_block marks held ≡ Some block → block < length marks
-next-inside marks held block is = (found_below (λ k. marked marks k && is_free held k) (length marks) block (sym is ∙ find-filter (is_free held) (marked marks) (below (length marks)))).within
+next-inside marks held block is =
+    (found_below (λ k. marked marks k && is_free held k) (length marks) block (sym is
+    ∙ find-filter (is_free held) (marked marks) (below (length marks)))).within
 
 chosen-at : (resync under none full : Bool) (next : Option ℕ) (block : ℕ) → none ≡ is_none next
-    → (elim (first_refusal ((not resync || (under || none), NothingToDo) ∷ (full, StreamFull) ∷ (false, NoMemory) ∷ [])) as (λ _. Result ℕ Refusal) [ Some refusal ↦ Err refusal | None ↦ ok_or next NothingToDo ]) ≡ Ok block
+    → (elim (first_refusal ((not resync || (under || none), NothingToDo) ∷ (full, StreamFull) ∷ (false, NoMemory) ∷ [])) as
+    (λ _. Result ℕ Refusal) [ Some refusal ↦ Err refusal | None ↦ ok_or next NothingToDo ]) ≡ Ok block
     → (resync ≡ true) × (under ≡ false) × (full ≡ false) × (next ≡ Some block)
 chosen-at false under none full next block at is = absurd (cc)
 chosen-at true true none full next block at is = absurd (cc)
@@ -41,13 +44,20 @@ chosen-at true false false false (Some b) block at is = (refl, refl, refl, cc)
 
 pub chosen : (s : PrimaryState) (e : EndState) (block : ℕ) → s.end ≡ Some e → resync_choice false s ≡ Ok block → Chosen s e block
 chosen s e block is choice =
-    let here : (elim (first_refusal (resync_tests false e s)) as (λ _. Result ℕ Refusal) [ Some refusal ↦ Err refusal | None ↦ ok_or (next_block s.marks s.held) NothingToDo ]) ≡ Ok block =
-    sym (ap (λ (o : Option EndState). elim o as (λ _. Result ℕ Refusal) [ None ↦ Err NotConnected | Some x ↦ elim (first_refusal (resync_tests false x s)) as (λ _. Result ℕ Refusal) [ Some refusal ↦ Err refusal | None ↦ ok_or (next_block s.marks s.held) NothingToDo ] ]) is) ∙ choice in
-    let parts = chosen-at e.resync (is_some e.under_way) (is_none (next_block s.marks s.held)) (nat_le 4294967288 s.log.epochs.places) (next_block s.marks s.held) block refl here in
+    let here : (elim (first_refusal (resync_tests false e s)) as
+    (λ _. Result ℕ Refusal) [ Some refusal ↦ Err refusal | None ↦ ok_or (next_block s.marks s.held) NothingToDo ]) ≡ Ok block =
+    sym (ap (λ (o : Option EndState). elim o as (λ _. Result ℕ Refusal) [
+      | None ↦ Err NotConnected
+      | Some x ↦ elim (first_refusal (resync_tests false x s)) as
+          (λ _. Result ℕ Refusal) [ Some refusal ↦ Err refusal | None ↦ ok_or (next_block s.marks s.held) NothingToDo ]
+    ]) is) ∙ choice in
+    let parts = chosen-at e.resync (is_some e.under_way) (is_none (next_block s.marks s.held)) (nat_le 4294967288 s.log.epochs.places)
+    (next_block s.marks s.held) block refl here in
     record { resync = parts.0; free = parts.1; places = parts.2; inside = next-inside s.marks s.held block parts.3 }
 
 -- the block's number is the lowest that holds something
-pub holding-zero : (accepted block : ℕ) (held : List Holding) → AllByRecursion (IsWriter accepted) held → holding_too (holding 0 block 1) held ≡ holding 0 block 1 ∷ held
+pub holding-zero : (accepted block : ℕ) (held : List Holding) → AllByRecursion (IsWriter accepted) held
+    → holding_too (holding 0 block 1) held ≡ holding 0 block 1 ∷ held
 holding-zero accepted block [] all = refl
 holding-zero accepted block (h ∷ held) all = rw (lt-ltb 0 h.number all.0.numbered) refl
 

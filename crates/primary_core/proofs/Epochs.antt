@@ -31,7 +31,8 @@ and-left : (a b : Bool) → (a && b) ≡ true → a ≡ true
 and-left true b is = refl
 and-left false b is = cc
 
-going-at : (is_resync : Bool) (number : ℕ) (e : EpochsState) → (if is_resync then e.resync else nat_lt 0 e.size && nat_le e.first number) ≡ true → is_going_on e ≡ true
+going-at : (is_resync : Bool) (number : ℕ) (e : EpochsState) → (if is_resync then e.resync else nat_lt 0 e.size && nat_le e.first number) ≡ true
+    → is_going_on e ≡ true
 going-at true number e is = or-right (nat_lt 0 e.size) e.resync is
 going-at false number e is = or-left (nat_lt 0 e.size) e.resync (and-left (nat_lt 0 e.size) (nat_le e.first number) is)
 
@@ -64,7 +65,8 @@ due-write : (over : Bool) (e : EpochsState) → appended (ended_if over e).0 + b
 due-write true e = omega arith
 due-write false e = let few = few-due (is_going_on e) in omega arith
 
-places-item-at : (is_resync : Bool) (number : ℕ) (e : EpochsState) → let answer : Option ℕ × EpochsState = (if is_resync then (None, with_resync e) else write_placed (with_write number e)) in Places e answer.1 answer.0
+places-item-at : (is_resync : Bool) (number : ℕ) (e : EpochsState)
+    → let answer : Option ℕ × EpochsState = (if is_resync then (None, with_resync e) else write_placed (with_write number e)) in Places e answer.1 answer.0
 places-item-at true number e = record { places = omega arith; due = let few = few-due (nat_lt 0 e.size || true) in omega arith }
 places-item-at false number e =
     let w = with_write number e in

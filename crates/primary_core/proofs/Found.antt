@@ -10,6 +10,7 @@ pub found-is : (P : LogWrite → Type 0) (number : ℕ) (ws : List LogWrite) (w 
 found-is P number [] w each is = absurd (cc)
 found-is P number (v ∷ ws) w each is = go (has_number number v) refl (found-is P number ws w each.1) is
   where
-    go : (b : Bool) → has_number number v ≡ b → (write_at number ws ≡ Some w → P w × (w.number ≡ number)) → (if b then Some v else write_at number ws) ≡ Some w → P w × (w.number ≡ number)
+    go : (b : Bool) → has_number number v ≡ b → (write_at number ws ≡ Some w → P w × (w.number ≡ number)) → (if b then Some v else write_at number ws) ≡ Some w
+        → P w × (w.number ≡ number)
     go true has rest is = let same : v ≡ w = cc in rw (← same) (each.0, number_is v.number number has)
     go false has rest is = rest is

@@ -14,7 +14,8 @@ use Rattle.primary_core.specs.declared.state.UnderWay.{UnderWay}
 
 -- What a write holds goes, and the block under way stays.
 
-without-way : (number : ℕ) (way : Option UnderWay) (held : List Holding) → 0 < number → without number (held_with way held) ≡ held_with way (without number held)
+without-way : (number : ℕ) (way : Option UnderWay) (held : List Holding) → 0 < number
+    → without number (held_with way held) ≡ held_with way (without number held)
 without-way number None held some = refl
 without-way number (Some w) held some = rw (lower_number 0 number some) refl
 
@@ -22,14 +23,16 @@ pub without-held : (number : ℕ) (end : Option End) (held : List Holding) → 0
 without-held number None held some = refl
 without-held number (Some e) held some = without-way number e.under_way held some
 
-pub freeing-held : (completed : List Completed) (end : Option End) (held : List Holding) → AllByRecursion IsNumbered completed → freeing completed (held_at end held) ≡ held_at end (freeing completed held)
+pub freeing-held : (completed : List Completed) (end : Option End) (held : List Holding) → AllByRecursion IsNumbered completed
+    → freeing completed (held_at end held) ≡ held_at end (freeing completed held)
 freeing-held [] end held all = refl
 freeing-held (c ∷ completed) end held all =
     ap (freeing completed) (without-held c.number end held all.0) ∙ freeing-held completed end (without c.number held) all.1
 
 -- What another write holds comes.
 
-holding-way : (h : Holding) (way : Option UnderWay) (held : List Holding) → 0 < h.number → holding_too h (held_with way held) ≡ held_with way (holding_too h held)
+holding-way : (h : Holding) (way : Option UnderWay) (held : List Holding) → 0 < h.number
+    → holding_too h (held_with way held) ≡ held_with way (holding_too h held)
 holding-way h None held some = refl
 holding-way h (Some w) held some = rw (le-ltb h.number 0 (omega arith)) refl
 
@@ -39,15 +42,19 @@ holding-held h (Some e) held some = holding-way h e.under_way held some
 
 -- Only accepted writes hold something.
 
-writers-kept : (accepted : ℕ) (b : Bool) (h : Holding) (held : List Holding) → IsWriter accepted h → AllByRecursion (IsWriter accepted) held → AllByRecursion (IsWriter accepted) (if b then h ∷ held else held)
+writers-kept : (accepted : ℕ) (b : Bool) (h : Holding) (held : List Holding) → IsWriter accepted h → AllByRecursion (IsWriter accepted) held
+    → AllByRecursion (IsWriter accepted) (if b then h ∷ held else held)
 writers-kept accepted true h held here all = (here, all)
 writers-kept accepted false h held here all = all
 
-pub writers-without : (accepted number : ℕ) (held : List Holding) → AllByRecursion (IsWriter accepted) held → AllByRecursion (IsWriter accepted) (without number held)
+pub writers-without : (accepted number : ℕ) (held : List Holding) → AllByRecursion (IsWriter accepted) held
+    → AllByRecursion (IsWriter accepted) (without number held)
 writers-without accepted number [] all = tt
-writers-without accepted number (h ∷ held) all = writers-kept accepted (not (h.number == number)) h (without number held) all.0 (writers-without accepted number held all.1)
+writers-without accepted number (h ∷ held) all = writers-kept accepted (not (h.number == number)) h (without number held) all.0
+    (writers-without accepted number held all.1)
 
-pub writers-freeing : (accepted : ℕ) (completed : List Completed) (held : List Holding) → AllByRecursion (IsWriter accepted) held → AllByRecursion (IsWriter accepted) (freeing completed held)
+pub writers-freeing : (accepted : ℕ) (completed : List Completed) (held : List Holding) → AllByRecursion (IsWriter accepted) held
+    → AllByRecursion (IsWriter accepted) (freeing completed held)
 writers-freeing accepted [] held all = all
 writers-freeing accepted (c ∷ completed) held all = writers-freeing accepted completed (without c.number held) (writers-without accepted c.number held all)
 
@@ -56,18 +63,22 @@ writer-later : (accepted : ℕ) (held : List Holding) → AllByRecursion (IsWrit
 writer-later accepted [] all = tt
 writer-later accepted (h ∷ held) all = (record { numbered = all.0.numbered; known = omega (arith, all.0.known) }, writer-later accepted held all.1)
 
-inserted : (accepted : ℕ) (b : Bool) (new h : Holding) (held : List Holding) → IsWriter accepted new → IsWriter accepted h → AllByRecursion (IsWriter accepted) held → AllByRecursion (IsWriter accepted) (holding_too new held)
+inserted : (accepted : ℕ) (b : Bool) (new h : Holding) (held : List Holding) → IsWriter accepted new → IsWriter accepted h
+    → AllByRecursion (IsWriter accepted) held → AllByRecursion (IsWriter accepted) (holding_too new held)
     → AllByRecursion (IsWriter accepted) (if b then new ∷ h ∷ held else h ∷ holding_too new held)
 inserted accepted true new h held is here all rest = (is, (here, all))
 inserted accepted false new h held is here all rest = (here, rest)
 
-writers-too : (accepted : ℕ) (new : Holding) (held : List Holding) → IsWriter accepted new → AllByRecursion (IsWriter accepted) held → AllByRecursion (IsWriter accepted) (holding_too new held)
+writers-too : (accepted : ℕ) (new : Holding) (held : List Holding) → IsWriter accepted new → AllByRecursion (IsWriter accepted) held
+    → AllByRecursion (IsWriter accepted) (holding_too new held)
 writers-too accepted new [] is all = (is, tt)
 writers-too accepted new (h ∷ held) is all = inserted accepted (nat_lt new.number h.number) new h held is all.0 all.1 (writers-too accepted new held is all.1)
 
 -- the next write holds its blocks
-pub writers-next : (accepted first count : ℕ) (held : List Holding) → AllByRecursion (IsWriter accepted) held → AllByRecursion (IsWriter (accepted + 1)) (holding_too (holding (accepted + 1) first count) held)
-writers-next accepted first count held all = writers-too (accepted + 1) (holding (accepted + 1) first count) held (record { numbered = omega arith; known = omega arith }) (writer-later accepted held all)
+pub writers-next : (accepted first count : ℕ) (held : List Holding) → AllByRecursion (IsWriter accepted) held
+    → AllByRecursion (IsWriter (accepted + 1)) (holding_too (holding (accepted + 1) first count) held)
+writers-next accepted first count held all = writers-too (accepted + 1) (holding (accepted + 1) first count) held
+    (record { numbered = omega arith; known = omega arith }) (writer-later accepted held all)
 
 -- The block under way holds nothing more.
 

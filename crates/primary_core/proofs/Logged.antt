@@ -27,9 +27,11 @@ pub record Steps (s : Settings) (l m : LogState) (barrier : Option ℕ) : Type 0
   pub appends : Appends l.epochs m.epochs barrier
 
 -- something happens to one write
-pub steps-changing : (s : Settings) (number : ℕ) (f : LogWrite → LogWrite) (l m : LogState) (barrier : Option ℕ) → KeepsRange f → (let step : Option ℕ × LogState = (barrier, m) in step ≡ changing number f l) → IsSoundLog s l → Steps s l m barrier
+pub steps-changing : (s : Settings) (number : ℕ) (f : LogWrite → LogWrite) (l m : LogState) (barrier : Option ℕ) → KeepsRange f
+    → (let step : Option ℕ × LogState = (barrier, m) in step ≡ changing number f l) → IsSoundLog s l → Steps s l m barrier
 steps-changing s number f l m barrier keeps is sound =
-    subst (λ (p : Option ℕ × LogState). Steps s l p.1 p.0) (sym is) (record { sound = sound-changing s number f l keeps sound; accepted = refl; connection = refl; appends = appends-changing number f l })
+    subst (λ (p : Option ℕ × LogState). Steps s l p.1 p.0) (sym is)
+    (record { sound = sound-changing s number f l keeps sound; accepted = refl; connection = refl; appends = appends-changing number f l })
 
 -- what is kept is kept
 pub core-logged : (c : Inside) (m : LogValue) (barrier : Option ℕ) → IsCore c → Steps c.settings c.log.state m.state barrier → IsCore (record c { log = m })
@@ -44,7 +46,8 @@ core-logged c m barrier is steps = record {
 }
 
 -- and there is room for the barrier
-pub room-logged : (s : PrimaryState) (m : LogState) (barrier : Option ℕ) (room : ℕ) → owing None s.end s.log ≤ room → Steps s.settings s.log m barrier → owing barrier s.end m ≤ room
+pub room-logged : (s : PrimaryState) (m : LogState) (barrier : Option ℕ) (room : ℕ) → owing None s.end s.log ≤ room → Steps s.settings s.log m barrier
+    → owing barrier s.end m ≤ room
 room-logged s m barrier room enough steps = let after = owing-after s.end s.log m barrier steps.connection steps.appends in omega arith
 
 -- What follows the step.
@@ -53,7 +56,8 @@ pub follows-logged : (s : PrimaryState) (name : What) (change : Option ℕ × Lo
 follows-logged s name change barrier m r is follows = follows ∙ ap (λ (p : Option ℕ × LogState). following name p.0 (record s { log = p.1 })) is
 
 -- A step whose tests pass is done.
-pub passes : {R : Type 0} (s : PrimaryState) (tests : List Test) (done : Unit {0} → Result R Refusal × PrimaryState) (r : Result R Refusal × PrimaryState) → first_refusal tests ≡ None → r ≡ done tt → r ≡ tested s tests done
+pub passes : {R : Type 0} (s : PrimaryState) (tests : List Test) (done : Unit {0} → Result R Refusal × PrimaryState) (r : Result R Refusal × PrimaryState)
+    → first_refusal tests ≡ None → r ≡ done tt → r ≡ tested s tests done
 passes s tests done r none is = rw (none, tested) is
 
 -- the local disk has a write to do

@@ -17,7 +17,8 @@ or-false : (a : Bool) → (a || false) ≡ a
 or-false true = refl
 or-false false = refl
 
-twice : (from : ℕ) (f g : ℕ → Bool) (marks : List Bool) → marking_from from g (marking_from from f marks) ≡ marking_from from (λ block. f block || g block) marks
+twice : (from : ℕ) (f g : ℕ → Bool) (marks : List Bool)
+    → marking_from from g (marking_from from f marks) ≡ marking_from from (λ block. f block || g block) marks
 twice from f g [] = refl
 twice from f g (mark ∷ marks) =
     ap (λ (m : Bool). m ∷ marking_from (suc from) g (marking_from (suc from) f marks)) (or-assoc mark (f from) (g from))
@@ -25,7 +26,8 @@ twice from f g (mark ∷ marks) =
 
 pub none-more : (from : ℕ) (marks : List Bool) → marking_from from (λ block. false) marks ≡ marks
 none-more from [] = refl
-none-more from (mark ∷ marks) = ap (λ (m : Bool). m ∷ marking_from (suc from) (λ block. false) marks) (or-false mark) ∙ ap (λ more. mark ∷ more) (none-more (suc from) marks)
+none-more from (mark ∷ marks) = ap (λ (m : Bool). m ∷ marking_from (suc from) (λ block. false) marks) (or-false mark)
+    ∙ ap (λ more. mark ∷ more) (none-more (suc from) marks)
 
 -- whether the write has at least this number
 abbrev pub is_from : ℕ → LogWrite → Bool
@@ -58,11 +60,13 @@ left-by false n low v w ws passes rises some rest =
     rw (passes, lt-leb (w.number + 1) v.number (omega arith)) (rest later)
 
 -- the writes from a number on are the first of them, and those behind that
-next-left : (n low : ℕ) (w : LogWrite) (ws : List LogWrite) → Rises low ws → find (is_from n) ws ≡ Some w → filter (is_from n) ws ≡ w ∷ filter (is_from (w.number + 1)) ws
+next-left : (n low : ℕ) (w : LogWrite) (ws : List LogWrite) → Rises low ws → find (is_from n) ws ≡ Some w
+    → filter (is_from n) ws ≡ w ∷ filter (is_from (w.number + 1)) ws
 next-left n low w [] rises some = absurd (cc)
 next-left n low w (v ∷ ws) rises some = left-by (is_from n v) n low v w ws refl rises some (next-left n (suc v.number) w ws rises.1)
 
-none-by : (passes : Bool) (p : LogWrite → Bool) (w : LogWrite) (ws : List LogWrite) → p w ≡ passes → find p (w ∷ ws) ≡ None → (find p ws ≡ None → filter p ws ≡ []) → filter p (w ∷ ws) ≡ []
+none-by : (passes : Bool) (p : LogWrite → Bool) (w : LogWrite) (ws : List LogWrite) → p w ≡ passes → find p (w ∷ ws) ≡ None
+    → (find p ws ≡ None → filter p ws ≡ []) → filter p (w ∷ ws) ≡ []
 none-by true p w ws passes none rest = let some : Some w ≡ None = rw passes at none in absurd (cc)
 none-by false p w ws passes none rest = rw passes (rest (rw passes at none))
 
@@ -70,7 +74,8 @@ none-left : (p : LogWrite → Bool) (ws : List LogWrite) → find p ws ≡ None 
 none-left p [] none = refl
 none-left p (w ∷ ws) none = none-by (p w) p w ws refl none (none-left p ws)
 
-found-by : (passes : Bool) (P : LogWrite → Type 0) (p : LogWrite → Bool) (v w : LogWrite) (ws : List LogWrite) → p v ≡ passes → Each P (v ∷ ws) → find p (v ∷ ws) ≡ Some w → (find p ws ≡ Some w → P w) → P w
+found-by : (passes : Bool) (P : LogWrite → Type 0) (p : LogWrite → Bool) (v w : LogWrite) (ws : List LogWrite) → p v ≡ passes → Each P (v ∷ ws)
+    → find p (v ∷ ws) ≡ Some w → (find p ws ≡ Some w → P w) → P w
 found-by true P p v w ws passes each some rest = let first : Some v ≡ Some w = rw passes at some in let same : v ≡ w = cc in subst P same each.0
 found-by false P p v w ws passes each some rest = rest (rw passes at some)
 
@@ -87,15 +92,18 @@ abbrev pub marked_from : ℕ → List LogWrite → List Bool → List Bool
 marked_from n ws marks = marking (unreleased_blocks (filter (is_from n) ws)) marks
 
 -- one write more of a list, as a loop goes over it
-pub mark-step : (ws : List LogWrite) (n : ℕ) (w : LogWrite) (first marks : List Bool) → Rises 0 ws → find (is_from n) ws ≡ Some w → marked_from n ws marks ≡ marking (unreleased_blocks ws) first
+pub mark-step : (ws : List LogWrite) (n : ℕ) (w : LogWrite) (first marks : List Bool) → Rises 0 ws → find (is_from n) ws ≡ Some w
+    → marked_from n ws marks ≡ marking (unreleased_blocks ws) first
     → marked_from (w.number + 1) ws (marking (is_between w.first w.count) marks) ≡ marking (unreleased_blocks ws) first
 mark-step ws n w first marks rises some rest =
     twice 0 (is_between w.first w.count) (unreleased_blocks (filter (is_from (w.number + 1)) ws)) marks
     ∙ (sym (ap (λ (more : List LogWrite). marking (unreleased_blocks more) marks) (next-left n 0 w ws rises some)) ∙ rest)
 
 -- all writes of a list
-pub mark-all : (ws : List LogWrite) (n : ℕ) (first marks : List Bool) → find (is_from n) ws ≡ None → marked_from n ws marks ≡ marking (unreleased_blocks ws) first → marks ≡ marking (unreleased_blocks ws) first
-mark-all ws n first marks none rest = sym (ap (λ (more : List LogWrite). marking (unreleased_blocks more) marks) (none-left (is_from n) ws none) ∙ none-more 0 marks) ∙ rest
+pub mark-all : (ws : List LogWrite) (n : ℕ) (first marks : List Bool) → find (is_from n) ws ≡ None
+    → marked_from n ws marks ≡ marking (unreleased_blocks ws) first → marks ≡ marking (unreleased_blocks ws) first
+mark-all ws n first marks none rest = sym (ap (λ (more : List LogWrite). marking (unreleased_blocks more) marks) (none-left (is_from n) ws none)
+    ∙ none-more 0 marks) ∙ rest
 
 or-true : (a : Bool) → (a || true) ≡ true
 or-true true = refl
@@ -104,4 +112,5 @@ or-true false = refl
 -- every block is marked
 pub all-marked : (from : ℕ) (marks : List Bool) → marking_from from (λ block. true) marks ≡ replicate (length marks) true
 all-marked from [] = refl
-all-marked from (mark ∷ marks) = ap (λ (m : Bool). m ∷ marking_from (suc from) (λ block. true) marks) (or-true mark) ∙ ap (λ more. true ∷ more) (all-marked (suc from) marks)
+all-marked from (mark ∷ marks) = ap (λ (m : Bool). m ∷ marking_from (suc from) (λ block. true) marks) (or-true mark)
+    ∙ ap (λ more. true ∷ more) (all-marked (suc from) marks)

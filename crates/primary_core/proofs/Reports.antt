@@ -17,18 +17,22 @@ length-below (suc n) = simp length-append (omega (arith, length-below n))
 pub length-unmarking : (released : List Released) (latest : List ℕ) (marks : List Bool) → length (unmarking released latest marks) ≡ length marks
 length-unmarking released latest marks = length-map (below (length marks)) _ ∙ length-below (length marks)
 
-less : (accepted extent : ℕ) (b : Bool) (a : Active) (active : List Active) → IsCounted accepted a → AllByRecursion (IsCounted accepted) active → AllByRecursion (IsCounted accepted) (one_less extent active)
+less : (accepted extent : ℕ) (b : Bool) (a : Active) (active : List Active) → IsCounted accepted a → AllByRecursion (IsCounted accepted) active
+    → AllByRecursion (IsCounted accepted) (one_less extent active)
     → AllByRecursion (IsCounted accepted) (if b then record a { writes = a.writes - 1 } ∷ active else a ∷ one_less extent active)
 less accepted extent true a active here all rest = (omega (arith, here), all)
 less accepted extent false a active here all rest = (here, rest)
 
-counted-less : (accepted extent : ℕ) (active : List Active) → AllByRecursion (IsCounted accepted) active → AllByRecursion (IsCounted accepted) (one_less extent active)
+counted-less : (accepted extent : ℕ) (active : List Active) → AllByRecursion (IsCounted accepted) active
+    → AllByRecursion (IsCounted accepted) (one_less extent active)
 counted-less accepted extent [] all = tt
 counted-less accepted extent (a ∷ active) all = less accepted extent (extent == a.extent) a active all.0 all.1 (counted-less accepted extent active all.1)
 
-counted-leaving : (accepted : ℕ) (released : List Released) (activity : ActivityState) → AllByRecursion (IsCounted accepted) activity.active → AllByRecursion (IsCounted accepted) (leaving released activity).active
+counted-leaving : (accepted : ℕ) (released : List Released) (activity : ActivityState) → AllByRecursion (IsCounted accepted) activity.active
+    → AllByRecursion (IsCounted accepted) (leaving released activity).active
 counted-leaving accepted [] activity all = all
-counted-leaving accepted (r ∷ released) activity all = counted-leaving accepted released (ended (extent_of r.first) activity) (counted-less accepted (extent_of r.first) activity.active all)
+counted-leaving accepted (r ∷ released) activity all = counted-leaving accepted released (ended (extent_of r.first) activity)
+    (counted-less accepted (extent_of r.first) activity.active all)
 
 pub sound-reporting : (s : PrimaryState) → IsSound s → IsSound (reporting s)
 sound-reporting s is = record {

@@ -22,7 +22,8 @@ places-after None l m barrier same appends few = rw same (omega (arith, appends.
 places-after (Some e) l m barrier same appends few = rw same (omega (arith, appends.due, appends.places))
 
 -- a step of the log that accepts nothing
-pub sound-logged : (s : PrimaryState) (m : LogState) (barrier : Option ℕ) → IsSound s → IsSoundLog s.settings m → m.accepted ≡ s.log.accepted → m.connection ≡ s.log.connection → Appends s.log.epochs m.epochs barrier
+pub sound-logged : (s : PrimaryState) (m : LogState) (barrier : Option ℕ) → IsSound s → IsSoundLog s.settings m → m.accepted ≡ s.log.accepted
+    → m.connection ≡ s.log.connection → Appends s.log.epochs m.epochs barrier
     → IsSound (record s { log = m })
 sound-logged s m barrier is log accepted same appends = record {
   in_range = is.in_range;

@@ -37,7 +37,8 @@ each_map P f [] keeps each = tt
 each_map P f (w ∷ ws) keeps each = (keeps w each.0, each_map P f ws keeps each.1)
 
 -- what is made of each write of a list is as those writes say
-each_to_all : {X : Type 0} (P : LogWrite → Type 0) (Q : X → Type 0) (g : LogWrite → X) (ws : List LogWrite) → ((w : LogWrite) → P w → Q (g w)) → Each P ws → AllByRecursion Q (map g ws)
+each_to_all : {X : Type 0} (P : LogWrite → Type 0) (Q : X → Type 0) (g : LogWrite → X) (ws : List LogWrite) → ((w : LogWrite) → P w → Q (g w)) → Each P ws
+    → AllByRecursion Q (map g ws)
 each_to_all P Q g [] makes each = tt
 each_to_all P Q g (w ∷ ws) makes each = (makes w each.0, each_to_all P Q g ws makes each.1)
 
@@ -49,13 +50,17 @@ told-released : (blocks : ℕ) (ws : List LogWrite) → Each (IsInside blocks) w
 told-released blocks ws each = each_to_all (IsInside blocks) (LiesInside blocks) released_of ws (λ w is. is.inside) each
 
 -- something happens to each write
-sound-moved : (s : Settings) (f : LogWrite → LogWrite) (confirmed : ℕ) (l : LogState) → ((ws : List LogWrite) → Each (IsInside s.blocks) ws → Each (IsInside s.blocks) (map f ws)) → IsSoundLog s l → IsSoundLog s (moved f confirmed l)
+sound-moved : (s : Settings) (f : LogWrite → LogWrite) (confirmed : ℕ) (l : LogState)
+    → ((ws : List LogWrite) → Each (IsInside s.blocks) ws → Each (IsInside s.blocks) (map f ws)) → IsSoundLog s l → IsSoundLog s (moved f confirmed l)
 sound-moved s f confirmed l keeps is = record {
   backlog = is.backlog;
   latest = is.latest;
   writes = each_filter (IsInside s.blocks) (λ w. not (is_released confirmed w)) (map f l.writes) (keeps l.writes is.writes);
-  completed = told-completed s.blocks (filter is_completed (map f (filter is_open l.writes))) (each_filter (IsInside s.blocks) is_completed (map f (filter is_open l.writes)) (keeps (filter is_open l.writes) (each_filter (IsInside s.blocks) is_open l.writes is.writes)));
-  released = told-released s.blocks (filter (is_released confirmed) (map f l.writes)) (each_filter (IsInside s.blocks) (is_released confirmed) (map f l.writes) (keeps l.writes is.writes));
+  completed = told-completed s.blocks (filter is_completed (map f (filter is_open l.writes)))
+      (each_filter (IsInside s.blocks) is_completed (map f (filter is_open l.writes))
+      (keeps (filter is_open l.writes) (each_filter (IsInside s.blocks) is_open l.writes is.writes)));
+  released = told-released s.blocks (filter (is_released confirmed) (map f l.writes))
+      (each_filter (IsInside s.blocks) (is_released confirmed) (map f l.writes) (keeps l.writes is.writes));
 }
 
 -- something happens to one write
@@ -68,11 +73,13 @@ length-latest : (number first count : ℕ) (latest : List ℕ) → first + count
 length-latest number first count latest inside = simp (length-append, length-take, length-replicate, length-drop) (omega arith)
 
 -- a write is accepted
-pub sound-accepting : (s : Settings) (first count : ℕ) (contents : List ℕ) (l : LogState) → first + count ≤ s.blocks → length contents ≡ 4096 * count → IsSoundLog s l → IsSoundLog s (accepting first count contents l).1
+pub sound-accepting : (s : Settings) (first count : ℕ) (contents : List ℕ) (l : LogState) → first + count ≤ s.blocks → length contents ≡ 4096 * count
+    → IsSoundLog s l → IsSoundLog s (accepting first count contents l).1
 sound-accepting s first count contents l inside whole is = record {
   backlog = is.backlog;
   latest = length-latest (l.accepted + 1) first count l.latest (omega (arith, is.latest)) ∙ is.latest;
-  writes = each_pushed (IsInside s.blocks) l.writes (accepted_write first count contents (home_in l.connection (l.accepted + 1) l.epochs).0 l) is.writes (record { numbered = omega arith; inside = inside; whole = whole });
+  writes = each_pushed (IsInside s.blocks) l.writes (accepted_write first count contents (home_in l.connection (l.accepted + 1) l.epochs).0 l) is.writes
+      (record { numbered = omega arith; inside = inside; whole = whole });
   completed = tt;
   released = tt;
 }
@@ -92,7 +99,8 @@ sound-confirming s number size l is = record {
   latest = is.latest;
   writes = each_filter (IsInside s.blocks) (λ w. not (is_released (l.confirmed + size) w)) l.writes is.writes;
   completed = tt;
-  released = told-released s.blocks (filter (is_released (l.confirmed + size)) l.writes) (each_filter (IsInside s.blocks) (is_released (l.confirmed + size)) l.writes is.writes);
+  released = told-released s.blocks (filter (is_released (l.confirmed + size)) l.writes)
+      (each_filter (IsInside s.blocks) (is_released (l.confirmed + size)) l.writes is.writes);
 }
 
 -- the connection is closed

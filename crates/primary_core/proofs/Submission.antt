@@ -1,5 +1,6 @@
 -- What a submission's tests and its effect come to.
-use Rattle.std.proofs.Common.{ℕ, zero, suc, ◌≡◌, ◌+◌, ◌-◌, ◌*◌, ◌/◌, ◌%◌, ◌<◌, ◌≤◌, ◌==◌, nat_lt, nat_le, Bool, true, false, not, ◌&&◌, ◌||◌, List, [], ◌∷◌, length, refl, sym, ◌∙◌, ap, arith, Option, Some, None}
+use Rattle.std.proofs.Common.{ℕ, zero, suc, ◌≡◌, ◌+◌, ◌-◌, ◌*◌, ◌/◌, ◌%◌, ◌<◌, ◌≤◌, ◌==◌, nat_lt, nat_le, Bool, true, false, not, ◌&&◌, ◌||◌, List, [], ◌∷◌}
+use Rattle.std.proofs.Common.{length, refl, sym, ◌∙◌, ap, arith, Option, Some, None}
 use Rattle.std.specs.Prelude.{◌↔◌, Result, Ok, Err, IsOk, IfOk, IfErr, if◌then◌else◌, is_some, find, option_map}
 use Rattle.std.specs.List.{AllByRecursion}
 use Rattle.std.proofs.lemmas.Bool.{lt-ltb, le-leb, ltb-true, leb-true, eqb-true}
@@ -31,11 +32,13 @@ same-block w way held same =
     let ways : way_of way ≡ way_of w = cc in
     ap (λ (v : core.UnderWay). holding 0 v.block 1 ∷ held) (sym ways)
 
-under : (r : Option UnderWay) (way : UnderWay) (under_way : Option UnderWay) (held : List Holding) → option_map way_of r ≡ option_map way_of under_way → r ≡ Some way → (e : End) → e.under_way ≡ under_way → held_at (Some e) held ≡ holding 0 way.block.0 1 ∷ held
+under : (r : Option UnderWay) (way : UnderWay) (under_way : Option UnderWay) (held : List Holding) → option_map way_of r ≡ option_map way_of under_way
+    → r ≡ Some way → (e : End) → e.under_way ≡ under_way → held_at (Some e) held ≡ holding 0 way.block.0 1 ∷ held
 under r way None held same is e at = absurd (let none : option_map way_of (Some way) ≡ None = ap (option_map way_of) (sym is) ∙ same in cc)
 under r way (Some w) held same is e at = rw at (same-block w way held (ap (option_map way_of) (sym is) ∙ same))
 
-pub held-under : (r : Option UnderWay) (way : UnderWay) (unsent : List Item) (end : Option End) (held : List Holding) → option_map way_of r ≡ way_in (option_map (end_of unsent) end) → r ≡ Some way → held_at end held ≡ holding 0 way.block.0 1 ∷ held
+pub held-under : (r : Option UnderWay) (way : UnderWay) (unsent : List Item) (end : Option End) (held : List Holding)
+    → option_map way_of r ≡ way_in (option_map (end_of unsent) end) → r ≡ Some way → held_at end held ≡ holding 0 way.block.0 1 ∷ held
 held-under r way unsent None held same is = absurd (let none : option_map way_of (Some way) ≡ None = ap (option_map way_of) (sym is) ∙ same in cc)
 held-under r way unsent (Some e) held same is = under r way e.under_way held same is e refl
 
@@ -56,7 +59,8 @@ without-none number (h ∷ held) none =
     rw parts.0 (ap (λ more. h ∷ more) (without-none number held parts.1))
 
 -- what is held for a while leaves all as it was
-pub without-new : (number first count : ℕ) (held : List Holding) → is_held number held ≡ false → without number (holding_too (holding number first count) held) ≡ held
+pub without-new : (number first count : ℕ) (held : List Holding) → is_held number held ≡ false
+    → without number (holding_too (holding number first count) held) ≡ held
 without-new number first count [] none = rw (same_number number number refl) refl
 without-new number first count (h ∷ held) none = go (nat_lt number h.number) (without-new number first count held)
   where
@@ -76,11 +80,13 @@ apart-way first count h held none = go (meets first count h) none
     go true none = absurd (cc)
     go false none = none
 
-apart-under : (first count : ℕ) (way : Option UnderWay) (e : End) (held : List Holding) → e.under_way ≡ way → conflict first count (held_at (Some e) held) ≡ None → conflict first count held ≡ None
+apart-under : (first count : ℕ) (way : Option UnderWay) (e : End) (held : List Holding) → e.under_way ≡ way
+    → conflict first count (held_at (Some e) held) ≡ None → conflict first count held ≡ None
 apart-under first count None e held at none = rw at at none
 apart-under first count (Some w) e held at none = apart-way first count (holding 0 w.block.0 1) held (rw at at none)
 
-pub apart-writes : (first count : ℕ) (end : Option End) (held : List Holding) → conflict first count (held_at end held) ≡ None → conflict first count held ≡ None
+pub apart-writes : (first count : ℕ) (end : Option End) (held : List Holding) → conflict first count (held_at end held) ≡ None
+    → conflict first count held ≡ None
 apart-writes first count None held none = none
 apart-writes first count (Some e) held none = apart-under first count e.under_way e held refl none
 
@@ -94,27 +100,33 @@ writes-few accepted extent (a ∷ active) all = go (extent == a.extent) (writes-
     go true rest = all.0
     go false rest = rest
 
-counted-other : (accepted extent : ℕ) (active : List Active) → AllByRecursion (IsCounted accepted) active → AllByRecursion (IsCounted accepted) (other_than extent active)
+counted-other : (accepted extent : ℕ) (active : List Active) → AllByRecursion (IsCounted accepted) active
+    → AllByRecursion (IsCounted accepted) (other_than extent active)
 counted-other accepted extent [] all = tt
 counted-other accepted extent (a ∷ active) all = go (extent == a.extent) (counted-other accepted extent active all.1)
   where
-    go : (b : Bool) → AllByRecursion (IsCounted accepted) (other_than extent active) → AllByRecursion (IsCounted accepted) (if b then active else a ∷ other_than extent active)
+    go : (b : Bool) → AllByRecursion (IsCounted accepted) (other_than extent active)
+        → AllByRecursion (IsCounted accepted) (if b then active else a ∷ other_than extent active)
     go true rest = all.1
     go false rest = (all.0, rest)
 
-counted-idle : (accepted : ℕ) (active : List Active) → AllByRecursion (IsCounted accepted) active → AllByRecursion (IsCounted accepted) (without_oldest_idle active)
+counted-idle : (accepted : ℕ) (active : List Active) → AllByRecursion (IsCounted accepted) active
+    → AllByRecursion (IsCounted accepted) (without_oldest_idle active)
 counted-idle accepted [] all = tt
 counted-idle accepted (a ∷ active) all = go (has_idle active) (a.writes == 0) (counted-idle accepted active all.1)
   where
-    go : (b idle : Bool) → AllByRecursion (IsCounted accepted) (without_oldest_idle active) → AllByRecursion (IsCounted accepted) (if b then a ∷ without_oldest_idle active else if idle then active else a ∷ active)
+    go : (b idle : Bool) → AllByRecursion (IsCounted accepted) (without_oldest_idle active)
+        → AllByRecursion (IsCounted accepted) (if b then a ∷ without_oldest_idle active else if idle then active else a ∷ active)
     go true idle rest = (all.0, rest)
     go false true rest = all.1
     go false false rest = all
 
-counted-staying : (accepted extent : ℕ) (s : ActivityState) → AllByRecursion (IsCounted accepted) s.active → AllByRecursion (IsCounted accepted) (staying extent s)
+counted-staying : (accepted extent : ℕ) (s : ActivityState) → AllByRecursion (IsCounted accepted) s.active
+    → AllByRecursion (IsCounted accepted) (staying extent s)
 counted-staying accepted extent s all = go (is_active extent s.active) (nat_lt (length s.active) s.slots)
   where
-    go : (b free : Bool) → AllByRecursion (IsCounted accepted) (if b then other_than extent s.active else if free then s.active else without_oldest_idle s.active)
+    go : (b free : Bool) → AllByRecursion (IsCounted accepted) (if b then other_than extent s.active else if free then s.active
+        else without_oldest_idle s.active)
     go true free = counted-other accepted extent s.active all
     go false true = all
     go false false = counted-idle accepted s.active all
@@ -124,7 +136,8 @@ counted-later accepted [] all = tt
 counted-later accepted (a ∷ active) all = (omega (arith, all.0), counted-later accepted active all.1)
 
 -- the next write begins in an extent
-pub counted-begun : (accepted extent : ℕ) (s : ActivityState) → AllByRecursion (IsCounted accepted) s.active → AllByRecursion (IsCounted (accepted + 1)) (begun extent s).active
+pub counted-begun : (accepted extent : ℕ) (s : ActivityState) → AllByRecursion (IsCounted accepted) s.active
+    → AllByRecursion (IsCounted (accepted + 1)) (begun extent s).active
 counted-begun accepted extent s all =
     let few = writes-few accepted extent s.active all in
     (omega arith, counted-later accepted (staying extent s) (counted-staying accepted extent s all))
@@ -152,7 +165,8 @@ passes-all first count s none =
     let fail = all-fail (range_tests first count s) none in
     record { journal = fail.1.0; log = fail.1.1.0; apart = fail.1.1.1.0; active = fail.1.1.1.1.0; places = fail.1.1.1.1.1.0 }
 
-pub conflict-block : (first count block : ℕ) (held : List Holding) → ranges_meet block 1 first count ≡ true → Some 0 ≡ conflict first count (holding 0 block 1 ∷ held)
+pub conflict-block : (first count block : ℕ) (held : List Holding) → ranges_meet block 1 first count ≡ true
+    → Some 0 ≡ conflict first count (holding 0 block 1 ∷ held)
 conflict-block first count block held meets = rw meets refl
 
 pub none-some : {X : Type 0} (v : Option X) → is_some v ≡ false → v ≡ None
@@ -167,7 +181,12 @@ not-not false is = absurd (cc)
 
 pub tests-range : (settings : Settings) (first count : ℕ) → IsRange settings.blocks first count → is_range settings first count ≡ true
 tests-range settings first count is =
-    rw (lt-ltb 0 count is.some, le-leb count 32 is.few, le-leb (first + count) settings.blocks is.inside, same_number (extent_of first) (extent_of (first + count - 1)) is.one_extent) refl
+    rw (
+      lt-ltb 0 count is.some,
+      le-leb count 32 is.few,
+      le-leb (first + count) settings.blocks is.inside,
+      same_number (extent_of first) (extent_of (first + count - 1)) is.one_extent,
+    ) refl
 
 and-parts : (a b : Bool) → (a && b) ≡ true → (a ≡ true) × (b ≡ true)
 and-parts true b is = (refl, is)
@@ -178,7 +197,12 @@ range-tests settings first count is =
     let whole = and-parts ((nat_lt 0 count && nat_le count 32) && nat_le (first + count) settings.blocks) _ is in
     let inside = and-parts (nat_lt 0 count && nat_le count 32) _ whole.0 in
     let size = and-parts (nat_lt 0 count) _ inside.0 in
-    record { some = ltb-true 0 count size.0; few = leb-true count 32 size.1; inside = leb-true (first + count) settings.blocks inside.1; one_extent = eqb-true (extent_of first) (extent_of (first + count - 1)) whole.1 }
+    record {
+      some = ltb-true 0 count size.0;
+      few = leb-true count 32 size.1;
+      inside = leb-true (first + count) settings.blocks inside.1;
+      one_extent = eqb-true (extent_of first) (extent_of (first + count - 1)) whole.1;
+    }
 
 -- Whole blocks.
 
@@ -200,7 +224,8 @@ no-range settings first = refl
 
 -- What the range's own test says of bytes of whole blocks.
 
-pub is-whole : (settings : Settings) (first n : ℕ) (bytes : List ℕ) (res : Result Range Refusal) → length bytes % 4096 ≡ 0 → n ≡ length bytes / 4096 → (IsOk res ↔ IsRange settings.blocks first n)
+pub is-whole : (settings : Settings) (first n : ℕ) (bytes : List ℕ) (res : Result Range Refusal) → length bytes % 4096 ≡ 0 → n ≡ length bytes / 4096
+    → (IsOk res ↔ IsRange settings.blocks first n)
     → IfOk res (λ r. (r.first.0 ≡ first) × (r.count ≡ n)) → IfOk res (λ r. IsWhole settings r.first.0 r.count bytes × (r.first.0 ≡ first))
 is-whole settings first n bytes (Ok r) whole is accepted range =
     let long = length-whole bytes whole in
@@ -218,7 +243,8 @@ false-of : (b : Bool) → (b ≡ true → ⊥) → b ≡ false
 false-of true not-so = absurd (not-so refl)
 false-of false not-so = refl
 
-pub is-refused : (settings : Settings) (first n : ℕ) (bytes : List ℕ) (res : Result Range Refusal) → length bytes % 4096 ≡ 0 → n ≡ length bytes / 4096 → (IsOk res ↔ IsRange settings.blocks first n)
+pub is-refused : (settings : Settings) (first n : ℕ) (bytes : List ℕ) (res : Result Range Refusal) → length bytes % 4096 ≡ 0 → n ≡ length bytes / 4096
+    → (IsOk res ↔ IsRange settings.blocks first n)
     → IfErr res (λ e. e ≡ BadRange) → IfErr res (λ e. (e ≡ BadRange) × (is_range settings first (length (whole_blocks bytes)) ≡ false))
 is-refused settings first n bytes (Ok r) whole is accepted refused = tt
 is-refused settings first n bytes (Err e) whole is accepted refused =

@@ -26,18 +26,22 @@ tests-are : (s : PrimaryState) (first count : ℕ) (bytes : List ℕ) (starved :
     → first_refusal (submit_tests first (length (whole_blocks bytes)) starved s) ≡ first_refusal (range_tests first count s ++ (starved, NoMemory) ∷ [])
 tests-are s first count bytes starved is = rw is.range (ap (λ (n : ℕ). first_refusal (range_tests first n s ++ (starved, NoMemory) ∷ [])) is.counted)
 
-pub submit-refused : (s : PrimaryState) (first count : ℕ) (bytes : List ℕ) (e : Refusal) → IsWhole s.settings first count bytes → told_by (range_tests first count s) ≡ Err e
+pub submit-refused : (s : PrimaryState) (first count : ℕ) (bytes : List ℕ) (e : Refusal) → IsWhole s.settings first count bytes
+    → told_by (range_tests first count s) ≡ Err e
     → (let got : Result Done Refusal × PrimaryState = (Err e, s) in got ≡ submit first bytes (is_starved {R = Done} (Err e)) s)
 submit-refused s first count bytes e is told =
-    let refused = tests-are s first count bytes (is_starved {R = Done} (Err e)) is ∙ first-of (range_tests first count s) ((is_starved {R = Done} (Err e), NoMemory) ∷ []) e told in
+    let refused = tests-are s first count bytes (is_starved {R = Done} (Err e)) is
+    ∙ first-of (range_tests first count s) ((is_starved {R = Done} (Err e), NoMemory) ∷ []) e told in
     rw (refused, tested) refl
 
-pub submit-done : (s : PrimaryState) (first count : ℕ) (bytes : List ℕ) (r : Done × PrimaryState) → IsWhole s.settings first count bytes → told_by (range_tests first count s) ≡ Ok tt → r ≡ submitted first count bytes s
+pub submit-done : (s : PrimaryState) (first count : ℕ) (bytes : List ℕ) (r : Done × PrimaryState) → IsWhole s.settings first count bytes
+    → told_by (range_tests first count s) ≡ Ok tt → r ≡ submitted first count bytes s
     → (let got : Result Done Refusal × PrimaryState = (Ok r.0, r.1) in got ≡ submit first bytes false s)
 submit-done s first count bytes r is told done =
     let none = tests-are s first count bytes false is ∙ none-of (range_tests first count s) ((false, NoMemory) ∷ []) told in
     ap (λ (p : Done × PrimaryState). (Ok p.0, p.1)) (done ∙ ap (λ (n : ℕ). submitted first n bytes s) (sym is.counted)) ∙ rw (none, tested) refl
 
-pub submitted-is : (s t : PrimaryState) (first count : ℕ) (bytes : List ℕ) (accepted : Accepted) (r : Done × PrimaryState) → (let got : Accepted × PrimaryState = (accepted, t) in got ≡ taken_in first count bytes s)
+pub submitted-is : (s t : PrimaryState) (first count : ℕ) (bytes : List ℕ) (accepted : Accepted) (r : Done × PrimaryState)
+    → (let got : Accepted × PrimaryState = (accepted, t) in got ≡ taken_in first count bytes s)
     → r ≡ gone_out accepted first count bytes t → r ≡ submitted first count bytes s
 submitted-is s t first count bytes accepted r taken gone = gone ∙ ap (λ (p : Accepted × PrimaryState). gone_out p.0 first count bytes p.1) taken

@@ -1,5 +1,6 @@
 -- The marks that released writes clear, block by block.
-use Rattle.std.proofs.Common.{ℕ, zero, suc, ◌≡◌, ◌≢◌, ◌+◌, ◌<◌, ◌≤◌, ◌⊎◌, inl, inr, nat_lt, nat_le, Bool, true, false, ◌&&◌, ◌||◌, not, List, [], ◌∷◌, ◌++◌, length, refl, sym, ◌∙◌, ap, subst, arith, get_or, drop, drop-cons, add-one, length-set}
+use Rattle.std.proofs.Common.{ℕ, zero, suc, ◌≡◌, ◌≢◌, ◌+◌, ◌<◌, ◌≤◌, ◌⊎◌, inl, inr, nat_lt, nat_le, Bool, true, false, ◌&&◌, ◌||◌, not, List, [], ◌∷◌, ◌++◌}
+use Rattle.std.proofs.Common.{length, refl, sym, ◌∙◌, ap, subst, arith, get_or, drop, drop-cons, add-one, length-set}
 use Rattle.std.specs.Prelude.{map, slice_get, slice_set}
 use Rattle.std.specs.List.{AllByRecursion, list_any}
 use Rattle.std.proofs.lemmas.List.{length-map, map-append}
@@ -74,14 +75,17 @@ upto-next block b other = elim (cases_lt b block) [
   | inr more ↦ le-ltb b (block + 1) (omega (arith, other)) ∙ sym (le-ltb b block more)
 ]
 
-pub cleared-next : (r : Released) (latest : List ℕ) (old new : List Bool) (block : ℕ) → block < length new → clears r block latest ≡ true → Cleared r latest old new block → Cleared r latest old (slice_set new block false) (block + 1)
+pub cleared-next : (r : Released) (latest : List ℕ) (old new : List Bool) (block : ℕ) → block < length new → clears r block latest ≡ true
+    → Cleared r latest old new block → Cleared r latest old (slice_set new block false) (block + 1)
 cleared-next r latest old new block inside is so = record { same = length-set new block false ∙ so.same; each = λ b. go b (cases_eq b block) }
   where
     go : (b : ℕ) → (b ≡ block) ⊎ (b ≢ block) → marked (slice_set new block false) b ≡ (marked old b && not (nat_lt b (block + 1) && clears r b latest))
-    go b (inl here) = rw here (rw (marked-set_same new block false inside) (rw (lt-ltb block (block + 1) (omega arith), is) (sym (and-false (marked old block)))))
+    go b (inl here) = rw here (rw (marked-set_same new block false inside)
+        (rw (lt-ltb block (block + 1) (omega arith), is) (sym (and-false (marked old block)))))
     go b (inr other) = rw (marked-set_other new block false b other) (rw (upto-next block b other) (so.each b))
 
-pub cleared-not : (r : Released) (latest : List ℕ) (old new : List Bool) (block : ℕ) → clears r block latest ≡ false → Cleared r latest old new block → Cleared r latest old new (block + 1)
+pub cleared-not : (r : Released) (latest : List ℕ) (old new : List Bool) (block : ℕ) → clears r block latest ≡ false → Cleared r latest old new block
+    → Cleared r latest old new (block + 1)
 cleared-not r latest old new block is so = record { same = so.same; each = λ b. go b (cases_eq b block) }
   where
     go : (b : ℕ) → (b ≡ block) ⊎ (b ≢ block) → marked new b ≡ (marked old b && not (nat_lt b (block + 1) && clears r b latest))
@@ -100,9 +104,11 @@ upto-all r latest b = elim (cases_lt b (r.first + r.count)) [
   | inr more ↦ rw (not-above r latest b more) (and-false (nat_lt b (r.first + r.count)))
 ]
 
-pub unmark-next : (r : Released) (released : List Released) (latest : List ℕ) (old new : List Bool) → Cleared r latest old new (r.first + r.count) → unmarking released latest new ≡ unmarking (r ∷ released) latest old
+pub unmark-next : (r : Released) (released : List Released) (latest : List ℕ) (old new : List Bool) → Cleared r latest old new (r.first + r.count)
+    → unmarking released latest new ≡ unmarking (r ∷ released) latest old
 unmark-next r released latest old new so =
-    same-marks (unmarking released latest new) (unmarking (r ∷ released) latest old) (length-unmarking released latest new ∙ (so.same ∙ sym (length-unmarking (r ∷ released) latest old))) (λ b less.
+    same-marks (unmarking released latest new) (unmarking (r ∷ released) latest old) (length-unmarking released latest new
+    ∙ (so.same ∙ sym (length-unmarking (r ∷ released) latest old))) (λ b less.
     let inside : b < length new = omega (arith, length-unmarking released latest new) in
     let there : b < length old = omega (arith, so.same) in
     marked-map _ (length new) b inside
@@ -126,15 +132,21 @@ clears-inside r latest block is = elim (cases_lt block (length latest)) [
 ]
 
 -- One release more of a list, as a loop goes over it.
-pub unmark-step : (rs : List Released) (i : ℕ) (d : Released) (latest : List ℕ) (first old new : List Bool) → i < length rs → length old ≡ length first → AllByRecursion (LiesInside (length old)) (drop i rs)
+pub unmark-step : (rs : List Released) (i : ℕ) (d : Released) (latest : List ℕ) (first old new : List Bool) → i < length rs → length old ≡ length first
+    → AllByRecursion (LiesInside (length old)) (drop i rs)
     → unmarking (drop i rs) latest old ≡ unmarking rs latest first → Cleared (get_or rs i d) latest old new ((get_or rs i d).first + (get_or rs i d).count)
-    → (length new ≡ length first) × (AllByRecursion (LiesInside (length new)) (drop (i + 1) rs) × (unmarking (drop (i + 1) rs) latest new ≡ unmarking rs latest first))
+    → (length new ≡ length first) ×
+    (AllByRecursion (LiesInside (length new)) (drop (i + 1) rs) × (unmarking (drop (i + 1) rs) latest new ≡ unmarking rs latest first))
 unmark-step rs i d latest first old new inside size all rest so =
     let split : drop i rs ≡ get_or rs i d ∷ drop (suc i) rs = drop-cons rs i d inside in
     let parts : AllByRecursion (LiesInside (length old)) (get_or rs i d ∷ drop (suc i) rs) = subst (AllByRecursion (LiesInside (length old))) split all in
     rw add-one (
       so.same ∙ size,
-      (rw so.same parts.1, unmark-next (get_or rs i d) (drop (suc i) rs) latest old new so ∙ (sym (ap (λ (more : List Released). unmarking more latest old) split) ∙ rest)),
+      (
+        rw so.same parts.1,
+        unmark-next (get_or rs i d) (drop (suc i) rs) latest old new so
+            ∙ (sym (ap (λ (more : List Released). unmarking more latest old) split) ∙ rest),
+      ),
     )
 
 pub nothing-left : {X : Type 0} (rs : List X) (i : ℕ) → length rs ≤ i → drop i rs ≡ []
@@ -144,5 +156,7 @@ nothing-left (r ∷ rs) zero past = absurd (omega arith)
 nothing-left (r ∷ rs) (suc i) past = nothing-left rs i (omega arith)
 
 -- all releases of a list
-pub unmark-all : (rs : List Released) (i : ℕ) (latest : List ℕ) (first marks : List Bool) → length rs ≤ i → unmarking (drop i rs) latest marks ≡ unmarking rs latest first → marks ≡ unmarking rs latest first
-unmark-all rs i latest first marks past rest = sym (unmark-none latest marks) ∙ (sym (ap (λ (more : List Released). unmarking more latest marks) (nothing-left rs i past)) ∙ rest)
+pub unmark-all : (rs : List Released) (i : ℕ) (latest : List ℕ) (first marks : List Bool) → length rs ≤ i
+    → unmarking (drop i rs) latest marks ≡ unmarking rs latest first → marks ≡ unmarking rs latest first
+unmark-all rs i latest first marks past rest = sym (unmark-none latest marks)
+    ∙ (sym (ap (λ (more : List Released). unmarking more latest marks) (nothing-left rs i past)) ∙ rest)

@@ -20,7 +20,8 @@ item_of i = item_as i.kind
 
 -- A write has a number, and whole blocks of its own; a resync block is one. Their blocks have sector numbers.
 abbrev pub IsSent : Kind → Type 0
-IsSent (kind.Write number first contents) = (8 * first.0 < 2 ^ 64) × (0 < number) × (0 < length contents) × (length contents ≤ 131072) × (4096 * (length contents / 4096) ≡ length contents)
+IsSent (kind.Write number first contents) = (8 * first.0 < 2 ^ 64) × (0 < number) × (0 < length contents) × (length contents ≤ 131072)
+    × (4096 * (length contents / 4096) ≡ length contents)
 IsSent (kind.Resync block contents) = (8 * block.0 < 2 ^ 64) × (length contents ≡ 4096)
 IsSent (kind.Barrier number) = Unit {0}
 IsSent (kind.SyncUuid word) = Unit {0}

@@ -23,7 +23,10 @@ abbrev pub range_tests : ℕ → ℕ → PrimaryState → List Test
 range_tests first count s =
     let met = overlap.conflict first count s.held in
     (not (stands s) && (s.tuple.bitmap == 0), NotConnected) ∷ (nat_le 1048576 s.log.accepted, JournalFull)
-    ∷ (nat_le s.settings.backlog (length s.log.writes), LogFull) ∷ (is_some met, Conflict (unwrap_or met 0)) ∷ (not (can_begin (extent_of first) s.activity), ActivityFull)
+    ∷ (nat_le s.settings.backlog (length s.log.writes), LogFull) ∷ (is_some met, Conflict (unwrap_or met 0)) ∷ (
+      not (can_begin (extent_of first) s.activity),
+      ActivityFull,
+    )
     ∷ (stands s && nat_le 4294967288 s.log.epochs.places, StreamFull) ∷ []
 
 -- what the tests say

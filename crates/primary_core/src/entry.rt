@@ -3,6 +3,7 @@ ghost use Rattle.std.specs.Prelude.{◌≡◌, true};
 ghost use Rattle.primary_core.specs.Entries.{fate_as};
 ghost use Rattle.primary_steps.specs.Core.{with_entry};
 
+use blocks::StreamPosition;
 use std::marker::Model;
 
 /// What became of an accepted write.
@@ -16,8 +17,8 @@ pub enum Fate {
     Completed {
         /// Whether the peer has answered it, as the protocol asks; else it was completed without the peer.
         linked: bool,
-        /// The connection and the place in its stream, if it has one.
-        home: Option<(u32, u32)>,
+        /// Where it stands in a connection's stream, if it does.
+        home: Option<StreamPosition>,
     },
 }
 

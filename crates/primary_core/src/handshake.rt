@@ -139,7 +139,7 @@ impl PrimaryCore {
         ensures state { self.new.state ≡ record self.old.state { log = connecting (last_connection self.old.state) self.old.state.log } }
         ensures room { (e : EndState) → self.old.state.end ≡ Some e → 2 ≤ self.new.stream_room }
     {
-        self.log.connect(self.connections.saturating_sub(1));
+        self.log.connect(self.connections.max(1));
     }
 
     // A resync begins.

@@ -6,7 +6,6 @@ pub mod Disk
 pub mod Disks
 pub mod Due
 pub mod Faults
-pub mod Housed
 pub mod Keeps
 pub mod Pushed
 pub mod Receipts

@@ -1,6 +1,8 @@
 -- The state of a primary in plain values.
-use Rattle.std.specs.Prelude.{ℕ, ◌-◌, ◌==◌, Bool, true, false, ◌&&◌, not, if◌then◌else◌, List, [], ◌∷◌, ◌++◌, length, map, Option, Some, None, is_some, is_none, option_map, slice_get, Result, Err}
+use Rattle.std.specs.Prelude.{ℕ, ◌-◌, ◌==◌, Bool, true, false, ◌&&◌, not, if◌then◌else◌, List, [], ◌∷◌, ◌++◌, length, map, Option, Some, None, is_some, is_none}
+use Rattle.std.specs.Prelude.{option_map, slice_get, Result, Err}
 use Rattle.std.specs.List.{list_any}
+use Rattle.blocks.specs.Positions.{StreamPosition}
 use Rattle.blocks.specs.declared.tuple.Tuple.{Tuple}
 use Rattle.blocks.specs.declared.settings.Settings.{Settings}
 use Rattle.blocks.specs.declared.refusal.Refusal.{Refusal}
@@ -24,7 +26,7 @@ use Rattle.bitmap.specs.Marks.{marked}
 pub data Fate : Type 0 where
   Open : Fate
   Failed : Fate
-  Completed : (linked : Bool) (home : Option (ℕ × ℕ)) → Fate
+  Completed : (linked : Bool) (home : Option StreamPosition) → Fate
 
 -- An accepted write as its caller will ask for it: its blocks, what became of it, and whether its receipt was taken.
 pub record Entry : Type 0 where

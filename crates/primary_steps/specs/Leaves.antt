@@ -1,11 +1,14 @@
 -- Which histories leave a primary's state.
-use Rattle.std.specs.Prelude.{ℕ, zero, suc, ◌+◌, ◌-◌, ◌≡◌, ◌<◌, ◌≤◌, nat_lt, nat_le, ◌==◌, Bool, true, false, not, if◌then◌else◌, List, [], ◌∷◌, ◌++◌, length, take, drop, map, filter, find, min, Option, Some, None, slice_get}
+use Rattle.std.specs.Prelude.{ℕ, zero, suc, ◌+◌, ◌-◌, ◌≡◌, ◌<◌, ◌≤◌, nat_lt, nat_le, ◌==◌, Bool, true, false, not, if◌then◌else◌, List, [], ◌∷◌, ◌++◌, length}
+use Rattle.std.specs.Prelude.{take, drop, map, filter, find, min, Option, Some, None, slice_get}
 use Rattle.std.specs.List.{list_any, concat}
 use Rattle.blocks.specs.Ranges.{below}
 use Rattle.model.specs.Contents.{covers, extent_of}
 use Rattle.model.specs.Stream.{Item, WriteItem, ResyncItem, first_of, barriers_in, epoch_of, last_epoch, items_of_epoch, epoch_size}
 use Rattle.model.specs.Primary as history
-use Rattle.model.specs.Primary.{LocalOutcome, Accepted, Completion, Kind, Linked, Alone, Outward, PrimaryHistory, outward, last_index, stands, items_sent, barrier_acknowledged, is_answered_by, is_answered, is_alone, is_failed, is_completed, completes, unreleased, open_writes, is_resync, was_received, was_written, was_resynced, resync_runs, under_way}
+use Rattle.model.specs.Primary.{LocalOutcome, Accepted, Completion, Kind, Linked, Alone, Outward, PrimaryHistory, outward, last_index, stands, items_sent}
+use Rattle.model.specs.Primary.{barrier_acknowledged, is_answered_by, is_answered, is_alone, is_failed, is_completed, completes, unreleased, open_writes}
+use Rattle.model.specs.Primary.{is_resync, was_received, was_written, was_resynced, resync_runs, under_way}
 use Rattle.transferlog.specs.Log.{LogState}
 use Rattle.transferlog.specs.Writes.{LogWrite}
 use Rattle.transferlog.specs.declared.local.Local.{Local}
@@ -29,7 +32,10 @@ fate_in (Some entry) = Completed (is_linked entry.kind) entry.home
 
 -- what became of a write: failed, or what the journal says
 abbrev pub fate_of : PrimaryHistory → Accepted → Fate
-fate_of h accepted = elim (is_failed accepted.outcome) [ true ↦ Failed | false ↦ fate_in (find (λ entry. entry.write.number == accepted.write.number) h.journal) ]
+fate_of h accepted = elim (is_failed accepted.outcome) [
+  | true ↦ Failed
+  | false ↦ fate_in (find (λ entry. entry.write.number == accepted.write.number) h.journal)
+]
 
 -- an accepted write, as its caller asks for it
 abbrev pub entry_of : PrimaryHistory → Accepted → Entry
@@ -57,7 +63,7 @@ local_of (history.Failed offsets) = local.Failed
 abbrev pub is_sent : PrimaryHistory → Accepted → Bool
 is_sent h accepted = elim accepted.home [
   | None ↦ false
-  | Some home ↦ elim (slice_get h.connections home.0) [ None ↦ false | Some c ↦ nat_lt home.1 (items_sent c) ]
+  | Some home ↦ elim (slice_get h.connections home.index) [ None ↦ false | Some c ↦ nat_lt home.place (items_sent c) ]
 ]
 
 -- an accepted write, as the log has it
@@ -126,7 +132,7 @@ pub record LeavesStream (l : LogState) (h : PrimaryHistory) : Type 0 where
   pub max_epoch : l.epochs.max_epoch ≡ h.settings.max_epoch
   pub on : stands (outward h) ≡ true → LeavesEpochs l (outward h)
   pub here : stands (outward h) ≡ true → (i : ℕ) (accepted : Accepted) → slice_get h.writes i ≡ Some accepted → l.confirmed < accepted.write.number
-      → (place : ℕ) × (accepted.home ≡ Some (last_index h.connections, place))
+      → (place : ℕ) × (accepted.home ≡ Some (record { index = last_index h.connections; place = place }))
   pub off : stands (outward h) ≡ false → l.epochs ≡ empty h.settings.max_epoch
 
 -- What is held, and what is active.
@@ -181,7 +187,8 @@ pub record LeavesEnd (e : EndState) (c : Outward) : Type 0 where
   pub resync : e.resync ≡ resync_runs c
   pub under_way : UnderWayLeft e.under_way c
   -- no frame that was taken names an item to come
-  pub unasked : (place : ℕ) (item : Item) → length c.stream ≤ place → (was_received c place item ≡ false) × (was_written c place item ≡ false) × (was_resynced c place item ≡ false)
+  pub unasked : (place : ℕ) (item : Item) → length c.stream ≤ place
+      → (was_received c place item ≡ false) × (was_written c place item ≡ false) × (was_resynced c place item ≡ false)
   pub unbegun : c.begun ≡ false → (epoch : ℕ) → barrier_acknowledged c epoch ≡ false
 
 -- a closed end, or an open one

@@ -109,22 +109,27 @@ connected settings = after (connecting settings 5 7 (words 1 0 0 0)) (fresh sett
 -- Protocol C: a write is completed once it is on both disks, and a barrier ends its epoch.
 pub record Synchronous : Type 0 where
   pub hello : answers (connecting standard 5 7 (words 1 0 0 0)) (fresh standard (words 1 0 0 0) (replicate 8 false))
-      ≡ done ∷ frame command.Protocol ∷ frame command.Sizes ∷ frame command.Uuids ∷ frame command.Protocol ∷ frame command.Sizes ∷ Ok (done_with (what.Decided NoSync)) ∷ []
+      ≡ done ∷ frame command.Protocol ∷ frame command.Sizes ∷ frame command.Uuids ∷ frame command.Protocol ∷ frame command.Sizes ∷ Ok
+      (done_with (what.Decided NoSync)) ∷ []
   pub one_write : answers (Writes 2 170 ∷ Local 1 ∷ Sends ∷ written 2 1 0 ∷ Sends ∷ Takes (BarrierAckFrame 1 1) ∷ []) (connected standard)
-      ≡ accepted 1 ∷ done ∷ item command.Data 0 ∷ with_barrier 1 (completing 1 (frame command.WriteAck)) ∷ item command.Barrier 1 ∷ frame command.BarrierAck ∷ []
+      ≡ accepted 1 ∷ done ∷ item command.Data 0 ∷ with_barrier 1 (completing 1 (frame command.WriteAck)) ∷ item command.Barrier 1 ∷ frame command.BarrierAck ∷
+      []
   pub held : answers (Writes 2 17 ∷ Writes 2 34 ∷ []) (connected standard) ≡ accepted 1 ∷ Err (refusal.Conflict 1) ∷ []
 
 -- Protocol A: it is completed once its frame was sent and the local disk has it, in either order.
 pub record Asynchronous : Type 0 where
-  pub sent_first : answers (Writes 2 170 ∷ Sends ∷ Local 1 ∷ []) (connected (record standard { protocol = protocol.A })) ≡ accepted 1 ∷ item command.Data 0 ∷ with_barrier 1 (completing 1 done) ∷ []
-  pub local_first : answers (Writes 2 170 ∷ Local 1 ∷ Sends ∷ []) (connected (record standard { protocol = protocol.A })) ≡ accepted 1 ∷ done ∷ with_barrier 1 (completing 1 (item command.Data 0)) ∷ []
+  pub sent_first : answers (Writes 2 170 ∷ Sends ∷ Local 1 ∷ []) (connected (record standard { protocol = protocol.A })) ≡ accepted 1 ∷ item command.Data 0 ∷
+      with_barrier 1 (completing 1 done) ∷ []
+  pub local_first : answers (Writes 2 170 ∷ Local 1 ∷ Sends ∷ []) (connected (record standard { protocol = protocol.A })) ≡ accepted 1 ∷ done ∷ with_barrier 1
+      (completing 1 (item command.Data 0)) ∷ []
 
 -- A lost link: what is unreleased is marked, and the generation goes on.
 pub record Lost : Type 0 where
   pub marks : marks_of (after (Writes 2 170 ∷ Local 1 ∷ Sends ∷ received 2 1 0 ∷ Closes ∷ []) (connected (record standard { protocol = protocol.B }))) ≡ 2 ∷ []
   pub unsent : marks_of (after (Writes 2 170 ∷ Sends ∷ Writes 4 170 ∷ Closes ∷ []) (connected standard)) ≡ 2 ∷ 4 ∷ []
   pub tuple : (after (Writes 2 170 ∷ Closes ∷ []) (connected standard)).tuple ≡ words 7 1 0 0
-  pub foreign : answers (Writes 2 170 ∷ Sends ∷ written 2 2 0 ∷ Sends ∷ []) (connected standard) ≡ accepted 1 ∷ item command.Data 0 ∷ Err refusal.UnknownAck ∷ Err refusal.NotConnected ∷ []
+  pub foreign : answers (Writes 2 170 ∷ Sends ∷ written 2 2 0 ∷ Sends ∷ []) (connected standard) ≡ accepted 1 ∷ item command.Data 0 ∷ Err refusal.UnknownAck ∷
+      Err refusal.NotConnected ∷ []
 
 -- Two writes without a link, and the connection after them: both blocks are marked, and a resync starts.
 abbrev pub written_alone : List Move
@@ -147,7 +152,8 @@ pub record Resynced : Type 0 where
   pub source : (two_marked standard).tuple ≡ words 7 9 1 0
   pub marks : marks_of (two_marked standard) ≡ 3 ∷ 6 ∷ []
   pub copies : answers both_copied (two_marked standard)
-      ≡ item command.SyncUuid 0 ∷ block 3 1 ∷ item command.RsDataReply 1 ∷ with_barrier 1 (frame command.RsWriteAck) ∷ block 6 3 ∷ item command.Barrier 2 ∷ item command.RsDataReply 3
+      ≡ item command.SyncUuid 0 ∷ block 3 1 ∷ item command.RsDataReply 1 ∷ with_barrier 1 (frame command.RsWriteAck) ∷ block 6 3 ∷ item command.Barrier 2 ∷ item
+      command.RsDataReply 3
       ∷ frame command.BarrierAck ∷ with_sync (with_barrier 2 (frame command.RsWriteAck)) ∷ []
   pub ended : (after both_copied (two_marked standard)).tuple ≡ words 7 0 9 1
   pub told : answers (Sends ∷ Sends ∷ []) (after both_copied (two_marked standard)) ≡ item command.Barrier 4 ∷ item command.Uuids 5 ∷ []
@@ -157,7 +163,8 @@ pub record Resynced : Type 0 where
 -- Writes during a resync: the block under way holds up a write to it, and an open write keeps its block from the resync.
 pub record AmongWrites : Type 0 where
   pub under_way : answers (Copies ∷ Writes 3 204 ∷ Writes 6 221 ∷ Sends ∷ Sends ∷ Sends ∷ copied 3 1 ∷ Copies ∷ []) (two_marked standard)
-      ≡ block 3 1 ∷ Err (refusal.Conflict 0) ∷ accepted 3 ∷ item command.SyncUuid 0 ∷ item command.RsDataReply 1 ∷ item command.Data 2 ∷ with_barrier 1 (frame command.RsWriteAck) ∷ Err refusal.NothingToDo ∷ []
+      ≡ block 3 1 ∷ Err (refusal.Conflict 0) ∷ accepted 3 ∷ item command.SyncUuid 0 ∷ item command.RsDataReply 1 ∷ item command.Data 2 ∷ with_barrier 1
+      (frame command.RsWriteAck) ∷ Err refusal.NothingToDo ∷ []
   pub unsent : answers (Sends ∷ Copies ∷ copied 3 1 ∷ []) (two_marked standard) ≡ item command.SyncUuid 0 ∷ block 3 1 ∷ Err refusal.UnknownAck ∷ []
   pub passed_over : answers (Writes 3 204 ∷ Copies ∷ []) (two_marked standard) ≡ accepted 3 ∷ block 6 2 ∷ []
 
@@ -165,17 +172,27 @@ pub record AmongWrites : Type 0 where
 -- A failed write clears nothing, and nothing is cleared under a later write.
 pub record Cleared : Type 0 where
   pub before : marks_of (after (Writes 3 204 ∷ Local 3 ∷ Sends ∷ Sends ∷ written 3 3 1 ∷ Sends ∷ []) (two_marked standard)) ≡ 3 ∷ 6 ∷ []
-  pub released : marks_of (after (Writes 3 204 ∷ Local 3 ∷ Sends ∷ Sends ∷ written 3 3 1 ∷ Sends ∷ Takes (BarrierAckFrame 1 1) ∷ []) (two_marked standard)) ≡ 6 ∷ []
-  pub to_the_end : answers (written 3 3 1 ∷ written 6 4 2 ∷ Sends ∷ Takes (BarrierAckFrame 1 2) ∷ Sends ∷ []) (after (Writes 3 204 ∷ Writes 6 221 ∷ Local 3 ∷ Local 4 ∷ Sends ∷ Sends ∷ Sends ∷ []) (two_marked standard))
-      ≡ with_barrier 1 (completing 3 (frame command.WriteAck)) ∷ completing 4 (frame command.WriteAck) ∷ item command.Barrier 3 ∷ with_sync (frame command.BarrierAck) ∷ item command.Uuids 4 ∷ []
-  pub local_waits : marks_of (after (Writes 3 204 ∷ Sends ∷ Sends ∷ Sends ∷ written 3 3 1 ∷ Takes (BarrierAckFrame 1 1) ∷ []) (two_marked (record standard { max_epoch = 1 }))) ≡ 3 ∷ 6 ∷ []
-  pub local_last : marks_of (after (Writes 3 204 ∷ Sends ∷ Sends ∷ Sends ∷ written 3 3 1 ∷ Takes (BarrierAckFrame 1 1) ∷ Local 3 ∷ []) (two_marked (record standard { max_epoch = 1 }))) ≡ 6 ∷ []
-  pub failed : marks_of (after (Writes 3 204 ∷ Sends ∷ Sends ∷ LocalFails 3 ∷ Sends ∷ written 3 3 1 ∷ Takes (BarrierAckFrame 1 1) ∷ []) (two_marked standard)) ≡ 3 ∷ 6 ∷ []
-  pub later : marks_of (after (Writes 3 204 ∷ Local 3 ∷ Sends ∷ Sends ∷ written 3 3 1 ∷ Writes 3 221 ∷ Sends ∷ Takes (BarrierAckFrame 1 1) ∷ []) (two_marked standard)) ≡ 3 ∷ 6 ∷ []
+  pub released : marks_of (after (Writes 3 204 ∷ Local 3 ∷ Sends ∷ Sends ∷ written 3 3 1 ∷ Sends ∷ Takes (BarrierAckFrame 1 1) ∷ []) (two_marked standard)) ≡ 6
+      ∷ []
+  pub to_the_end : answers (written 3 3 1 ∷ written 6 4 2 ∷ Sends ∷ Takes (BarrierAckFrame 1 2) ∷ Sends ∷ [])
+      (after (Writes 3 204 ∷ Writes 6 221 ∷ Local 3 ∷ Local 4 ∷ Sends ∷ Sends ∷ Sends ∷ []) (two_marked standard))
+      ≡ with_barrier 1 (completing 3 (frame command.WriteAck)) ∷ completing 4 (frame command.WriteAck) ∷ item command.Barrier 3 ∷ with_sync
+      (frame command.BarrierAck) ∷ item command.Uuids 4 ∷ []
+  pub local_waits : marks_of (after (Writes 3 204 ∷ Sends ∷ Sends ∷ Sends ∷ written 3 3 1 ∷ Takes (BarrierAckFrame 1 1) ∷ [])
+      (two_marked (record standard { max_epoch = 1 }))) ≡ 3 ∷ 6 ∷ []
+  pub local_last : marks_of (after (Writes 3 204 ∷ Sends ∷ Sends ∷ Sends ∷ written 3 3 1 ∷ Takes (BarrierAckFrame 1 1) ∷ Local 3 ∷ [])
+      (two_marked (record standard { max_epoch = 1 }))) ≡ 6 ∷ []
+  pub failed : marks_of (after (Writes 3 204 ∷ Sends ∷ Sends ∷ LocalFails 3 ∷ Sends ∷ written 3 3 1 ∷ Takes (BarrierAckFrame 1 1) ∷ []) (two_marked standard)) ≡
+      3 ∷ 6 ∷ []
+  pub later : marks_of (after (Writes 3 204 ∷ Local 3 ∷ Sends ∷ Sends ∷ written 3 3 1 ∷ Writes 3 221 ∷ Sends ∷ Takes (BarrierAckFrame 1 1) ∷ [])
+      (two_marked standard)) ≡ 3 ∷ 6 ∷ []
 
 -- A hello that is refused closes the end in the same step: a word that the peer has used comes before the decision.
 pub record RefusedHello : Type 0 where
-  pub used : slice_get (answers (connecting standard 5 7 (words 9 5 0 0)) (fresh standard (words 1 0 0 0) (replicate 8 false))) 6 ≡ Some (Err refusal.UsedIdentifier)
-  pub unrelated : slice_get (answers (connecting standard 5 7 (words 20 21 22 23)) (fresh standard (words 1 0 0 0) (replicate 8 false))) 6 ≡ Some (Err refusal.Unrelated)
-  pub shut : answers (Sends ∷ []) (after (connecting standard 5 7 (words 20 21 22 23)) (fresh standard (words 1 0 0 0) (replicate 8 false))) ≡ Err refusal.NotConnected ∷ []
+  pub used : slice_get (answers (connecting standard 5 7 (words 9 5 0 0)) (fresh standard (words 1 0 0 0) (replicate 8 false))) 6 ≡ Some
+      (Err refusal.UsedIdentifier)
+  pub unrelated : slice_get (answers (connecting standard 5 7 (words 20 21 22 23)) (fresh standard (words 1 0 0 0) (replicate 8 false))) 6 ≡ Some
+      (Err refusal.Unrelated)
+  pub shut : answers (Sends ∷ []) (after (connecting standard 5 7 (words 20 21 22 23)) (fresh standard (words 1 0 0 0) (replicate 8 false))) ≡ Err
+      refusal.NotConnected ∷ []
   pub tuple : (after (connecting standard 5 7 (words 20 21 22 23)) (fresh standard (words 1 0 0 0) (replicate 8 false))).tuple ≡ words 1 0 0 0

@@ -46,11 +46,13 @@ pub record Agrees {R : Type 0} (tell : R → Reply) (got : Result R Refusal × P
 
 -- a new primary
 abbrev pub FreshIsOpening : Type 0
-FreshIsOpening = (settings : Settings) (disk : BlockMap) (tuple : Tuple) (marks : ℕ → Bool) → Leaves (fresh settings tuple (marks_in settings.blocks marks)) (primary_opening settings disk tuple marks)
+FreshIsOpening = (settings : Settings) (disk : BlockMap) (tuple : Tuple) (marks : ℕ → Bool)
+    → Leaves (fresh settings tuple (marks_in settings.blocks marks)) (primary_opening settings disk tuple marks)
 
 -- the primary opens its end
 abbrev pub OpensAgree : Type 0
-OpensAgree = (sync loss : ℕ) (starved : Bool) (s : PrimaryState) (h : PrimaryHistory) → IsReached h → Leaves s h → Agrees plainly (open_end sync loss starved s) (step.open_primary sync loss starved h)
+OpensAgree = (sync loss : ℕ) (starved : Bool) (s : PrimaryState) (h : PrimaryHistory) → IsReached h → Leaves s h
+    → Agrees plainly (open_end sync loss starved s) (step.open_primary sync loss starved h)
 
 -- it accepts a write
 abbrev pub SubmitsAgree : Type 0
@@ -63,24 +65,29 @@ WritesAgree = (number : ℕ) (s : PrimaryState) (h : PrimaryHistory) → IsReach
 
 -- its disk fails a write, and leaves any of its blocks new
 abbrev pub FaultsAgree : Type 0
-FaultsAgree = (number : ℕ) (offsets : List ℕ) (s : PrimaryState) (h : PrimaryHistory) → IsReached h → Leaves s h → Agrees reply.Ok (local_fault number s) (step.local_fault number offsets h)
+FaultsAgree = (number : ℕ) (offsets : List ℕ) (s : PrimaryState) (h : PrimaryHistory) → IsReached h → Leaves s h
+    → Agrees reply.Ok (local_fault number s) (step.local_fault number offsets h)
 
 -- it sends a frame
 abbrev pub SendsAgree : Type 0
-SendsAgree = (room starved : Bool) (s : PrimaryState) (h : PrimaryHistory) → IsReached h → Leaves s h → Agrees reply.Ok (send room starved s) (step.send room starved h)
+SendsAgree = (room starved : Bool) (s : PrimaryState) (h : PrimaryHistory) → IsReached h → Leaves s h
+    → Agrees reply.Ok (send room starved s) (step.send room starved h)
 
 -- it takes a frame, whatever frame it is
 abbrev pub TakesAgree : Type 0
-TakesAgree = (frame : Option Received) (starved : Bool) (s : PrimaryState) (h : PrimaryHistory) → IsReached h → Leaves s h → Agrees reply.Ok (ack_in frame starved s) (step_in.ack_in frame starved h)
+TakesAgree = (frame : Option Received) (starved : Bool) (s : PrimaryState) (h : PrimaryHistory) → IsReached h → Leaves s h
+    → Agrees reply.Ok (ack_in frame starved s) (step_in.ack_in frame starved h)
 
 -- it reads a block for a resync, from a disk that holds what the history says
 abbrev pub ResyncsAgree : Type 0
-ResyncsAgree = (disk : ℕ → List ℕ) (starved : Bool) (s : PrimaryState) (h : PrimaryHistory) → IsReached h → Leaves s h → ((block : ℕ) → disk block ≡ unwrap_or (local_map h block) [])
+ResyncsAgree = (disk : ℕ → List ℕ) (starved : Bool) (s : PrimaryState) (h : PrimaryHistory) → IsReached h → Leaves s h
+    → ((block : ℕ) → disk block ≡ unwrap_or (local_map h block) [])
     → Agrees reply.Ok (resync_next disk starved s) (step.resync_next starved h)
 
 -- its disk fails that read
 abbrev pub ResyncFaultsAgree : Type 0
-ResyncFaultsAgree = (starved : Bool) (s : PrimaryState) (h : PrimaryHistory) → IsReached h → Leaves s h → Agrees reply.Ok (resync_fault starved s) (step.resync_fault starved h)
+ResyncFaultsAgree = (starved : Bool) (s : PrimaryState) (h : PrimaryHistory) → IsReached h → Leaves s h
+    → Agrees reply.Ok (resync_fault starved s) (step.resync_fault starved h)
 
 -- it closes its end
 abbrev pub ClosesAgree : Type 0
@@ -89,7 +96,8 @@ ClosesAgree = (s : PrimaryState) (h : PrimaryHistory) → IsReached h → Leaves
 -- What a caller is told of a write is what the journal has of it.
 abbrev pub SameAnswer : ℕ → Result Entry Refusal → Result Completion Refusal → Type 0
 SameAnswer number (Ok entry) (Ok completion) =
-    (completion.write.number ≡ number) × (entry.first ≡ completion.write.first) × (entry.count ≡ length completion.write.contents) × (entry.fate ≡ Completed (is_linked completion.kind) completion.home)
+    (completion.write.number ≡ number) × (entry.first ≡ completion.write.first) × (entry.count ≡ length completion.write.contents)
+    × (entry.fate ≡ Completed (is_linked completion.kind) completion.home)
 SameAnswer number (Err refusal) (Err other) = refusal ≡ other
 SameAnswer number (Ok entry) (Err other) = ⊥
 SameAnswer number (Err refusal) (Ok completion) = ⊥

@@ -1,9 +1,11 @@
 -- A primary takes a frame: the peer's hello with the decision, and then its acknowledgements.
-use Rattle.std.specs.Prelude.{ℕ, zero, suc, ◌-◌, nat_lt, ◌==◌, Bool, true, false, ◌&&◌, ◌||◌, not, if◌then◌else◌, List, [], ◌∷◌, Option, Some, None, is_none, set, Result, Ok, Err}
+use Rattle.std.specs.Prelude.{ℕ, zero, suc, ◌-◌, nat_lt, ◌==◌, Bool, true, false, ◌&&◌, ◌||◌, not, if◌then◌else◌, List, [], ◌∷◌, Option, Some, None, is_none}
+use Rattle.std.specs.Prelude.{set, Result, Ok, Err}
 use Rattle.std.specs.List.{list_any}
 use Rattle.blocks.specs.declared.tuple.Tuple.{Tuple}
 use Rattle.blocks.specs.declared.refusal.Refusal.{Refusal}
-use Rattle.blocks.specs.declared.refusal.Refusal.TheVariants.{NoMemory, NotConnected, NothingThere, BadCommand, BadBarrierAck, UnknownAck, UsedIdentifier, OtherProtocol, OtherSize}
+use Rattle.blocks.specs.declared.refusal.Refusal.TheVariants.{NoMemory, NotConnected, NothingThere, BadCommand, BadBarrierAck, UnknownAck, UsedIdentifier}
+use Rattle.blocks.specs.declared.refusal.Refusal.TheVariants.{OtherProtocol, OtherSize}
 use Rattle.blocks.specs.declared.outcome.Done.{Done}
 use Rattle.blocks.specs.declared.outcome.Decision.{Decision}
 use Rattle.blocks.specs.declared.outcome.Decision.TheVariants.{NoSync, BitmapSync, FullSync}
@@ -12,7 +14,8 @@ use Rattle.blocks.specs.declared.outcome.What.TheVariants as what
 use Rattle.blocks.specs.declared.command.Command.TheVariants as command
 use Rattle.blocks.specs.Identifiers.{stands_in, decision, sync_start}
 use Rattle.model.specs.Stream.{Item, BarrierItem, SyncUuidItem}
-use Rattle.model.specs.Frames.{Packet, ProtocolFrame, SizesFrame, UuidsFrame, RecvAckFrame, WriteAckFrame, RsWriteAckFrame, BarrierAckFrame, Acknowledged, Received}
+use Rattle.model.specs.Frames.{Packet, ProtocolFrame, SizesFrame, UuidsFrame, RecvAckFrame, WriteAckFrame, RsWriteAckFrame, BarrierAckFrame, Acknowledged}
+use Rattle.model.specs.Frames.{Received}
 use Rattle.model.specs.Refusals.{done_with}
 use Rattle.model.specs.Acknowledgements.{same_protocol}
 use Rattle.transferlog.specs.Log as log
@@ -61,7 +64,8 @@ meeting peer e s =
     let seen = record s { peer = Some peer } in
     elim (stands_in e.sync peer || stands_in e.loss peer) [
       | true ↦ Err (UsedIdentifier, seen)
-      | false ↦ elim (decision s.tuple peer) [ Err refusal ↦ Err (refusal, seen) | Ok decided ↦ Ok (following (what.Decided decided) None (begun_with decided e seen)) ]
+      | false ↦ elim (decision s.tuple peer)
+          [ Err refusal ↦ Err (refusal, seen) | Ok decided ↦ Ok (following (what.Decided decided) None (begun_with decided e seen)) ]
     ]
 
 -- a frame of the hello was as it should be

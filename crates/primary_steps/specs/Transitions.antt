@@ -1,9 +1,12 @@
 -- The transitions of a primary: for each event its tests in order, its effect, and what follows.
-use Rattle.std.specs.Prelude.{ℕ, zero, suc, ◌-◌, ◌*◌, ◌/◌, nat_lt, nat_le, ◌==◌, Bool, true, false, ◌&&◌, ◌||◌, not, if◌then◌else◌, List, [], ◌∷◌, ◌++◌, length, drop, Option, Some, None, is_some, is_none, unwrap_or, option_map, slice_get, ok_or, Result, Ok, Err}
+use Rattle.std.specs.Prelude.{ℕ, zero, suc, ◌-◌, ◌*◌, ◌/◌, nat_lt, nat_le, ◌==◌, Bool, true, false, ◌&&◌, ◌||◌, not, if◌then◌else◌, List, [], ◌∷◌, ◌++◌, length}
+use Rattle.std.specs.Prelude.{drop, Option, Some, None, is_some, is_none, unwrap_or, option_map, slice_get, ok_or, Result, Ok, Err}
 use Rattle.std.specs.List.{list_any}
 use Rattle.blocks.specs.declared.tuple.Tuple.{Tuple}
 use Rattle.blocks.specs.declared.refusal.Refusal.{Refusal}
-use Rattle.blocks.specs.declared.refusal.Refusal.TheVariants.{BadRange, Conflict, LogFull, ActivityFull, JournalFull, StreamFull, NoMemory, LocalFault, NotCompleted, NothingToDo, LinkFull, NotConnected, NothingThere, ReadFault, UnknownJob, UsedIdentifier, NotDrained}
+use Rattle.blocks.specs.declared.refusal.Refusal.TheVariants.{BadRange, Conflict, LogFull, ActivityFull, JournalFull, StreamFull, NoMemory, LocalFault}
+use Rattle.blocks.specs.declared.refusal.Refusal.TheVariants.{NotCompleted, NothingToDo, LinkFull, NotConnected, NothingThere, ReadFault, UnknownJob}
+use Rattle.blocks.specs.declared.refusal.Refusal.TheVariants.{UsedIdentifier, NotDrained}
 use Rattle.blocks.specs.declared.outcome.Done.{Done}
 use Rattle.blocks.specs.declared.outcome.What.{What}
 use Rattle.blocks.specs.declared.outcome.What.TheVariants as what
@@ -34,7 +37,10 @@ known_tuples s = elim s.peer [ None ↦ s.tuple ∷ [] | Some peer ↦ s.tuple �
 -- when an opening is refused, in order
 abbrev pub open_tests : ℕ → ℕ → Bool → PrimaryState → List Test
 open_tests sync loss starved s =
-    (is_some s.end, NotDrained) ∷ (not (are_fresh sync loss (known_tuples s)), UsedIdentifier) ∷ (nat_le 4294967295 s.connections, StreamFull) ∷ (starved, NoMemory) ∷ []
+    (is_some s.end, NotDrained) ∷ (not (are_fresh sync loss (known_tuples s)), UsedIdentifier) ∷ (nat_le 4294967295 s.connections, StreamFull) ∷ (
+      starved,
+      NoMemory,
+    ) ∷ []
 
 -- a new connection, with its words and the tuple of its hello
 abbrev pub opened : ℕ → ℕ → PrimaryState → PrimaryState
@@ -58,7 +64,10 @@ abbrev pub submit_tests : ℕ → ℕ → Bool → PrimaryState → List Test
 submit_tests first count starved s =
     let met = overlap.conflict first count s.held in
     (not (is_range s.settings first count), BadRange) ∷ (not (stands s) && (s.tuple.bitmap == 0), NotConnected) ∷ (nat_le 1048576 s.log.accepted, JournalFull)
-    ∷ (nat_le s.settings.backlog (length s.log.writes), LogFull) ∷ (is_some met, Conflict (unwrap_or met 0)) ∷ (not (can_begin (extent_of first) s.activity), ActivityFull)
+    ∷ (nat_le s.settings.backlog (length s.log.writes), LogFull) ∷ (is_some met, Conflict (unwrap_or met 0)) ∷ (
+      not (can_begin (extent_of first) s.activity),
+      ActivityFull,
+    )
     ∷ (stands s && nat_le 4294967288 s.log.epochs.places, StreamFull) ∷ (starved, NoMemory) ∷ []
 
 -- The write is in the log, holds its blocks, and has its extent active. With a stream it goes there, and without one its range
@@ -114,7 +123,8 @@ failing number s = elim (write_at number s.log.writes) [
 -- the local disk fails a write
 abbrev pub local_fault : ℕ → PrimaryState → Result Done Refusal × PrimaryState
 local_fault number s =
-    tested s ((not (is_unfinished number s), UnknownJob) ∷ []) (λ _. let after = logged what.Nothing (log.local_fault number s.log) (failing number s) in (Ok after.0, after.1))
+    tested s ((not (is_unfinished number s), UnknownJob) ∷ [])
+    (λ _. let after = logged what.Nothing (log.local_fault number s.log) (failing number s) in (Ok after.0, after.1))
 
 -- Send.
 
@@ -217,7 +227,8 @@ take_completed number s = let answer = told (entry_at number s) in (answer, if i
 -- when a resync block is refused, in order
 abbrev pub resync_tests : Bool → EndState → PrimaryState → List Test
 resync_tests starved e s =
-    (not e.resync || (is_some e.under_way || is_none (next_block s.marks s.held)), NothingToDo) ∷ (nat_le 4294967288 s.log.epochs.places, StreamFull) ∷ (starved, NoMemory) ∷ []
+    (not e.resync || (is_some e.under_way || is_none (next_block s.marks s.held)), NothingToDo) ∷ (nat_le 4294967288 s.log.epochs.places, StreamFull) ∷
+    (starved, NoMemory) ∷ []
 
 -- the block is under way, with these contents
 abbrev pub copying : ℕ → List ℕ → EndState → PrimaryState → Done × PrimaryState
@@ -227,7 +238,10 @@ copying block contents e s =
     following (what.Block (record { 0 = block }) placed.0) None (record s {
       log = placed.1;
       held = holding_too (holding 0 block 1) s.held;
-      end = Some (record e { unsent = e.unsent ++ ResyncItem block contents ∷ []; under_way = Some (record { block = block; place = placed.0; epoch = epoch }) });
+      end = Some (record e {
+        unsent = e.unsent ++ ResyncItem block contents ∷ [];
+        under_way = Some (record { block = block; place = placed.0; epoch = epoch });
+      });
     })
 
 -- The lowest free marked block is read and appended in one step, with what `disk` has there.

@@ -1,5 +1,6 @@
 -- Pieces that pass the end of a row, one after another.
-use Rattle.std.proofs.Common.{◌≡◌, ◌+◌, ◌-◌, ◌≤◌, ℕ, List, [], ◌∷◌, ◌++◌, Option, take, drop, length, refl, sym, ap, ◌∙◌, subst, append_assoc, append-nil, arith, rules}
+use Rattle.std.proofs.Common.{◌≡◌, ◌+◌, ◌-◌, ◌≤◌, ℕ, List, [], ◌∷◌, ◌++◌, Option, take, drop, length, refl, sym, ap, ◌∙◌, subst, append_assoc, append-nil}
+use Rattle.std.proofs.Common.{arith, rules}
 use Rattle.std.proofs.KnownBytes.{Appends-trans, Consumes-trans}
 use Rattle.std.proofs.lemmas.Grind.{flat_map-append}
 use Rattle.std.proofs.lemmas.List.{length-append, length-drop, take_rest}
@@ -17,7 +18,8 @@ pass_none e = ap (λ (x : List PieceState). record e { pieces = x }) (sym (appen
 
 pub pass_then : (a b c : EndState) (xs ys : List PieceState) → PassPieces a b xs → PassPieces b c ys → PassPieces a c (xs ++ ys)
 pass_then a b c xs ys first second =
-    second ∙ ap (λ (s : EndState). record s { pieces = s.pieces ++ ys }) first ∙ ap (λ (x : List PieceState). record a { pieces = x }) (append_assoc a.pieces xs ys)
+    second ∙ ap (λ (s : EndState). record s { pieces = s.pieces ++ ys }) first
+    ∙ ap (λ (x : List PieceState). record a { pieces = x }) (append_assoc a.pieces xs ys)
 
 pub pop_none : (e : EndState) → PopsBytes e e []
 pop_none e = record { popped = []; passed = pass_none e; bytes_popped = refl }
@@ -56,32 +58,38 @@ two_fronts : (bytes : List ℕ) (m n : ℕ) → take m bytes ++ take n (rest_aft
 two_fronts bytes m n = ap (λ (x : List ℕ). take m bytes ++ take n x) (take_rest bytes m) ∙ two_takes bytes m n
 
 -- the front of the rest is pushed after the front
-pub push_more : (a b c : EndState) (bytes : List ℕ) (m n : ℕ) → PushesBytes a b (take m bytes) → PushesBytes b c (take n (rest_after bytes m)) → PushesBytes a c (take (m + n) bytes)
+pub push_more : (a b c : EndState) (bytes : List ℕ) (m n : ℕ) → PushesBytes a b (take m bytes) → PushesBytes b c (take n (rest_after bytes m))
+    → PushesBytes a c (take (m + n) bytes)
 push_more a b c bytes m n first second = subst (PushesBytes a c) (two_fronts bytes m n) (push_then a b c _ _ first second)
 
 -- the front of the rest is written after the front
-pub append_more : (a b c : Option (List ℕ)) (bytes : List ℕ) (m n : ℕ) → Appends a b (take m bytes) → Appends b c (take n (rest_after bytes m)) → Appends a c (take (m + n) bytes)
+pub append_more : (a b c : Option (List ℕ)) (bytes : List ℕ) (m n : ℕ) → Appends a b (take m bytes) → Appends b c (take n (rest_after bytes m))
+    → Appends a c (take (m + n) bytes)
 append_more a b c bytes m n first second = subst (Appends a c) (two_fronts bytes m n) (Appends-trans a b c _ _ first second)
 
 -- all that was popped is written, and then more is popped and its front written
-pub carried_out : (a b c : EndState) (u v w : Option (List ℕ)) (bytes written rest : List ℕ) → IsCarriedOut a b u v [] → PopsBytes b c bytes → Appends v w written
+pub carried_out : (a b c : EndState) (u v w : Option (List ℕ)) (bytes written rest : List ℕ) → IsCarriedOut a b u v [] → PopsBytes b c bytes
+    → Appends v w written
     → written ++ rest ≡ bytes → length bytes ≤ 65536 → IsCarriedOut a c u w rest
 carried_out a b c u v w bytes written rest before popped appended cut few = record {
   written = before.written ++ written;
-  popped = subst (PopsBytes a c) (ap (λ (x : List ℕ). x ++ bytes) (append-nil before.written) ∙ ap (λ (x : List ℕ). before.written ++ x) (sym cut) ∙ sym (append_assoc before.written written rest))
+  popped = subst (PopsBytes a c) (ap (λ (x : List ℕ). x ++ bytes) (append-nil before.written) ∙ ap (λ (x : List ℕ). before.written ++ x) (sym cut)
+      ∙ sym (append_assoc before.written written rest))
       (pop_then a b c _ bytes before.popped popped);
   appended = Appends-trans u v w before.written written before.appended appended;
   few = omega (arith, ap length cut, length-append written rest);
 }
 
 -- all that was read is pushed, and then more is read and its front pushed
-pub carried_in : (a b c : EndState) (u v w : Option (List ℕ)) (bytes pushed rest : List ℕ) → IsCarriedIn a b u v [] → Consumes v w bytes → PushesBytes b c pushed
+pub carried_in : (a b c : EndState) (u v w : Option (List ℕ)) (bytes pushed rest : List ℕ) → IsCarriedIn a b u v [] → Consumes v w bytes
+    → PushesBytes b c pushed
     → pushed ++ rest ≡ bytes → length bytes ≤ 65536 → IsCarriedIn a c u w rest
 carried_in a b c u v w bytes pushed rest before consumed pushes cut few = record {
   pushed_bytes = before.pushed_bytes ++ pushed;
   pushed = push_then a b c before.pushed_bytes pushed before.pushed pushes;
   consumed = subst (Consumes u w)
-      (ap (λ (x : List ℕ). x ++ bytes) (append-nil before.pushed_bytes) ∙ ap (λ (x : List ℕ). before.pushed_bytes ++ x) (sym cut) ∙ sym (append_assoc before.pushed_bytes pushed rest))
+      (ap (λ (x : List ℕ). x ++ bytes) (append-nil before.pushed_bytes) ∙ ap (λ (x : List ℕ). before.pushed_bytes ++ x) (sym cut)
+      ∙ sym (append_assoc before.pushed_bytes pushed rest))
       (Consumes-trans u v w _ bytes before.consumed consumed);
   few = omega (arith, ap length cut, length-append pushed rest);
 }

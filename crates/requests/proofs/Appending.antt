@@ -11,11 +11,13 @@ pub one-more : {A B : Type 0} (range : A → ℕ × ℕ) (asked : B → ℕ × �
 one-more range asked yielded last old before new done one = record {
   more = done.more ++ one.more;
   appended = one.appended ∙ ap (λ l. l ++ one.more) done.appended ∙ append_assoc old done.more one.more;
-  each = map-append range done.more one.more ∙ ap (λ l. l ++ map range one.more) done.each ∙ ap (λ l. map asked yielded ++ l) one.each ∙ sym (map_push asked yielded last);
+  each = map-append range done.more one.more ∙ ap (λ l. l ++ map range one.more) done.each ∙ ap (λ l. map asked yielded ++ l) one.each
+      ∙ sym (map_push asked yielded last);
 }
 
 -- what is left goes on
 pub left-one : (yielded : List Range) (range : Range) (left rest ranges : List (ℕ × ℕ)) → map pair_of yielded ++ left ≡ ranges → left ≡ pair_of range ∷ rest
     → map pair_of (yielded ++ range ∷ []) ++ rest ≡ ranges
 left-one yielded range left rest ranges all first =
-    ap (λ (l : List (ℕ × ℕ)). l ++ rest) (map_push pair_of yielded range) ∙ append_assoc (map pair_of yielded) (pair_of range ∷ []) rest ∙ sym (ap (λ (l : List (ℕ × ℕ)). map pair_of yielded ++ l) first) ∙ all
+    ap (λ (l : List (ℕ × ℕ)). l ++ rest) (map_push pair_of yielded range) ∙ append_assoc (map pair_of yielded) (pair_of range ∷ []) rest
+    ∙ sym (ap (λ (l : List (ℕ × ℕ)). map pair_of yielded ++ l) first) ∙ all

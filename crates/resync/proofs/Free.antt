@@ -1,5 +1,6 @@
 -- The first marked block that is free, by what is before it.
-use Rattle.std.proofs.Common.{ℕ, zero, suc, ◌≡◌, ◌<◌, ◌≤◌, ◌+◌, ◌⊎◌, inl, inr, Bool, true, false, ◌&&◌, nat_le, List, [], ◌∷◌, Some, None, length, refl, sym, ◌∙◌, arith}
+use Rattle.std.proofs.Common.{ℕ, zero, suc, ◌≡◌, ◌<◌, ◌≤◌, ◌+◌, ◌⊎◌, inl, inr, Bool, true, false, ◌&&◌, nat_le, List, [], ◌∷◌, Some, None, length, refl, sym}
+use Rattle.std.proofs.Common.{◌∙◌, arith}
 use Rattle.std.specs.Prelude.{filter, find, is_none}
 use Rattle.std.proofs.lemmas.Bool.{cases_lt, le-leb, and_right}
 use Rattle.std.proofs.lemmas.Bool.Decides.{nat_tests}
@@ -22,9 +23,11 @@ find-filter p q (x ∷ xs) = go (find-filter p q xs) (q x) (p x) refl refl
 pub next-some : (marks : List Bool) (held : List Holding) (b : ℕ) → b < length marks → marked marks b ≡ true → is_free held b ≡ true
     → ((k : ℕ) → k < b → (marked marks k && is_free held k) ≡ false) → Some b ≡ next_block marks held
 next-some marks held b within is free before =
-    sym (find-filter (is_free held) (marked marks) (below (length marks)) ∙ find-below_some (λ k. marked marks k && is_free held k) (length marks) b within (rw (is, free) refl) before)
+    sym (find-filter (is_free held) (marked marks) (below (length marks))
+    ∙ find-below_some (λ k. marked marks k && is_free held k) (length marks) b within (rw (is, free) refl) before)
 
-pub next-none : (marks : List Bool) (held : List Holding) → ((k : ℕ) → k < length marks → (marked marks k && is_free held k) ≡ false) → None ≡ next_block marks held
+pub next-none : (marks : List Bool) (held : List Holding) → ((k : ℕ) → k < length marks → (marked marks k && is_free held k) ≡ false)
+    → None ≡ next_block marks held
 next-none marks held before =
     sym (find-filter (is_free held) (marked marks) (below (length marks)) ∙ find-below_none (λ k. marked marks k && is_free held k) (length marks) before)
 
@@ -76,7 +79,8 @@ pub free-conflict : (held : List Holding) (block : ℕ) → is_free held block �
 free-conflict [] block = refl
 free-conflict (h ∷ held) block = go (free-conflict held block) (meets block 1 h) refl
   where
-    go : is_free held block ≡ is_none (conflict block 1 held) → (b : Bool) → meets block 1 h ≡ b → is_free (h ∷ held) block ≡ is_none (conflict block 1 (h ∷ held))
+    go : is_free held block ≡ is_none (conflict block 1 held) → (b : Bool) → meets block 1 h ≡ b
+        → is_free (h ∷ held) block ≡ is_none (conflict block 1 (h ∷ held))
     go rest true is = rw (covers block h, is) refl
     go rest false is = rw (covers block h, is) rest
 
@@ -97,7 +101,8 @@ none_before marks held from b before first k within = go (cases_lt k from)
         rw off refl
 
 -- and not at it either, where it is held
-pub none_up_to : (marks : List Bool) (held : List Holding) (b : ℕ) → ((k : ℕ) → k < b → is_next marks held k ≡ false) → is_free held b ≡ false → (k : ℕ) → k < b + 1 → is_next marks held k ≡ false
+pub none_up_to : (marks : List Bool) (held : List Holding) (b : ℕ) → ((k : ℕ) → k < b → is_next marks held k ≡ false) → is_free held b ≡ false → (k : ℕ)
+    → k < b + 1 → is_next marks held k ≡ false
 none_up_to marks held b before taken k within = go (cases_lt k b)
   where
     go : (k < b) ⊎ (b ≤ k) → is_next marks held k ≡ false

@@ -1,5 +1,6 @@
 -- The bytes of each connection, among pieces of several.
-use Rattle.std.proofs.Common.{◌≡◌, ◌≢◌, ℕ, ◌+◌, ◌<◌, ◌≤◌, Bool, true, false, cond, List, [], ◌∷◌, ◌++◌, length, take, drop, refl, sym, ap, ◌∙◌, append_assoc, inl, inr, Result, Ok, Err, arith}
+use Rattle.std.proofs.Common.{◌≡◌, ◌≢◌, ℕ, ◌+◌, ◌<◌, ◌≤◌, Bool, true, false, cond, List, [], ◌∷◌, ◌++◌, length, take, drop, refl, sym, ap, ◌∙◌, append_assoc}
+use Rattle.std.proofs.Common.{inl, inr, Result, Ok, Err, arith}
 use Rattle.std.specs.Prelude.{◌==◌, nat_lt}
 use Rattle.std.specs.List.{AllByRecursion}
 use Rattle.std.proofs.lemmas.Bool.Decides.{nat_tests}
@@ -144,7 +145,8 @@ no_part frame more front cut part e =
     let headed = cut.headed in
     let whole = cut.whole in
     let long : 8 ≤ length front = omega (arith, len, headed) in
-    let same : cut_after (header_at front) ≡ cut_after (header_at frame) = ap (λ (row : List ℕ). cut_after (header_at row)) (sym e) ∙ cut_front frame more headed in
+    let same : cut_after (header_at front) ≡ cut_after (header_at frame) = ap (λ (row : List ℕ). cut_after (header_at row)) (sym e)
+    ∙ cut_front frame more headed in
     let less = part long in
     omega (arith, len, whole, same, less)
 
@@ -171,8 +173,11 @@ over n frames = record { number = n; frames = frames }
 
 pub rising_more : (past : List Past) (n m : ℕ) (frames : List (List ℕ)) → IsRising past n → n < m → IsRising (past ++ over n frames ∷ []) m
 rising_more [] n m frames r lt = (lt, tt, tt)
-rising_more (before ∷ past) n m frames r lt =
-    (omega (arith, r.0, lt), all_append (λ (after : Past). before.number < after.number) past (over n frames ∷ []) r.1 (r.0, tt), rising_more past n m frames r.2 lt)
+rising_more (before ∷ past) n m frames r lt = (
+  omega (arith, r.0, lt),
+  all_append (λ (after : Past). before.number < after.number) past (over n frames ∷ []) r.1 (r.0, tt),
+  rising_more past n m frames r.2 lt,
+)
 
 pub past_same : (past : List Past) (n : ℕ) (frames : List (List ℕ)) → IsRising past n → past_on n (past ++ over n frames ∷ []) ≡ frames
 past_same [] n frames r = ap (λ (b : Bool). cond b frames []) (same_number n n refl)

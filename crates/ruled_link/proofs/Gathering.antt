@@ -24,12 +24,14 @@ gathered_none items spare is_ready e room = record {
 }
 
 -- the bytes are dropped
-pub gathered_cleared : (old items : List ℕ) (before spare : ℕ) (is_ready : Bool) (whole : ℕ) → IsGathered old before is_ready whole → items ≡ [] → length old + before ≤ spare
+pub gathered_cleared : (old items : List ℕ) (before spare : ℕ) (is_ready : Bool) (whole : ℕ) → IsGathered old before is_ready whole → items ≡ []
+    → length old + before ≤ spare
     → IsGathered items spare is_ready 8
 gathered_cleared old items before spare is_ready whole g e more = gathered_none items spare is_ready e (λ r. omega (arith, g.room r, more))
 
 -- bytes more came
-pub gathered_more : (old new added : List ℕ) (before spare : ℕ) (is_ready : Bool) (whole next : ℕ) → is_ready ≡ true → IsGathered old before is_ready whole → new ≡ old ++ added
+pub gathered_more : (old new added : List ℕ) (before spare : ℕ) (is_ready : Bool) (whole next : ℕ) → is_ready ≡ true → IsGathered old before is_ready whole
+    → new ≡ old ++ added
     → spare + length added ≡ before → next ≡ whole_length new → length new ≤ next → next ≤ 131104 → IsGathered new spare is_ready next
 gathered_more old new added before spare is_ready whole next r g e room noted within most = record {
   noted = noted;
@@ -56,5 +58,6 @@ gathered_cut items spare is_ready whole g full =
     record { headed = long; whole = same ∙ whole_long items long }
 
 -- less than a frame is
-pub gathered_part : (items : List ℕ) (spare : ℕ) (is_ready : Bool) (whole : ℕ) → IsGathered items spare is_ready whole → length items < whole → BeginsNoCut items
+pub gathered_part : (items : List ℕ) (spare : ℕ) (is_ready : Bool) (whole : ℕ) → IsGathered items spare is_ready whole → length items < whole
+    → BeginsNoCut items
 gathered_part items spare is_ready whole g less long = omega (arith, g.noted, less, whole_long items long)

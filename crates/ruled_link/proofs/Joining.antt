@@ -47,11 +47,13 @@ all_taken s n h = elim (cases_eq n s.number) [
       )
 ]
 
-pub is_joined : (outward : OutwardState) (pushed : ℕ) (inward : InwardState) (more : List PieceState) → Sends outward pushed → Takes inward → inward.pieces ++ more ≡ outward.pieces → IsJoined outward inward
+pub is_joined : (outward : OutwardState) (pushed : ℕ) (inward : InwardState) (more : List PieceState) → Sends outward pushed → Takes inward
+    → inward.pieces ++ more ≡ outward.pieces → IsJoined outward inward
 is_joined outward pushed inward more s t whole n =
     let out = all_sent outward pushed n s in
     let in' = all_taken inward n t in
     let bytes : (bytes_on n inward.pieces) ++ bytes_on n more ≡ bytes_on n outward.pieces = sym (bytes_append n inward.pieces more) ∙ ap (bytes_on n) whole in
     let row : joined (taken_on n inward) ++ (in'.0 ++ bytes_on n more) ≡ joined (sent_on n outward) ++ out.0 =
-    sym (append_assoc (joined (taken_on n inward)) in'.0 (bytes_on n more)) ∙ ap (λ (x : List ℕ). x ++ bytes_on n more) (sym in'.1.bytes_are) ∙ bytes ∙ out.1.bytes_are in
+    sym (append_assoc (joined (taken_on n inward)) in'.0 (bytes_on n more)) ∙ ap (λ (x : List ℕ). x ++ bytes_on n more) (sym in'.1.bytes_are) ∙ bytes
+    ∙ out.1.bytes_are in
     frames_begin (taken_on n inward) (sent_on n outward) (in'.0 ++ bytes_on n more) out.0 in'.1.cuts out.1.cuts out.2 row

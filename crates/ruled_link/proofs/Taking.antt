@@ -1,5 +1,6 @@
 -- What was popped is the frames taken, and what is in hand.
-use Rattle.std.proofs.Common.{◌≡◌, ◌≢◌, ℕ, ◌<◌, ◌≤◌, Bool, true, false, cond, List, [], ◌∷◌, ◌++◌, length, Option, None, Some, refl, sym, ap, ◌∙◌, subst, append_assoc, inl, inr, arith}
+use Rattle.std.proofs.Common.{◌≡◌, ◌≢◌, ℕ, ◌<◌, ◌≤◌, Bool, true, false, cond, List, [], ◌∷◌, ◌++◌, length, Option, None, Some, refl, sym, ap, ◌∙◌, subst}
+use Rattle.std.proofs.Common.{append_assoc, inl, inr, arith}
 use Rattle.std.specs.List.{AllByRecursion}
 use Rattle.std.proofs.lemmas.Bool.{cases_eq, cases_lt}
 use Rattle.std.proofs.lemmas.List.{append-nil}
@@ -8,7 +9,8 @@ use Rattle.link.specs.Past.{Past, Went, and_then, ended, over}
 use Rattle.ruled_link.specs.Pieces.{EndState, PieceState, bytes_if, bytes_on}
 use Rattle.ruled_link.specs.Carried.{joined, BeginsNoCut, IsCarried, past_on}
 use Rattle.ruled_link.specs.Inward.{GatheredState, Takes, IsDropped, inward_state, is_later, later_of, not_before, rest_on}
-use Rattle.ruled_link.proofs.Carrying.{all_append, all_map, below, not_below, bytes_append, bytes_one, bytes_none, bytes_above, no_bytes, other_bytes, joined_more, joined_none, rising_more, past_same, past_other}
+use Rattle.ruled_link.proofs.Carrying.{all_append, all_map, below, not_below, bytes_append, bytes_one, bytes_none, bytes_above, no_bytes, other_bytes}
+use Rattle.ruled_link.proofs.Carrying.{joined_more, joined_none, rising_more, past_same, past_other}
 
 nothing_begun : BeginsNoCut []
 nothing_begun long = absurd (omega (arith, long))
@@ -16,7 +18,8 @@ nothing_begun long = absurd (omega (arith, long))
 nothing_carried : (n : ℕ) → IsCarried (bytes_on n []) [] []
 nothing_carried n = record { bytes_are = no_bytes n ∙ sym (ap (λ (x : List ℕ). x ++ []) joined_none); cuts = tt }
 
-pub takes_new : (pieces : EndState) (went : Went) (gathered : GatheredState) → pieces.pieces ≡ [] → went ≡ record { frames = []; past = [] } → gathered ≡ record { bytes = []; is_ready = true }
+pub takes_new : (pieces : EndState) (went : Went) (gathered : GatheredState) → pieces.pieces ≡ [] → went ≡ record { frames = []; past = [] }
+    → gathered ≡ record { bytes = []; is_ready = true }
     → Takes (inward_state pieces went 1 gathered None)
 takes_new pieces went gathered p w g = rw (p, w, g) (record {
   present = nothing_carried 1;
@@ -31,7 +34,8 @@ takes_new pieces went gathered p w g = rw (p, w, g) (record {
 -- ---- taking a frame out of what is in hand
 
 -- bytes of the piece in hand came to the others
-pub takes_gathered : (pieces : EndState) (went : Went) (number : ℕ) (old new : GatheredState) (before after : Option PieceState) → Takes (inward_state pieces went number old before)
+pub takes_gathered : (pieces : EndState) (went : Went) (number : ℕ) (old new : GatheredState) (before after : Option PieceState)
+    → Takes (inward_state pieces went number old before)
     → new.bytes ++ rest_on number after ≡ old.bytes ++ rest_on number before → later_of number after ≡ later_of number before → BeginsNoCut new.bytes
     → Takes (inward_state pieces went number new after)
 takes_gathered pieces went number old new before after t same later part = record {
@@ -45,7 +49,8 @@ takes_gathered pieces went number old new before after t same later part = recor
 }
 
 -- a frame was taken out
-pub takes_frame : (pieces : EndState) (went more : Went) (number : ℕ) (old middle new : GatheredState) (before after : Option PieceState) (frame : List ℕ) → Takes (inward_state pieces went number old before)
+pub takes_frame : (pieces : EndState) (went more : Went) (number : ℕ) (old middle new : GatheredState) (before after : Option PieceState) (frame : List ℕ)
+    → Takes (inward_state pieces went number old before)
     → middle.bytes ++ rest_on number after ≡ old.bytes ++ rest_on number before → later_of number after ≡ later_of number before
     → IsCut frame → frame ≡ middle.bytes → new.bytes ≡ [] → more ≡ and_then frame went → Takes (inward_state pieces more number new after)
 takes_frame pieces went more number old middle new before after frame t same later cut is blank added =
@@ -90,13 +95,16 @@ later_not number rest p is not =
 -- ---- taking the next piece
 
 -- what was popped more, on one connection
-popped : (n number : ℕ) (old new : EndState) (last : List PieceState) (d : IsDropped number old new last) → bytes_on n new.pieces ≡ bytes_on n old.pieces ++ bytes_on n (d.dropped ++ last)
+popped : (n number : ℕ) (old new : EndState) (last : List PieceState) (d : IsDropped number old new last)
+    → bytes_on n new.pieces ≡ bytes_on n old.pieces ++ bytes_on n (d.dropped ++ last)
 popped n number old new last d = ap (λ (s : EndState). bytes_on n s.pieces) d.pieces ∙ bytes_append n old.pieces (d.dropped ++ last)
 
 -- what was dropped has no byte of the present connection
-popped_here : (number : ℕ) (old new : EndState) (last : List PieceState) → IsDropped number old new last → bytes_on number new.pieces ≡ bytes_on number old.pieces ++ bytes_on number last
+popped_here : (number : ℕ) (old new : EndState) (last : List PieceState) → IsDropped number old new last
+    → bytes_on number new.pieces ≡ bytes_on number old.pieces ++ bytes_on number last
 popped_here number old new last d =
-    let none : bytes_on number d.dropped ≡ [] = bytes_none number d.dropped (all_map (λ p. p.number < number) (λ p. p.number ≢ number) d.dropped (λ p less e. omega (arith, less, e)) d.earlier) in
+    let none : bytes_on number d.dropped ≡ [] =
+    bytes_none number d.dropped (all_map (λ p. p.number < number) (λ p. p.number ≢ number) d.dropped (λ p less e. omega (arith, less, e)) d.earlier) in
     popped number number old new last d
     ∙ ap (λ (x : List ℕ). bytes_on number old.pieces ++ x) (bytes_append number d.dropped last ∙ ap (λ (x : List ℕ). x ++ bytes_on number last) none)
 
@@ -115,17 +123,21 @@ before_still past number old new last d before n apart =
     )
 
 -- the pieces up to the last one are of the present connection or of earlier ones
-still_whole : (number : ℕ) (old new : EndState) (last earlier : List PieceState) (d : IsDropped number old new last) → old.pieces ≡ earlier → new.pieces ≡ (earlier ++ d.dropped) ++ last
+still_whole : (number : ℕ) (old new : EndState) (last earlier : List PieceState) (d : IsDropped number old new last) → old.pieces ≡ earlier
+    → new.pieces ≡ (earlier ++ d.dropped) ++ last
 still_whole number old new last earlier d whole =
     ap (λ (s : EndState). s.pieces) d.pieces ∙ ap (λ (x : List PieceState). x ++ (d.dropped ++ last)) whole ∙ sym (append_assoc earlier d.dropped last)
 
-still_highest : (number : ℕ) (old new : EndState) (last earlier : List PieceState) (d : IsDropped number old new last) → AllByRecursion (λ p. p.number ≤ number) earlier
+still_highest : (number : ℕ) (old new : EndState) (last earlier : List PieceState) (d : IsDropped number old new last)
+    → AllByRecursion (λ p. p.number ≤ number) earlier
     → AllByRecursion (λ p. p.number ≤ number) (earlier ++ d.dropped)
 still_highest number old new last earlier d high =
-    all_append (λ p. p.number ≤ number) earlier d.dropped high (all_map (λ p. p.number < number) (λ p. p.number ≤ number) d.dropped (λ p less. omega (arith, less)) d.earlier)
+    all_append (λ p. p.number ≤ number) earlier d.dropped high
+    (all_map (λ p. p.number < number) (λ p. p.number ≤ number) d.dropped (λ p less. omega (arith, less)) d.earlier)
 
 -- there was no piece of the present connection or a later one
-pub takes_none : (old new : EndState) (went : Went) (number : ℕ) (front : GatheredState) (rest : Option PieceState) → Takes (inward_state old went number front rest)
+pub takes_none : (old new : EndState) (went : Went) (number : ℕ) (front : GatheredState) (rest : Option PieceState)
+    → Takes (inward_state old went number front rest)
     → later_of number rest ≡ [] → IsDropped number old new [] → Takes (inward_state new went number front rest)
 takes_none old new went number front rest t none d =
     let whole : old.pieces ≡ t.earlier = t.whole ∙ ap (λ (x : List PieceState). t.earlier ++ x) none ∙ append-nil t.earlier in
@@ -142,7 +154,8 @@ takes_none old new went number front rest t none d =
     }
 
 -- there was one, which is in hand now
-pub takes_piece : (old new : EndState) (went : Went) (number : ℕ) (front : GatheredState) (rest : Option PieceState) (p : PieceState) → Takes (inward_state old went number front rest)
+pub takes_piece : (old new : EndState) (went : Went) (number : ℕ) (front : GatheredState) (rest : Option PieceState) (p : PieceState)
+    → Takes (inward_state old went number front rest)
     → later_of number rest ≡ [] → rest_on number rest ≡ [] → IsDropped number old new (p ∷ []) → Takes (inward_state new went number front (Some p))
 takes_piece old new went number front rest p t none spent d =
     let whole : old.pieces ≡ t.earlier = t.whole ∙ ap (λ (x : List PieceState). t.earlier ++ x) none ∙ append-nil t.earlier in
@@ -151,11 +164,13 @@ takes_piece old new went number front rest p t none spent d =
     let here : bytes_on number new.pieces ≡ bytes_on number old.pieces ++ bytes_if number p =
     popped_here number old new (p ∷ []) d ∙ ap (λ (x : List ℕ). bytes_on number old.pieces ++ x) (bytes_one number p) in
     let held : front.bytes ++ rest_on number rest ≡ front.bytes = ap (λ (x : List ℕ). front.bytes ++ x) spent ∙ append-nil front.bytes in
-    let split : (earlier : List PieceState) × (new.pieces ≡ earlier ++ later_of number (Some p)) × AllByRecursion (λ q. q.number ≤ number) earlier = elim (cases_lt number p.number) [
+    let split : (earlier : List PieceState) × (new.pieces ≡ earlier ++ later_of number (Some p)) × AllByRecursion (λ q. q.number ≤ number) earlier =
+    elim (cases_lt number p.number) [
       | inl later ↦ (t.earlier ++ d.dropped, all ∙ ap (λ (x : List PieceState). (t.earlier ++ d.dropped) ++ x) (sym (later_is number p later)), high)
       | inr now ↦ (
         (t.earlier ++ d.dropped) ++ p ∷ [],
-        all ∙ sym (append-nil ((t.earlier ++ d.dropped) ++ p ∷ [])) ∙ ap (λ (x : List PieceState). ((t.earlier ++ d.dropped) ++ p ∷ []) ++ x) (sym (not_later number p now)),
+        all ∙ sym (append-nil ((t.earlier ++ d.dropped) ++ p ∷ []))
+            ∙ ap (λ (x : List PieceState). ((t.earlier ++ d.dropped) ++ p ∷ []) ++ x) (sym (not_later number p now)),
         all_append (λ q. q.number ≤ number) (t.earlier ++ d.dropped) (p ∷ []) high (now, tt),
       )
     ] in
@@ -189,11 +204,13 @@ record Ahead (next : ℕ) (pieces : List PieceState) (rest : Option PieceState) 
   whole : pieces ≡ earlier ++ later_of next rest
   highest : AllByRecursion (λ p. p.number ≤ next) earlier
 
-up_to : (number next : ℕ) (earlier : List PieceState) → number < next → AllByRecursion (λ p. p.number ≤ number) earlier → AllByRecursion (λ p. p.number ≤ next) earlier
+up_to : (number next : ℕ) (earlier : List PieceState) → number < next → AllByRecursion (λ p. p.number ≤ number) earlier
+    → AllByRecursion (λ p. p.number ≤ next) earlier
 up_to number next earlier lt high = all_map (λ p. p.number ≤ number) (λ p. p.number ≤ next) earlier (λ p le. omega (arith, le, lt)) high
 
 -- no piece in hand is of the connection that begins
-ahead_none : (number next : ℕ) (pieces earlier : List PieceState) → number < next → AllByRecursion (λ p. p.number ≤ number) earlier → pieces ≡ earlier → Ahead next pieces None
+ahead_none : (number next : ℕ) (pieces earlier : List PieceState) → number < next → AllByRecursion (λ p. p.number ≤ number) earlier → pieces ≡ earlier
+    → Ahead next pieces None
 ahead_none number next pieces earlier lt high e = record {
   here = ap (bytes_on next) e ∙ bytes_above number next earlier lt high;
   earlier = earlier;
@@ -202,17 +219,20 @@ ahead_none number next pieces earlier lt high e = record {
 }
 
 -- the bytes of the last piece alone can be of the connection that begins
-last_alone : (number next : ℕ) (earlier : List PieceState) (p : PieceState) → number < next → AllByRecursion (λ q. q.number ≤ number) earlier → bytes_on next (earlier ++ p ∷ []) ≡ bytes_if next p
+last_alone : (number next : ℕ) (earlier : List PieceState) (p : PieceState) → number < next → AllByRecursion (λ q. q.number ≤ number) earlier
+    → bytes_on next (earlier ++ p ∷ []) ≡ bytes_if next p
 last_alone number next earlier p lt high =
     bytes_append next earlier (p ∷ []) ∙ ap (λ (x : List ℕ). x ++ bytes_on next (p ∷ [])) (bytes_above number next earlier lt high) ∙ bytes_one next p
 
 -- the piece in hand is of a later connection than the one that ends
-ahead_later : (number next : ℕ) (pieces earlier : List PieceState) (p : PieceState) → number < next → AllByRecursion (λ q. q.number ≤ number) earlier → pieces ≡ earlier ++ p ∷ []
+ahead_later : (number next : ℕ) (pieces earlier : List PieceState) (p : PieceState) → number < next → AllByRecursion (λ q. q.number ≤ number) earlier
+    → pieces ≡ earlier ++ p ∷ []
     → Ahead next pieces (not_before next (Some p))
 ahead_later number next pieces earlier p lt high e =
     let here : bytes_on next pieces ≡ bytes_if next p = ap (bytes_on next) e ∙ last_alone number next earlier p lt high in
     let high' = up_to number next earlier lt high in
-    let full : (p.number ≤ next) → AllByRecursion (λ q. q.number ≤ next) (earlier ++ p ∷ []) = λ le. all_append (λ q. q.number ≤ next) earlier (p ∷ []) high' (le, tt) in
+    let full : (p.number ≤ next) → AllByRecursion (λ q. q.number ≤ next) (earlier ++ p ∷ []) = λ le. all_append (λ q. q.number ≤ next) earlier (p ∷ []) high'
+    (le, tt) in
     elim (cases_lt p.number next) [
       | inl old ↦ rw (early next p old) (record {
         here = here ∙ other_bytes next p (λ same. omega (arith, same, old));
@@ -236,7 +256,8 @@ ahead_later number next pieces earlier p lt high e =
       ])
     ]
 
-ahead : (number next : ℕ) (pieces earlier : List PieceState) (rest : Option PieceState) → number < next → AllByRecursion (λ q. q.number ≤ number) earlier → pieces ≡ earlier ++ later_of number rest
+ahead : (number next : ℕ) (pieces earlier : List PieceState) (rest : Option PieceState) → number < next → AllByRecursion (λ q. q.number ≤ number) earlier
+    → pieces ≡ earlier ++ later_of number rest
     → Ahead next pieces (not_before next rest)
 ahead number next pieces earlier None lt high e = ahead_none number next pieces earlier lt high (e ∙ append-nil earlier)
 ahead number next pieces earlier (Some p) lt high e = elim (cases_lt number p.number) [
@@ -246,7 +267,8 @@ ahead number next pieces earlier (Some p) lt high e = elim (cases_lt number p.nu
 ]
 
 -- the connection is over
-pub takes_over : (pieces : EndState) (went after : Went) (number next : ℕ) (old new : GatheredState) (rest left : Option PieceState) → Takes (inward_state pieces went number old rest) → number < next
+pub takes_over : (pieces : EndState) (went after : Went) (number next : ℕ) (old new : GatheredState) (rest left : Option PieceState)
+    → Takes (inward_state pieces went number old rest) → number < next
     → after ≡ over number went → new.bytes ≡ [] → left ≡ not_before next rest → Takes (inward_state pieces after next new left)
 takes_over pieces went after number next old new rest left t later is blank kept =
     let ps = pieces.pieces in

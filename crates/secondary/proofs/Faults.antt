@@ -20,26 +20,35 @@ use Rattle.secondary.proofs.Applies.{on-disk}
 use Rattle.secondary.proofs.Kept.{absent, begun-shut, numbered-same}
 
 -- The place may not start.
-pub fault-not-started : (v : SecondaryView) (place kept : ℕ) (e : Refusal) (result : Result Done Refusal) → IsNode v → start place v.core ≡ Err e → result ≡ Err e → IsStep (peer_fault_kept place kept) (node v) (replied (λ done. done) result) (node v)
-fault-not-started v place kept e result is starts refused = subst (λ (r : Result Done Refusal). IsStep (peer_fault_kept place kept) (node v) (replied (λ done. done) r) (node v)) (sym refused) (node-fault-not-started (node v) place kept e starts)
+pub fault-not-started : (v : SecondaryView) (place kept : ℕ) (e : Refusal) (result : Result Done Refusal) → IsNode v → start place v.core ≡ Err e
+    → result ≡ Err e → IsStep (peer_fault_kept place kept) (node v) (replied (λ done. done) result) (node v)
+fault-not-started v place kept e result is starts refused =
+    subst (λ (r : Result Done Refusal). IsStep (peer_fault_kept place kept) (node v) (replied (λ done. done) r) (node v)) (sym refused)
+    (node-fault-not-started (node v) place kept e starts)
 
 -- Its item has fewer blocks.
-pub keeps-too-many : (v : SecondaryView) (place kept : ℕ) (item : Item) → IsNode v → start place v.core ≡ Ok item → length (contents_of item) < kept → IsStep (peer_fault_kept place kept) (node v) (reply.Refused BadRange) (node v)
+pub keeps-too-many : (v : SecondaryView) (place kept : ℕ) (item : Item) → IsNode v → start place v.core ≡ Ok item → length (contents_of item) < kept
+    → IsStep (peer_fault_kept place kept) (node v) (reply.Refused BadRange) (node v)
 keeps-too-many v place kept item is starts many = node-keeps-too-many (node v) place kept item starts many
 
 -- The disk fails it.
-module _ (v : SecondaryView) (place kept : ℕ) (item : Item) (first : ℕ) (blocks : List (List ℕ)) (is : IsNode v) (starts : start place v.core ≡ Ok item) (inside : first_of item + length (contents_of item) ≤ v.core.settings.blocks)
+module _ (v : SecondaryView) (place kept : ℕ) (item : Item) (first : ℕ) (blocks : List (List ℕ)) (is : IsNode v) (starts : start place v.core ≡ Ok item)
+    (inside : first_of item + length (contents_of item) ≤ v.core.settings.blocks)
     (at : first ≡ first_of item) (blocks_is : blocks ≡ contents_of item) (few : kept ≤ length (contents_of item)) where
   kept-steps : (core : SecondaryState) (disk : List (List ℕ)) → core ≡ failing place v.core → disk ≡ overwritten v.disk first (take kept blocks)
       → IsStep (peer_fault_kept place kept) (node v) (reply.Ok (done_with what.Nothing)) (record (node v) { core = core; disk = disk })
   kept-steps core disk does disk_is =
-      let disk_of : disk ≡ overwritten v.disk (first_of item) (take kept (contents_of item)) = disk_is ∙ (λ i. overwritten v.disk (at i) (take kept (blocks_is i))) in
-      subst (λ (x : SecondaryState). IsStep (peer_fault_kept place kept) (node v) (reply.Ok (done_with what.Nothing)) (record (node v) { core = x; disk = disk })) (sym does)
-      (node-fails-kept (node v) place kept item starts few disk (λ block. subst (λ (d : List (List ℕ)). LaidAt item (within (length (contents_of item)) (below kept)) v.disk d block) (sym disk_of)
+      let disk_of : disk ≡ overwritten v.disk (first_of item) (take kept (contents_of item)) = disk_is
+      ∙ (λ i. overwritten v.disk (at i) (take kept (blocks_is i))) in
+      subst (λ (x : SecondaryState). IsStep (peer_fault_kept place kept) (node v) (reply.Ok (done_with what.Nothing))
+      (record (node v) { core = x; disk = disk })) (sym does)
+      (node-fails-kept (node v) place kept item starts few disk
+      (λ block. subst (λ (d : List (List ℕ)). LaidAt item (within (length (contents_of item)) (below kept)) v.disk d block) (sym disk_of)
       (kept-laid item v.disk (on-disk v item is inside) kept few block)))
 
   -- it is a node still
-  pub kept-is : (core : SecondaryState) (disk : List (List ℕ)) (faults : ℕ) (steady : Bool) → core ≡ failing place v.core → disk ≡ overwritten v.disk first (take kept blocks) → IsNode (record v { core = core; disk = disk; faults = faults; steady = steady })
+  pub kept-is : (core : SecondaryState) (disk : List (List ℕ)) (faults : ℕ) (steady : Bool) → core ≡ failing place v.core
+      → disk ≡ overwritten v.disk first (take kept blocks) → IsNode (record v { core = core; disk = disk; faults = faults; steady = steady })
   kept-is core disk faults steady does disk_is =
       let shut : is_some core.end ≡ false = ap (λ (s : SecondaryState). is_some s.end) does in record {
         had = record { history = (peer_fault_kept place kept is.had.history).1; has = (kept-steps core disk does disk_is).after is.had.history is.had.has };
@@ -50,6 +59,9 @@ module _ (v : SecondaryView) (place kept : ℕ) (item : Item) (first : ℕ) (blo
       }
 
   -- and the call is the step
-  pub kept-one : (core : SecondaryState) (disk : List (List ℕ)) (done : Done) → core ≡ failing place v.core → disk ≡ overwritten v.disk first (take kept blocks) → done ≡ done_with what.Nothing
+  pub kept-one : (core : SecondaryState) (disk : List (List ℕ)) (done : Done) → core ≡ failing place v.core → disk ≡ overwritten v.disk first (take kept blocks)
+      → done ≡ done_with what.Nothing
       → IsStep (peer_fault_kept place kept) (node v) (reply.Ok done) (record (node v) { core = core; disk = disk })
-  kept-one core disk done does disk_is said = subst (λ (d : Done). IsStep (peer_fault_kept place kept) (node v) (reply.Ok d) (record (node v) { core = core; disk = disk })) (sym said) (kept-steps core disk does disk_is)
+  kept-one core disk done does disk_is said =
+      subst (λ (d : Done). IsStep (peer_fault_kept place kept) (node v) (reply.Ok d) (record (node v) { core = core; disk = disk })) (sym said)
+      (kept-steps core disk does disk_is)

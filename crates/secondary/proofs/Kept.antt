@@ -1,5 +1,6 @@
 -- What each call keeps of a node: a new one, one that closes, and what is read off.
-use Rattle.std.proofs.Common.{ℕ, zero, suc, ◌≡◌, Bool, true, false, List, [], ◌∷◌, length, Option, Some, None, Result, slice_get, sym, ◌∙◌, ap, subst, arith, nat_lt}
+use Rattle.std.proofs.Common.{ℕ, zero, suc, ◌≡◌, Bool, true, false, List, [], ◌∷◌, length, Option, Some, None, Result, slice_get, sym, ◌∙◌, ap, subst, arith}
+use Rattle.std.proofs.Common.{nat_lt}
 use Rattle.std.specs.Prelude.{is_some}
 use Rattle.std.proofs.lemmas.Bool.{both_ways}
 use Rattle.std.proofs.lemmas.Bool.Decides.{nat_tests}
@@ -58,7 +59,8 @@ some-get (x ∷ xs) zero = grind (arith, nat_tests)
 some-get (x ∷ xs) (suc n) = some-get xs n ∙ grind (arith, nat_tests)
 
 -- It has the opening over what its disk holds.
-pub new-has : (settings : Settings) (tuple : Tuple) (v : SecondaryView) → v.core ≡ fresh settings tuple → v.outgoing ≡ None → v.incoming ≡ None → IsInRange settings → length v.disk ≡ settings.blocks
+pub new-has : (settings : Settings) (tuple : Tuple) (v : SecondaryView) → v.core ≡ fresh settings tuple → v.outgoing ≡ None → v.incoming ≡ None
+    → IsInRange settings → length v.disk ≡ settings.blocks
     → NodeHas (node v) (secondary_opening settings (slice_get v.disk) tuple)
 new-has settings tuple v is no_out no_in in_range size =
     subst (λ (x : SecondaryState). NodeHas (node (record v { core = x })) h) (sym is)
@@ -70,7 +72,8 @@ new-has settings tuple v is no_out no_in in_range size =
     h = secondary_opening settings (slice_get v.disk) tuple
 
 -- It is a node.
-pub new-is : (settings : Settings) (tuple : Tuple) (v : SecondaryView) → v.core ≡ fresh settings tuple → v.outgoing ≡ None → v.incoming ≡ None → IsInRange settings → length v.disk ≡ settings.blocks → IsNode v
+pub new-is : (settings : Settings) (tuple : Tuple) (v : SecondaryView) → v.core ≡ fresh settings tuple → v.outgoing ≡ None → v.incoming ≡ None
+    → IsInRange settings → length v.disk ≡ settings.blocks → IsNode v
 new-is settings tuple v is no_out no_in in_range size =
     let shut : is_some v.core.end ≡ false = ap (λ (x : SecondaryState). is_some x.end) is in record {
       had = record { history = secondary_opening settings (slice_get v.disk) tuple; has = new-has settings tuple v is no_out no_in in_range size };
@@ -81,7 +84,8 @@ new-is settings tuple v is no_out no_in in_range size =
     }
 
 -- A node that closes.
-pub closes-is : (v : SecondaryView) (t : SecondaryState) (result : Result (Unit {0}) Refusal) → IsNode v → (result, t) ≡ close_end v.core → IsNode (record v { core = t })
+pub closes-is : (v : SecondaryView) (t : SecondaryState) (result : Result (Unit {0}) Refusal) → IsNode v → (result, t) ≡ close_end v.core
+    → IsNode (record v { core = t })
 closes-is v t result is closes =
     let shut = closes-end v.core result t closes in record {
       had = node-had ClosesToo (node v) (replied plainly result) (node (record v { core = t })) is.had (node-closes (node v) result t closes);
@@ -98,14 +102,17 @@ pub node-says : (v w : SecondaryView) → v ≡ w → (h : SecondaryHistory) →
 node-says v w is h has = states-say v.core h (subst (λ (x : SecondaryView). NodeHas (node x) h) (sym is) has).leaves.core
 
 -- how far its data may be used
-pub node-usage : (v w : SecondaryView) → v ≡ w → (h : SecondaryHistory) → NodeHas (node w) h → record { consistent = v.core.consistent; whole = whole v.core; pending = length v.core.pending } ≡ usage_of h
+pub node-usage : (v w : SecondaryView) → v ≡ w → (h : SecondaryHistory) → NodeHas (node w) h
+    → record { consistent = v.core.consistent; whole = whole v.core; pending = length v.core.pending } ≡ usage_of h
 node-usage v w is h has =
     let left = (subst (λ (x : SecondaryView). NodeHas (node x) h) (sym is) has).leaves.core in
-    let size : length v.core.pending ≡ length (pending (inward h)) = ap length left.last.pending ∙ length-map (pending_in (items_taken (inward h))) (pending (inward h)) in
+    let size : length v.core.pending ≡ length (pending (inward h)) = ap length left.last.pending
+    ∙ length-map (pending_in (items_taken (inward h))) (pending (inward h)) in
     λ k. record { consistent = left.consistent k; whole = (states-say v.core h left).whole k; pending = size k }
 
 -- how many items were taken, and how many of them are applied
-pub node-counts : (v w : SecondaryView) → v ≡ w → (h : SecondaryHistory) → NodeHas (node w) h → (v.core.intake.places ≡ length (items_taken (inward h))) × (v.core.items_applied ≡ applied_items (inward h))
+pub node-counts : (v w : SecondaryView) → v ≡ w → (h : SecondaryHistory) → NodeHas (node w) h
+    → (v.core.intake.places ≡ length (items_taken (inward h))) × (v.core.items_applied ≡ applied_items (inward h))
 node-counts v w is h has =
     let left = (subst (λ (x : SecondaryView). NodeHas (node x) h) (sym is) has).leaves.core in
     (ap (λ i. i.places) left.last.intake, left.last.applied)

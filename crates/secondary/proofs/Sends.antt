@@ -48,23 +48,30 @@ same-command (packet.RsWriteAck ack) = refl
 same-command (packet.BarrierAck number size) = refl
 
 -- What is owed went out.
-pub sent-steps : (v : SecondaryView) (t : SecondaryState) (o p : OutgoingState) (packet : packets.Packet) (name : Command) (done : Done) → IsNode v → v.outgoing ≡ Some o → due v.core ≡ Ok (meaning packet) → t ≡ sent v.core
+pub sent-steps : (v : SecondaryView) (t : SecondaryState) (o p : OutgoingState) (packet : packets.Packet) (name : Command) (done : Done) → IsNode v
+    → v.outgoing ≡ Some o → due v.core ≡ Ok (meaning packet) → t ≡ sent v.core
     → p.pushed ≡ o.pushed ++ meaning packet ∷ [] → name ≡ table.command_of packet → done ≡ done_with (what.Frame name None)
     → NodeSteps (Acknowledges true false) (node v) (reply.Ok done) (node (record v { core = t; outgoing = Some p }))
 sent-steps v t o p packet name done node_is there is same pushed called said =
-    let name_is : what.Frame name None ≡ what.Frame (command_of (meaning packet)) None = ap (λ (k : Command). what.Frame k None) (called ∙ sym (same-command packet)) in
+    let name_is : what.Frame name None ≡ what.Frame (command_of (meaning packet)) None = ap (λ (k : Command). what.Frame k None) (called
+    ∙ sym (same-command packet)) in
     let done_is : done ≡ done_with (what.Frame (command_of (meaning packet)) None) = said ∙ ap done_with name_is in
-    let all : p.pushed ≡ pushed_of v.outgoing ++ meaning packet ∷ [] = subst (λ (x : Option OutgoingState). p.pushed ≡ pushed_of x ++ meaning packet ∷ []) (sym there) pushed in
+    let all : p.pushed ≡ pushed_of v.outgoing ++ meaning packet ∷ [] = subst (λ (x : Option OutgoingState). p.pushed ≡ pushed_of x ++ meaning packet ∷ [])
+    (sym there) pushed in
     subst (λ (d : Done). NodeSteps (Acknowledges true false) (node v) (reply.Ok d) (node (record v { core = t; outgoing = Some p }))) (sym done_is)
-    (subst (λ (x : SecondaryState). NodeSteps (Acknowledges true false) (node v) (reply.Ok (done_with (what.Frame (command_of (meaning packet)) None))) (node (record v { core = x; outgoing = Some p }))) (sym same)
-    (subst (λ (l : List Packet). NodeSteps (Acknowledges true false) (node v) (reply.Ok (done_with (what.Frame (command_of (meaning packet)) None))) (record (node v) { core = sent v.core; pushed = l })) (sym all)
+    (subst (λ (x : SecondaryState). NodeSteps (Acknowledges true false) (node v) (reply.Ok (done_with (what.Frame (command_of (meaning packet)) None)))
+    (node (record v { core = x; outgoing = Some p }))) (sym same)
+    (subst (λ (l : List Packet). NodeSteps (Acknowledges true false) (node v) (reply.Ok (done_with (what.Frame (command_of (meaning packet)) None)))
+    (record (node v) { core = sent v.core; pushed = l })) (sym all)
     (node-pushes (node v) (meaning packet) is)))
 
 -- It is a node still.
-pub sent-is : (v : SecondaryView) (t : SecondaryState) (o p : OutgoingState) (packet : packets.Packet) → IsNode v → v.outgoing ≡ Some o → due v.core ≡ Ok (meaning packet) → t ≡ sent v.core
+pub sent-is : (v : SecondaryView) (t : SecondaryState) (o p : OutgoingState) (packet : packets.Packet) → IsNode v → v.outgoing ≡ Some o
+    → due v.core ≡ Ok (meaning packet) → t ≡ sent v.core
     → p.pushed ≡ o.pushed ++ meaning packet ∷ [] → p.partly ≡ None → p.number ≡ o.number → IsNode (record v { core = t; outgoing = Some p })
 sent-is v t o p packet is there owes same pushed whole number = record {
-  had = node-had (Acknowledges true false) (node v) (reply.Ok (done_with (what.Frame (table.command_of packet) None))) (node (record v { core = t; outgoing = Some p })) is.had
+  had = node-had (Acknowledges true false) (node v) (reply.Ok (done_with (what.Frame (table.command_of packet) None)))
+      (node (record v { core = t; outgoing = Some p })) is.had
       (sent-steps v t o p packet (table.command_of packet) (done_with (what.Frame (table.command_of packet) None)) is there owes same pushed refl refl);
   out_there = λ stands. refl;
   in_there = λ stands. is.in_there (due-open v.core (meaning packet) owes);
@@ -74,10 +81,14 @@ sent-is v t o p packet is there owes same pushed whole number = record {
   where
     both : (x : Option IncomingState) → IsNumbered (Some o) x v.core → IsNumbered (Some p) x t
     both None was = tt
-    both (Some i) was = let kept = ap (λ (s : SecondaryState). s.number) same in let out = was.0 in let inn = was.1 in (omega (arith, kept, number), omega (arith, kept))
+    both (Some i) was = let kept = ap (λ (s : SecondaryState). s.number) same in let out = was.0 in let inn = was.1 in (
+      omega (arith, kept, number),
+      omega (arith, kept),
+    )
 
 -- A packet that went in part leaves the node, and is the one that is due.
-pub part-is : (v : SecondaryView) (o p : OutgoingState) (packet : packets.Packet) → IsNode v → v.outgoing ≡ Some o → due v.core ≡ Ok (meaning packet) → p ≡ record o { partly = p.partly }
+pub part-is : (v : SecondaryView) (o p : OutgoingState) (packet : packets.Packet) → IsNode v → v.outgoing ≡ Some o → due v.core ≡ Ok (meaning packet)
+    → p ≡ record o { partly = p.partly }
     → IfSome p.partly (λ begun. begun ≡ meaning packet ∷ []) → IsNode (record v { outgoing = Some p })
 part-is v o p packet is there owes same begun = record {
   had = subst (λ (n : NodeState). NodeIsHad n) (λ k. record { core = v.core; disk = v.disk; pushed = unchanged k; taken = taken_of v.incoming }) is.had;
@@ -104,21 +115,26 @@ full-or-not LinkFull = inl refl
 full-or-not e = inr (λ is. absurd (cc))
 
 -- The link had no room for what is owed, or there was no memory.
-pub not-sent-steps : (v : SecondaryView) (o p : OutgoingState) (packet : packets.Packet) (e : Refusal) (result : Result Done Refusal) → IsNode v → v.outgoing ≡ Some o → due v.core ≡ Ok (meaning packet) → result ≡ Err e
+pub not-sent-steps : (v : SecondaryView) (o p : OutgoingState) (packet : packets.Packet) (e : Refusal) (result : Result Done Refusal) → IsNode v
+    → v.outgoing ≡ Some o → due v.core ≡ Ok (meaning packet) → result ≡ Err e
     → ((e ≡ LinkFull → ⊥) → e ≡ NoMemory) → p.pushed ≡ o.pushed
     → NodeSteps (Acknowledges (has_room result) (is_starved result)) (node v) (replied (λ done. done) result) (node (record v { outgoing = Some p }))
 not-sent-steps v o p packet e result node_is there is refused memory pushed =
     let all : p.pushed ≡ pushed_of v.outgoing = pushed ∙ sym (ap pushed_of there) in
-    subst (λ (l : List Packet). NodeSteps (Acknowledges (has_room result) (is_starved result)) n (replied (λ done. done) result) (record n { pushed = l })) (sym all) (elim (full-or-not e) [
-      | inl full ↦ subst (λ (r : Result Done Refusal). NodeSteps (Acknowledges (has_room r) (is_starved r)) n (replied (λ done. done) r) n) (sym (refused ∙ ap Err full)) (node-full n (meaning packet) is)
-      | inr other ↦ subst (λ (r : Result Done Refusal). NodeSteps (Acknowledges (has_room r) (is_starved r)) n (replied (λ done. done) r) n) (sym (refused ∙ ap Err (memory other))) (node-no-memory n (meaning packet) is)
+    subst (λ (l : List Packet). NodeSteps (Acknowledges (has_room result) (is_starved result)) n (replied (λ done. done) result) (record n { pushed = l }))
+    (sym all) (elim (full-or-not e) [
+      | inl full ↦ subst (λ (r : Result Done Refusal). NodeSteps (Acknowledges (has_room r) (is_starved r)) n (replied (λ done. done) r) n)
+          (sym (refused ∙ ap Err full)) (node-full n (meaning packet) is)
+      | inr other ↦ subst (λ (r : Result Done Refusal). NodeSteps (Acknowledges (has_room r) (is_starved r)) n (replied (λ done. done) r) n)
+          (sym (refused ∙ ap Err (memory other))) (node-no-memory n (meaning packet) is)
     ])
   where
     n : NodeState
     n = node v
 
 -- Of the link nothing changed but that the packet may be there in part.
-pub sends-part : (old : Option OutgoingState) (o p : OutgoingState) (e : Refusal) (result : Result Done Refusal) → old ≡ Some o → p ≡ record o { partly = p.partly } → result ≡ Err e → (e ≡ LinkFull → IfSome o.room (λ n. n ≡ 0))
+pub sends-part : (old : Option OutgoingState) (o p : OutgoingState) (e : Refusal) (result : Result Done Refusal) → old ≡ Some o
+    → p ≡ record o { partly = p.partly } → result ≡ Err e → (e ≡ LinkFull → IfSome o.room (λ n. n ≡ 0))
     → Sends result old (Some p)
 sends-part old o p e result there same refused full = subst (λ (r : Result Done Refusal). Sends r old (Some p)) (sym refused) (record {
   pushed = tt;
@@ -127,13 +143,16 @@ sends-part old o p e result there same refused full = subst (λ (r : Result Done
 })
 
 -- Nothing is due.
-pub nothing-due-steps : (n : NodeState) (e : Refusal) (result : Result Done Refusal) → due n.core ≡ Err e → result ≡ Err e → NodeSteps (Acknowledges (has_room result) (is_starved result)) n (replied (λ done. done) result) n
-nothing-due-steps n e result is refused = subst (λ (r : Result Done Refusal). NodeSteps (Acknowledges (has_room r) (is_starved r)) n (replied (λ done. done) r) n) (sym refused) (go n.core.end is)
+pub nothing-due-steps : (n : NodeState) (e : Refusal) (result : Result Done Refusal) → due n.core ≡ Err e → result ≡ Err e
+    → NodeSteps (Acknowledges (has_room result) (is_starved result)) n (replied (λ done. done) result) n
+nothing-due-steps n e result is refused =
+    subst (λ (r : Result Done Refusal). NodeSteps (Acknowledges (has_room r) (is_starved r)) n (replied (λ done. done) r) n) (sym refused) (go n.core.end is)
   where
     here : NodeSteps (Acknowledges true false) n (replied (λ (done : Done). done) (Err e)) n
     here = node-not-due n e is
 
-    told : (x : Refusal) → x ≡ e → has_room {R = Done} (Err x) ≡ true → is_starved {R = Done} (Err x) ≡ false → NodeSteps (Acknowledges (has_room {R = Done} (Err e)) (is_starved {R = Done} (Err e))) n (replied (λ (done : Done). done) (Err e)) n
+    told : (x : Refusal) → x ≡ e → has_room {R = Done} (Err x) ≡ true → is_starved {R = Done} (Err x) ≡ false
+        → NodeSteps (Acknowledges (has_room {R = Done} (Err e)) (is_starved {R = Done} (Err e))) n (replied (λ (done : Done). done) (Err e)) n
     told x same room fed =
         let a : has_room {R = Done} (Err e) ≡ true = ap (λ (y : Refusal). has_room {R = Done} (Err y)) (sym same) ∙ room in
         let b : is_starved {R = Done} (Err e) ≡ false = ap (λ (y : Refusal). is_starved {R = Done} (Err y)) (sym same) ∙ fed in
@@ -144,7 +163,8 @@ nothing-due-steps n e result is refused = subst (λ (r : Result Done Refusal). N
     owes None is = cc
     owes (Some p) is = absurd (cc)
 
-    go : (v : Option EndState) → elim v as (λ _. Result Packet Refusal) [ None ↦ Err NotConnected | Some x ↦ ok_or (owed n.core.settings x) NothingThere ] ≡ Err e
+    go : (v : Option EndState) → elim v as (λ _. Result Packet Refusal) [ None ↦ Err NotConnected | Some x ↦ ok_or (owed n.core.settings x) NothingThere ] ≡ Err
+        e
         → NodeSteps (Acknowledges (has_room {R = Done} (Err e)) (is_starved {R = Done} (Err e))) n (replied (λ (done : Done). done) (Err e)) n
     go None is = told NotConnected (let same : NotConnected ≡ e = cc in same) refl refl
     go (Some x) is = told NothingThere (owes (owed n.core.settings x) is) refl refl
@@ -157,12 +177,14 @@ not-full s e is full = go s.end (is ∙ ap Err full)
     owes None is = absurd (cc)
     owes (Some p) is = absurd (cc)
 
-    go : (v : Option EndState) → elim v as (λ _. Result Packet Refusal) [ None ↦ Err NotConnected | Some x ↦ ok_or (owed s.settings x) NothingThere ] ≡ Err LinkFull → ⊥
+    go : (v : Option EndState) → elim v as (λ _. Result Packet Refusal) [ None ↦ Err NotConnected | Some x ↦ ok_or (owed s.settings x) NothingThere ] ≡ Err
+        LinkFull → ⊥
     go None is = absurd (cc)
     go (Some x) is = owes (owed s.settings x) is
 
 -- Then the link is left alone.
-pub sends-none : (s : SecondaryState) (o : Option OutgoingState) (e : Refusal) (result : Result Done Refusal) → due s ≡ Err e → result ≡ Err e → Sends result o o
+pub sends-none : (s : SecondaryState) (o : Option OutgoingState) (e : Refusal) (result : Result Done Refusal) → due s ≡ Err e → result ≡ Err e
+    → Sends result o o
 sends-none s o e result is refused = subst (λ (r : Result Done Refusal). Sends r o o) (sym refused) (record {
   pushed = tt;
   kept = go o;

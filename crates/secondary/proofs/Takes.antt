@@ -1,5 +1,6 @@
 -- A node that takes a frame.
-use Rattle.std.proofs.Common.{ℕ, zero, suc, ◌≡◌, Bool, true, false, List, [], ◌∷◌, ◌++◌, length, Option, Some, None, Result, Ok, Err, refl, sym, ◌∙◌, ap, subst, arith, nat_lt, nat_le, ◌==◌, ◌↔◌}
+use Rattle.std.proofs.Common.{ℕ, zero, suc, ◌≡◌, Bool, true, false, List, [], ◌∷◌, ◌++◌, length, Option, Some, None, Result, Ok, Err, refl, sym, ◌∙◌, ap, subst}
+use Rattle.std.proofs.Common.{arith, nat_lt, nat_le, ◌==◌, ◌↔◌}
 use Rattle.std.proofs.lemmas.Bool.{both_ways}
 use Rattle.blocks.specs.declared.refusal.Refusal.{Refusal}
 use Rattle.blocks.specs.declared.outcome.Done.{Done}
@@ -28,19 +29,24 @@ use Rattle.secondary_steps.proofs.Node.Runs.{node-had}
 use Rattle.secondary.specs.State.{SecondaryView, node, taken_of, IsNode, IsBegun, IsDue, IsNumbered}
 
 -- The frame of the link is the node's step.
-pub takes-steps : (v : SecondaryView) (r t : SecondaryState) (i j : IncomingState) (frame : Received) (result : Result Done Refusal) → IsNode v → v.incoming ≡ Some i → may_take v.core ≡ Ok tt → r ≡ v.core
-    → (result, t) ≡ take_at frame r.end r → j.taken ≡ i.taken ++ frame ∷ [] → NodeSteps (Receives (Some frame) false) (node v) (replied (λ done. done) result) (node (record v { core = t; incoming = Some j }))
+pub takes-steps : (v : SecondaryView) (r t : SecondaryState) (i j : IncomingState) (frame : Received) (result : Result Done Refusal) → IsNode v
+    → v.incoming ≡ Some i → may_take v.core ≡ Ok tt → r ≡ v.core
+    → (result, t) ≡ take_at frame r.end r → j.taken ≡ i.taken ++ frame ∷ []
+    → NodeSteps (Receives (Some frame) false) (node v) (replied (λ done. done) result) (node (record v { core = t; incoming = Some j }))
 takes-steps v r t i j frame result node_is there may same is taken =
     let here : (result, t) ≡ take_at frame v.core.end v.core = subst (λ (x : SecondaryState). (result, t) ≡ take_at frame x.end x) same is in
     let all : j.taken ≡ taken_of v.incoming ++ frame ∷ [] = subst (λ (o : Option IncomingState). j.taken ≡ taken_of o ++ frame ∷ []) (sym there) taken in
-    subst (λ (l : List Received). NodeSteps (Receives (Some frame) false) (node v) (replied (λ done. done) result) (record (node v) { core = t; taken = l })) (sym all)
+    subst (λ (l : List Received). NodeSteps (Receives (Some frame) false) (node v) (replied (λ done. done) result) (record (node v) { core = t; taken = l }))
+    (sym all)
     (node-takes (node v) frame result t may here)
 
 -- It is a node still.
-pub takes-is : (v : SecondaryView) (r t : SecondaryState) (i j : IncomingState) (frame : Received) (result : Result Done Refusal) → IsNode v → v.incoming ≡ Some i → may_take v.core ≡ Ok tt → r ≡ v.core
+pub takes-is : (v : SecondaryView) (r t : SecondaryState) (i j : IncomingState) (frame : Received) (result : Result Done Refusal) → IsNode v
+    → v.incoming ≡ Some i → may_take v.core ≡ Ok tt → r ≡ v.core
     → (result, t) ≡ take_at frame r.end r → j.taken ≡ i.taken ++ frame ∷ [] → j.number ≡ i.number → IsNode (record v { core = t; incoming = Some j })
 takes-is v r t i j frame result is there may same takes taken number = record {
-  had = node-had (Receives (Some frame) false) (node v) (replied (λ done. done) result) (node (record v { core = t; incoming = Some j })) is.had (takes-steps v r t i j frame result is there may same takes taken);
+  had = node-had (Receives (Some frame) false) (node v) (replied (λ done. done) result) (node (record v { core = t; incoming = Some j })) is.had
+      (takes-steps v r t i j frame result is there may same takes taken);
   out_there = λ stands. is.out_there (may-open v.core may);
   in_there = λ stands. refl;
   begun = go v.outgoing is.begun;
@@ -52,7 +58,11 @@ takes-is v r t i j frame result is there may same takes taken number = record {
 
     part : (x : Option (List Packet)) → IsDue x v.core → IsDue x t
     part None was = tt
-    part (Some begun) was = λ stands. let old = was (may-open v.core may) in (old.0, takes-due (node v) frame result t old.0 is.had may here old.1 stands, old.2)
+    part (Some begun) was = λ stands. let old = was (may-open v.core may) in (
+      old.0,
+      takes-due (node v) frame result t old.0 is.had may here old.1 stands,
+      old.2,
+    )
 
     go : (x : Option OutgoingState) → IsBegun x v.core → IsBegun x t
     go None was = tt
@@ -60,7 +70,8 @@ takes-is v r t i j frame result is there may same takes taken number = record {
 
     both : (x : Option OutgoingState) → IsNumbered x (Some i) v.core → IsNumbered x (Some j) t
     both None was = tt
-    both (Some o) was = let kept = takes-number frame v.core.end v.core result t here in let out = was.0 in let inn = was.1 in (omega (arith, kept), omega (arith, kept, number))
+    both (Some o) was = let kept = takes-number frame v.core.end v.core result t here in let out = was.0 in let inn =
+        was.1 in (omega (arith, kept), omega (arith, kept, number))
 
 -- No frame is taken: what was there stays, but that room may have been made for the longest.
 takes-none : (o : Option IncomingState) (e : Refusal) → (e ≡ NothingThere → ⊥) → Takes {R = Done} None (Err e) o o
@@ -79,13 +90,15 @@ pub may-not-one : (v : SecondaryView) (e : Refusal) (result : Result Done Refusa
 may-not-one v e result may refused = subst (λ (r : Result Done Refusal). ReceivesOne r v v) (sym refused) (record {
   frame = None;
   link = takes-none v.incoming e (two NothingThere (λ is. absurd (cc)) (λ is. absurd (cc)));
-  step = subst (λ (b : Bool). NodeSteps (Receives None b) (node v) (replied {R = Done} (λ done. done) (Err e)) (node v)) (sym (fed e (two NoMemory (λ is. absurd (cc)) (λ is. absurd (cc))))) (node-may-not (node v) e may);
+  step = subst (λ (b : Bool). NodeSteps (Receives None b) (node v) (replied {R = Done} (λ done. done) (Err e)) (node v))
+      (sym (fed e (two NoMemory (λ is. absurd (cc)) (λ is. absurd (cc))))) (node-may-not (node v) e may);
 })
   where
     two : (x : Refusal) → (NotConnected ≡ x → ⊥) → (PendingFull ≡ x → ⊥) → e ≡ x → ⊥
     two x out full is = go (is_none v.core.end) (nat_le v.core.settings.pending (length v.core.pending)) (may ∙ ap Err is)
       where
-        go : (a b : Bool) → elim (first_refusal ((a, NotConnected) ∷ (b, PendingFull) ∷ [])) as (λ _. Result (Unit {0}) Refusal) [ Some refusal ↦ Err refusal | None ↦ Ok tt ] ≡ Err x → ⊥
+        go : (a b : Bool) → elim (first_refusal ((a, NotConnected) ∷ (b, PendingFull) ∷ [])) as
+            (λ _. Result (Unit {0}) Refusal) [ Some refusal ↦ Err refusal | None ↦ Ok tt ] ≡ Err x → ⊥
         go true b said = out (let one : NotConnected ≡ x = cc in one)
         go false true said = full (let one : PendingFull ≡ x = cc in one)
         go false false said = absurd (cc)
@@ -103,7 +116,8 @@ starved-one v result may refused = subst (λ (r : Result Done Refusal). Receives
 })
 
 -- What is refused of a frame is its own fault, or the end's; that there is none is neither.
-some-there : (frame : Received) (s : SecondaryState) (result : Result Done Refusal) (t : SecondaryState) → may_take s ≡ Ok tt → (frame ≡ Err NothingThere → ⊥) → (result, t) ≡ take_at frame s.end s → result ≡ Err NothingThere → ⊥
+some-there : (frame : Received) (s : SecondaryState) (result : Result Done Refusal) (t : SecondaryState) → may_take s ≡ Ok tt → (frame ≡ Err NothingThere → ⊥)
+    → (result, t) ≡ take_at frame s.end s → result ≡ Err NothingThere → ⊥
 some-there frame s result t may other is none = go s.end (may-open s may) (sym none ∙ ap (λ (p : Result Done Refusal × SecondaryState). p.0) is)
   where
     named : Judged → Type 0
@@ -119,7 +133,8 @@ some-there frame s result t may other is none = go s.end (may-open s may) (sym n
     by-field false name x = λ differs. absurd (cc)
 
     by-hello : (n : ℕ) (packet : Packet) (x : SecondaryState) → named (judging_hello n packet x)
-    by-hello zero (ProtocolFrame asked) x = by-if (same_protocol asked x.settings.protocol) (what.Frame command.Protocol None) x OtherProtocol (λ differs. absurd (cc))
+    by-hello zero (ProtocolFrame asked) x = by-if (same_protocol asked x.settings.protocol) (what.Frame command.Protocol None) x OtherProtocol
+        (λ differs. absurd (cc))
     by-hello (suc zero) (SizesFrame blocks) x = by-if (blocks == x.settings.blocks) (what.Frame command.Sizes None) x OtherSize (λ differs. absurd (cc))
     by-hello (suc (suc n)) (UuidsFrame peer) x = tt
     by-hello n packet x = λ differs. absurd (cc)
@@ -136,7 +151,8 @@ some-there frame s result t may other is none = go s.end (may-open s may) (sym n
     by-frame (Err fault) e differs = λ same. differs (ap Err same)
     by-frame (Ok packet) e differs = by-half (nat_lt e.heard 3)
       where
-        by-half : (early : Bool) → named (if early then judging_hello e.heard packet (record s { end = Some (hearing e) }) else judging_item packet (hearing e) (record s { end = Some (hearing e) }))
+        by-half : (early : Bool) → named (if early then judging_hello e.heard packet (record s { end = Some (hearing e) })
+            else judging_item packet (hearing e) (record s { end = Some (hearing e) }))
         by-half true = by-hello e.heard packet (record s { end = Some (hearing e) })
         by-half false = by-item packet (hearing e) (record s { end = Some (hearing e) })
 
@@ -159,8 +175,10 @@ not-none (Ok p) some is = absurd (cc)
 not-none (Err e) some is = some (let one : e ≡ NothingThere = cc in ap Err one)
 
 -- A frame was taken, the next of the link.
-pub takes-one : (v : SecondaryView) (r t : SecondaryState) (i k j : IncomingState) (frame : Received) (result : Result Done Refusal) → IsNode v → v.incoming ≡ Some i → may_take v.core ≡ Ok tt → r ≡ v.core
-    → (result, t) ≡ take_at frame r.end r → k ≡ record i { is_ready = true } → j ≡ with_received frame j.frames j.is_ready k → SameRow k j → IfSome k.queued (λ frames. (false ≡ true) ↔ (frames ≡ [])) → (frame ≡ Err NothingThere → ⊥)
+pub takes-one : (v : SecondaryView) (r t : SecondaryState) (i k j : IncomingState) (frame : Received) (result : Result Done Refusal) → IsNode v
+    → v.incoming ≡ Some i → may_take v.core ≡ Ok tt → r ≡ v.core
+    → (result, t) ≡ take_at frame r.end r → k ≡ record i { is_ready = true } → j ≡ with_received frame j.frames j.is_ready k → SameRow k j
+    → IfSome k.queued (λ frames. (false ≡ true) ↔ (frames ≡ [])) → (frame ≡ Err NothingThere → ⊥)
     → ReceivesOne result v (record v { core = t; incoming = Some j })
 takes-one v r t i k j frame result is there may same takes ready taken row queued fault = record {
   frame = Some frame;

@@ -13,5 +13,9 @@ mod receive;
 mod state;
 mod usage;
 
+pub use blocks::{Block, Done, Refusal, Settings, Store, Tuple};
+pub use endpoint::{Incoming, Outgoing};
+pub use link::{FrameIn, FrameOut};
 pub use parts::Unlinked;
+pub use secondary_core::Usage;
 pub use state::Secondary;

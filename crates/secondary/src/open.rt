@@ -1,10 +1,12 @@
 //! Opening a connection.
-ghost use Rattle.std.specs.Prelude.{◌≡◌, ◌<◌, ◌+◌, ◌-◌, Some, is_some, true, OnOk, OnErr};
+ghost use Rattle.std.specs.Prelude.{◌≡◌, ◌<◌, ◌+◌, ◌-◌, ◌&&◌, if◌then◌else◌, Some, is_some, true, Ok, Err, OnOk, OnErr};
+ghost use Rattle.blocks.specs.declared.refusal.Refusal.TheVariants.{NotDrained};
 ghost use Rattle.endpoint.specs.Calls.{IsNewIn, IsNewOut};
 ghost use Rattle.endpoint.specs.Incoming.{incoming};
 ghost use Rattle.endpoint.specs.Outgoing.{outgoing};
 ghost use Rattle.model.specs.LocalRuns.{OpensToo};
-ghost use Rattle.secondary_steps.specs.Node.{NodeSteps};
+ghost use Rattle.model.specs.Secondary.{SecondaryHistory, inward, is_drained};
+ghost use Rattle.secondary_steps.specs.Node.{NodeHas, NodeSteps};
 ghost use Rattle.secondary_steps.specs.Steps.{plainly, replied};
 ghost use Rattle.secondary.specs.State.{IsRestarted, node};
 
@@ -35,6 +37,17 @@ impl<O: FrameOut + Drop, I: FrameIn + Drop, S: Store + Drop> Secondary<O, I, S> 
         self.core.open(number)?;
         self.outgoing = Some(Outgoing::new(outward));
         self.incoming = Some(Incoming::new(inward));
+        Ok(())
+    }
+
+    /// Whether `open` and `reopen` would be taken now; `NotDrained` (36) if the end is open, and where items are pending.
+    pub fn may_open(&self) -> Result<(), Refusal>
+        ensures { (h : SecondaryHistory) → NodeHas (node self.now) h
+            → result ≡ (if (inward h).closed && is_drained h then Ok tt else Err NotDrained) }
+    {
+        if self.is_open() || !self.is_drained() {
+            return Err(Refusal::NotDrained);
+        }
         Ok(())
     }
 

@@ -1,5 +1,6 @@
 -- The epochs that are acknowledged, one after the other.
-use Rattle.std.proofs.Common.{ℕ, suc, ◌≡◌, ◌+◌, ◌-◌, ◌<◌, ◌≤◌, ◌⊎◌, inl, inr, nat_le, nat_lt, Bool, true, false, List, [], ◌∷◌, ◌++◌, length, Some, None, refl, sym, ◌∙◌, ap, arith}
+use Rattle.std.proofs.Common.{ℕ, suc, ◌≡◌, ◌+◌, ◌-◌, ◌<◌, ◌≤◌, ◌⊎◌, inl, inr, nat_le, nat_lt, Bool, true, false, List, [], ◌∷◌, ◌++◌, length, Some, None, refl}
+use Rattle.std.proofs.Common.{sym, ◌∙◌, ap, arith}
 use Rattle.std.specs.Prelude.{option_map, slice_get}
 use Rattle.std.proofs.lemmas.Bool.{cases_lt, le-ltb, lt-leb, lt-ltb}
 use Rattle.std.proofs.lemmas.Bool.Decides.{nat_tests}
@@ -31,7 +32,8 @@ held ps e waits = none-new ps e (by-sizes e.sizes)
 abbrev pub and_next : ℕ → List ℕ → EndState → EndState
 and_next size sizes e = record e { due = e.due ++ BarrierAckFrame (suc e.answered) size ∷ []; answered = suc e.answered; sizes = sizes }
 
-pub next : (ps : List (Pending Item)) (e : EndState) (size : ℕ) (sizes : List ℕ) → e.sizes ≡ size ∷ sizes → is_applied_to ps (suc e.answered) ≡ true → answering ps (and_next size sizes e) ≡ answering ps e
+pub next : (ps : List (Pending Item)) (e : EndState) (size : ℕ) (sizes : List ℕ) → e.sizes ≡ size ∷ sizes → is_applied_to ps (suc e.answered) ≡ true
+    → answering ps (and_next size sizes e) ≡ answering ps e
 next ps e size sizes are applied =
     let more = answers ps (suc e.answered) sizes in
     let all : answers ps e.answered e.sizes ≡ BarrierAckFrame (suc e.answered) size ∷ more = ap (answers ps e.answered) are ∙ rw applied refl in
@@ -40,7 +42,8 @@ next ps e size sizes are applied =
     rw (all, dues, counts, are) refl
 
 -- Which epochs are applied is read off the lowest pending place.
-pub applied-first : (ps : List (Pending Item)) (first epoch : ℕ) → option_map (λ p. p.epoch) (slice_get ps 0) ≡ Some first → 0 < epoch → is_applied_to ps epoch ≡ nat_le epoch (first - 1)
+pub applied-first : (ps : List (Pending Item)) (first epoch : ℕ) → option_map (λ p. p.epoch) (slice_get ps 0) ≡ Some first → 0 < epoch
+    → is_applied_to ps epoch ≡ nat_le epoch (first - 1)
 applied-first [] first epoch is some = absurd (cc)
 applied-first (p ∷ ps) first epoch is some = let same : p.epoch ≡ first = cc in rw same (by-order (cases_lt epoch first))
   where
@@ -57,7 +60,8 @@ few-new : (ps : List (Pending Item)) (epoch : ℕ) (sizes : List ℕ) → length
 few-new ps epoch [] = omega arith
 few-new ps epoch (size ∷ sizes) = by-test (few-new ps (suc epoch) sizes) (is_applied_to ps (suc epoch)) refl
   where
-    by-test : length (answers ps (suc epoch) sizes) ≤ length sizes → (b : Bool) → is_applied_to ps (suc epoch) ≡ b → length (answers ps epoch (size ∷ sizes)) ≤ length (size ∷ sizes)
+    by-test : length (answers ps (suc epoch) sizes) ≤ length sizes → (b : Bool) → is_applied_to ps (suc epoch) ≡ b
+        → length (answers ps epoch (size ∷ sizes)) ≤ length (size ∷ sizes)
     by-test rest true is = rw is (omega (arith, rest))
     by-test rest false is = rw is (omega arith)
 
@@ -78,7 +82,8 @@ counts ps e =
     }
 
 -- Nothing is left to acknowledge: the next epoch is not applied, or its number does not fit, and then none is left.
-pub at-end : (ps : List (Pending Item)) (e : EndState) (last : ℕ) → ((epoch : ℕ) → 0 < epoch → epoch < 4294967296 → is_applied_to ps epoch ≡ nat_le epoch last) → last ≤ e.answered → e.answered + length e.sizes < 4294967296 → answering ps e ≡ e
+pub at-end : (ps : List (Pending Item)) (e : EndState) (last : ℕ) → ((epoch : ℕ) → 0 < epoch → epoch < 4294967296 → is_applied_to ps epoch ≡ nat_le epoch last)
+    → last ≤ e.answered → e.answered + length e.sizes < 4294967296 → answering ps e ≡ e
 at-end ps e last reads done fits = by-number (cases_lt (suc e.answered) 4294967296)
   where
     no-sizes : (sizes : List ℕ) → length sizes ≡ 0 → sizes ≡ []
@@ -86,7 +91,8 @@ at-end ps e last reads done fits = by-number (cases_lt (suc e.answered) 42949672
     no-sizes (size ∷ sizes) none = absurd (omega (arith, none))
 
     by-number : (suc e.answered < 4294967296) ⊎ (4294967296 ≤ suc e.answered) → answering ps e ≡ e
-    by-number (inl less) = let late : nat_le (suc e.answered) last ≡ false = lt-leb (suc e.answered) last (omega arith) in held ps e (reads (suc e.answered) (omega arith) less ∙ late)
+    by-number (inl less) = let late : nat_le (suc e.answered) last ≡ false = lt-leb (suc e.answered) last (omega arith) in held ps e
+        (reads (suc e.answered) (omega arith) less ∙ late)
     by-number (inr more) = none-ended ps e (no-sizes e.sizes (omega arith))
 
 -- an end, by what it is and the room that it has

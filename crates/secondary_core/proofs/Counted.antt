@@ -21,12 +21,15 @@ one-block bytes long =
     let one : length bytes / 4096 ≡ 1 = omega (arith, long) in
     rw one (ap (λ (b : List ℕ). b ∷ []) (take-all 4096 bytes (omega (arith, long))))
 
-pub contents-are : (k : Kind) (first count : ℕ) (bytes : List ℕ) → length bytes ≡ 4096 * count → IsNamed k count → blocks_of 4096 bytes ≡ contents_of (item_as k first bytes)
+pub contents-are : (k : Kind) (first count : ℕ) (bytes : List ℕ) → length bytes ≡ 4096 * count → IsNamed k count
+    → blocks_of 4096 bytes ≡ contents_of (item_as k first bytes)
 contents-are (kind.Write number) first count bytes long named = refl
 contents-are kind.Resync first count bytes long named = one-block bytes (omega (arith, long, named))
 
-pub count-is : (k : Kind) (first count : ℕ) (bytes : List ℕ) → length bytes ≡ 4096 * count → IsNamed k count → count ≡ length (contents_of (item_as k first bytes))
-count-is (kind.Write number) first count bytes long named = let n : length bytes / 4096 ≡ count = omega (arith, long) in sym (length-cut 4096 (length bytes / 4096) bytes ∙ n)
+pub count-is : (k : Kind) (first count : ℕ) (bytes : List ℕ) → length bytes ≡ 4096 * count → IsNamed k count
+    → count ≡ length (contents_of (item_as k first bytes))
+count-is (kind.Write number) first count bytes long named = let n : length bytes / 4096 ≡ count =
+    omega (arith, long) in sym (length-cut 4096 (length bytes / 4096) bytes ∙ n)
 count-is kind.Resync first count bytes long named = named
 
 pub first-is : (k : Kind) (first : ℕ) (bytes : List ℕ) → first_of (item_as k first bytes) ≡ first

@@ -41,8 +41,10 @@ answered c e is same =
     })
 
 -- An item is applied, and at most one acknowledgement is due for it.
-pub applied : (c : Inside) (place : ℕ) (new : List Packet) (d : PeerDiskState Item) (e : EndRoom) → IsCore c → is_pending place c.disk.pending ≡ true → length new ≤ 1
-    → d ≡ record c.disk { pending = without place c.disk.pending; reach = d.reach } → c.disk.reach ≤ d.reach → e ≡ record c.end { state = owing new c.end.state } → IsCore (record c { disk = d; items_applied = c.items_applied + 1; end = e })
+pub applied : (c : Inside) (place : ℕ) (new : List Packet) (d : PeerDiskState Item) (e : EndRoom) → IsCore c → is_pending place c.disk.pending ≡ true
+    → length new ≤ 1
+    → d ≡ record c.disk { pending = without place c.disk.pending; reach = d.reach } → c.disk.reach ≤ d.reach
+    → e ≡ record c.end { state = owing new c.end.state } → IsCore (record c { disk = d; items_applied = c.items_applied + 1; end = e })
 applied c place new d e is there one same reach owed =
     let left : d.pending ≡ without place c.disk.pending = ap (λ (d : PeerDiskState Item). d.pending) same in
     let less : length d.pending + 1 ≡ length c.disk.pending = ap (λ (ps : List (Pending Item)). length ps + 1) left ∙ one-less place c.disk.pending there in
@@ -56,7 +58,8 @@ applied c place new d e is there one same reach owed =
       limit = ap (λ (d : PeerDiskState Item). d.limit) same ∙ is.limit;
       size = is.size;
       few = omega (arith, less, is.few);
-      pending = subst (AllByRecursion (IsOf c.settings.blocks c.taken)) (sym left) (all-without (IsOf c.settings.blocks c.taken) place c.disk.pending is.pending);
+      pending = subst (AllByRecursion (IsOf c.settings.blocks c.taken)) (sym left)
+          (all-without (IsOf c.settings.blocks c.taken) place c.disk.pending is.pending);
       counted = omega (arith, less, is.counted);
       ended = omega (arith, answered_same, sizes, is.ended);
       room = omega (arith, due, sizes, answers, less, one, is.room);
@@ -81,9 +84,11 @@ more (SyncUuidItem word) t some = absurd (omega (arith, some))
 more (UuidsItem tuple) t some = absurd (omega (arith, some))
 
 -- An item with blocks is taken, and at most one acknowledgement is due for that.
-pub admitted : (c : Inside) (item : Item) (new : List Packet) (t : Intake) (d : PeerDiskState Item) (e : EndRoom) → IsCore c → HasRoom c → length c.disk.pending < c.settings.pending → 0 < length (contents_of item)
+pub admitted : (c : Inside) (item : Item) (new : List Packet) (t : Intake) (d : PeerDiskState Item) (e : EndRoom) → IsCore c → HasRoom c
+    → length c.disk.pending < c.settings.pending → 0 < length (contents_of item)
     → first_of item + length (contents_of item) ≤ c.settings.blocks → length new ≤ 1 → t ≡ and_item item c.taken
-    → d ≡ record c.disk { pending = c.disk.pending ++ record { place = c.taken.places; epoch = suc c.taken.barriers; item = item } ∷ []; reach = d.reach } → e ≡ record c.end { state = owing new c.end.state }
+    → d ≡ record c.disk { pending = c.disk.pending ++ record { place = c.taken.places; epoch = suc c.taken.barriers; item = item } ∷ []; reach = d.reach }
+    → e ≡ record c.end { state = owing new c.end.state }
     → IsCore (record c { taken = t; disk = d; end = e; is_ready = false })
 admitted c item new t d e is r few some inside one taken same owed =
     let last : Pending Item = record { place = c.taken.places; epoch = suc c.taken.barriers; item = item } in
@@ -94,7 +99,8 @@ admitted c item new t d e is r few some inside one taken same owed =
     let sizes : length e.state.sizes ≡ length c.end.state.sizes = ap (λ (e : EndRoom). length e.state.sizes) owed in
     let answers : e.answers ≡ c.end.answers = ap (λ (e : EndRoom). e.answers) owed in
     let answered_same : e.state.answered ≡ c.end.state.answered = ap (λ (e : EndRoom). e.state.answered) owed in
-    let old : AllByRecursion (IsOf c.settings.blocks t) c.disk.pending = of-more c.settings.blocks c.taken t c.disk.pending (omega (arith, m.places)) (omega (arith, m.barriers)) is.pending in
+    let old : AllByRecursion (IsOf c.settings.blocks t) c.disk.pending = of-more c.settings.blocks c.taken t c.disk.pending (omega (arith, m.places))
+    (omega (arith, m.barriers)) is.pending in
     let here : IsOf c.settings.blocks t last = record { place = omega (arith, m.places); epoch = omega (arith, m.barriers); inside = inside } in
     record {
       in_range = is.in_range;
@@ -116,7 +122,8 @@ ended c epoch writes t e is r taken same =
     let barriers : t.barriers ≡ suc c.taken.barriers = ap (λ (t : Intake). t.barriers) taken in
     let blocks : length t.blocks ≡ length c.taken.blocks = ap (λ (t : Intake). length t.blocks) taken ∙ length-flags (length c.taken.blocks) (λ block. false) in
     let due : length e.state.due ≡ length c.end.state.due = ap (λ (e : EndRoom). length e.state.due) same in
-    let sizes : length e.state.sizes ≡ length c.end.state.sizes + 1 = ap (λ (e : EndRoom). length e.state.sizes) same ∙ length-append c.end.state.sizes (writes ∷ []) in
+    let sizes : length e.state.sizes ≡ length c.end.state.sizes + 1 = ap (λ (e : EndRoom). length e.state.sizes) same
+    ∙ length-append c.end.state.sizes (writes ∷ []) in
     let answers : e.answers ≡ c.end.answers = ap (λ (e : EndRoom). e.answers) same in
     let answered_same : e.state.answered ≡ c.end.state.answered = ap (λ (e : EndRoom). e.state.answered) same in
     record {

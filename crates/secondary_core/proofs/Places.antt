@@ -1,5 +1,6 @@
 -- What is pending was taken, before a step and after it.
-use Rattle.std.proofs.Common.{ℕ, suc, ◌≡◌, ◌+◌, ◌<◌, ◌≤◌, Bool, true, false, List, [], ◌∷◌, length, Option, Some, None, Result, Ok, Err, refl, sym, ◌∙◌, ap, subst, arith, nat_eq, nat_le}
+use Rattle.std.proofs.Common.{ℕ, suc, ◌≡◌, ◌+◌, ◌<◌, ◌≤◌, Bool, true, false, List, [], ◌∷◌, length, Option, Some, None, Result, Ok, Err, refl, sym, ◌∙◌, ap}
+use Rattle.std.proofs.Common.{subst, arith, nat_eq, nat_le}
 use Rattle.std.specs.Prelude.{All, IfOk, IsOk, MatchResult, filter, is_some}
 use Rattle.std.specs.List.{AllByRecursion}
 use Rattle.std.proofs.lemmas.List.Elements.{All-from_recursion}
@@ -12,7 +13,8 @@ use Rattle.secondary_steps.specs.Core.{Intake}
 use Rattle.secondary_core.specs.State.{IsOf}
 
 -- More was taken.
-pub of-more : (size : ℕ) (t u : Intake) (ps : List (Pending Item)) → t.places ≤ u.places → t.barriers ≤ u.barriers → AllByRecursion (IsOf size t) ps → AllByRecursion (IsOf size u) ps
+pub of-more : (size : ℕ) (t u : Intake) (ps : List (Pending Item)) → t.places ≤ u.places → t.barriers ≤ u.barriers → AllByRecursion (IsOf size t) ps
+    → AllByRecursion (IsOf size u) ps
 of-more size t u [] places barriers all = tt
 of-more size t u (p ∷ ps) places barriers all =
     let here = all.0 in
@@ -56,7 +58,8 @@ at-all {X} P k (q ∷ ps) p all some = by-place (at-all P k ps p all.1) (nat_eq 
     by-place rest false is = rest (rw is at some)
 
 -- The item that may start is one that was taken.
-pub start-inside : (size : ℕ) (t : Intake) (k : ℕ) (ps : List (Pending Item)) (item : Item) → AllByRecursion (IsOf size t) ps → start k ps ≡ Ok item → first_of item + length (contents_of item) ≤ size
+pub start-inside : (size : ℕ) (t : Intake) (k : ℕ) (ps : List (Pending Item)) (item : Item) → AllByRecursion (IsOf size t) ps → start k ps ≡ Ok item
+    → first_of item + length (contents_of item) ≤ size
 start-inside size t k ps item all started = by-item (at_place k ps) refl
   where
     by-item : (o : Option (Pending Item)) → at_place k ps ≡ o → first_of item + length (contents_of item) ≤ size
@@ -75,7 +78,8 @@ pub one-less : {X : Type 0} (k : ℕ) (ps : List (Pending X)) → is_pending k p
 one-less k [] there = absurd (cc)
 one-less {X} k (p ∷ ps) there = by-place (one-less k ps) (nat_eq k p.place) refl
   where
-    by-place : (is_pending k ps ≡ true → length (without k ps) + 1 ≡ length ps) → (b : Bool) → nat_eq k p.place ≡ b → length (without k (p ∷ ps)) + 1 ≡ length (p ∷ ps)
+    by-place : (is_pending k ps ≡ true → length (without k ps) + 1 ≡ length ps) → (b : Bool) → nat_eq k p.place ≡ b
+        → length (without k (p ∷ ps)) + 1 ≡ length (p ∷ ps)
     by-place rest true is = rw is (omega arith)
     by-place rest false is = let less = rest (rw is at there) in rw is (omega (arith, less))
 
@@ -94,7 +98,8 @@ fewer k ps there = omega (arith, no-more (λ p. nat_le p.epoch (epoch_at k ps)) 
 pub all-after : {X : Type 0} (P : Pending X → Type 0) (k : ℕ) (ps : List (Pending X)) → AllByRecursion P ps → AllByRecursion P (after_fault k ps)
 all-after P k ps all = all-filter P (λ p. nat_le p.epoch (epoch_at k ps)) (without k ps) (all-without P k ps all)
 
-pub started-inside : {R : Type 0} (now : R → Item) (r : Result R Refusal) (size : ℕ) (t : Intake) (k : ℕ) (ps : List (Pending Item)) → AllByRecursion (IsOf size t) ps
+pub started-inside : {R : Type 0} (now : R → Item) (r : Result R Refusal) (size : ℕ) (t : Intake) (k : ℕ) (ps : List (Pending Item))
+    → AllByRecursion (IsOf size t) ps
     → MatchResult r (λ x. start k ps ≡ Ok (now x)) (λ e. start k ps ≡ Err e) → IfOk r (λ x. first_of (now x) + length (contents_of (now x)) ≤ size)
 started-inside now (Ok x) size t k ps all started = start-inside size t k ps (now x) all started
 started-inside now (Err e) size t k ps all started = tt

@@ -1,16 +1,17 @@
 -- The acknowledgements of epochs: those that become due are the same in the state and in the history.
-use Rattle.std.proofs.Common.{ℕ, zero, suc, ◌≡◌, ◌+◌, ◌-◌, ◌<◌, ◌≤◌, ◌⊎◌, inl, inr, Bool, true, false, cond, not, ◌&&◌, ◌||◌, List, [], ◌∷◌, ◌++◌, length, map, filter, take, drop, refl, sym, ◌∙◌, ap, subst, arith, ◌==◌, nat_lt, nat_le}
+use Rattle.std.proofs.Common.{ℕ, zero, suc, ◌≡◌, ◌+◌, ◌-◌, ◌<◌, ◌≤◌, ◌⊎◌, inl, inr, Bool, true, false, cond, not, ◌&&◌, ◌||◌, List, [], ◌∷◌, ◌++◌, length, map}
+use Rattle.std.proofs.Common.{filter, take, drop, refl, sym, ◌∙◌, ap, subst, arith, ◌==◌, nat_lt, nat_le}
 use Rattle.std.specs.List.{list_any, list_all}
 use Rattle.std.proofs.lemmas.Bool.{cases_Bool, both_ways, lt-ltb, le-leb, le-ltb, lt-leb, cases_lt, eqb-true, eq-eqb}
 use Rattle.std.proofs.lemmas.List.{map-append, length-append, drop-append-le}
 use Rattle.std.proofs.lemmas.List.Elements.{filter-append}
-use Rattle.std.proofs.lemmas.List.Folds.{list_any-append}
 use Rattle.model.specs.Stream.{Item, is_barrier, barriers_in, has_blocks, is_whole, epoch_of, epoch_size, placed, placed_from, below}
 use Rattle.model.specs.Frames.{Packet, BarrierAckFrame}
 use Rattle.model.specs.Secondary.{Inward, items_taken, is_pending, pending}
 use Rattle.model.specs.Secondary as model
-use Rattle.model.specs.SecondarySteps.{is_barrier_answer, barriers_to_answer, barrier_answer}
+use Rattle.model.specs.SecondarySteps.{barriers_to_answer, barrier_answer}
 use Rattle.model.specs.SecondarySteps as step
+use Rattle.laws.proofs.Rules.BarrierAnswers.{answered-by, answered-then}
 use Rattle.peerdisk.specs.Pending.{Pending}
 use Rattle.secondary_steps.specs.Core.{EndState, is_applied_to, answers, answering}
 use Rattle.secondary_steps.specs.Leaves.{LeavesEnd, numbers_after, pending_in}
@@ -29,17 +30,20 @@ epoch-rises (x ∷ items) (suc place) zero less = absurd (omega arith)
 epoch-rises (x ∷ items) (suc place) (suc later) less = go (is_barrier x) (epoch-rises items place later (omega arith))
   where
     go : (b : Bool) → epoch_of items place ≤ epoch_of items later
-        → suc (length (cond b (x ∷ filter is_barrier (take place items)) (filter is_barrier (take place items)))) ≤ suc (length (cond b (x ∷ filter is_barrier (take later items)) (filter is_barrier (take later items))))
+        → suc (length (cond b (x ∷ filter is_barrier (take place items)) (filter is_barrier (take place items)))) ≤ suc
+        (length (cond b (x ∷ filter is_barrier (take later items)) (filter is_barrier (take later items))))
     go true rest = omega arith
     go false rest = rest
 
 -- none of some waiting items is of an epoch up to this one, where the place before them is of a later one
-none-soon : (all : List Item) (p : ℕ × Item → Bool) (first start epoch : ℕ) (items : List Item) → first ≤ start → epoch < epoch_of all first → list_any (λ entry. nat_le (epoch_of all entry.0) epoch) (filter p (placed_from start items)) ≡ false
+none-soon : (all : List Item) (p : ℕ × Item → Bool) (first start epoch : ℕ) (items : List Item) → first ≤ start → epoch < epoch_of all first
+    → list_any (λ entry. nat_le (epoch_of all entry.0) epoch) (filter p (placed_from start items)) ≡ false
 none-soon all p first start epoch [] from late = refl
 none-soon all p first start epoch (x ∷ items) from late = go (p (start, x)) (none-soon all p first (suc start) epoch items (omega arith) late)
   where
     go : (b : Bool) → list_any (λ entry. nat_le (epoch_of all entry.0) epoch) (filter p (placed_from (suc start) items)) ≡ false
-        → list_any (λ entry. nat_le (epoch_of all entry.0) epoch) (cond b ((start, x) ∷ filter p (placed_from (suc start) items)) (filter p (placed_from (suc start) items))) ≡ false
+        → list_any (λ entry. nat_le (epoch_of all entry.0) epoch)
+        (cond b ((start, x) ∷ filter p (placed_from (suc start) items)) (filter p (placed_from (suc start) items))) ≡ false
     go true rest =
         let rises = epoch-rises all first start from in
         let late_too : nat_le (epoch_of all start) epoch ≡ false = lt-leb (epoch_of all start) epoch (omega arith) in
@@ -48,34 +52,45 @@ none-soon all p first start epoch (x ∷ items) from late = go (p (start, x)) (n
 
 -- the first of the waiting items is of the first of their epochs
 first-epoch : (all : List Item) (p : ℕ × Item → Bool) (start epoch : ℕ) (items : List Item)
-    → list_any (λ entry. nat_le (epoch_of all entry.0) epoch) (filter p (placed_from start items)) ≡ not (is_applied_to (map (pending_in all) (filter p (placed_from start items))) epoch)
+    → list_any (λ entry. nat_le (epoch_of all entry.0) epoch) (filter p (placed_from start items)) ≡ not
+    (is_applied_to (map (pending_in all) (filter p (placed_from start items))) epoch)
 first-epoch all p start epoch [] = refl
 first-epoch all p start epoch (x ∷ items) = go (p (start, x)) (first-epoch all p (suc start) epoch items)
   where
     by-first : (epoch < epoch_of all start) ⊎ (epoch_of all start ≤ epoch)
-        → (nat_le (epoch_of all start) epoch || list_any (λ entry. nat_le (epoch_of all entry.0) epoch) (filter p (placed_from (suc start) items))) ≡ not (nat_lt epoch (epoch_of all start))
-    by-first (inl late) = rw (lt-leb (epoch_of all start) epoch late, lt-ltb epoch (epoch_of all start) late) (none-soon all p start (suc start) epoch items (omega arith) late)
+        → (nat_le (epoch_of all start) epoch || list_any (λ entry. nat_le (epoch_of all entry.0) epoch) (filter p (placed_from (suc start) items))) ≡ not
+        (nat_lt epoch (epoch_of all start))
+    by-first (inl late) = rw (lt-leb (epoch_of all start) epoch late, lt-ltb epoch (epoch_of all start) late)
+        (none-soon all p start (suc start) epoch items (omega arith) late)
     by-first (inr soon) = rw (le-leb (epoch_of all start) epoch soon, le-ltb epoch (epoch_of all start) soon) refl
 
-    go : (b : Bool) → list_any (λ entry. nat_le (epoch_of all entry.0) epoch) (filter p (placed_from (suc start) items)) ≡ not (is_applied_to (map (pending_in all) (filter p (placed_from (suc start) items))) epoch)
-        → list_any (λ entry. nat_le (epoch_of all entry.0) epoch) (cond b ((start, x) ∷ filter p (placed_from (suc start) items)) (filter p (placed_from (suc start) items)))
-        ≡ not (is_applied_to (map (pending_in all) (cond b ((start, x) ∷ filter p (placed_from (suc start) items)) (filter p (placed_from (suc start) items)))) epoch)
+    go : (b : Bool) → list_any (λ entry. nat_le (epoch_of all entry.0) epoch) (filter p (placed_from (suc start) items)) ≡ not
+        (is_applied_to (map (pending_in all) (filter p (placed_from (suc start) items))) epoch)
+        → list_any (λ entry. nat_le (epoch_of all entry.0) epoch)
+        (cond b ((start, x) ∷ filter p (placed_from (suc start) items)) (filter p (placed_from (suc start) items)))
+        ≡ not (is_applied_to (map (pending_in all) (cond b ((start, x) ∷ filter p (placed_from (suc start) items)) (filter p (placed_from (suc start) items))))
+        epoch)
     go true rest = by-first (cases_lt epoch (epoch_of all start))
     go false rest = rest
 
 -- a test of all items is one of those that wait, where nothing is gone
 all-by-waiting : (d : Inward) (epoch : ℕ) (xs : List (ℕ × Item)) → d.gone ≡ []
-    → list_all (λ entry. not (nat_le (epoch_of (items_taken d) entry.0) epoch && has_blocks entry.1) || is_whole d.applied entry.0 entry.1) xs ≡ not (list_any (λ entry. nat_le (epoch_of (items_taken d) entry.0) epoch) (filter (is_pending d) xs))
+    → list_all (λ entry. not (nat_le (epoch_of (items_taken d) entry.0) epoch && has_blocks entry.1) || is_whole d.applied entry.0 entry.1) xs ≡ not
+    (list_any (λ entry. nat_le (epoch_of (items_taken d) entry.0) epoch) (filter (is_pending d) xs))
 all-by-waiting d epoch [] none = refl
-all-by-waiting d epoch (x ∷ xs) none = go (nat_le (epoch_of (items_taken d) x.0) epoch) (has_blocks x.1) (is_whole d.applied x.0 x.1) (list_any (λ place. place == x.0) d.gone) (ap (list_any (λ place. place == x.0)) none) refl (all-by-waiting d epoch xs none)
+all-by-waiting d epoch (x ∷ xs) none = go (nat_le (epoch_of (items_taken d) x.0) epoch) (has_blocks x.1) (is_whole d.applied x.0 x.1)
+    (list_any (λ place. place == x.0) d.gone) (ap (list_any (λ place. place == x.0)) none) refl (all-by-waiting d epoch xs none)
   where
     soon : ℕ × Item → Bool
     soon entry = nat_le (epoch_of (items_taken d) entry.0) epoch
 
     go : (le blocks whole gone : Bool) → gone ≡ false → nat_le (epoch_of (items_taken d) x.0) epoch ≡ le
-        → list_all (λ entry. not (nat_le (epoch_of (items_taken d) entry.0) epoch && has_blocks entry.1) || is_whole d.applied entry.0 entry.1) xs ≡ not (list_any (λ entry. nat_le (epoch_of (items_taken d) entry.0) epoch) (filter (is_pending d) xs))
-        → ((not (le && blocks) || whole) && list_all (λ entry. not (nat_le (epoch_of (items_taken d) entry.0) epoch && has_blocks entry.1) || is_whole d.applied entry.0 entry.1) xs)
-        ≡ not (list_any (λ entry. nat_le (epoch_of (items_taken d) entry.0) epoch) (cond ((blocks && not whole) && not gone) (x ∷ filter (is_pending d) xs) (filter (is_pending d) xs)))
+        → list_all (λ entry. not (nat_le (epoch_of (items_taken d) entry.0) epoch && has_blocks entry.1) || is_whole d.applied entry.0 entry.1) xs ≡ not
+        (list_any (λ entry. nat_le (epoch_of (items_taken d) entry.0) epoch) (filter (is_pending d) xs))
+        → ((not (le && blocks) || whole)
+        && list_all (λ entry. not (nat_le (epoch_of (items_taken d) entry.0) epoch && has_blocks entry.1) || is_whole d.applied entry.0 entry.1) xs)
+        ≡ not (list_any (λ entry. nat_le (epoch_of (items_taken d) entry.0) epoch)
+        (cond ((blocks && not whole) && not gone) (x ∷ filter (is_pending d) xs) (filter (is_pending d) xs)))
     go le blocks whole true is same rest = absurd (cc)
     go true true true false is same rest = rest
     go true true false false is same rest = rw same refl
@@ -94,7 +109,8 @@ double false = refl
 pub applied-same : (d : Inward) (epoch : ℕ) → d.gone ≡ [] → model.is_applied_to d epoch ≡ is_applied_to (map (pending_in (items_taken d)) (pending d)) epoch
 applied-same d epoch none =
     all-by-waiting d epoch (placed (items_taken d)) none
-    ∙ (ap not (first-epoch (items_taken d) (is_pending d) 0 epoch (items_taken d)) ∙ double (is_applied_to (map (pending_in (items_taken d)) (pending d)) epoch))
+    ∙ (ap not (first-epoch (items_taken d) (is_pending d) 0 epoch (items_taken d))
+    ∙ double (is_applied_to (map (pending_in (items_taken d)) (pending d)) epoch))
 
 -- Which epochs are answered.
 
@@ -146,7 +162,8 @@ numbers-end n k =
 -- the numbers from 1 on
 pub numbers-below : (n : ℕ) → map suc (below n) ≡ numbers_after 0 n
 numbers-below zero = refl
-numbers-below (suc n) = map-append suc (below n) (n ∷ []) ∙ (ap (λ l. l ++ suc n ∷ []) (numbers-below n) ∙ (ap (λ m. numbers_after 0 n ++ suc m ∷ []) (omega arith) ∙ sym (numbers-end 0 n)))
+numbers-below (suc n) = map-append suc (below n) (n ∷ [])
+    ∙ (ap (λ l. l ++ suc n ∷ []) (numbers-below n) ∙ (ap (λ m. numbers_after 0 n ++ suc m ∷ []) (omega arith) ∙ sym (numbers-end 0 n)))
 
 pub filter-all : (p q : ℕ → Bool) (n k : ℕ) → ((x : ℕ) → n < x → x ≤ n + k → p x ≡ q x) → filter p (numbers_after n k) ≡ filter q (numbers_after n k)
 filter-all p q n zero same = refl
@@ -170,15 +187,17 @@ drop-numbers f n (suc m) (suc k) less =
     let two : k - m ≡ suc k - suc m = omega arith in
     drop-numbers f (suc n) m k (omega arith) ∙ ap (λ (x : ℕ × ℕ). map f (numbers_after x.0 x.1)) (λ i. (one i, two i))
 
--- which of these acknowledgements is of an epoch
-listed : (size : ℕ → ℕ) (x n k : ℕ) → list_any (is_barrier_answer x) (map (λ y. BarrierAckFrame y (size y)) (numbers_after n k)) ≡ (nat_lt n x && nat_le x (n + k))
-listed size x n zero = elim (cases_lt n x) [
+-- which epochs these numbers are
+listed : (x n k : ℕ)
+    → list_any (λ y. y == x) (numbers_after n k) ≡ (nat_lt n x && nat_le x (n + k))
+listed x n zero = elim (cases_lt n x) [
   | inl less ↦ rw (lt-ltb n x less) (sym (lt-leb x (n + 0) (omega arith)))
   | inr more ↦ rw (le-ltb n x more) refl
 ]
-listed size x n (suc k) = rw (listed size x (suc n) k) (by-order (cases_Bool (suc n == x)))
+listed x n (suc k) = rw (listed x (suc n) k) (by-order (cases_Bool (suc n == x)))
   where
-    by-order : ((suc n == x) ≡ true) ⊎ ((suc n == x) ≡ false) → ((suc n == x) || (nat_lt (suc n) x && nat_le x (suc n + k))) ≡ (nat_lt n x && nat_le x (n + suc k))
+    by-order : ((suc n == x) ≡ true) ⊎ ((suc n == x) ≡ false)
+        → ((suc n == x) || (nat_lt (suc n) x && nat_le x (suc n + k))) ≡ (nat_lt n x && nat_le x (n + suc k))
     by-order (inl same) =
         let is : suc n ≡ x = eqb-true (suc n) x same in
         rw (same, lt-ltb n x (omega arith), le-leb x (n + suc k) (omega arith)) refl
@@ -194,24 +213,30 @@ listed size x n (suc k) = rw (listed size x (suc n) k) (by-order (cases_Bool (su
 -- The acknowledgements that become due.
 
 -- what the history acknowledges is what the state does
-answers-same : (e : EndState) (d : Inward) → d.gone ≡ [] → LeavesEnd e d → Shape (map (pending_in (items_taken d)) (pending d)) (epoch_size (items_taken d)) e.answered (barriers_in (items_taken d) - e.answered)
+answers-same : (e : EndState) (d : Inward) → d.gone ≡ [] → LeavesEnd e d
+    → Shape (map (pending_in (items_taken d)) (pending d)) (epoch_size (items_taken d)) e.answered (barriers_in (items_taken d) - e.answered)
     → map (barrier_answer d) (barriers_to_answer d) ≡ answers (map (pending_in (items_taken d)) (pending d)) e.answered e.sizes
 answers-same e d none left s =
     let items : List Item = items_taken d in
     let ps : List (Pending Item) = map (pending_in (items_taken d)) (pending d) in
     let k : ℕ = barriers_in (items_taken d) - e.answered in
-    let p : ℕ → Bool = λ epoch. model.is_applied_to d epoch && not (list_any (is_barrier_answer epoch) d.due) in
+    let p : ℕ → Bool = λ epoch. model.is_applied_to d epoch && not (nat_le epoch e.answered) in
     let within = left.within in
     let sum : barriers_in items ≡ e.answered + k = omega arith in
     let zero_too : 0 + e.answered ≡ e.answered = omega arith in
     let numbers : map suc (below (barriers_in items)) ≡ numbers_after 0 e.answered ++ numbers_after e.answered k =
-    numbers-below (barriers_in items) ∙ (ap (numbers_after 0) sum ∙ (numbers-split 0 e.answered k ∙ ap (λ m. numbers_after 0 e.answered ++ numbers_after m k) zero_too)) in
+    numbers-below (barriers_in items)
+    ∙ (ap (numbers_after 0) sum ∙ (numbers-split 0 e.answered k ∙ ap (λ m. numbers_after 0 e.answered ++ numbers_after m k) zero_too)) in
     let before : filter p (numbers_after 0 e.answered) ≡ [] = filter-no p 0 e.answered (λ x from upto.
-    ap (λ b. model.is_applied_to d x && not b) (left.answered x from ∙ le-leb x e.answered (omega arith)) ∙ and-false (model.is_applied_to d x)) in
-    let behind : filter p (numbers_after e.answered k) ≡ filter (is_applied_to ps) (numbers_after e.answered k) = filter-all p (is_applied_to ps) e.answered k (λ x from upto.
-    ap (λ b. model.is_applied_to d x && not b) (left.answered x (omega arith) ∙ lt-leb x e.answered from) ∙ (and-true (model.is_applied_to d x) ∙ applied-same d x none)) in
+    ap (λ b. model.is_applied_to d x && not b) (le-leb x e.answered (omega arith)) ∙ and-false (model.is_applied_to d x)) in
+    let behind : filter p (numbers_after e.answered k) ≡ filter (is_applied_to ps) (numbers_after e.answered k) = filter-all p (is_applied_to ps) e.answered k
+    (λ x from upto.
+    ap (λ b. model.is_applied_to d x && not b) (lt-leb x e.answered from)
+    ∙ (and-true (model.is_applied_to d x) ∙ applied-same d x none)) in
     let all : barriers_to_answer d ≡ numbers_after e.answered s.count =
-    ap (filter p) numbers ∙ (filter-append p (numbers_after 0 e.answered) (numbers_after e.answered k) ∙ (ap (λ l. l ++ filter p (numbers_after e.answered k)) before ∙ (behind ∙ s.passing))) in
+    answered-by d (λ epoch. nat_le epoch e.answered) left.answered
+    ∙ (ap (filter p) numbers ∙ (filter-append p (numbers_after 0 e.answered) (numbers_after e.answered k)
+    ∙ (ap (λ l. l ++ filter p (numbers_after e.answered k)) before ∙ (behind ∙ s.passing)))) in
     ap (map (barrier_answer d)) all ∙ (sym s.answers_are ∙ ap (answers ps e.answered) (sym left.sizes))
   where
     and-false : (b : Bool) → (b && not true) ≡ false
@@ -224,19 +249,24 @@ answers-same e d none left s =
 
 -- an open end acknowledges what it can
 pub answering-open : (d : Inward) → d.closed ≡ false → step.answering d ≡ record d { due = d.due ++ map (barrier_answer d) (barriers_to_answer d) }
-answering-open d stands = ap (λ b. elim b as (λ _. Inward) [ true ↦ d | false ↦ record d { due = d.due ++ map (barrier_answer d) (barriers_to_answer d) } ]) stands
+answering-open d stands = ap (λ b. elim b as (λ _. Inward) [ true ↦ d | false ↦ record d { due = d.due ++ map (barrier_answer d) (barriers_to_answer d) } ])
+    stands
 
 -- The end that has acknowledged what it can is what the history leaves.
-pub left-answering : (e : EndState) (d : Inward) (ps : List (Pending Item)) → d.gone ≡ [] → ps ≡ map (pending_in (items_taken d)) (pending d) → LeavesEnd e d → LeavesEnd (answering ps e) (step.answering d)
+pub left-answering : (e : EndState) (d : Inward) (ps : List (Pending Item)) → d.gone ≡ [] → ps ≡ map (pending_in (items_taken d)) (pending d) → LeavesEnd e d
+    → LeavesEnd (answering ps e) (step.answering d)
 left-answering e d ps none is left =
     let items : List Item = items_taken d in
     let listed_ps : List (Pending Item) = map (pending_in (items_taken d)) (pending d) in
     let k : ℕ = barriers_in (items_taken d) - e.answered in
     let s = shape listed_ps (epoch_size items) e.answered k in
     let new : List Packet = answers ps e.answered e.sizes in
-    let same : map (barrier_answer d) (barriers_to_answer d) ≡ new = answers-same e d none left s ∙ ap (λ (l : List (Pending Item)). answers l e.answered e.sizes) (sym is) in
-    let shaped : new ≡ map (λ x. BarrierAckFrame x (epoch_size items x)) (numbers_after e.answered s.count) = ap (λ (l : List (Pending Item)). answers l e.answered e.sizes) is ∙ (ap (answers listed_ps e.answered) left.sizes ∙ s.answers_are) in
-    let count : length new ≡ s.count = ap length shaped ∙ (length-map (λ x. BarrierAckFrame x (epoch_size items x)) (numbers_after e.answered s.count) ∙ length-numbers e.answered s.count) in
+    let same : map (barrier_answer d) (barriers_to_answer d) ≡ new = answers-same e d none left s
+    ∙ ap (λ (l : List (Pending Item)). answers l e.answered e.sizes) (sym is) in
+    let shaped : new ≡ map (λ x. BarrierAckFrame x (epoch_size items x)) (numbers_after e.answered s.count) =
+    ap (λ (l : List (Pending Item)). answers l e.answered e.sizes) is ∙ (ap (answers listed_ps e.answered) left.sizes ∙ s.answers_are) in
+    let count : length new ≡ s.count = ap length shaped
+    ∙ (length-map (λ x. BarrierAckFrame x (epoch_size items x)) (numbers_after e.answered s.count) ∙ length-numbers e.answered s.count) in
     let few = s.few in
     let within = left.within in
     let owed = left.owed in
@@ -250,11 +280,9 @@ left-answering e d ps none is left =
       owed = omega arith;
       due = ap (λ (l : List Packet). l ++ new) left.due ∙ sym (drop-append-le (d.pushed - 3) d.due new left.owed);
       answered = λ epoch from.
-          list_any-append (is_barrier_answer epoch) d.due new
-          ∙ (ap (λ b. b || list_any (is_barrier_answer epoch) new) (left.answered epoch from)
-          ∙ (ap (λ (l : List Packet). nat_le epoch e.answered || list_any (is_barrier_answer epoch) l) shaped
-          ∙ (ap (λ b. nat_le epoch e.answered || b) (listed (epoch_size items) epoch e.answered s.count)
-          ∙ (either epoch e.answered s.count ∙ ap (λ m. nat_le epoch (e.answered + m)) (sym count)))));
+          answered-then d.due new (epoch_size items) (numbers_after e.answered s.count) shaped epoch
+          ∙ ((λ i. left.answered epoch from i || listed epoch e.answered s.count i)
+          ∙ (either epoch e.answered s.count ∙ ap (λ m. nat_le epoch (e.answered + m)) (sym count)));
       within = omega arith;
       sizes =
           ap (drop (length new)) left.sizes

@@ -1,5 +1,6 @@
 -- What is kept of a stream, with one item more.
-use Rattle.std.proofs.Common.{ℕ, suc, ◌≡◌, ◌<◌, ◌+◌, Bool, true, false, cond, not, ◌&&◌, ◌||◌, List, [], ◌∷◌, ◌++◌, length, filter, refl, sym, ◌∙◌, ap, arith, ◌==◌, nat_lt, max, zero, slice_get, map, Some, inl, inr, subst, ◌≤◌}
+use Rattle.std.proofs.Common.{ℕ, suc, ◌≡◌, ◌<◌, ◌+◌, Bool, true, false, cond, not, ◌&&◌, ◌||◌, List, [], ◌∷◌, ◌++◌, length, filter, refl, sym, ◌∙◌, ap, arith}
+use Rattle.std.proofs.Common.{◌==◌, nat_lt, max, zero, slice_get, map, Some, inl, inr, subst, ◌≤◌}
 use Rattle.std.specs.List.{list_any}
 use Rattle.std.proofs.lemmas.Bool.{both_ways, eq-eqb, ltb-true}
 use Rattle.std.proofs.lemmas.Bool.Decides.{nat_tests}
@@ -9,7 +10,8 @@ use Rattle.std.proofs.lemmas.List.Folds.{list_any-append}
 use Rattle.std.proofs.Math.Nat.{max-zero}
 use Rattle.blocks.specs.declared.tuple.Tuple.{Tuple}
 use Rattle.model.specs.Contents.{Write}
-use Rattle.model.specs.Stream.{Item, WriteItem, ResyncItem, BarrierItem, SyncUuidItem, UuidsItem, is_write, is_barrier, number_of, first_of, contents_of, below, last_epoch, items_of_epoch, barriers_in}
+use Rattle.model.specs.Stream.{Item, WriteItem, ResyncItem, BarrierItem, SyncUuidItem, UuidsItem, is_write, is_barrier, number_of, first_of, contents_of, below}
+use Rattle.model.specs.Stream.{last_epoch, items_of_epoch, barriers_in}
 use Rattle.model.specs.Primary.{in_resync, is_sync_start, is_sync_end}
 use Rattle.model.specs.SecondarySteps.{is_above}
 use Rattle.model.specs.SecondarySteps as step
@@ -19,7 +21,8 @@ use Rattle.laws.proofs.Streams.Places.{barriers-append}
 use Rattle.laws.proofs.Streams.Lawful.{epoch-items-grow, epoch-empty}
 use Rattle.laws.proofs.Lists.Elements.{get-more}
 use Rattle.peerdisk.specs.Blocks.{flags, has, is_set, none_of, adding}
-use Rattle.secondary_steps.proofs.Apart.{below-has, blocks-meet}
+use Rattle.laws.proofs.Lists.Picks.{below-has}
+use Rattle.secondary_steps.proofs.Apart.{blocks-meet}
 use Rattle.secondary_steps.specs.Core.{is_apart, nothing_taken, Intake, and_item}
 use Rattle.secondary_steps.specs.Leaves.{highest_in, intake_of}
 
@@ -68,7 +71,8 @@ items-more : (items : List Item) (item : Item) → is_barrier item ≡ false
     → items_of_epoch (items ++ item ∷ []) (last_epoch (items ++ item ∷ [])) ≡ items_of_epoch items (last_epoch items) ++ (length items, item) ∷ []
 items-more items item plain =
     ap (items_of_epoch (items ++ item ∷ [])) (last-more items item plain)
-    ∙ (epoch-items-grow items item (last_epoch items) ∙ ap (λ b. items_of_epoch items (last_epoch items) ++ cond b ((length items, item) ∷ []) []) (same-number (last_epoch items)))
+    ∙ (epoch-items-grow items item (last_epoch items)
+    ∙ ap (λ b. items_of_epoch items (last_epoch items) ++ cond b ((length items, item) ∷ []) []) (same-number (last_epoch items)))
 
 items-barrier : (items : List Item) (epoch : ℕ) → items_of_epoch (items ++ BarrierItem epoch ∷ []) (last_epoch (items ++ BarrierItem epoch ∷ [])) ≡ []
 items-barrier items epoch =
@@ -83,7 +87,8 @@ abbrev writes_among : List (ℕ × Item) → ℕ
 writes_among entries = length (filter (λ entry. is_write entry.1) entries)
 
 -- an equation for each field
-intake-is : (a b : Intake) → a.places ≡ b.places → a.highest ≡ b.highest → a.barriers ≡ b.barriers → a.writes ≡ b.writes → a.blocks ≡ b.blocks → a.resync ≡ b.resync → a ≡ b
+intake-is : (a b : Intake) → a.places ≡ b.places → a.highest ≡ b.highest → a.barriers ≡ b.barriers → a.writes ≡ b.writes → a.blocks ≡ b.blocks
+    → a.resync ≡ b.resync → a ≡ b
 intake-is a b places highest barriers writes blocks resync =
     λ i. record { places = places i; highest = highest i; barriers = barriers i; writes = writes i; blocks = blocks i; resync = resync i }
 
@@ -97,12 +102,14 @@ last-has items block = list_any (λ entry. touches entry.1 block) (items_of_epoc
 flags-same : (size : ℕ) (f g : ℕ → Bool) → ((block : ℕ) → block < size → f block ≡ g block) → flags size f ≡ flags size g
 flags-same zero f g same = refl
 flags-same (suc n) f g same =
-    map-append f (below n) (n ∷ []) ∙ ((λ i. flags-same n f g (λ block less. same block (omega arith)) i ++ same n (omega arith) i ∷ []) ∙ sym (map-append g (below n) (n ∷ [])))
+    map-append f (below n) (n ∷ []) ∙ ((λ i. flags-same n f g (λ block less. same block (omega arith)) i ++ same n (omega arith) i ∷ [])
+    ∙ sym (map-append g (below n) (n ∷ [])))
 
 -- so many flags
 flags-length : (size : ℕ) (f : ℕ → Bool) → length (flags size f) ≡ size
 flags-length zero f = refl
-flags-length (suc n) f = ap length (map-append f (below n) (n ∷ [])) ∙ (length-append (flags n f) (f n ∷ []) ∙ (ap (λ k. k + 1) (flags-length n f) ∙ omega arith))
+flags-length (suc n) f = ap length (map-append f (below n) (n ∷ []))
+    ∙ (length-append (flags n f) (f n ∷ []) ∙ (ap (λ k. k + 1) (flags-length n f) ∙ omega arith))
 
 -- the flag of a block
 pub flags-has : (size : ℕ) (f : ℕ → Bool) (block : ℕ) → block < size → has (flags size f) block ≡ f block
@@ -130,12 +137,14 @@ flags-has size f block less =
         go (x ∷ xs) (suc n) at = go xs n at
 
 -- the blocks of the last epoch's items, with one more
-blocks-more : (size : ℕ) (items : List Item) (item : Item) → is_barrier item ≡ false → (intake_of size (items ++ item ∷ [])).blocks ≡ adding (first_of item) (length (contents_of item)) (intake_of size items).blocks
+blocks-more : (size : ℕ) (items : List Item) (item : Item) → is_barrier item ≡ false
+    → (intake_of size (items ++ item ∷ [])).blocks ≡ adding (first_of item) (length (contents_of item)) (intake_of size items).blocks
 blocks-more size items item plain =
     flags-same size (last-has (items ++ item ∷ [])) (λ block. has (flags size (last-has items)) block || touches item block) (λ block less.
     ap (list_any (λ (entry : ℕ × Item). touches entry.1 block)) (items-more items item plain)
     ∙ (list_any-append (λ (entry : ℕ × Item). touches entry.1 block) (items_of_epoch items (last_epoch items)) ((length items, item) ∷ [])
-    ∙ (ap (λ b. last-has items block || b) (or-none (touches item block)) ∙ ap (λ b. b || touches item block) (sym (flags-has size (last-has items) block less)))))
+    ∙ (ap (λ b. last-has items block || b) (or-none (touches item block))
+    ∙ ap (λ b. b || touches item block) (sym (flags-has size (last-has items) block less)))))
     ∙ ap (λ n. flags n (λ block. has (flags size (last-has items)) block || touches item block)) (sym (flags-length size (last-has items)))
   where
     or-none : (b : Bool) → (b || false) ≡ b
@@ -143,7 +152,8 @@ blocks-more size items item plain =
     or-none false = refl
 
 -- and without one that touches nothing
-blocks-same : (size : ℕ) (items : List Item) (item : Item) → is_barrier item ≡ false → ((block : ℕ) → touches item block ≡ false) → (intake_of size (items ++ item ∷ [])).blocks ≡ (intake_of size items).blocks
+blocks-same : (size : ℕ) (items : List Item) (item : Item) → is_barrier item ≡ false → ((block : ℕ) → touches item block ≡ false)
+    → (intake_of size (items ++ item ∷ [])).blocks ≡ (intake_of size items).blocks
 blocks-same size items item plain none = flags-same size (last-has (items ++ item ∷ [])) (last-has items) (λ block less.
     ap (list_any (λ (entry : ℕ × Item). touches entry.1 block)) (items-more items item plain)
     ∙ (list_any-append (λ (entry : ℕ × Item). touches entry.1 block) (items_of_epoch items (last_epoch items)) ((length items, item) ∷ [])
@@ -154,11 +164,13 @@ blocks-same size items item plain none = flags-same size (last-has (items ++ ite
     or-none false = refl
 
 -- the writes of the last epoch
-writes-more : (items : List Item) (item : Item) → is_barrier item ≡ false → (intake_of 0 (items ++ item ∷ [])).writes ≡ (intake_of 0 items).writes + writes_among ((length items, item) ∷ [])
+writes-more : (items : List Item) (item : Item) → is_barrier item ≡ false
+    → (intake_of 0 (items ++ item ∷ [])).writes ≡ (intake_of 0 items).writes + writes_among ((length items, item) ∷ [])
 writes-more items item plain =
     ap writes_among (items-more items item plain)
     ∙ (ap length (filter-append (λ (entry : ℕ × Item). is_write entry.1) (items_of_epoch items (last_epoch items)) ((length items, item) ∷ []))
-    ∙ length-append (filter (λ (entry : ℕ × Item). is_write entry.1) (items_of_epoch items (last_epoch items))) (filter (λ (entry : ℕ × Item). is_write entry.1) ((length items, item) ∷ [])))
+    ∙ length-append (filter (λ (entry : ℕ × Item). is_write entry.1) (items_of_epoch items (last_epoch items)))
+    (filter (λ (entry : ℕ × Item). is_write entry.1) ((length items, item) ∷ [])))
 
 barriers-more : (items : List Item) (item : Item) → is_barrier item ≡ false → barriers_in (items ++ item ∷ []) ≡ barriers_in items
 barriers-more items item plain =
@@ -182,35 +194,49 @@ resync-same items item start end =
     same false b = refl
 
 -- a write, whose number is above those before
-pub intake-write : (size : ℕ) (items : List Item) (write : Write) → is_above write.number items ≡ true → intake_of size (items ++ WriteItem write ∷ []) ≡ and_item (WriteItem write) (intake_of size items)
-intake-write size items write above = intake-is _ _ (places-more items (WriteItem write)) (highest-more items (WriteItem write) ∙ top items above) (barriers-more items (WriteItem write) refl)
+pub intake-write : (size : ℕ) (items : List Item) (write : Write) → is_above write.number items ≡ true
+    → intake_of size (items ++ WriteItem write ∷ []) ≡ and_item (WriteItem write) (intake_of size items)
+intake-write size items write above = intake-is _ _ (places-more items (WriteItem write)) (highest-more items (WriteItem write)
+    ∙ top items above) (barriers-more items (WriteItem write) refl)
     (writes-more items (WriteItem write) refl ∙ omega arith) (blocks-more size items (WriteItem write) refl) (resync-same items (WriteItem write) refl refl)
   where
     top : (items : List Item) → is_above write.number items ≡ true → max (highest_in items) write.number ≡ write.number
     top [] none = omega arith
     top (x ∷ items) all =
-        let below : nat_lt (highest_in (x ∷ items)) write.number ≡ true = ap (λ b. b || nat_lt (highest_in (x ∷ items)) write.number) (sym (some-not-none (length items))) ∙ (sym (above-highest write.number (x ∷ items)) ∙ all) in
+        let below : nat_lt (highest_in (x ∷ items)) write.number ≡ true = ap (λ b. b || nat_lt (highest_in (x ∷ items)) write.number)
+        (sym (some-not-none (length items))) ∙ (sym (above-highest write.number (x ∷ items)) ∙ all) in
         let less : highest_in (x ∷ items) < write.number = ltb-true (highest_in (x ∷ items)) write.number below in
         omega arith
 
 -- a block of a resync
-pub intake-resync : (size : ℕ) (items : List Item) (block : ℕ) (contents : List ℕ) → intake_of size (items ++ ResyncItem block contents ∷ []) ≡ and_item (ResyncItem block contents) (intake_of size items)
-intake-resync size items block contents = intake-is _ _ (places-more items (ResyncItem block contents)) (highest-more items (ResyncItem block contents) ∙ max-zero (highest_in items)) (barriers-more items (ResyncItem block contents) refl)
-    (writes-more items (ResyncItem block contents) refl ∙ omega arith) (blocks-more size items (ResyncItem block contents) refl) (resync-same items (ResyncItem block contents) refl refl)
+pub intake-resync : (size : ℕ) (items : List Item) (block : ℕ) (contents : List ℕ)
+    → intake_of size (items ++ ResyncItem block contents ∷ []) ≡ and_item (ResyncItem block contents) (intake_of size items)
+intake-resync size items block contents = intake-is _ _ (places-more items (ResyncItem block contents)) (highest-more items (ResyncItem block contents)
+    ∙ max-zero (highest_in items)) (barriers-more items (ResyncItem block contents) refl)
+    (writes-more items (ResyncItem block contents) refl ∙ omega arith) (blocks-more size items (ResyncItem block contents) refl)
+    (resync-same items (ResyncItem block contents) refl refl)
 
 -- the end of an epoch
-pub intake-barrier : (size : ℕ) (items : List Item) (epoch : ℕ) → intake_of size (items ++ BarrierItem epoch ∷ []) ≡ and_item (BarrierItem epoch) (intake_of size items)
-intake-barrier size items epoch = intake-is _ _ (places-more items (BarrierItem epoch)) (highest-more items (BarrierItem epoch) ∙ max-zero (highest_in items)) (let all = barriers-append items (BarrierItem epoch ∷ []) in omega arith)
-    (ap writes_among (items-barrier items epoch)) (flags-same size (last-has (items ++ BarrierItem epoch ∷ [])) (λ block. false) (λ block less. ap (list_any (λ (entry : ℕ × Item). touches entry.1 block)) (items-barrier items epoch)) ∙ ap none_of (sym (flags-length size (last-has items)))) (resync-same items (BarrierItem epoch) refl refl)
+pub intake-barrier : (size : ℕ) (items : List Item) (epoch : ℕ)
+    → intake_of size (items ++ BarrierItem epoch ∷ []) ≡ and_item (BarrierItem epoch) (intake_of size items)
+intake-barrier size items epoch = intake-is _ _ (places-more items (BarrierItem epoch)) (highest-more items (BarrierItem epoch)
+    ∙ max-zero (highest_in items)) (let all = barriers-append items (BarrierItem epoch ∷ []) in omega arith)
+    (ap writes_among (items-barrier items epoch))
+    (flags-same size (last-has (items ++ BarrierItem epoch ∷ [])) (λ block. false)
+    (λ block less. ap (list_any (λ (entry : ℕ × Item). touches entry.1 block)) (items-barrier items epoch))
+    ∙ ap none_of (sym (flags-length size (last-has items)))) (resync-same items (BarrierItem epoch) refl refl)
 
 -- the first item of a resync, at the first place
-pub intake-start : (size : ℕ) (items : List Item) (word : ℕ) → (length items == 0) ≡ true → intake_of size (items ++ SyncUuidItem word ∷ []) ≡ and_item (SyncUuidItem word) (intake_of size items)
+pub intake-start : (size : ℕ) (items : List Item) (word : ℕ) → (length items == 0) ≡ true
+    → intake_of size (items ++ SyncUuidItem word ∷ []) ≡ and_item (SyncUuidItem word) (intake_of size items)
 intake-start size [] word none = intake-is _ _ refl refl refl refl (blocks-same size [] (SyncUuidItem word) refl (touches-nothing 0)) refl
 intake-start size (x ∷ items) word none = absurd (both_ways (suc (length items) == 0) (some-not-none (length items)) none)
 
 -- the end of a resync
-pub intake-end : (size : ℕ) (items : List Item) (tuple : Tuple) → intake_of size (items ++ UuidsItem tuple ∷ []) ≡ and_item (UuidsItem tuple) (intake_of size items)
-intake-end size items tuple = intake-is _ _ (places-more items (UuidsItem tuple)) (highest-more items (UuidsItem tuple) ∙ max-zero (highest_in items)) (barriers-more items (UuidsItem tuple) refl)
+pub intake-end : (size : ℕ) (items : List Item) (tuple : Tuple)
+    → intake_of size (items ++ UuidsItem tuple ∷ []) ≡ and_item (UuidsItem tuple) (intake_of size items)
+intake-end size items tuple = intake-is _ _ (places-more items (UuidsItem tuple)) (highest-more items (UuidsItem tuple)
+    ∙ max-zero (highest_in items)) (barriers-more items (UuidsItem tuple) refl)
     (writes-more items (UuidsItem tuple) refl ∙ omega arith) (blocks-same size items (UuidsItem tuple) refl (touches-nothing 0)) over
   where
     over : in_resync (items ++ UuidsItem tuple ∷ []) ≡ false
@@ -224,13 +250,16 @@ intake-end size items tuple = intake-is _ _ (places-more items (UuidsItem tuple)
         ended false b = refl
 
 -- An item of the device is apart from those of the last epoch exactly where none of its blocks is one of theirs.
-pub apart-by-blocks : (size : ℕ) (items : List Item) (item : Item) → first_of item + length (contents_of item) ≤ size → step.is_apart item items ≡ is_apart (first_of item) (length (contents_of item)) (intake_of size items)
-apart-by-blocks size items item inside = blocks-meet items item ∙ ap not (any-below (length (contents_of item)) (λ offset less. sym (flags-has size (last-has items) (first_of item + offset) (omega arith))))
+pub apart-by-blocks : (size : ℕ) (items : List Item) (item : Item) → first_of item + length (contents_of item) ≤ size
+    → step.is_apart item items ≡ is_apart (first_of item) (length (contents_of item)) (intake_of size items)
+apart-by-blocks size items item inside = blocks-meet items item
+    ∙ ap not (any-below (length (contents_of item)) (λ offset less. sym (flags-has size (last-has items) (first_of item + offset) (omega arith))))
   where
     any-below : {p q : ℕ → Bool} (n : ℕ) → ((offset : ℕ) → offset < n → p offset ≡ q offset) → list_any p (below n) ≡ list_any q (below n)
     any-below zero same = refl
     any-below {p} {q} (suc n) same =
-        list_any-append p (below n) (n ∷ []) ∙ ((λ i. any-below n (λ offset less. same offset (omega arith)) i || (same n (omega arith) i || false)) ∙ sym (list_any-append q (below n) (n ∷ [])))
+        list_any-append p (below n) (n ∷ []) ∙ ((λ i. any-below n (λ offset less. same offset (omega arith)) i || (same n (omega arith) i || false))
+        ∙ sym (list_any-append q (below n) (n ∷ [])))
 
 -- what is kept where nothing was taken
 pub intake-none : (size : ℕ) → nothing_taken size ≡ intake_of size []

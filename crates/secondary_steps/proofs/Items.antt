@@ -1,5 +1,6 @@
 -- An item of the stream is judged alike in the state and in the history.
-use Rattle.std.proofs.Common.{ℕ, ◌≡◌, Bool, true, false, cond, not, ◌&&◌, List, [], ◌∷◌, ◌++◌, length, map, filter, Option, Some, refl, sym, ◌∙◌, ap, subst, arith, ◌==◌}
+use Rattle.std.proofs.Common.{ℕ, ◌≡◌, Bool, true, false, cond, not, ◌&&◌, List, [], ◌∷◌, ◌++◌, length, map, filter, Option, Some, refl, sym, ◌∙◌, ap, subst}
+use Rattle.std.proofs.Common.{arith, ◌==◌}
 use Rattle.std.specs.List.{list_any}
 use Rattle.std.proofs.lemmas.List.{append-nil, length-append}
 use Rattle.blocks.specs.declared.settings.Protocol.{Protocol}
@@ -8,25 +9,29 @@ use Rattle.blocks.specs.declared.outcome.What.{What}
 use Rattle.model.specs.Stream.{Item, has_blocks, is_in, is_whole, last_epoch, placed}
 use Rattle.model.specs.Frames.{Packet, RecvAckFrame, naming}
 use Rattle.model.specs.Secondary.{Inward, SecondaryHistory, inward, items_taken, is_pending, with_inward}
-use Rattle.model.specs.SecondarySteps.{Checked, has_place, is_barrier_answer}
+use Rattle.model.specs.SecondarySteps.{Checked}
 use Rattle.model.specs.SecondarySteps as step
 use Rattle.secondary_steps.specs.Core.{EndState, SecondaryState, judged_if, receipt}
 use Rattle.secondary_steps.specs.Leaves.{Leaves, LeavesLast, LeavesEnd, EndLeft, FailedLeft, intake_of, pending_in}
+use Rattle.laws.proofs.Rules.BarrierAnswers.{AnswerNone, none-answer, receipt-answers}
 use Rattle.secondary_steps.proofs.Counted.{count-more}
 use Rattle.secondary_steps.proofs.Judged.{SameJudged}
 use Rattle.secondary_steps.proofs.Tested.{inward-with, open-whole}
 use Rattle.secondary_steps.proofs.Waiting.{waiting-more, new-waits, bare-waits-not}
 
 -- both accept where the same tests hold
-pub same-if : (a b : Bool) → a ≡ b → (name other : What) → name ≡ other → (t : SecondaryState) (h : SecondaryHistory) → (b ≡ true → Leaves t h) → SameJudged (judged_if a name t) (step.checked_if b other h)
+pub same-if : (a b : Bool) → a ≡ b → (name other : What) → name ≡ other → (t : SecondaryState) (h : SecondaryHistory) → (b ≡ true → Leaves t h)
+    → SameJudged (judged_if a name t) (step.checked_if b other h)
 same-if true true same name other names t h left = (names, left refl)
 same-if false false same name other names t h left = refl
 same-if true false same name other names t h left = absurd (cc)
 same-if false true same name other names t h left = absurd (cc)
 
 -- What an item leaves that was taken: `c` is the connection with its frame, and `waits` says whether it has blocks.
-pub last-item : (size : ℕ) (s t : SecondaryState) (e : EndState) (d c : Inward) (item : Item) (waits : Bool) → LeavesLast size s d → d.closed ≡ false → items_taken c ≡ items_taken d ++ item ∷ [] → c.applied ≡ d.applied → c.gone ≡ d.gone → c.number ≡ d.number
-    → LeavesEnd e c → has_blocks item ≡ waits → t.number ≡ s.number → t.intake ≡ intake_of size (items_taken d ++ item ∷ []) → t.pending ≡ s.pending ++ cond waits (record { place = length (items_taken d); epoch = last_epoch (items_taken d); item = item } ∷ []) []
+pub last-item : (size : ℕ) (s t : SecondaryState) (e : EndState) (d c : Inward) (item : Item) (waits : Bool) → LeavesLast size s d → d.closed ≡ false
+    → items_taken c ≡ items_taken d ++ item ∷ [] → c.applied ≡ d.applied → c.gone ≡ d.gone → c.number ≡ d.number
+    → LeavesEnd e c → has_blocks item ≡ waits → t.number ≡ s.number → t.intake ≡ intake_of size (items_taken d ++ item ∷ [])
+    → t.pending ≡ s.pending ++ cond waits (record { place = length (items_taken d); epoch = last_epoch (items_taken d); item = item } ∷ []) []
     → t.items_applied ≡ s.items_applied → t.failed ≡ s.failed → t.end ≡ Some e → LeavesLast size t c
 last-item size s t e d c item waits left stands items applied gone number there blocks is_number is_intake is_waiting is_count is_failed is_end =
     let whole = open-whole s.failed d left.failed stands in
@@ -56,15 +61,16 @@ last-item size s t e d c item waits left stands items applied gone number there 
     by-blocks none false bare = bare-waits-not d (length (items_taken d)) item bare
 
 -- what the protocol makes due when a write is taken is no epoch's
-pub receipt-other : (asked : Protocol) (place : ℕ) (item : Item) (epoch : ℕ) → list_any (is_barrier_answer epoch) (receipt asked place item) ≡ false
-receipt-other protocol.A place item epoch = refl
-receipt-other protocol.B place item epoch = refl
-receipt-other protocol.C place item epoch = refl
+pub receipt-other : (asked : Protocol) (place : ℕ) (item : Item) → AnswerNone (receipt asked place item)
+receipt-other protocol.A place item = none-answer
+receipt-other protocol.B place item = receipt-answers (naming place item)
+receipt-other protocol.C place item = none-answer
 
 -- the history after a write was taken, by its last connection
 pub receiving-is : (asked : Protocol) (place : ℕ) (item : Item) (h : SecondaryHistory) → h.settings.protocol ≡ asked → (h.connections ≡ [] → ⊥)
     → inward (step.receiving place item h) ≡ record (inward h) { due = (inward h).due ++ receipt asked place item }
-receiving-is asked place item h is some = subst (λ (p : Protocol). inward (by p) ≡ record (inward h) { due = (inward h).due ++ receipt asked place item }) (sym is) (go asked)
+receiving-is asked place item h is some = subst (λ (p : Protocol). inward (by p) ≡ record (inward h) { due = (inward h).due ++ receipt asked place item })
+    (sym is) (go asked)
   where
     by : Protocol → SecondaryHistory
     by p = elim p as (λ _. SecondaryHistory) [
@@ -79,7 +85,9 @@ receiving-is asked place item h is some = subst (λ (p : Protocol). inward (by p
     go protocol.C = ap (λ (l : List Packet). record (inward h) { due = l }) (sym (append-nil (inward h).due))
 
 -- and the rest of it
-pub receiving-rest : (place : ℕ) (item : Item) (h : SecondaryHistory) → ((step.receiving place item h).settings ≡ h.settings) × ((step.receiving place item h).tuple ≡ h.tuple) × ((step.receiving place item h).consistent ≡ h.consistent)
+pub receiving-rest : (place : ℕ) (item : Item) (h : SecondaryHistory)
+    → ((step.receiving place item h).settings ≡ h.settings) × ((step.receiving place item h).tuple ≡ h.tuple)
+    × ((step.receiving place item h).consistent ≡ h.consistent)
 receiving-rest place item h = go h.settings.protocol
   where
     by : Protocol → SecondaryHistory

@@ -1,5 +1,6 @@
 -- A frame is judged alike in the state and in the history.
-use Rattle.std.proofs.Common.{ℕ, zero, suc, ◌≡◌, ◌-◌, ◌<◌, ◌≤◌, Bool, true, false, not, ◌&&◌, List, [], ◌∷◌, ◌++◌, length, map, drop, take, filter, Option, Some, None, Ok, Err, refl, sym, ◌∙◌, ap, subst, arith, ◌==◌}
+use Rattle.std.proofs.Common.{ℕ, zero, suc, ◌≡◌, ◌-◌, ◌<◌, ◌≤◌, Bool, true, false, not, ◌&&◌, List, [], ◌∷◌, ◌++◌, length, map, drop, take, filter, Option}
+use Rattle.std.proofs.Common.{Some, None, Ok, Err, refl, sym, ◌∙◌, ap, subst, arith, ◌==◌}
 use Rattle.std.specs.Prelude.{filter_map, if◌then◌else◌}
 use Rattle.std.specs.List.{list_any}
 use Rattle.std.proofs.lemmas.List.{length-append}
@@ -10,10 +11,11 @@ use Rattle.blocks.specs.declared.outcome.What.{What}
 use Rattle.blocks.specs.declared.outcome.What.TheVariants as what
 use Rattle.blocks.specs.declared.command.Command.TheVariants as command
 use Rattle.model.specs.Stream.{Item, has_blocks, is_in, is_whole, placed}
-use Rattle.model.specs.Frames.{Packet, DataFrame, RsDataReplyFrame, BarrierFrame, ProtocolFrame, UuidsFrame, SizesFrame, SyncUuidFrame, RecvAckFrame, WriteAckFrame, RsWriteAckFrame, BarrierAckFrame, Received}
+use Rattle.model.specs.Frames.{Packet, DataFrame, RsDataReplyFrame, BarrierFrame, ProtocolFrame, UuidsFrame, SizesFrame, SyncUuidFrame, RecvAckFrame}
+use Rattle.model.specs.Frames.{WriteAckFrame, RsWriteAckFrame, BarrierAckFrame, Received}
 use Rattle.model.specs.Acknowledgements.{same_protocol}
 use Rattle.model.specs.Secondary.{Inward, SecondaryHistory, items_taken, is_pending, received_item}
-use Rattle.model.specs.SecondarySteps.{Checked, has_place, is_barrier_answer}
+use Rattle.model.specs.SecondarySteps.{Checked}
 use Rattle.model.specs.SecondarySteps as step
 use Rattle.laws.proofs.Secondary.Moves.{framed}
 use Rattle.secondary_steps.specs.Core.{EndState, SecondaryState, Judged, judging_hello}
@@ -29,18 +31,21 @@ SameJudged (Err r) (Ok b) = ⊥
 
 -- The hello.
 
-chosen : (a b : Bool) → a ≡ b → (name : What) (t : SecondaryState) (h : SecondaryHistory) (refusal : Refusal) → Leaves t h → SameJudged (if a then Ok (name, t) else Err refusal) (if b then Ok (name, h) else Err refusal)
+chosen : (a b : Bool) → a ≡ b → (name : What) (t : SecondaryState) (h : SecondaryHistory) (refusal : Refusal) → Leaves t h
+    → SameJudged (if a then Ok (name, t) else Err refusal) (if b then Ok (name, h) else Err refusal)
 chosen true true same name t h refusal left = (refl, left)
 chosen false false same name t h refusal left = refl
 chosen true false same name t h refusal left = absurd (cc)
 chosen false true same name t h refusal left = absurd (cc)
 
 -- a frame of the hello
-pub hello-same : (n : ℕ) (packet : Packet) (t : SecondaryState) (h : SecondaryHistory) → Leaves t h → SameJudged (judging_hello n packet t) (step.checking_hello n packet h)
+pub hello-same : (n : ℕ) (packet : Packet) (t : SecondaryState) (h : SecondaryHistory) → Leaves t h
+    → SameJudged (judging_hello n packet t) (step.checking_hello n packet h)
 hello-same zero (DataFrame write at) t h left = refl
 hello-same zero (RsDataReplyFrame block contents at) t h left = refl
 hello-same zero (BarrierFrame number) t h left = refl
-hello-same zero (ProtocolFrame asked) t h left = chosen (same_protocol asked t.settings.protocol) (same_protocol asked h.settings.protocol) (ap (λ (x : Settings). same_protocol asked x.protocol) left.settings) (what.Frame command.Protocol None) t h OtherProtocol left
+hello-same zero (ProtocolFrame asked) t h left = chosen (same_protocol asked t.settings.protocol) (same_protocol asked h.settings.protocol)
+    (ap (λ (x : Settings). same_protocol asked x.protocol) left.settings) (what.Frame command.Protocol None) t h OtherProtocol left
 hello-same zero (UuidsFrame tuple) t h left = refl
 hello-same zero (SizesFrame blocks) t h left = refl
 hello-same zero (SyncUuidFrame word) t h left = refl
@@ -53,7 +58,8 @@ hello-same (suc zero) (RsDataReplyFrame block contents at) t h left = refl
 hello-same (suc zero) (BarrierFrame number) t h left = refl
 hello-same (suc zero) (ProtocolFrame asked) t h left = refl
 hello-same (suc zero) (UuidsFrame tuple) t h left = refl
-hello-same (suc zero) (SizesFrame blocks) t h left = chosen (blocks == t.settings.blocks) (blocks == h.settings.blocks) (ap (λ (x : Settings). blocks == x.blocks) left.settings) (what.Frame command.Sizes None) t h OtherSize left
+hello-same (suc zero) (SizesFrame blocks) t h left = chosen (blocks == t.settings.blocks) (blocks == h.settings.blocks)
+    (ap (λ (x : Settings). blocks == x.blocks) left.settings) (what.Frame command.Sizes None) t h OtherSize left
 hello-same (suc zero) (SyncUuidFrame word) t h left = refl
 hello-same (suc zero) (RecvAckFrame ack) t h left = refl
 hello-same (suc zero) (WriteAckFrame ack) t h left = refl
@@ -74,9 +80,12 @@ hello-same (suc (suc n)) (BarrierAckFrame number size) t h left = refl
 -- Before the hello is over no item was taken.
 pub early-items : (frame : Received) (d : Inward) → d.refused ≡ false → length d.taken < 3 → items_taken (framed frame d) ≡ items_taken d
 early-items frame d plain early =
-    let old : items_taken d ≡ [] = ap (λ b. filter_map received_item (drop 3 (if b then take (length d.taken - 1) d.taken else d.taken))) plain ∙ ap (filter_map received_item) (drop-past 3 d.taken (omega arith)) in
+    let old : items_taken d ≡ [] = ap (λ b. filter_map received_item (drop 3 (if b then take (length d.taken - 1) d.taken else d.taken))) plain
+    ∙ ap (filter_map received_item) (drop-past 3 d.taken (omega arith)) in
     let longer = length-append d.taken (frame ∷ []) in
-    let new : items_taken (framed frame d) ≡ [] = ap (λ b. filter_map received_item (drop 3 (if b then take (length (d.taken ++ frame ∷ []) - 1) (d.taken ++ frame ∷ []) else (d.taken ++ frame ∷ [])))) plain ∙ ap (filter_map received_item) (drop-past 3 (d.taken ++ frame ∷ []) (omega arith)) in
+    let new : items_taken (framed frame d) ≡ [] =
+    ap (λ b. filter_map received_item (drop 3 (if b then take (length (d.taken ++ frame ∷ []) - 1) (d.taken ++ frame ∷ []) else (d.taken ++ frame ∷ []))))
+    plain ∙ ap (filter_map received_item) (drop-past 3 (d.taken ++ frame ∷ []) (omega arith)) in
     new ∙ sym old
   where
     drop-past : {X : Type 0} (n : ℕ) (xs : List X) → length xs ≤ n → drop n xs ≡ []
@@ -86,12 +95,15 @@ early-items frame d plain early =
     drop-past (suc n) (x ∷ xs) less = drop-past n xs (omega arith)
 
 -- what is left where the items stay
-pub last-same : (size : ℕ) (s t : SecondaryState) (e : EndState) (d c : Inward) → LeavesLast size s d → items_taken c ≡ items_taken d → c.applied ≡ d.applied → c.gone ≡ [] → d.gone ≡ [] → c.number ≡ d.number → LeavesEnd e c
-    → t.number ≡ s.number → t.intake ≡ s.intake → t.pending ≡ s.pending → t.items_applied ≡ s.items_applied → t.failed ≡ None → t.end ≡ Some e → LeavesLast size t c
+pub last-same : (size : ℕ) (s t : SecondaryState) (e : EndState) (d c : Inward) → LeavesLast size s d → items_taken c ≡ items_taken d → c.applied ≡ d.applied
+    → c.gone ≡ [] → d.gone ≡ [] → c.number ≡ d.number → LeavesEnd e c
+    → t.number ≡ s.number → t.intake ≡ s.intake → t.pending ≡ s.pending → t.items_applied ≡ s.items_applied → t.failed ≡ None → t.end ≡ Some e
+    → LeavesLast size t c
 last-same size s t e d c left items applied none was_none number there is_number is_intake is_pending_same is_count is_failed is_end = record {
   number = is_number ∙ (left.number ∙ sym number);
   intake = is_intake ∙ (left.intake ∙ ap (intake_of size) (sym items));
-  named = λ place offset inside. subst (λ (l : List Item). place < length l) (sym items) (left.named place offset (ap (λ part. is_in part place offset) (sym applied) ∙ inside));
+  named = λ place offset inside. subst (λ (l : List Item). place < length l) (sym items)
+      (left.named place offset (ap (λ part. is_in part place offset) (sym applied) ∙ inside));
   pending =
       is_pending_same
       ∙ (left.pending
@@ -103,4 +115,5 @@ last-same size s t e d c left items applied none was_none number there is_number
 }
   where
     alike : (entry : ℕ × Item) → is_pending d entry ≡ is_pending c entry
-    alike entry = λ i. (has_blocks entry.1 && not (is_whole (sym applied i) entry.0 entry.1)) && not (list_any (λ place. place == entry.0) ((was_none ∙ sym none) i))
+    alike entry = λ i. (has_blocks entry.1 && not (is_whole (sym applied i) entry.0 entry.1))
+        && not (list_any (λ place. place == entry.0) ((was_none ∙ sym none) i))

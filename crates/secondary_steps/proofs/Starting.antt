@@ -1,5 +1,6 @@
 -- Which item of those that wait may be applied.
-use Rattle.std.proofs.Common.{ℕ, ◌≡◌, ◌⊎◌, inl, inr, Bool, true, false, cond, ◌||◌, List, [], ◌∷◌, map, Option, Some, None, slice_get, Ok, Err, refl, sym, ◌∙◌, ap, subst, arith, ◌==◌, nat_lt, nat_eq}
+use Rattle.std.proofs.Common.{ℕ, ◌≡◌, ◌⊎◌, inl, inr, Bool, true, false, cond, ◌||◌, List, [], ◌∷◌, map, Option, Some, None, slice_get, Ok, Err, refl, sym, ◌∙◌}
+use Rattle.std.proofs.Common.{ap, subst, arith, ◌==◌, nat_lt, nat_eq}
 use Rattle.std.specs.Prelude.{find, is_some, option_map, unwrap_or}
 use Rattle.std.specs.List.{list_any}
 use Rattle.std.proofs.lemmas.Bool.{eqb-true}
@@ -11,6 +12,7 @@ use Rattle.model.specs.Secondary.{Inward, items_taken, is_pending, pending}
 use Rattle.model.specs.SecondarySteps.{is_pending_at}
 use Rattle.model.specs.SecondarySteps as step
 use Rattle.laws.proofs.Lists.Picks.{pick-found, pick-filtered}
+use Rattle.laws.proofs.Rules.DiskTurns.{earlier-by}
 use Rattle.peerdisk.specs.Pending.{Pending, at_place, epoch_at, item_at, has_earlier, start}
 use Rattle.secondary_steps.specs.Leaves.{pending_in}
 use Rattle.laws.proofs.Streams.Places.{placed-back}
@@ -21,7 +23,8 @@ find-map : {X Y : Type 0} (f : X → Y) (q : Y → Bool) (xs : List X) → find 
 find-map f q [] = refl
 find-map {X} {Y} f q (x ∷ xs) = go (find-map f q xs) (q (f x))
   where
-    go : find q (map f xs) ≡ option_map f (find (λ x. q (f x)) xs) → (b : Bool) → cond b (Some (f x)) (find q (map f xs)) ≡ option_map f (cond b (Some x) (find (λ x. q (f x)) xs))
+    go : find q (map f xs) ≡ option_map f (find (λ x. q (f x)) xs) → (b : Bool)
+        → cond b (Some (f x)) (find q (map f xs)) ≡ option_map f (cond b (Some x) (find (λ x. q (f x)) xs))
     go rest true = refl
     go rest false = rest
 
@@ -56,10 +59,12 @@ pub record MayStart (d : Inward) (place : ℕ) (ps : List (Pending Item)) : Type
 pub record MayNot (d : Inward) (place : ℕ) (ps : List (Pending Item)) : Type 0 where
   pub refusal : Refusal
   pub starts : start place ps ≡ Err refusal
-  pub tested : ((is_pending_at d place ≡ false) × (refusal ≡ UnknownJob)) ⊎ ((is_pending_at d place ≡ true) × (step.has_earlier d place ≡ true) × (refusal ≡ EpochOpen))
+  pub tested : ((is_pending_at d place ≡ false) × (refusal ≡ UnknownJob))
+      ⊎ ((is_pending_at d place ≡ true) × (step.has_earlier d place ≡ true) × (refusal ≡ EpochOpen))
 
 -- an item may be applied exactly where the tests of the model let it
-pub starting : (d : Inward) (place : ℕ) → MayStart d place (map (pending_in (items_taken d)) (pending d)) ⊎ MayNot d place (map (pending_in (items_taken d)) (pending d))
+pub starting : (d : Inward) (place : ℕ)
+    → MayStart d place (map (pending_in (items_taken d)) (pending d)) ⊎ MayNot d place (map (pending_in (items_taken d)) (pending d))
 starting d place = by-find (find test (pending d)) refl
   where
     items : List Item
@@ -80,7 +85,8 @@ starting d place = by-find (find test (pending d)) refl
     listed : is_pending_at d place ≡ is_some (find test (pending d))
     listed = any-same (λ (entry : ℕ × Item). entry.0 == place) test (pending d) (λ entry. turned entry.0 place) ∙ any-found test (pending d)
 
-    by-find : (v : Option (ℕ × Item)) → find test (pending d) ≡ v → MayStart d place (map (pending_in (items_taken d)) (pending d)) ⊎ MayNot d place (map (pending_in (items_taken d)) (pending d))
+    by-find : (v : Option (ℕ × Item)) → find test (pending d) ≡ v
+        → MayStart d place (map (pending_in (items_taken d)) (pending d)) ⊎ MayNot d place (map (pending_in (items_taken d)) (pending d))
     by-find None none =
         let nothing : at_place place ps ≡ None = at ∙ ap (option_map (pending_in items)) none in
         inr (record { refusal = UnknownJob; starts = rw nothing refl; tested = inl (listed ∙ ap is_some none, refl) })
@@ -92,15 +98,27 @@ starting d place = by-find (find test (pending d)) refl
         let index : filtered.0 ≡ place = omega (arith, back.0, here) in
         let there : slice_get items place ≡ Some entry.1 = subst (λ (k : ℕ). slice_get items k ≡ Some entry.1) index back.1 in
         let some : at_place place ps ≡ Some (pending_in items entry) = at ∙ ap (option_map (pending_in items)) found in
-        let epoch : epoch_at place ps ≡ epoch_of items place = ap (λ o. unwrap_or (option_map (λ (p : Pending Item). p.epoch) o) 0) some ∙ ap (epoch_of items) here in
-        let earlier : has_earlier place ps ≡ step.has_earlier d place = any-map (pending_in items) (λ p. nat_lt p.epoch (epoch_at place ps)) (pending d) ∙ ap (λ (e : ℕ). list_any (λ (x : ℕ × Item). nat_lt (epoch_of items x.0) e) (pending d)) epoch in
+        let epoch : epoch_at place ps ≡ epoch_of items place = ap (λ o. unwrap_or (option_map (λ (p : Pending Item). p.epoch) o) 0) some
+        ∙ ap (epoch_of items) here in
+        let earlier : has_earlier place ps ≡ step.has_earlier d place = any-map (pending_in items) (λ p. nat_lt p.epoch (epoch_at place ps)) (pending d)
+        ∙ earlier-by d place (epoch_at place ps) epoch in
         let is_listed : is_pending_at d place ≡ true = listed ∙ ap is_some found in
-        by-earlier entry there (subst (λ (k : ℕ). is_pending d (k, entry.1) ≡ true) here filtered.2) some epoch is_listed earlier (step.has_earlier d place) refl
+        by-earlier entry there (subst (λ (k : ℕ). is_pending d (k, entry.1) ≡ true) here filtered.2) some epoch is_listed earlier
+        (step.has_earlier d place) refl
       where
-        by-earlier : (entry : ℕ × Item) → slice_get (items_taken d) place ≡ Some entry.1 → is_pending d (place, entry.1) ≡ true → at_place place (map (pending_in (items_taken d)) (pending d)) ≡ Some (pending_in (items_taken d) entry)
-            → epoch_at place (map (pending_in (items_taken d)) (pending d)) ≡ epoch_of (items_taken d) place → is_pending_at d place ≡ true → has_earlier place (map (pending_in (items_taken d)) (pending d)) ≡ step.has_earlier d place
-            → (b : Bool) → step.has_earlier d place ≡ b → MayStart d place (map (pending_in (items_taken d)) (pending d)) ⊎ MayNot d place (map (pending_in (items_taken d)) (pending d))
-        by-earlier entry there waits some epoch is_listed earlier true is = inr (record { refusal = EpochOpen; starts = let held : has_earlier place ps ≡ true = earlier ∙ is in rw (some, held) refl; tested = inr (is_listed, is, refl) })
+        by-earlier : (entry : ℕ × Item) → slice_get (items_taken d) place ≡ Some entry.1 → is_pending d (place, entry.1) ≡ true
+            → at_place place (map (pending_in (items_taken d)) (pending d)) ≡ Some (pending_in (items_taken d) entry)
+            → epoch_at place (map (pending_in (items_taken d)) (pending d)) ≡ epoch_of (items_taken d) place → is_pending_at d place ≡ true
+            → has_earlier place (map (pending_in (items_taken d)) (pending d)) ≡ step.has_earlier d place
+            → (b : Bool) → step.has_earlier d place ≡ b
+            → MayStart d place (map (pending_in (items_taken d)) (pending d)) ⊎ MayNot d place (map (pending_in (items_taken d)) (pending d))
+        by-earlier entry there waits some epoch is_listed earlier true is =
+            inr (record {
+              refusal = EpochOpen;
+              starts = let held : has_earlier place ps ≡ true = earlier
+                  ∙ is in rw (some, held) refl;
+              tested = inr (is_listed, is, refl);
+            })
         by-earlier entry there waits some epoch is_listed earlier false is = inl (record {
           item = entry.1;
           there = there;

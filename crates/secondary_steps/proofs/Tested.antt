@@ -1,5 +1,6 @@
 -- Steps by their tests, and the last connection after a change.
-use Rattle.std.proofs.Common.{ℕ, suc, ◌≡◌, inl, inr, Bool, true, false, not, List, [], ◌∷◌, length, map, Option, Some, None, Result, Err, refl, sym, ◌∙◌, ap, subst, arith, ◌==◌, nat_lt}
+use Rattle.std.proofs.Common.{ℕ, suc, ◌≡◌, inl, inr, Bool, true, false, not, List, [], ◌∷◌, length, map, Option, Some, None, Result, Err, refl, sym, ◌∙◌, ap}
+use Rattle.std.proofs.Common.{subst, arith, ◌==◌, nat_lt}
 use Rattle.std.specs.Prelude.{is_some, is_none}
 use Rattle.std.proofs.lemmas.Bool.{both_ways}
 use Rattle.std.proofs.lemmas.Bool.Decides.{nat_tests}
@@ -17,12 +18,15 @@ use Rattle.secondary_steps.specs.Leaves.{Leaves, EndLeft, FailedLeft}
 use Rattle.secondary_steps.specs.Steps.{Agrees}
 
 -- With the same tests they agree, where they agree when no test holds.
-pub tested-agrees : {R : Type 0} (tell : R → Done) (s : SecondaryState) (h : SecondaryHistory) (tests same : List Test) (got : Unit {0} → Result R Refusal × SecondaryState) (step : Unit {0} → Reply × SecondaryHistory)
+pub tested-agrees : {R : Type 0} (tell : R → Done) (s : SecondaryState) (h : SecondaryHistory) (tests same : List Test) (got : Unit {0}
+    → Result R Refusal × SecondaryState) (step : Unit {0} → Reply × SecondaryHistory)
     → tests ≡ same → Leaves s h → (first_refusal same ≡ None → Agrees tell (got tt) (step tt)) → Agrees tell (tested s tests got) (tested_secondary h same step)
-tested-agrees {R} tell s h tests same got step e left done = subst (λ (ts : List Test). Agrees tell (tested s ts got) (tested_secondary h same step)) (sym e) (go (first_refusal same) refl)
+tested-agrees {R} tell s h tests same got step e left done = subst (λ (ts : List Test). Agrees tell (tested s ts got) (tested_secondary h same step)) (sym e)
+    (go (first_refusal same) refl)
   where
     go : (v : Option Refusal) → first_refusal same ≡ v
-        → Agrees tell (elim v as (λ _. Result R Refusal × SecondaryState) [ Some refusal ↦ (Err refusal, s) | None ↦ got tt ]) (elim v as (λ _. Reply × SecondaryHistory) [ Some refusal ↦ (reply.Refused refusal, h) | None ↦ step tt ])
+        → Agrees tell (elim v as (λ _. Result R Refusal × SecondaryState) [ Some refusal ↦ (Err refusal, s) | None ↦ got tt ])
+        (elim v as (λ _. Reply × SecondaryHistory) [ Some refusal ↦ (reply.Refused refusal, h) | None ↦ step tt ])
     go (Some refusal) is = record { reply = refl; leaves = left }
     go None is = done is
 
@@ -46,7 +50,8 @@ end-there None none = absurd (cc)
 end-there (Some e) none = (e, refl)
 
 -- The last connection is changed, where there is one.
-pub inward-of : (f : Inward → Inward) (h later : SecondaryHistory) → later.connections ≡ change_last f h.connections → (h.connections ≡ [] → ⊥) → inward later ≡ f (inward h)
+pub inward-of : (f : Inward → Inward) (h later : SecondaryHistory) → later.connections ≡ change_last f h.connections → (h.connections ≡ [] → ⊥)
+    → inward later ≡ f (inward h)
 inward-of f h later is some = ap (last_of (no_inward later)) is ∙ elim (last-change f (no_inward h) (no_inward later) h.connections) [
   | inl none ↦ absurd (some none)
   | inr same ↦ same

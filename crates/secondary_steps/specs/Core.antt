@@ -1,18 +1,21 @@
 -- The state of a secondary in plain values, and its transitions.
-use Rattle.std.specs.Prelude.{ℕ, zero, suc, ◌+◌, ◌-◌, nat_lt, nat_le, ◌==◌, Bool, true, false, ◌&&◌, ◌||◌, not, if◌then◌else◌, List, [], ◌∷◌, ◌++◌, length, drop, Option, Some, None, is_some, is_none, option_map, slice_get, ok_or, Result, Ok, Err}
+use Rattle.std.specs.Prelude.{ℕ, zero, suc, ◌+◌, ◌-◌, nat_lt, nat_le, ◌==◌, Bool, true, false, ◌&&◌, ◌||◌, not, if◌then◌else◌, List, [], ◌∷◌, ◌++◌, length}
+use Rattle.std.specs.Prelude.{drop, Option, Some, None, is_some, is_none, option_map, slice_get, ok_or, Result, Ok, Err}
 use Rattle.blocks.specs.declared.tuple.Tuple.{Tuple}
 use Rattle.blocks.specs.declared.settings.Settings.{Settings}
 use Rattle.blocks.specs.declared.settings.Protocol.{Protocol}
 use Rattle.blocks.specs.declared.settings.Protocol.TheVariants as protocol
 use Rattle.blocks.specs.declared.refusal.Refusal.{Refusal}
-use Rattle.blocks.specs.declared.refusal.Refusal.TheVariants.{NotConnected, NothingThere, PendingFull, NotDrained, NoMemory, LinkFull, BadCommand, BadField, OtherProtocol, OtherSize}
+use Rattle.blocks.specs.declared.refusal.Refusal.TheVariants.{NotConnected, NothingThere, PendingFull, NotDrained, NoMemory, LinkFull, BadCommand, BadField}
+use Rattle.blocks.specs.declared.refusal.Refusal.TheVariants.{OtherProtocol, OtherSize}
 use Rattle.blocks.specs.declared.outcome.Done.{Done}
 use Rattle.blocks.specs.declared.outcome.What.{What}
 use Rattle.blocks.specs.declared.outcome.What.TheVariants as what
 use Rattle.blocks.specs.declared.command.Command.TheVariants as command
 use Rattle.model.specs.Contents.{is_range}
 use Rattle.model.specs.Stream.{Item, WriteItem, ResyncItem, BarrierItem, SyncUuidItem, UuidsItem, first_of, contents_of}
-use Rattle.model.specs.Frames.{Packet, DataFrame, RsDataReplyFrame, BarrierFrame, ProtocolFrame, UuidsFrame, SizesFrame, SyncUuidFrame, RecvAckFrame, BarrierAckFrame, Received, command_of, hello_of, naming}
+use Rattle.model.specs.Frames.{Packet, DataFrame, RsDataReplyFrame, BarrierFrame, ProtocolFrame, UuidsFrame, SizesFrame, SyncUuidFrame, RecvAckFrame}
+use Rattle.model.specs.Frames.{BarrierAckFrame, Received, command_of, hello_of, naming}
 use Rattle.model.specs.Refusals.{Test, first_refusal, done_with}
 use Rattle.model.specs.Acknowledgements.{same_protocol}
 use Rattle.model.specs.SecondarySteps.{applied_answer, has_place}
@@ -178,7 +181,8 @@ abbrev pub judging_item : Packet → EndState → SecondaryState → Judged
 judging_item (DataFrame write at) e s =
     let i = s.intake in
     let count = length write.contents in
-    judged_if ((((at == i.places) && has_place i.places) && is_range s.settings write.first count) && (((i.places == 0) || nat_lt i.highest write.number) && is_apart write.first count i))
+    judged_if ((((at == i.places) && has_place i.places) && is_range s.settings write.first count)
+    && (((i.places == 0) || nat_lt i.highest write.number) && is_apart write.first count i))
     (what.Frame command.Data (Some i.places)) (record s {
       intake = and_item (WriteItem write) i;
       pending = waiting (WriteItem write) s;
@@ -187,7 +191,8 @@ judging_item (DataFrame write at) e s =
 judging_item (RsDataReplyFrame block contents at) e s =
     let i = s.intake in
     judged_if ((((at == i.places) && has_place i.places) && is_range s.settings block 1) && (i.resync && is_apart block 1 i))
-    (what.Frame command.RsDataReply (Some i.places)) (record s { intake = and_item (ResyncItem block contents) i; pending = waiting (ResyncItem block contents) s })
+    (what.Frame command.RsDataReply (Some i.places))
+    (record s { intake = and_item (ResyncItem block contents) i; pending = waiting (ResyncItem block contents) s })
 judging_item (BarrierFrame number) e s =
     let i = s.intake in
     judged_if (has_place i.places && (number == suc i.barriers)) (what.Frame command.Barrier (Some i.places))
@@ -198,7 +203,8 @@ judging_item (SyncUuidFrame word) e s =
     (record s { intake = and_item (SyncUuidItem word) i; tuple = record s.tuple { current = word }; consistent = false })
 judging_item (UuidsFrame tuple) e s =
     let i = s.intake in
-    judged_if (has_place i.places && i.resync) (what.Frame command.Uuids (Some i.places)) (record s { intake = and_item (UuidsItem tuple) i; tuple = tuple; consistent = true })
+    judged_if (has_place i.places && i.resync) (what.Frame command.Uuids (Some i.places))
+    (record s { intake = and_item (UuidsItem tuple) i; tuple = tuple; consistent = true })
 judging_item packet e s = Err BadCommand
 
 -- one frame more of the peer's hello was taken, where that goes on
@@ -229,7 +235,10 @@ take_at frame (Some e) s = take_frame frame e s
 -- the next frame that the link has for this end, or none
 abbrev pub receive : Option Received → Bool → SecondaryState → Result Done Refusal × SecondaryState
 receive frame starved s =
-    tested s ((is_none s.end, NotConnected) ∷ (nat_le s.settings.pending (length s.pending), PendingFull) ∷ (starved, NoMemory) ∷ (is_none frame, NothingThere) ∷ []) (λ _. elim frame [
+    tested s ((is_none s.end, NotConnected) ∷ (nat_le s.settings.pending (length s.pending), PendingFull) ∷ (starved, NoMemory) ∷ (
+      is_none frame,
+      NothingThere,
+    ) ∷ []) (λ _. elim frame [
       | None ↦ (Err NothingThere, s)
       | Some taken ↦ take_at taken s.end s
     ])

@@ -1,5 +1,6 @@
 -- Which histories leave a secondary's state.
-use Rattle.std.specs.Prelude.{ℕ, zero, suc, ◌-◌, ◌≡◌, ◌<◌, ◌≤◌, nat_le, ◌==◌, true, false, List, [], ◌∷◌, length, drop, map, min, max, Option, Some, None, slice_get}
+use Rattle.std.specs.Prelude.{ℕ, zero, suc, ◌-◌, ◌≡◌, ◌<◌, ◌≤◌, nat_le, ◌==◌, true, false, List, [], ◌∷◌, length, drop, map, min, max, Option, Some, None}
+use Rattle.std.specs.Prelude.{slice_get}
 use Rattle.std.specs.List.{list_any}
 use Rattle.model.specs.Stream.{Item, has_blocks, epoch_of, last_epoch, epoch_size, items_of_epoch, barriers_in, number_of, is_in}
 use Rattle.model.specs.Primary.{in_resync}
@@ -64,7 +65,8 @@ pub record LeavesFailed (epoch : ℕ) (c : Inward) : Type 0 where
   pub gone : list_any (λ k. k == place) c.gone ≡ true
   pub epoch_is : epoch_of (items_taken c) place ≡ epoch
   pub later : (other : ℕ) → list_any (λ k. k == other) c.gone ≡ true → epoch ≤ epoch_of (items_taken c) other
-  pub waiting : (other : ℕ) (one : Item) → slice_get (items_taken c) other ≡ Some one → is_pending c (other, one) ≡ true → epoch_of (items_taken c) other ≡ epoch
+  pub waiting : (other : ℕ) (one : Item) → slice_get (items_taken c) other ≡ Some one → is_pending c (other, one) ≡ true
+      → epoch_of (items_taken c) other ≡ epoch
   pub closed : c.closed ≡ true
 
 -- no item failed, or one of this epoch

@@ -39,11 +39,13 @@ FreshIsOpening = (settings : Settings) (disk : BlockMap) (tuple : Tuple) → Lea
 
 -- the secondary opens its end
 abbrev pub OpensAgree : Type 0
-OpensAgree = (unseen : ℕ) (s : SecondaryState) (h : SecondaryHistory) → Leaves s h → Agrees plainly (open_end (step.next_number unseen h) s) (step.open_secondary unseen h)
+OpensAgree = (unseen : ℕ) (s : SecondaryState) (h : SecondaryHistory) → Leaves s h
+    → Agrees plainly (open_end (step.next_number unseen h) s) (step.open_secondary unseen h)
 
 -- it takes a frame, whatever frame it is
 abbrev pub ReceivesAgree : Type 0
-ReceivesAgree = (frame : Option Received) (starved : Bool) (s : SecondaryState) (h : SecondaryHistory) → Leaves s h → Agrees (λ done. done) (receive frame starved s) (step.receive frame starved h)
+ReceivesAgree = (frame : Option Received) (starved : Bool) (s : SecondaryState) (h : SecondaryHistory) → Leaves s h
+    → Agrees (λ done. done) (receive frame starved s) (step.receive frame starved h)
 
 -- its disk does an item
 abbrev pub AppliesAgree : Type 0
@@ -51,11 +53,13 @@ AppliesAgree = (place : ℕ) (s : SecondaryState) (h : SecondaryHistory) → Lea
 
 -- its disk fails an item, and leaves any of its blocks new
 abbrev pub FaultsAgree : Type 0
-FaultsAgree = (place : ℕ) (offsets : List ℕ) (s : SecondaryState) (h : SecondaryHistory) → Leaves s h → Agrees plainly (peer_fault place s) (step.peer_fault place offsets h)
+FaultsAgree = (place : ℕ) (offsets : List ℕ) (s : SecondaryState) (h : SecondaryHistory) → Leaves s h
+    → Agrees plainly (peer_fault place s) (step.peer_fault place offsets h)
 
 -- it pushes a frame
 abbrev pub PushesAgree : Type 0
-PushesAgree = (room starved : Bool) (s : SecondaryState) (h : SecondaryHistory) → Leaves s h → Agrees (λ done. done) (ack_out room starved s) (step.ack_out room starved h)
+PushesAgree = (room starved : Bool) (s : SecondaryState) (h : SecondaryHistory) → Leaves s h
+    → Agrees (λ done. done) (ack_out room starved s) (step.ack_out room starved h)
 
 -- it closes its end
 abbrev pub ClosesAgree : Type 0

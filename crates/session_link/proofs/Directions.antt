@@ -31,7 +31,8 @@ pub joins : (o : OutgoingState) (i : IncomingState) (told_o : OutgoingState) (to
 joins o i told_o told_i s t o_is i_is told_o_is told_i_is joined told number =
     let both = joined number in
     let everywhere : AreToldEverywhere (outgoing (sending s)) (incoming (taking t)) =
-    subst (λ (x : OutgoingState). AreToldEverywhere x (incoming (taking t))) told_o_is (subst (λ (y : IncomingState). AreToldEverywhere told_o y) told_i_is told) in
+    subst (λ (x : OutgoingState). AreToldEverywhere x (incoming (taking t))) told_o_is
+    (subst (λ (y : IncomingState). AreToldEverywhere told_o y) told_i_is told) in
     let begins : BeginsPushed (taken_at number (incoming (taking t))) (pushed_at number (outgoing (sending s))) =
     everywhere number (both.0, ap (λ (l : List (List ℕ)). l ++ both.0) (came-on number t) ∙ (both.1 ∙ sym (sent-on number s))) in
     subst (λ (x : OutgoingState). BeginsPushed (taken_at number i) (pushed_at number x)) (sym o_is)

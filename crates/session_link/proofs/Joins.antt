@@ -32,12 +32,14 @@ pub joined : (v : PrimaryView) (w : SecondaryView) (o : OutgoingState) (acks : I
     → (p : PrimaryHistory) (s : SecondaryHistory) → PrimaryHas v p → SecondaryHas w s → IsJoined p s
 joined v w o acks answers i out_is acks_is answers_is in_is there back p s had held = record {
   out = λ number.
-      let taken : taken_at number i ≡ (inward_at s number).taken = ap (taken_at number) (same-inn w.incoming i held.over.inn in_is held.over.in_there) ∙ held.over.taken number in
+      let taken : taken_at number i ≡ (inward_at s number).taken = ap (taken_at number) (same-inn w.incoming i held.over.inn in_is held.over.in_there)
+      ∙ held.over.taken number in
       let pushed = ap (pushed_at number) (same-out v.outgoing o had.over.out out_is had.over.out_there) ∙ had.over.pushed number in
       subst (λ (l : List Received). IsBeginning l (pushed_by p (outward_at p number))) taken
       (subst (λ (l : List Packet). IsBeginning (taken_at number i) (map (λ packet. Ok packet) l)) pushed (begins _ _ (there number)));
   back = λ number.
-      let taken : taken_at number acks ≡ (outward_at p number).taken = ap (taken_at number) (same-inn v.incoming acks had.over.inn acks_is had.over.in_there) ∙ had.over.taken number in
+      let taken : taken_at number acks ≡ (outward_at p number).taken = ap (taken_at number) (same-inn v.incoming acks had.over.inn acks_is had.over.in_there)
+      ∙ had.over.taken number in
       let pushed = ap (pushed_at number) (same-out w.outgoing answers held.over.out answers_is held.over.out_there) ∙ held.over.pushed number in
       subst (λ (l : List Received). IsBeginning l (pushed_back_by s (inward_at s number))) taken
       (subst (λ (l : List Packet). IsBeginning (taken_at number acks) (map (λ packet. Ok packet) l)) pushed (begins _ _ (back number)));

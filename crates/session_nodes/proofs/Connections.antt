@@ -26,8 +26,10 @@ pub past-more : (number : ℕ) (last : PushedBefore) (past : List PushedBefore) 
 past-more number last [] lower = refl
 past-more number last (b ∷ past) lower = go (b.number == number) refl (past-more number last past lower.1)
   where
-    go : (c : Bool) → (b.number == number) ≡ c → pushed_past number (past ++ last ∷ []) ≡ (if last.number == number then last.pushed else pushed_past number past)
-        → (if c then b.pushed else pushed_past number (past ++ last ∷ [])) ≡ (if last.number == number then last.pushed else (if c then b.pushed else pushed_past number past))
+    go : (c : Bool) → (b.number == number) ≡ c
+        → pushed_past number (past ++ last ∷ []) ≡ (if last.number == number then last.pushed else pushed_past number past)
+        → (if c then b.pushed else pushed_past number (past ++ last ∷ [])) ≡ (if last.number == number then last.pushed
+        else (if c then b.pushed else pushed_past number past))
     go true is rest =
         let here = eqb-true b.number number is in
         let less = lower.0 in
@@ -40,7 +42,8 @@ came-more number last [] lower = refl
 came-more number last (b ∷ past) lower = go (b.number == number) refl (came-more number last past lower.1)
   where
     go : (c : Bool) → (b.number == number) ≡ c → taken_past number (past ++ last ∷ []) ≡ (if last.number == number then last.taken else taken_past number past)
-        → (if c then b.taken else taken_past number (past ++ last ∷ [])) ≡ (if last.number == number then last.taken else (if c then b.taken else taken_past number past))
+        → (if c then b.taken else taken_past number (past ++ last ∷ [])) ≡ (if last.number == number then last.taken
+        else (if c then b.taken else taken_past number past))
     go true is rest =
         let here = eqb-true b.number number is in
         let less = lower.0 in
@@ -48,6 +51,7 @@ came-more number last (b ∷ past) lower = go (b.number == number) refl (came-mo
     go false is rest = rest
 
 -- what lies below a bound, and one more
-pub all-more : {X : Type 0} (f : X → ℕ) (least most : ℕ) (xs : List X) (x : X) → AllByRecursion (λ (y : X). f y < least) xs → least ≤ most → f x < most → AllByRecursion (λ (y : X). f y < most) (xs ++ x ∷ [])
+pub all-more : {X : Type 0} (f : X → ℕ) (least most : ℕ) (xs : List X) (x : X) → AllByRecursion (λ (y : X). f y < least) xs → least ≤ most → f x < most
+    → AllByRecursion (λ (y : X). f y < most) (xs ++ x ∷ [])
 all-more f least most [] x low more last = (last, tt)
 all-more f least most (y ∷ xs) x low more last = (let first = low.0 in omega arith, all-more f least most xs x low.1 more last)

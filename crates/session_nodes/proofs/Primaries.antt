@@ -1,12 +1,14 @@
 -- A primary's calls keep all its connections over one link.
-use Rattle.std.proofs.Common.{ℕ, zero, suc, ◌≡◌, ◌<◌, ◌≤◌, ◌-◌, ◌⊎◌, inl, inr, Bool, true, false, not, ◌&&◌, List, [], ◌∷◌, ◌++◌, length, map, take, Option, Some, None, slice_get, is_none, Ok, refl, sym, ◌∙◌, ap, subst, arith, ◌==◌, nat_le}
+use Rattle.std.proofs.Common.{ℕ, zero, suc, ◌≡◌, ◌<◌, ◌≤◌, ◌-◌, ◌⊎◌, inl, inr, Bool, true, false, not, ◌&&◌, List, [], ◌∷◌, ◌++◌, length, map, take, Option}
+use Rattle.std.proofs.Common.{Some, None, slice_get, is_none, Ok, refl, sym, ◌∙◌, ap, subst, arith, ◌==◌, nat_le}
 use Rattle.std.specs.Prelude.{if◌then◌else◌, unwrap_or, Result, Err, IfOk, OnOk, OnErr, option_map, is_some}
 use Rattle.std.specs.List.{AllByRecursion}
 use Rattle.std.proofs.lemmas.List.{length-append}
 use Rattle.std.proofs.lemmas.Bool.{cases_Bool, not-false, both_ways, eqb-true, eq-eqb, cases_lt}
 use Rattle.std.proofs.lemmas.Option.{slice_get_within}
 use Rattle.blocks.specs.declared.refusal.Refusal.{Refusal}
-use Rattle.blocks.specs.declared.refusal.Refusal.TheVariants.{NotConnected, NotDrained, NothingThere, NoMemory, StreamFull, UnknownJob, UsedIdentifier, ReadFault}
+use Rattle.blocks.specs.declared.refusal.Refusal.TheVariants.{NotConnected, NotDrained, NothingThere, NoMemory, StreamFull, UnknownJob, UsedIdentifier}
+use Rattle.blocks.specs.declared.refusal.Refusal.TheVariants.{ReadFault}
 use Rattle.blocks.specs.declared.outcome.Reply.{Reply}
 use Rattle.blocks.specs.declared.outcome.Reply.TheVariants as reply
 use Rattle.blocks.specs.declared.outcome.What.TheVariants as what
@@ -17,7 +19,8 @@ use Rattle.model.specs.Primary.{OnDisk, Outward, PrimaryHistory, no_outward, out
 use Rattle.model.specs.PrimarySteps as step
 use Rattle.model.specs.Acknowledgements as step_in
 use Rattle.model.specs.Marks.{releasing}
-use Rattle.model.specs.LocalRuns.{PrimaryEvent, Opens, Submits, WritesLocally, FailsLocally, Sends, Takes, Resyncs, FailsResync, Closes, Receipts, primary_after, primary_run}
+use Rattle.model.specs.LocalRuns.{PrimaryEvent, Opens, Submits, WritesLocally, FailsLocally, Sends, Takes, Resyncs, FailsResync, Closes, Receipts}
+use Rattle.model.specs.LocalRuns.{primary_after, primary_run}
 use Rattle.model.specs.Headline.{StaysClosed}
 use Rattle.link.specs.Ends.{InEnd, OutEnd}
 use Rattle.link.specs.Past.{Past}
@@ -36,7 +39,8 @@ use Rattle.laws.proofs.Joining.Ends.{outward-there}
 use Rattle.primary_steps.specs.Steps.{IsReached, plainly, replied}
 use Rattle.primary_steps.specs.Node.{NodeHas, NodeSteps, primary_step}
 use Rattle.primary_steps.proofs.Common.Reached.{reached-ordered}
-use Rattle.primary_steps.proofs.Node.Keeps.{Change, Keeps, unchanged, keeps-self, keeps-following, submits-keeps, writes-keeps, fails-keeps, resyncs-keeps, closes-keeps, receipts-keeps}
+use Rattle.primary_steps.proofs.Node.Keeps.{Change, Keeps, unchanged, keeps-self, keeps-following, submits-keeps, writes-keeps, fails-keeps, resyncs-keeps}
+use Rattle.primary_steps.proofs.Node.Keeps.{closes-keeps, receipts-keeps}
 use Rattle.primary_steps.proofs.Node.Runs.{opens-to, refused-same}
 use Rattle.primary_steps.proofs.Node.Takes.{takes-keep}
 use Rattle.primary.specs.State.{IsRestarted, PrimaryView, node}
@@ -68,10 +72,12 @@ stays-follows h g was =
 stays-takes : (h : PrimaryHistory) → IsReached h → (frame : Option Received) (starved : Bool) → Stays h (step_in.ack_in frame starved h).1
 stays-takes h reached frame starved =
     let rest : List Test = (not (outward h).begun && starved, NoMemory) ∷ (is_none frame, NothingThere) ∷ [] in
-    tested-keeps (Stays h) h (((outward h).closed, NotConnected) ∷ rest) (λ _. elim frame as (λ _. Reply × PrimaryHistory) [ None ↦ (reply.Refused NothingThere, h) | Some taken ↦ step_in.take_frame taken h ]) (stays-self h)
+    tested-keeps (Stays h) h (((outward h).closed, NotConnected) ∷ rest)
+    (λ _. elim frame as (λ _. Reply × PrimaryHistory) [ None ↦ (reply.Refused NothingThere, h) | Some taken ↦ step_in.take_frame taken h ]) (stays-self h)
     (λ none. go frame (test-passed (outward h).closed NotConnected rest none).0)
   where
-    go : (v : Option Received) → (outward h).closed ≡ false → Stays h (elim v as (λ _. Reply × PrimaryHistory) [ None ↦ (reply.Refused NothingThere, h) | Some taken ↦ step_in.take_frame taken h ]).1
+    go : (v : Option Received) → (outward h).closed ≡ false
+        → Stays h (elim v as (λ _. Reply × PrimaryHistory) [ None ↦ (reply.Refused NothingThere, h) | Some taken ↦ step_in.take_frame taken h ]).1
     go None standing = stays-self h
     go (Some taken) standing = stays-keeps h _ _ (takes-keep h taken standing (reached-ordered h reached).ordered.1.1.0.0).1
 
@@ -79,15 +85,19 @@ stays-after : (event : PrimaryEvent) → IsNoOpening event → (h : PrimaryHisto
 stays-after (Opens sync loss starved) none h reached = absurd none
 stays-after (Submits first contents starved) none h reached = stays-keeps h _ _ (submits-keeps first contents starved h)
 stays-after (WritesLocally number) none h reached =
-    tested-keeps (Stays h) h ((not (step.is_unfinished h number), UnknownJob) ∷ []) (λ _. step.succeeding what.Nothing (releasing h (step.with_outcome number OnDisk h))) (stays-self h) (λ passed. stays-keeps h _ _ (writes-keeps number h))
+    tested-keeps (Stays h) h ((not (step.is_unfinished h number), UnknownJob) ∷ [])
+    (λ _. step.succeeding what.Nothing (releasing h (step.with_outcome number OnDisk h))) (stays-self h)
+    (λ passed. stays-keeps h _ _ (writes-keeps number h))
 stays-after (FailsLocally number offsets) none h reached =
-    tested-keeps (Stays h) h ((not (step.is_unfinished h number), UnknownJob) ∷ []) (λ _. step.succeeding what.Nothing (step.faulted number offsets h)) (stays-self h) (λ passed. stays-keeps h _ _ (fails-keeps number offsets h))
+    tested-keeps (Stays h) h ((not (step.is_unfinished h number), UnknownJob) ∷ []) (λ _. step.succeeding what.Nothing (step.faulted number offsets h))
+    (stays-self h) (λ passed. stays-keeps h _ _ (fails-keeps number offsets h))
 stays-after (Sends room starved) none h reached =
     tested-keeps (Stays h) h (step.send_tests h room starved) (λ _. step.succeeding (step.sending h) (with_outward pushing h)) (stays-self h)
     (λ passed. stays-follows h (with_outward pushing h) (record { connections = length-change pushing h.connections; settings = refl }))
 stays-after (Takes frame starved) none h reached = stays-takes h reached frame starved
 stays-after (Resyncs starved) none h reached = stays-keeps h _ _ (resyncs-keeps starved h)
-stays-after (FailsResync starved) none h reached = tested-keeps (Stays h) h (step.resync_tests h starved) (λ _. (reply.Refused ReadFault, h)) (stays-self h) (λ passed. stays-self h)
+stays-after (FailsResync starved) none h reached = tested-keeps (Stays h) h (step.resync_tests h starved) (λ _. (reply.Refused ReadFault, h)) (stays-self h)
+    (λ passed. stays-self h)
 stays-after Closes none h reached = stays-keeps h _ _ (closes-keeps h)
 stays-after (Receipts number) none h reached = stays-keeps h _ _ (receipts-keeps number h)
 
@@ -95,7 +105,8 @@ stays-after (Receipts number) none h reached = stays-keeps h _ _ (receipts-keeps
 
 -- the traffic of a number is the same in both
 record SameTraffic (h later : PrimaryHistory) (number : ℕ) : Type 0 where
-  pushed : take (outward_at later number).pushed (frames_due later.settings (outward_at later number)) ≡ take (outward_at h number).pushed (frames_due h.settings (outward_at h number))
+  pushed : take (outward_at later number).pushed (frames_due later.settings (outward_at later number)) ≡ take (outward_at h number).pushed
+      (frames_due h.settings (outward_at h number))
   taken : (outward_at later number).taken ≡ (outward_at h number).taken
 
 -- Between two histories at most one connection more was opened, and all but the last one of the later history had ended.
@@ -108,12 +119,14 @@ record GoesOn (h later : PrimaryHistory) : Type 0 where
 
 same-from : (h later : PrimaryHistory) (number : ℕ) → later.settings ≡ h.settings → outward_at later number ≡ outward_at h number → SameTraffic h later number
 same-from h later number settings same = record {
-  pushed = ap (λ (c : Outward). take c.pushed (frames_due later.settings c)) same ∙ ap (λ s. take (outward_at h number).pushed (frames_due s (outward_at h number))) settings;
+  pushed = ap (λ (c : Outward). take c.pushed (frames_due later.settings c)) same
+      ∙ ap (λ s. take (outward_at h number).pushed (frames_due s (outward_at h number))) settings;
   taken = ap (λ (c : Outward). c.taken) same;
 }
 
 -- an end that was never open
-never : (h later : PrimaryHistory) (number : ℕ) → outward_at h number ≡ no_outward h.tuple → outward_at later number ≡ no_outward later.tuple → SameTraffic h later number
+never : (h later : PrimaryHistory) (number : ℕ) → outward_at h number ≡ no_outward h.tuple → outward_at later number ≡ no_outward later.tuple
+    → SameTraffic h later number
 never h later number here there = record {
   pushed = ap (λ (c : Outward). take c.pushed (frames_due later.settings c)) there ∙ sym (ap (λ (c : Outward). take c.pushed (frames_due h.settings c)) here);
   taken = ap (λ (c : Outward). c.taken) there ∙ sym (ap (λ (c : Outward). c.taken) here);
@@ -165,7 +178,8 @@ record NextEnds (v w : PrimaryView) (h later : PrimaryHistory) (over : PrimaryOv
   pushed : (number : ℕ) → (number ≡ length later.connections → ⊥) → pushed_past number out.past ≡ pushed_at number over.out
   taken : (number : ℕ) → (number ≡ length later.connections → ⊥) → taken_past number inn.past ≡ taken_at number over.inn
 
-has-next : (v w : PrimaryView) (h later : PrimaryHistory) (was : PrimaryHas v h) → NodeHas (node w) later → GoesOn h later → 0 < length later.connections → NextEnds v w h later was.over → PrimaryHas w later
+has-next : (v w : PrimaryView) (h later : PrimaryHistory) (was : PrimaryHas v h) → NodeHas (node w) later → GoesOn h later → 0 < length later.connections
+    → NextEnds v w h later was.over → PrimaryHas w later
 has-next v w h later was has on some ends = record {
   has = has;
   over = record {
@@ -190,14 +204,16 @@ has-next v w h later was has on some ends = record {
     sent : Outward → List Packet
     sent c = take c.pushed (frames_due later.settings c)
 
-    pushed : (number : ℕ) → (ends.out.number == number ≡ true) ⊎ (ends.out.number == number ≡ false) → pushed_at number ends.out ≡ take (outward_at later number).pushed (frames_due later.settings (outward_at later number))
+    pushed : (number : ℕ) → (ends.out.number == number ≡ true) ⊎ (ends.out.number == number ≡ false)
+        → pushed_at number ends.out ≡ take (outward_at later number).pushed (frames_due later.settings (outward_at later number))
     pushed number (inl same) =
         let is : length later.connections ≡ number = sym ends.out_number ∙ eqb-true ends.out.number number same in
         let now : ends.out.pushed ≡ sent (outward later) = ap pushed_of (sym ends.out_there) ∙ has.leaves.pushed in
         ap (λ b. if b then ends.out.pushed else pushed_past number ends.out.past) same
         ∙ (now ∙ ap sent (sym last ∙ ap (outward_at later) is))
     pushed number (inr other) =
-        let differs : number ≡ length later.connections → ⊥ = λ is. both_ways (ends.out.number == number) other (eq-eqb ends.out.number number (ends.out_number ∙ sym is)) in
+        let differs : number ≡ length later.connections
+        → ⊥ = λ is. both_ways (ends.out.number == number) other (eq-eqb ends.out.number number (ends.out_number ∙ sym is)) in
         ap (λ b. if b then ends.out.pushed else pushed_past number ends.out.past) other
         ∙ (ends.pushed number differs ∙ (was.over.pushed number ∙ sym (same-traffic h later on number differs).pushed))
 
@@ -208,7 +224,8 @@ has-next v w h later was has on some ends = record {
         ap (λ b. if b then ends.inn.taken else taken_past number ends.inn.past) same
         ∙ (now ∙ ap (λ (c : Outward). c.taken) (sym last ∙ ap (outward_at later) is))
     taken number (inr other) =
-        let differs : number ≡ length later.connections → ⊥ = λ is. both_ways (ends.inn.number == number) other (eq-eqb ends.inn.number number (ends.in_number ∙ sym is)) in
+        let differs : number ≡ length later.connections
+        → ⊥ = λ is. both_ways (ends.inn.number == number) other (eq-eqb ends.inn.number number (ends.in_number ∙ sym is)) in
         ap (λ b. if b then ends.inn.taken else taken_past number ends.inn.past) other
         ∙ (ends.taken number differs ∙ (was.over.taken number ∙ sym (same-traffic h later on number differs).taken))
 
@@ -226,7 +243,8 @@ pub record SameEnds (v w : PrimaryView) : Type 0 where
   pub inn : (i : IncomingState) → v.incoming ≡ Some i → (q : IncomingState) × (w.incoming ≡ Some q) × (q.number ≡ i.number) × (q.past ≡ i.past)
 
 -- A step that opens no end.
-has-step : (event : PrimaryEvent) → IsNoOpening event → (v w : PrimaryView) (h : PrimaryHistory) → PrimaryHas v h → SameEnds v w → NodeHas (node w) (primary_after event h) → PrimaryHas w (primary_after event h)
+has-step : (event : PrimaryEvent) → IsNoOpening event → (v w : PrimaryView) (h : PrimaryHistory) → PrimaryHas v h → SameEnds v w
+    → NodeHas (node w) (primary_after event h) → PrimaryHas w (primary_after event h)
 has-step event none v w h was same has =
     let stays = stays-after event none h was.has.reached in
     let over = was.over in
@@ -250,21 +268,26 @@ has-step event none v w h was same has =
       in_there = inn.1;
       out_number = out.2 ∙ (over.out_number ∙ sym count);
       in_number = inn.2 ∙ (over.in_number ∙ sym count);
-      out_past = subst (λ n. AllByRecursion (λ (b : PushedBefore). b.number < n) out.0.past) (sym count) (subst (λ (l : List PushedBefore). AllByRecursion (λ (b : PushedBefore). b.number < length h.connections) l) (sym out.3) over.out_past);
-      in_past = subst (λ n. AllByRecursion (λ (b : TakenBefore). b.number < n) inn.0.past) (sym count) (subst (λ (l : List TakenBefore). AllByRecursion (λ (b : TakenBefore). b.number < length h.connections) l) (sym inn.3) over.in_past);
+      out_past = subst (λ n. AllByRecursion (λ (b : PushedBefore). b.number < n) out.0.past) (sym count)
+          (subst (λ (l : List PushedBefore). AllByRecursion (λ (b : PushedBefore). b.number < length h.connections) l) (sym out.3) over.out_past);
+      in_past = subst (λ n. AllByRecursion (λ (b : TakenBefore). b.number < n) inn.0.past) (sym count)
+          (subst (λ (l : List TakenBefore). AllByRecursion (λ (b : TakenBefore). b.number < length h.connections) l) (sym inn.3) over.in_past);
       pushed = λ number other. ap (pushed_past number) out.3 ∙ earlier-pushed number over.out (λ is. other (sym is ∙ (over.out_number ∙ sym count)));
       taken = λ number other. ap (taken_past number) inn.3 ∙ earlier-taken number over.inn (λ is. other (sym is ∙ (over.in_number ∙ sym count)));
     })
 
 -- So the node's step is a step over the link, and the node is one over it then.
-pub steps-over : {Told : Type 0} (event : PrimaryEvent) → IsNoOpening event → (step : PrimaryHistory → Told × PrimaryHistory) → ((h : PrimaryHistory) → (step h).1 ≡ primary_after event h)
-    → (v w : PrimaryView) (told : Told) → SameEnds v w → ((h : PrimaryHistory) → NodeHas (node v) h → told ≡ (step h).0) → ((h : PrimaryHistory) → NodeHas (node v) h → NodeHas (node w) (step h).1) → IsPrimaryStep step v told w
+pub steps-over : {Told : Type 0} (event : PrimaryEvent) → IsNoOpening event → (step : PrimaryHistory → Told × PrimaryHistory)
+    → ((h : PrimaryHistory) → (step h).1 ≡ primary_after event h)
+    → (v w : PrimaryView) (told : Told) → SameEnds v w → ((h : PrimaryHistory) → NodeHas (node v) h → told ≡ (step h).0)
+    → ((h : PrimaryHistory) → NodeHas (node v) h → NodeHas (node w) (step h).1) → IsPrimaryStep step v told w
 steps-over event none step is v w told same said after = record {
   said = λ h was. said h was.has;
   after = λ h was. subst (PrimaryHas w) (sym (is h)) (has-step event none v w h was same (subst (NodeHas (node w)) (is h) (after h was.has)));
 }
 
-pub had-over : {Told : Type 0} (step : PrimaryHistory → Told × PrimaryHistory) (v w : PrimaryView) (told : Told) → PrimaryIsHad v → IsPrimaryStep step v told w → PrimaryIsHad w
+pub had-over : {Told : Type 0} (step : PrimaryHistory → Told × PrimaryHistory) (v w : PrimaryView) (told : Told) → PrimaryIsHad v → IsPrimaryStep step v told w
+    → PrimaryIsHad w
 had-over step v w told had steps = record { history = (step had.history).1; has = steps.after had.history had.has }
 
 -- What the calls of a node leave of its ends.
@@ -282,9 +305,15 @@ ends-sent {R} v w result sends inn = go result sends.pushed sends.kept
     the : (o : OutgoingState) (b : OutgoingState) → v.outgoing ≡ Some b → v.outgoing ≡ Some o → b ≡ o
     the o b one two = let both : Some b ≡ Some o = sym one ∙ two in cc
 
-    go : (r : Result R Refusal) → OnOk r (link.PushedOne v.outgoing w.outgoing) → OnErr r ((partly : Option (List Packet)) × (w.outgoing ≡ option_map (λ (o : OutgoingState). record o { partly = partly }) v.outgoing)) → SameEnds v w
+    go : (r : Result R Refusal) → OnOk r (link.PushedOne v.outgoing w.outgoing)
+        → OnErr r ((partly : Option (List Packet)) × (w.outgoing ≡ option_map (λ (o : OutgoingState). record o { partly = partly }) v.outgoing)) → SameEnds v w
     go (Ok done) pushed kept = record {
-      out = λ o at. let same = the o pushed.before pushed.there at in (with_pushed pushed.packet pushed.frame pushed.before, pushed.after, ap (λ (x : OutgoingState). x.number) same, ap (λ (x : OutgoingState). x.past) same);
+      out = λ o at. let same = the o pushed.before pushed.there at in (
+        with_pushed pushed.packet pushed.frame pushed.before,
+        pushed.after,
+        ap (λ (x : OutgoingState). x.number) same,
+        ap (λ (x : OutgoingState). x.past) same,
+      );
       inn = same-inn;
     }
     go (Err e) pushed kept = record {
@@ -293,7 +322,8 @@ ends-sent {R} v w result sends inn = go result sends.pushed sends.kept
     }
 
 -- a frame taken, or none
-pub ends-took : {R : Type 0} (v w : PrimaryView) (result : Result R Refusal) (frame : Option Received) → link.Takes frame result v.incoming w.incoming → w.outgoing ≡ v.outgoing → SameEnds v w
+pub ends-took : {R : Type 0} (v w : PrimaryView) (result : Result R Refusal) (frame : Option Received) → link.Takes frame result v.incoming w.incoming
+    → w.outgoing ≡ v.outgoing → SameEnds v w
 ends-took v w result frame takes out = go frame refl
   where
     same-out : (o : OutgoingState) → v.outgoing ≡ Some o → (p : OutgoingState) × (w.outgoing ≡ Some p) × (p.number ≡ o.number) × (p.past ≡ o.past)
@@ -305,16 +335,31 @@ ends-took v w result frame takes out = go frame refl
     go : (f : Option Received) → frame ≡ f → SameEnds v w
     go None is =
         let kept = takes.kept is in
-        record { out = same-out; inn = λ i at. (record i { is_ready = kept.0 }, kept.1 ∙ ap (option_map (λ (x : IncomingState). record x { is_ready = kept.0 })) at, refl, refl) }
+        record {
+          out = same-out;
+          inn = λ i at. (
+            record i { is_ready = kept.0 },
+            kept.1
+                ∙ ap (option_map (λ (x : IncomingState). record x { is_ready = kept.0 })) at,
+            refl,
+            refl,
+          );
+        }
     go (Some one) is =
         let took = takes.took one is in
         record {
           out = same-out;
-          inn = λ i at. let same = the i took.before took.there at in (with_received one took.frames took.ready took.before, took.after, ap (λ (x : IncomingState). x.number) same, ap (λ (x : IncomingState). x.past) same);
+          inn = λ i at. let same = the i took.before took.there at in (
+            with_received one took.frames took.ready took.before,
+            took.after,
+            ap (λ (x : IncomingState). x.number) same,
+            ap (λ (x : IncomingState). x.past) same,
+          );
         }
 
 -- A step is a run of one event, and runs go on.
-pub runs-step : (event : PrimaryEvent) (v w : PrimaryView) (told : Reply) → ((h : PrimaryHistory) → (primary_step event h).1 ≡ primary_after event h) → PrimarySteps event v told w → PrimaryRuns v w
+pub runs-step : (event : PrimaryEvent) (v w : PrimaryView) (told : Reply) → ((h : PrimaryHistory) → (primary_step event h).1 ≡ primary_after event h)
+    → PrimarySteps event v told w → PrimaryRuns v w
 runs-step event v w told is steps h was = (event ∷ [], subst (PrimaryHas w) (is h) (steps.after h was))
 
 pub runs-self : (v : PrimaryView) → PrimaryRuns v v
@@ -343,19 +388,25 @@ opened-shut sync loss h is = go (first_refusal (step.open_tests h sync loss fals
     rest = (not (are_fresh sync loss (step.known_tuples h)), UsedIdentifier) ∷ (nat_le 4294967295 (length h.connections), StreamFull) ∷ (false, NoMemory) ∷ []
 
     go : (v : Option Refusal) → first_refusal (step.open_tests h sync loss false) ≡ v
-        → plainly tt ≡ (elim v as (λ _. Reply × PrimaryHistory) [ Some refusal ↦ (reply.Refused refusal, h) | None ↦ step.succeeding what.Nothing (step.opened h sync loss) ]).0 → (outward h).closed ≡ true
+        → plainly tt ≡ (elim v as (λ _. Reply × PrimaryHistory) [
+          | Some refusal ↦ (reply.Refused refusal, h)
+          | None ↦ step.succeeding what.Nothing
+              (step.opened h sync loss)
+        ]).0 → (outward h).closed ≡ true
     go (Some refusal) none said = absurd (cc)
     go None none said = not-false (outward h).closed (test-passed (not (outward h).closed) NotDrained rest none).0
 
 opened-more : (sync loss : ℕ) (h : PrimaryHistory) → plainly tt ≡ (step.open_primary sync loss false h).0
-    → (length (step.open_primary sync loss false h).1.connections ≡ suc (length h.connections)) × ((step.open_primary sync loss false h).1.settings ≡ h.settings)
+    → (length (step.open_primary sync loss false h).1.connections ≡ suc (length h.connections))
+    × ((step.open_primary sync loss false h).1.settings ≡ h.settings)
 opened-more sync loss h is =
     let to = opens-to sync loss false h (done_with what.Nothing) is in
     let k = keeps-following (step.opened h sync loss) (step.opened h sync loss) (unchanged (step.opened h sync loss)) (keeps-self (step.opened h sync loss)) in
     let size : length (step.opened h sync loss).connections ≡ suc (length h.connections) = length-append h.connections _ ∙ omega arith in
     (ap (λ (g : PrimaryHistory). length g.connections) to ∙ (k.connections ∙ size), ap (λ (g : PrimaryHistory). g.settings) to ∙ k.settings)
 
-has-opened : (sync loss number : ℕ) (v w : PrimaryView) (h : PrimaryHistory) → PrimaryHas v h → plainly tt ≡ (step.open_primary sync loss false h).0 → NodeHas (node w) (primary_after (Opens sync loss false) h)
+has-opened : (sync loss number : ℕ) (v w : PrimaryView) (h : PrimaryHistory) → PrimaryHas v h → plainly tt ≡ (step.open_primary sync loss false h).0
+    → NodeHas (node w) (primary_after (Opens sync loss false) h)
     → number ≡ w.core.connections → IsRestarted number v w → PrimaryHas w (primary_after (Opens sync loss false) h)
 has-opened sync loss number v w h was said has counted r =
     has-next v w h later was has
@@ -374,10 +425,14 @@ has-opened sync loss number v w h was said has counted r =
       in_there = r.inn ∙ ap (λ (i : IncomingState). Some (record (taking_anew number i) { queued = r.queued; capacity = r.capacity })) same-inn;
       out_number = is;
       in_number = is;
-      out_past = all-more (λ (b : PushedBefore). b.number) (length h.connections) (length later.connections) over.out.past _ over.out_past (let size = more.0 in omega arith) (let size = more.0 in let here = over.out_number in omega arith);
-      in_past = all-more (λ (b : TakenBefore). b.number) (length h.connections) (length later.connections) over.inn.past _ over.in_past (let size = more.0 in omega arith) (let size = more.0 in let here = over.in_number in omega arith);
-      pushed = λ m other. past-more m (record { number = over.out.number; pushed = over.out.pushed; frames = over.out.frames }) over.out.past (subst (λ n. AllByRecursion (λ (b : PushedBefore). b.number < n) over.out.past) (sym over.out_number) over.out_past);
-      taken = λ m other. came-more m (record { number = over.inn.number; taken = over.inn.taken; frames = over.inn.frames }) over.inn.past (subst (λ n. AllByRecursion (λ (b : TakenBefore). b.number < n) over.inn.past) (sym over.in_number) over.in_past);
+      out_past = all-more (λ (b : PushedBefore). b.number) (length h.connections) (length later.connections) over.out.past _ over.out_past
+          (let size = more.0 in omega arith) (let size = more.0 in let here = over.out_number in omega arith);
+      in_past = all-more (λ (b : TakenBefore). b.number) (length h.connections) (length later.connections) over.inn.past _ over.in_past
+          (let size = more.0 in omega arith) (let size = more.0 in let here = over.in_number in omega arith);
+      pushed = λ m other. past-more m (record { number = over.out.number; pushed = over.out.pushed; frames = over.out.frames }) over.out.past
+          (subst (λ n. AllByRecursion (λ (b : PushedBefore). b.number < n) over.out.past) (sym over.out_number) over.out_past);
+      taken = λ m other. came-more m (record { number = over.inn.number; taken = over.inn.taken; frames = over.inn.frames }) over.inn.past
+          (subst (λ n. AllByRecursion (λ (b : TakenBefore). b.number < n) over.inn.past) (sym over.in_number) over.in_past);
     })
   where
     later : PrimaryHistory
@@ -413,7 +468,8 @@ has-opened sync loss number v w h was said has counted r =
     ]
 
 -- So an end that opens anew goes on over its link, and one that is refused stays as it is.
-pub reopens-over : (sync loss : ℕ) (v w : PrimaryView) (result : Result ℕ Refusal) → NodeSteps (Opens sync loss (is_starved result)) (node v) (replied (λ (number : ℕ). plainly tt) result) (node w)
+pub reopens-over : (sync loss : ℕ) (v w : PrimaryView) (result : Result ℕ Refusal)
+    → NodeSteps (Opens sync loss (is_starved result)) (node v) (replied (λ (number : ℕ). plainly tt) result) (node w)
     → IfOk result (λ number. IsRestarted number v w) → IfOk result (λ number. number ≡ w.core.connections) → OnErr result (w ≡ v)
     → PrimarySteps (Opens sync loss (is_starved result)) v (replied (λ (number : ℕ). plainly tt) result) w
 reopens-over sync loss v w (Ok number) s restarted counted unchanged = record {
@@ -423,7 +479,8 @@ reopens-over sync loss v w (Ok number) s restarted counted unchanged = record {
 reopens-over sync loss v w (Err e) s restarted counted unchanged = record {
   said = λ h was. s.said h was.has;
   after = λ h was.
-      let stays : primary_after (Opens sync loss (is_starved {R = ℕ} (Err e))) h ≡ h = refused-same (Opens sync loss (is_starved {R = ℕ} (Err e))) tt h e (s.said h was.has) in
+      let stays : primary_after (Opens sync loss (is_starved {R = ℕ} (Err e))) h ≡ h = refused-same (Opens sync loss (is_starved {R = ℕ} (Err e))) tt h e
+      (s.said h was.has) in
       subst (PrimaryHas w) (sym stays) (subst (λ (x : PrimaryView). PrimaryHas x h) (sym unchanged) was);
 }
 
@@ -432,7 +489,8 @@ pub is-there : (v : PrimaryView) → PrimaryIsHad v → (is_some v.outgoing ≡ 
 is-there v had = (ap is_some had.has.over.out_there, ap is_some had.has.over.in_there)
 
 -- A new node that opens over unused ends.
-pub first-over : (sync loss : ℕ) (v w : PrimaryView) (h : PrimaryHistory) (o : OutEnd) (i : InEnd) → IsNewOut o → IsNewIn i → h.connections ≡ [] → NodeHas (node v) h
+pub first-over : (sync loss : ℕ) (v w : PrimaryView) (h : PrimaryHistory) (o : OutEnd) (i : InEnd) → IsNewOut o → IsNewIn i → h.connections ≡ []
+    → NodeHas (node v) h
     → NodeSteps (Opens sync loss false) (node v) (plainly tt) (node w) → w.outgoing ≡ Some (outgoing o) → w.incoming ≡ Some (incoming i) → PrimaryIsHad w
 first-over sync loss v w h o i out inn none has steps out_there in_there = record {
   history = later;
@@ -482,16 +540,20 @@ first-over sync loss v w h o i out inn none has steps out_there in_there = recor
     last : outward_at later 1 ≡ outward later
     last = sym (ap (outward_at later) one) ∙ last-outward later (omega (arith, one))
 
-    pushed-at : (number : ℕ) (b : Bool) → (o.number == number) ≡ b → (if b then meant_in o.sent else pushed_past number (map pushed_before o.past)) ≡ sent number
+    pushed-at : (number : ℕ) (b : Bool) → (o.number == number) ≡ b
+        → (if b then meant_in o.sent else pushed_past number (map pushed_before o.past)) ≡ sent number
     pushed-at number true is =
         let number_is : number ≡ 1 = sym (eqb-true o.number number is) ∙ out.number in
-        let now : meant_in o.sent ≡ take (outward later).pushed (frames_due later.settings (outward later)) = ap pushed_of (sym out_there) ∙ held.leaves.pushed in
+        let now : meant_in o.sent ≡ take (outward later).pushed (frames_due later.settings (outward later)) = ap pushed_of (sym out_there)
+        ∙ held.leaves.pushed in
         now ∙ ap (λ (c : Outward). take c.pushed (frames_due later.settings c)) (sym last ∙ ap (outward_at later) (sym number_is))
     pushed-at number false is =
         let differs : number ≡ 1 → ⊥ = λ same. both_ways (o.number == number) is (eq-eqb o.number number (out.number ∙ sym same)) in
-        ap (λ (l : List Past). pushed_past number (map pushed_before l)) out.past ∙ sym (ap (λ (c : Outward). take c.pushed (frames_due later.settings c)) (other-never number differs))
+        ap (λ (l : List Past). pushed_past number (map pushed_before l)) out.past
+        ∙ sym (ap (λ (c : Outward). take c.pushed (frames_due later.settings c)) (other-never number differs))
 
-    taken-at : (number : ℕ) (b : Bool) → (i.number == number) ≡ b → (if b then received_from 0 i.taken else taken_past number (map taken_before i.past)) ≡ (outward_at later number).taken
+    taken-at : (number : ℕ) (b : Bool) → (i.number == number) ≡ b
+        → (if b then received_from 0 i.taken else taken_past number (map taken_before i.past)) ≡ (outward_at later number).taken
     taken-at number true is =
         let number_is : number ≡ 1 = sym (eqb-true i.number number is) ∙ inn.number in
         let now : received_from 0 i.taken ≡ (outward later).taken = ap taken_of (sym in_there) ∙ held.leaves.taken in

@@ -1,5 +1,6 @@
 -- A secondary's calls keep all its connections over one link.
-use Rattle.std.proofs.Common.{ℕ, suc, ◌≡◌, ◌<◌, ◌≤◌, ◌-◌, ◌+◌, ◌⊎◌, inl, inr, Bool, true, false, not, ◌&&◌, List, [], ◌∷◌, ◌++◌, length, map, take, Option, Some, None, slice_get, Ok, refl, sym, ◌∙◌, ap, subst, arith, ◌==◌}
+use Rattle.std.proofs.Common.{ℕ, suc, ◌≡◌, ◌<◌, ◌≤◌, ◌-◌, ◌+◌, ◌⊎◌, inl, inr, Bool, true, false, not, ◌&&◌, List, [], ◌∷◌, ◌++◌, length, map, take, Option}
+use Rattle.std.proofs.Common.{Some, None, slice_get, Ok, refl, sym, ◌∙◌, ap, subst, arith, ◌==◌}
 use Rattle.std.specs.Prelude.{if◌then◌else◌, Result, Err, OnOk, OnErr, option_map, is_some}
 use Rattle.std.specs.List.{AllByRecursion}
 use Rattle.std.proofs.lemmas.List.{length-append}
@@ -31,7 +32,8 @@ use Rattle.endpoint.specs.Joined.{pushed_at, pushed_past, taken_at, taken_past}
 use Rattle.laws.proofs.Lists.Elements.{get-there, same-at}
 use Rattle.laws.proofs.Lists.Last.{last-at, last-change, last-more, length-change}
 use Rattle.laws.proofs.Lists.Tests.{test-passed}
-use Rattle.laws.proofs.Secondary.Moves.{framed, receipting, refused_end, pushed_one, closed_end, after-receive, after-peer, after-fault, after-push, after-close}
+use Rattle.laws.proofs.Secondary.Moves.{framed, receipting, refused_end, pushed_one, closed_end, after-receive, after-peer, after-fault, after-push}
+use Rattle.laws.proofs.Secondary.Moves.{after-close}
 use Rattle.laws.proofs.Secondary.Numbers.{NumbersRise, numbers-rise, inward-there, inward-cases}
 use Rattle.laws.proofs.Secondary.Stays.{secondary_stays_closed}
 use Rattle.secondary_steps.specs.Steps.{plainly, replied}
@@ -57,7 +59,8 @@ stays-self : (h : SecondaryHistory) → Stays h h
 stays-self h = record { connections = refl; number = refl; settings = refl }
 
 -- a change of the last connection that leaves its number leaves the last number
-number-with : (f : Inward → Inward) → ((d : Inward) → (f d).number ≡ d.number) → (g later : SecondaryHistory) → later.connections ≡ change_last f g.connections → (inward later).number ≡ (inward g).number
+number-with : (f : Inward → Inward) → ((d : Inward) → (f d).number ≡ d.number) → (g later : SecondaryHistory) → later.connections ≡ change_last f g.connections
+    → (inward later).number ≡ (inward g).number
 number-with f same g later changed = elim (last-change f (no_inward g) (no_inward later) g.connections) [
   | inl none ↦
       let empty : later.connections ≡ [] = changed ∙ ap (change_last f) none in
@@ -73,14 +76,19 @@ stays-with f same h g was = record {
 }
 
 number-answering : (d : Inward) → (answering d).number ≡ d.number
-number-answering d = elim d.closed as (λ b. (elim b as (λ _. Inward) [ true ↦ d | false ↦ record d { due = d.due ++ map (barrier_answer d) (barriers_to_answer d) } ]).number ≡ d.number) [ true ↦ refl | false ↦ refl ]
+number-answering d = elim d.closed as
+    (λ b. (elim b as (λ _. Inward) [ true ↦ d | false ↦ record d { due = d.due ++ map (barrier_answer d) (barriers_to_answer d) } ]).number ≡ d.number)
+    [ true ↦ refl | false ↦ refl ]
 
 number-applying : (asked : Protocol) (place : ℕ) (d : Inward) → (applying asked place d).number ≡ d.number
 number-applying asked place d = go (slice_get (items_taken d) place)
   where
     go : (v : Option Item) → (elim v as (λ _. Inward) [
       | None ↦ d
-      | Some item ↦ record d { applied = d.applied ++ offsets_at place (below (length (contents_of item))); due = elim d.closed as (λ _. List Packet) [ true ↦ d.due | false ↦ d.due ++ applied_answer asked place item ] }
+      | Some item ↦ record d {
+        applied = d.applied ++ offsets_at place (below (length (contents_of item)));
+        due = elim d.closed as (λ _. List Packet) [ true ↦ d.due | false ↦ d.due ++ applied_answer asked place item ];
+      }
     ]).number ≡ d.number
     go None = refl
     go (Some item) = refl
@@ -94,15 +102,22 @@ stays-after (Receives frame starved) none h = after-receive (Stays h) h frame st
     let framed_too : Stays h (with_inward (framed taken) h) = stays-with (framed taken) (λ d. refl) h h (stays-self h) in
     record {
       accepts = stays-answering h _ framed_too;
-      receipts = λ write at frame_is late. stays-answering h _ (stays-with (receipting (length (items_taken (inward h))) write) (λ d. refl) h (with_inward (framed taken) h) framed_too);
+      receipts = λ write at frame_is late. stays-answering h _
+          (stays-with (receipting (length (items_taken (inward h))) write) (λ d. refl) h (with_inward (framed taken) h) framed_too);
       adopts = λ item tuple consistent brings late. stays-answering h (step.adopting tuple consistent (with_inward (framed taken) h))
-          (record { connections = framed_too.connections; number = number-with (framed taken) (λ d. refl) h (step.adopting tuple consistent (with_inward (framed taken) h)) refl; settings = framed_too.settings });
+          (record {
+            connections = framed_too.connections;
+            number = number-with (framed taken) (λ d. refl) h (step.adopting tuple consistent (with_inward (framed taken) h)) refl;
+            settings = framed_too.settings;
+          });
       refuses = stays-with refused_end (λ d. refl) h (with_inward (framed taken) h) framed_too;
     })
 stays-after (Applies place) none h = after-peer (Stays h) h place (stays-self h) (λ waiting first.
     stays-answering h _ (stays-with (applying h.settings.protocol place) (number-applying h.settings.protocol place) h h (stays-self h)))
-stays-after (FailsToApply place offsets) none h = after-fault (Stays h) h place offsets (stays-self h) (λ waiting first. stays-with (failing place offsets) (λ d. refl) h h (stays-self h))
-stays-after (Acknowledges room starved) none h = after-push (Stays h) h room starved (stays-self h) (λ standing due. stays-with pushed_one (λ d. refl) h h (stays-self h))
+stays-after (FailsToApply place offsets) none h = after-fault (Stays h) h place offsets (stays-self h)
+    (λ waiting first. stays-with (failing place offsets) (λ d. refl) h h (stays-self h))
+stays-after (Acknowledges room starved) none h = after-push (Stays h) h room starved (stays-self h)
+    (λ standing due. stays-with pushed_one (λ d. refl) h h (stays-self h))
 stays-after ClosesToo none h = after-close (Stays h) h (stays-self h) (λ standing. stays-with closed_end (λ d. refl) h h (stays-self h))
 
 -- the numbers of a history that a node has rise
@@ -113,7 +128,8 @@ has-rise h is = subst (λ (g : SecondaryHistory). NumbersRise g.connections) (sy
 
 -- the traffic of a number is the same in both
 record SameTraffic (h later : SecondaryHistory) (number : ℕ) : Type 0 where
-  pushed : take (inward_at later number).pushed (answers_due later.settings (inward_at later number)) ≡ take (inward_at h number).pushed (answers_due h.settings (inward_at h number))
+  pushed : take (inward_at later number).pushed (answers_due later.settings (inward_at later number)) ≡ take (inward_at h number).pushed
+      (answers_due h.settings (inward_at h number))
   taken : (inward_at later number).taken ≡ (inward_at h number).taken
 
 -- Between two histories at most one connection more was opened, and all but the last one of the later history had ended.
@@ -126,7 +142,8 @@ record GoesOn (h later : SecondaryHistory) : Type 0 where
   shut : (k : ℕ) (c : Inward) → suc k < length later.connections → slice_get h.connections k ≡ Some c → c.closed ≡ true
 
 -- what stands where a closed connection stood
-stayed : (h later : SecondaryHistory) → StaysClosedToo h later → (k : ℕ) (c d : Inward) → slice_get h.connections k ≡ Some c → c.closed ≡ true → slice_get later.connections k ≡ Some d → d ≡ record c { applied = d.applied; gone = d.gone }
+stayed : (h later : SecondaryHistory) → StaysClosedToo h later → (k : ℕ) (c d : Inward) → slice_get h.connections k ≡ Some c → c.closed ≡ true
+    → slice_get later.connections k ≡ Some d → d ≡ record c { applied = d.applied; gone = d.gone }
 stayed h later stays k c d at closed there =
     let kept = stays.same k c at closed in
     subst (λ (x : Inward). x ≡ record c { applied = x.applied; gone = x.gone }) (same-at later.connections k kept.0 d kept.1 there) kept.2
@@ -167,17 +184,21 @@ not-last h j d at other = elim (cases_lt (suc j) (length h.connections)) [
       let inside = slice_get_within h.connections j d at in
       let index : length h.connections - 1 ≡ j = omega arith in
       let last = last-stands h (omega arith) in
-      absurd (other (ap (λ (x : Inward). x.number) (same-at h.connections j d (inward h) at (subst (λ n. slice_get h.connections n ≡ Some (inward h)) index last))))
+      absurd (other (ap (λ (x : Inward). x.number)
+      (same-at h.connections j d (inward h) at (subst (λ n. slice_get h.connections n ≡ Some (inward h)) index last))))
 ]
 
 -- the end of a closed connection goes on under its number
-same-closed : (h later : SecondaryHistory) → NumbersRise h.connections → NumbersRise later.connections → GoesOn h later → (j : ℕ) (c : Inward) → suc j < length later.connections → slice_get h.connections j ≡ Some c → SameTraffic h later c.number
+same-closed : (h later : SecondaryHistory) → NumbersRise h.connections → NumbersRise later.connections → GoesOn h later → (j : ℕ) (c : Inward)
+    → suc j < length later.connections → slice_get h.connections j ≡ Some c → SameTraffic h later c.number
 same-closed h later rise also on j c early at =
     let stays = on.stays.same j c at (on.shut j c early at) in
     let number : stays.0.number ≡ c.number = number-stays c stays.0 stays.2 in
-    same-from h later c.number on.settings c stays.0 stays.2 (ap (inward_at later) (sym number) ∙ inward-there later also j stays.0 stays.1) (inward-there h rise j c at)
+    same-from h later c.number on.settings c stays.0 stays.2 (ap (inward_at later) (sym number)
+    ∙ inward-there later also j stays.0 stays.1) (inward-there h rise j c at)
 
-same-traffic : (h later : SecondaryHistory) → NumbersRise h.connections → NumbersRise later.connections → GoesOn h later → (number : ℕ) → (number ≡ (inward later).number → ⊥) → SameTraffic h later number
+same-traffic : (h later : SecondaryHistory) → NumbersRise h.connections → NumbersRise later.connections → GoesOn h later → (number : ℕ)
+    → (number ≡ (inward later).number → ⊥) → SameTraffic h later number
 same-traffic h later rise also on number other = elim (inward-cases later number) [
   | inl there ↦
       let d = there.1 in
@@ -196,7 +217,8 @@ same-traffic h later rise also on number other = elim (inward-cases later number
               let least = on.least in
               let equal : length later.connections ≡ length h.connections = omega arith in
               let index : length h.connections - 1 ≡ here.0 = omega arith in
-              let last : here.1 ≡ inward h = same-at h.connections here.0 here.1 (inward h) here.2 (subst (λ n. slice_get h.connections n ≡ Some (inward h)) index (last-stands h (omega arith))) in
+              let last : here.1 ≡ inward h = same-at h.connections here.0 here.1 (inward h) here.2
+              (subst (λ n. slice_get h.connections n ≡ Some (inward h)) index (last-stands h (omega arith))) in
               absurd (other (sym here.3 ∙ (ap (λ (x : Inward). x.number) last ∙ sym (on.last equal))))
         ]
     | inr nor ↦ never h later number nor none
@@ -222,7 +244,8 @@ record NextEnds (v w : SecondaryView) (h later : SecondaryHistory) (over : Secon
   pushed : (number : ℕ) → (number ≡ (inward later).number → ⊥) → pushed_past number out.past ≡ pushed_at number over.out
   taken : (number : ℕ) → (number ≡ (inward later).number → ⊥) → taken_past number inn.past ≡ taken_at number over.inn
 
-has-next : (v w : SecondaryView) (h later : SecondaryHistory) (was : SecondaryHas v h) → NodeHas (node w) later → GoesOn h later → 0 < length later.connections → NextEnds v w h later was.over → SecondaryHas w later
+has-next : (v w : SecondaryView) (h later : SecondaryHistory) (was : SecondaryHas v h) → NodeHas (node w) later → GoesOn h later → 0 < length later.connections
+    → NextEnds v w h later was.over → SecondaryHas w later
 has-next v w h later was has on some ends = record {
   has = has;
   over = record {
@@ -250,14 +273,16 @@ has-next v w h later was has on some ends = record {
     sent : Inward → List Packet
     sent c = take c.pushed (answers_due later.settings c)
 
-    pushed : (number : ℕ) → (ends.out.number == number ≡ true) ⊎ (ends.out.number == number ≡ false) → pushed_at number ends.out ≡ take (inward_at later number).pushed (answers_due later.settings (inward_at later number))
+    pushed : (number : ℕ) → (ends.out.number == number ≡ true) ⊎ (ends.out.number == number ≡ false)
+        → pushed_at number ends.out ≡ take (inward_at later number).pushed (answers_due later.settings (inward_at later number))
     pushed number (inl same) =
         let is : (inward later).number ≡ number = sym ends.out_number ∙ eqb-true ends.out.number number same in
         let now : ends.out.pushed ≡ sent (inward later) = ap pushed_of (sym ends.out_there) ∙ has.leaves.pushed in
         ap (λ b. if b then ends.out.pushed else pushed_past number ends.out.past) same
         ∙ (now ∙ ap sent (sym last ∙ ap (inward_at later) is))
     pushed number (inr other) =
-        let differs : number ≡ (inward later).number → ⊥ = λ is. both_ways (ends.out.number == number) other (eq-eqb ends.out.number number (ends.out_number ∙ sym is)) in
+        let differs : number ≡ (inward later).number
+        → ⊥ = λ is. both_ways (ends.out.number == number) other (eq-eqb ends.out.number number (ends.out_number ∙ sym is)) in
         ap (λ b. if b then ends.out.pushed else pushed_past number ends.out.past) other
         ∙ (ends.pushed number differs ∙ (was.over.pushed number ∙ sym (traffic number differs).pushed))
 
@@ -268,7 +293,8 @@ has-next v w h later was has on some ends = record {
         ap (λ b. if b then ends.inn.taken else taken_past number ends.inn.past) same
         ∙ (now ∙ ap (λ (c : Inward). c.taken) (sym last ∙ ap (inward_at later) is))
     taken number (inr other) =
-        let differs : number ≡ (inward later).number → ⊥ = λ is. both_ways (ends.inn.number == number) other (eq-eqb ends.inn.number number (ends.in_number ∙ sym is)) in
+        let differs : number ≡ (inward later).number
+        → ⊥ = λ is. both_ways (ends.inn.number == number) other (eq-eqb ends.inn.number number (ends.in_number ∙ sym is)) in
         ap (λ b. if b then ends.inn.taken else taken_past number ends.inn.past) other
         ∙ (ends.taken number differs ∙ (was.over.taken number ∙ sym (traffic number differs).taken))
 
@@ -278,7 +304,8 @@ has-next v w h later was has on some ends = record {
         let within : k < length h.connections = omega arith in
         let found = get-there h.connections k within in
         let closed = on.shut k found.0 early found.1 in
-        ap (λ (x : Inward). x.closed) {y = record found.0 { applied = d.applied; gone = d.gone }} (stayed h later on.stays k found.0 d found.1 closed at) ∙ closed
+        ap (λ (x : Inward). x.closed) {y = record found.0 { applied = d.applied; gone = d.gone }} (stayed h later on.stays k found.0 d found.1 closed at)
+        ∙ closed
 
 -- Both ends go on with the same connection.
 pub record SameEnds (v w : SecondaryView) : Type 0 where
@@ -286,7 +313,8 @@ pub record SameEnds (v w : SecondaryView) : Type 0 where
   pub inn : (i : IncomingState) → v.incoming ≡ Some i → (q : IncomingState) × (w.incoming ≡ Some q) × (q.number ≡ i.number) × (q.past ≡ i.past)
 
 -- A step that opens no end.
-has-step : (event : SecondaryEvent) → IsNoOpening event → (v w : SecondaryView) (h : SecondaryHistory) → SecondaryHas v h → SameEnds v w → NodeHas (node w) (secondary_after event h) → SecondaryHas w (secondary_after event h)
+has-step : (event : SecondaryEvent) → IsNoOpening event → (v w : SecondaryView) (h : SecondaryHistory) → SecondaryHas v h → SameEnds v w
+    → NodeHas (node w) (secondary_after event h) → SecondaryHas w (secondary_after event h)
 has-step event none v w h was same has =
     let stays = stays-after event none h in
     let over = was.over in
@@ -312,8 +340,10 @@ has-step event none v w h was same has =
       in_there = inn.1;
       out_number = out.2 ∙ (over.out_number ∙ sym number);
       in_number = inn.2 ∙ (over.in_number ∙ sym number);
-      out_past = subst (λ n. AllByRecursion (λ (b : PushedBefore). b.number < n) out.0.past) (sym number) (subst (λ (l : List PushedBefore). AllByRecursion (λ (b : PushedBefore). b.number < (inward h).number) l) (sym out.3) over.out_past);
-      in_past = subst (λ n. AllByRecursion (λ (b : TakenBefore). b.number < n) inn.0.past) (sym number) (subst (λ (l : List TakenBefore). AllByRecursion (λ (b : TakenBefore). b.number < (inward h).number) l) (sym inn.3) over.in_past);
+      out_past = subst (λ n. AllByRecursion (λ (b : PushedBefore). b.number < n) out.0.past) (sym number)
+          (subst (λ (l : List PushedBefore). AllByRecursion (λ (b : PushedBefore). b.number < (inward h).number) l) (sym out.3) over.out_past);
+      in_past = subst (λ n. AllByRecursion (λ (b : TakenBefore). b.number < n) inn.0.past) (sym number)
+          (subst (λ (l : List TakenBefore). AllByRecursion (λ (b : TakenBefore). b.number < (inward h).number) l) (sym inn.3) over.in_past);
       pushed = λ number_of other. ap (pushed_past number_of) out.3 ∙ earlier-pushed number_of over.out (λ is. other (sym is ∙ (over.out_number ∙ sym number)));
       taken = λ number_of other. ap (taken_past number_of) inn.3 ∙ earlier-taken number_of over.inn (λ is. other (sym is ∙ (over.in_number ∙ sym number)));
     })
@@ -335,7 +365,8 @@ pub ends-of : (v w : SecondaryView) → w.outgoing ≡ v.outgoing → w.incoming
 ends-of v w out inn = record { out = λ o at. (o, out ∙ at, refl, refl); inn = λ i at. (i, inn ∙ at, refl, refl) }
 
 -- a push
-pub ends-sent : {R : Type 0} (v w : SecondaryView) (result : Result R Refusal) → link.Sends result v.outgoing w.outgoing → w.incoming ≡ v.incoming → SameEnds v w
+pub ends-sent : {R : Type 0} (v w : SecondaryView) (result : Result R Refusal) → link.Sends result v.outgoing w.outgoing → w.incoming ≡ v.incoming
+    → SameEnds v w
 ends-sent {R} v w result sends inn = go result sends.pushed sends.kept
   where
     same-inn : (i : IncomingState) → v.incoming ≡ Some i → (q : IncomingState) × (w.incoming ≡ Some q) × (q.number ≡ i.number) × (q.past ≡ i.past)
@@ -344,9 +375,15 @@ ends-sent {R} v w result sends inn = go result sends.pushed sends.kept
     the : (o : OutgoingState) (b : OutgoingState) → v.outgoing ≡ Some b → v.outgoing ≡ Some o → b ≡ o
     the o b one two = let both : Some b ≡ Some o = sym one ∙ two in cc
 
-    go : (r : Result R Refusal) → OnOk r (link.PushedOne v.outgoing w.outgoing) → OnErr r ((partly : Option (List Packet)) × (w.outgoing ≡ option_map (λ (o : OutgoingState). record o { partly = partly }) v.outgoing)) → SameEnds v w
+    go : (r : Result R Refusal) → OnOk r (link.PushedOne v.outgoing w.outgoing)
+        → OnErr r ((partly : Option (List Packet)) × (w.outgoing ≡ option_map (λ (o : OutgoingState). record o { partly = partly }) v.outgoing)) → SameEnds v w
     go (Ok done) pushed kept = record {
-      out = λ o at. let same = the o pushed.before pushed.there at in (with_pushed pushed.packet pushed.frame pushed.before, pushed.after, ap (λ (x : OutgoingState). x.number) same, ap (λ (x : OutgoingState). x.past) same);
+      out = λ o at. let same = the o pushed.before pushed.there at in (
+        with_pushed pushed.packet pushed.frame pushed.before,
+        pushed.after,
+        ap (λ (x : OutgoingState). x.number) same,
+        ap (λ (x : OutgoingState). x.past) same,
+      );
       inn = same-inn;
     }
     go (Err e) pushed kept = record {
@@ -359,7 +396,8 @@ pub outgoing-stays : (v w : SecondaryView) → w ≡ record v { core = w.core; i
 outgoing-stays v w rest = ap (λ (x : SecondaryView). x.outgoing) rest
 
 -- a frame taken, or none
-pub ends-took : {R : Type 0} (v w : SecondaryView) (result : Result R Refusal) (frame : Option Received) → link.Takes frame result v.incoming w.incoming → w.outgoing ≡ v.outgoing → SameEnds v w
+pub ends-took : {R : Type 0} (v w : SecondaryView) (result : Result R Refusal) (frame : Option Received) → link.Takes frame result v.incoming w.incoming
+    → w.outgoing ≡ v.outgoing → SameEnds v w
 ends-took v w result frame takes out = go frame refl
   where
     same-out : (o : OutgoingState) → v.outgoing ≡ Some o → (p : OutgoingState) × (w.outgoing ≡ Some p) × (p.number ≡ o.number) × (p.past ≡ o.past)
@@ -371,16 +409,31 @@ ends-took v w result frame takes out = go frame refl
     go : (f : Option Received) → frame ≡ f → SameEnds v w
     go None is =
         let kept = takes.kept is in
-        record { out = same-out; inn = λ i at. (record i { is_ready = kept.0 }, kept.1 ∙ ap (option_map (λ (x : IncomingState). record x { is_ready = kept.0 })) at, refl, refl) }
+        record {
+          out = same-out;
+          inn = λ i at. (
+            record i { is_ready = kept.0 },
+            kept.1
+                ∙ ap (option_map (λ (x : IncomingState). record x { is_ready = kept.0 })) at,
+            refl,
+            refl,
+          );
+        }
     go (Some one) is =
         let took = takes.took one is in
         record {
           out = same-out;
-          inn = λ i at. let same = the i took.before took.there at in (with_received one took.frames took.ready took.before, took.after, ap (λ (x : IncomingState). x.number) same, ap (λ (x : IncomingState). x.past) same);
+          inn = λ i at. let same = the i took.before took.there at in (
+            with_received one took.frames took.ready took.before,
+            took.after,
+            ap (λ (x : IncomingState). x.number) same,
+            ap (λ (x : IncomingState). x.past) same,
+          );
         }
 
 -- A step is a run of one event, and runs go on.
-pub runs-step : (event : SecondaryEvent) (v w : SecondaryView) (told : Reply) → ((h : SecondaryHistory) → (secondary_step event h).1 ≡ secondary_after event h) → SecondarySteps event v told w → SecondaryRuns v w
+pub runs-step : (event : SecondaryEvent) (v w : SecondaryView) (told : Reply) → ((h : SecondaryHistory) → (secondary_step event h).1 ≡ secondary_after event h)
+    → SecondarySteps event v told w → SecondaryRuns v w
 runs-step event v w told is steps h was = (event ∷ [], subst (SecondaryHas w) (is h) (steps.after h was))
 
 pub runs-self : (v : SecondaryView) → SecondaryRuns v v
@@ -406,7 +459,12 @@ opened-shut : (unseen : ℕ) (h : SecondaryHistory) → reply.Ok (plainly tt) �
 opened-shut unseen h is = go (first_refusal (step.open_secondary_tests h)) refl is
   where
     go : (v : Option Refusal) → first_refusal (step.open_secondary_tests h) ≡ v
-        → reply.Ok (plainly tt) ≡ (elim v as (λ _. Reply × SecondaryHistory) [ Some refusal ↦ (reply.Refused refusal, h) | None ↦ step.succeeding_secondary what.Nothing (step.opened_secondary unseen h) ]).0 → (inward h).closed ≡ true
+        → reply.Ok (plainly tt) ≡ (elim v as
+        (λ _. Reply × SecondaryHistory) [
+          | Some refusal ↦ (reply.Refused refusal, h)
+          | None ↦ step.succeeding_secondary what.Nothing
+              (step.opened_secondary unseen h)
+        ]).0 → (inward h).closed ≡ true
     go (Some refusal) none said = absurd (cc)
     go None none said =
         let passed = test-passed (not ((inward h).closed && is_drained h)) NotDrained [] none in
@@ -418,7 +476,8 @@ record Opened (unseen : ℕ) (h later : SecondaryHistory) : Type 0 where
   number : (inward later).number ≡ suc ((inward h).number + unseen)
   settings : later.settings ≡ h.settings
 
-opened-more : (unseen : ℕ) (h : SecondaryHistory) → reply.Ok (plainly tt) ≡ (step.open_secondary unseen h).0 → Opened unseen h (secondary_after (OpensToo unseen) h)
+opened-more : (unseen : ℕ) (h : SecondaryHistory) → reply.Ok (plainly tt) ≡ (step.open_secondary unseen h).0
+    → Opened unseen h (secondary_after (OpensToo unseen) h)
 opened-more unseen h is = subst (Opened unseen h) (sym (opens-to unseen h (done_with what.Nothing) is)) (record {
   connections = length-change answering (step.opened_secondary unseen h).connections ∙ (length-append h.connections (new ∷ []) ∙ omega arith);
   number = number-with answering number-answering (step.opened_secondary unseen h) (with_inward answering (step.opened_secondary unseen h)) refl
@@ -427,9 +486,21 @@ opened-more unseen h is = subst (Opened unseen h) (sym (opens-to unseen h (done_
 })
   where
     new : Inward
-    new = record { number = next_number unseen h; base = secondary_map h; hello = h.tuple; taken = []; refused = false; applied = []; gone = []; due = []; pushed = 0; closed = false }
+    new = record {
+      number = next_number unseen h;
+      base = secondary_map h;
+      hello = h.tuple;
+      taken = [];
+      refused = false;
+      applied = [];
+      gone = [];
+      due = [];
+      pushed = 0;
+      closed = false;
+    }
 
-has-opened : (unseen number : ℕ) (v w : SecondaryView) (h : SecondaryHistory) → SecondaryHas v h → reply.Ok (plainly tt) ≡ (step.open_secondary unseen h).0 → NodeHas (node w) (secondary_after (OpensToo unseen) h)
+has-opened : (unseen number : ℕ) (v w : SecondaryView) (h : SecondaryHistory) → SecondaryHas v h → reply.Ok (plainly tt) ≡ (step.open_secondary unseen h).0
+    → NodeHas (node w) (secondary_after (OpensToo unseen) h)
     → number ≡ suc ((inward h).number + unseen) → IsRestarted number v w → SecondaryHas w (secondary_after (OpensToo unseen) h)
 has-opened unseen number v w h was said has counted r =
     let size = more.connections in
@@ -450,10 +521,14 @@ has-opened unseen number v w h was said has counted r =
       in_there = r.inn ∙ ap (λ (i : IncomingState). Some (record (taking_anew number i) { queued = r.queued; capacity = r.capacity })) same-inn;
       out_number = is;
       in_number = is;
-      out_past = all-more (λ (b : PushedBefore). b.number) (inward h).number (inward later).number over.out.past _ over.out_past rises.0 (let here = over.out_number in let above = rises.1 in omega arith);
-      in_past = all-more (λ (b : TakenBefore). b.number) (inward h).number (inward later).number over.inn.past _ over.in_past rises.0 (let here = over.in_number in let above = rises.1 in omega arith);
-      pushed = λ m other. past-more m (record { number = over.out.number; pushed = over.out.pushed; frames = over.out.frames }) over.out.past (subst (λ n. AllByRecursion (λ (b : PushedBefore). b.number < n) over.out.past) (sym over.out_number) over.out_past);
-      taken = λ m other. came-more m (record { number = over.inn.number; taken = over.inn.taken; frames = over.inn.frames }) over.inn.past (subst (λ n. AllByRecursion (λ (b : TakenBefore). b.number < n) over.inn.past) (sym over.in_number) over.in_past);
+      out_past = all-more (λ (b : PushedBefore). b.number) (inward h).number (inward later).number over.out.past _ over.out_past rises.0
+          (let here = over.out_number in let above = rises.1 in omega arith);
+      in_past = all-more (λ (b : TakenBefore). b.number) (inward h).number (inward later).number over.inn.past _ over.in_past rises.0
+          (let here = over.in_number in let above = rises.1 in omega arith);
+      pushed = λ m other. past-more m (record { number = over.out.number; pushed = over.out.pushed; frames = over.out.frames }) over.out.past
+          (subst (λ n. AllByRecursion (λ (b : PushedBefore). b.number < n) over.out.past) (sym over.out_number) over.out_past);
+      taken = λ m other. came-more m (record { number = over.inn.number; taken = over.inn.taken; frames = over.inn.frames }) over.inn.past
+          (subst (λ n. AllByRecursion (λ (b : TakenBefore). b.number < n) over.inn.past) (sym over.in_number) over.in_past);
     })
   where
     later : SecondaryHistory
@@ -483,12 +558,14 @@ has-opened unseen number v w h was said has counted r =
       | inr end ↦
           let inside = slice_get_within h.connections k c at in
           let index : length h.connections - 1 ≡ k = omega arith in
-          let one : c ≡ inward h = same-at h.connections k c (inward h) at (subst (λ n. slice_get h.connections n ≡ Some (inward h)) index (last-stands h (omega arith))) in
+          let one : c ≡ inward h = same-at h.connections k c (inward h) at
+          (subst (λ n. slice_get h.connections n ≡ Some (inward h)) index (last-stands h (omega arith))) in
           ap (λ (x : Inward). x.closed) one ∙ opened-shut unseen h said
     ]
 
 -- So an end that opens anew goes on over its link, and one that is refused stays as it is.
-pub reopens-over : (number : ℕ) (v w : SecondaryView) (result : Result (Unit {0}) Refusal) → v.core.number < number → NodeSteps (OpensToo (number - (v.core.number + 1))) (node v) (replied plainly result) (node w)
+pub reopens-over : (number : ℕ) (v w : SecondaryView) (result : Result (Unit {0}) Refusal) → v.core.number < number
+    → NodeSteps (OpensToo (number - (v.core.number + 1))) (node v) (replied plainly result) (node w)
     → OnOk result (IsRestarted number v w) → OnErr result (w ≡ v) → SecondarySteps (OpensToo (number - (v.core.number + 1))) v (replied plainly result) w
 reopens-over number v w (Ok told) above s restarted unchanged = record {
   said = λ h was. s.said h was.has;
@@ -566,16 +643,20 @@ first-over v w h o i out inn none has steps out_there in_there = record {
     last : inward_at later 1 ≡ inward later
     last = sym (ap (inward_at later) first) ∙ last-inward later (has-rise later held.reached) (omega (arith, one))
 
-    pushed-at : (number : ℕ) (b : Bool) → (o.number == number) ≡ b → (if b then meant_in o.sent else pushed_past number (map pushed_before o.past)) ≡ sent number
+    pushed-at : (number : ℕ) (b : Bool) → (o.number == number) ≡ b
+        → (if b then meant_in o.sent else pushed_past number (map pushed_before o.past)) ≡ sent number
     pushed-at number true is =
         let number_is : number ≡ 1 = sym (eqb-true o.number number is) ∙ out.number in
-        let now : meant_in o.sent ≡ take (inward later).pushed (answers_due later.settings (inward later)) = ap pushed_of (sym out_there) ∙ held.leaves.pushed in
+        let now : meant_in o.sent ≡ take (inward later).pushed (answers_due later.settings (inward later)) = ap pushed_of (sym out_there)
+        ∙ held.leaves.pushed in
         now ∙ ap (λ (c : Inward). take c.pushed (answers_due later.settings c)) (sym last ∙ ap (inward_at later) (sym number_is))
     pushed-at number false is =
         let differs : number ≡ 1 → ⊥ = λ same. both_ways (o.number == number) is (eq-eqb o.number number (out.number ∙ sym same)) in
-        ap (λ (l : List Past). pushed_past number (map pushed_before l)) out.past ∙ sym (ap (λ (c : Inward). take c.pushed (answers_due later.settings c)) (other-never number differs))
+        ap (λ (l : List Past). pushed_past number (map pushed_before l)) out.past
+        ∙ sym (ap (λ (c : Inward). take c.pushed (answers_due later.settings c)) (other-never number differs))
 
-    taken-at : (number : ℕ) (b : Bool) → (i.number == number) ≡ b → (if b then received_from 0 i.taken else taken_past number (map taken_before i.past)) ≡ (inward_at later number).taken
+    taken-at : (number : ℕ) (b : Bool) → (i.number == number) ≡ b
+        → (if b then received_from 0 i.taken else taken_past number (map taken_before i.past)) ≡ (inward_at later number).taken
     taken-at number true is =
         let number_is : number ≡ 1 = sym (eqb-true i.number number is) ∙ inn.number in
         let now : received_from 0 i.taken ≡ (inward later).taken = ap taken_of (sym in_there) ∙ held.leaves.taken in

@@ -43,7 +43,8 @@ pub record SecondaryIsHad (v : SecondaryView) : Type 0 where
   pub has : SecondaryHas v history
 
 -- The call was this step, on whichever such history the node had.
-pub record IsSecondaryStep {Told : Type 0} (step : SecondaryHistory → Told × SecondaryHistory) (v : SecondaryView) (told : Told) (w : SecondaryView) : Type 0 where
+pub record IsSecondaryStep {Told : Type 0} (step : SecondaryHistory → Told × SecondaryHistory) (v : SecondaryView) (told : Told)
+    (w : SecondaryView) : Type 0 where
   pub said : (h : SecondaryHistory) → SecondaryHas v h → told ≡ (step h).0
   pub after : (h : SecondaryHistory) → SecondaryHas v h → SecondaryHas w (step h).1
 

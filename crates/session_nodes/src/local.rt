@@ -73,8 +73,8 @@ impl<O: FrameOut + Drop, I: FrameIn + Drop, S: Store + Drop> Local<O, I, S> {
     }
 
     /// Reads blocks of the local disk. The refusals are those of `Primary::read`.
-    pub fn read(&mut self, alloc: Global, first: u64, count: u64) -> Result<Vec<u8>, Refusal> {
-        self.node.read(alloc, first, count)
+    pub fn read(&mut self, first: u64, count: u64) -> Result<Vec<u8>, Refusal> {
+        self.node.read(first, count)
     }
 
     /// Sends the next frame. The refusals are those of `Primary::send`.

@@ -292,8 +292,8 @@ fn linked<R: Wait + Clock + Drop, A: PrimaryHalf + Drop, B: SecondaryHalf + Drop
 ) -> Result<Receipt, Refusal> {
     for _ in 0..100_000u32 {
         let receipt = write(alloc, mirror, 0, 0xAA)?;
-        if let (Kind::Linked, Some((number, _))) = (receipt.kind(), receipt.home())
-            && number == connection
+        if let (Kind::Linked, Some(home)) = (receipt.kind(), receipt.home())
+            && home.connection() == connection
         {
             return Ok(receipt);
         }

@@ -80,7 +80,7 @@ impl<R: Wait + Clock + Drop, A: PrimaryHalf + Drop, B: SecondaryHalf + Drop> Mir
     /// `BadRange` (1) if they are not that, else `NoMemory` (7) if there is no room for their bytes, else
     /// `ReadFault` (14) if the disk fails.
     pub fn read(&self, first: u64, count: u64) -> Result<Vec<u8>, Refusal> {
-        self.shared.local.read(self.alloc, first, count)
+        self.shared.local.read(first, count)
     }
 
     /// Closes both ends of the link. Writers go on without it; writes under way are completed by the close.

@@ -23,7 +23,8 @@ many-more p s n =
     let next : n + 1 ≡ suc n = omega arith in
     ap (λ (m : ℕ). length (filter (counts p s) (below m))) next
     ∙ (ap length (filter-append (counts p s) (below n) (n ∷ []))
-    ∙ (length-append (filter (counts p s) (below n)) (filter (counts p s) (n ∷ [])) ∙ ap (λ (m : ℕ). length (filter (counts p s) (below n)) + m) (one (counts p s n))))
+    ∙ (length-append (filter (counts p s) (below n)) (filter (counts p s) (n ∷ []))
+    ∙ ap (λ (m : ℕ). length (filter (counts p s) (below n)) + m) (one (counts p s n))))
   where
     one : (b : Bool) → length {A = ℕ} (cond b (n ∷ []) []) ≡ cond b 1 0
     one true = refl

@@ -1,5 +1,6 @@
 -- What two nodes at rest have come to is what the model's settlement says.
-use Rattle.std.proofs.Common.{ℕ, ◌≡◌, ◌-◌, ◌<◌, ◌≤◌, inl, inr, nat_lt, Bool, true, false, not, ◌&&◌, List, [], ◌∷◌, length, Some, None, slice_get, Result, Ok, Err, refl, sym, ◌∙◌, ap, subst, arith, cond}
+use Rattle.std.proofs.Common.{ℕ, ◌≡◌, ◌-◌, ◌<◌, ◌≤◌, inl, inr, nat_lt, Bool, true, false, not, ◌&&◌, List, [], ◌∷◌, length, Some, None, slice_get, Result, Ok}
+use Rattle.std.proofs.Common.{Err, refl, sym, ◌∙◌, ap, subst, arith, cond}
 use Rattle.std.specs.Prelude.{unwrap_or}
 use Rattle.std.proofs.lemmas.Bool.{cases_lt, eq-eqb, ne_eqb}
 use Rattle.std.proofs.lemmas.Option.{slice_get_within}
@@ -73,41 +74,62 @@ kept-at s n r most = elim (cases_lt (inward s).number n) [
 ]
 
 -- How many items were taken at a number, and how many are applied: those of the last connection, or none.
-pub items-last : (s : SecondaryHistory) (n taken applied : ℕ) → (inward s).number ≡ n → taken ≡ length (items_taken (inward s)) → applied ≡ applied_items (inward s)
+pub items-last : (s : SecondaryHistory) (n taken applied : ℕ) → (inward s).number ≡ n → taken ≡ length (items_taken (inward s))
+    → applied ≡ applied_items (inward s)
     → (taken ≡ length (items_taken (inward_at (kept s) n))) × (applied ≡ applied_items (inward_at (kept s) n))
-items-last s n taken applied is one two = (one ∙ ap (λ (d : Inward). length (items_taken d)) (sym (kept-last s n is)), two ∙ ap applied_items (sym (kept-last s n is)))
+items-last s n taken applied is one two = (
+  one ∙ ap (λ (d : Inward). length (items_taken d)) (sym (kept-last s n is)),
+  two
+      ∙ ap applied_items (sym (kept-last s n is)),
+)
 
-pub items-none : (s : SecondaryHistory) (n : ℕ) → ((inward s).number ≡ n → ⊥) → (0 ≡ length (items_taken (inward_at (kept s) n))) × (0 ≡ applied_items (inward_at (kept s) n))
+pub items-none : (s : SecondaryHistory) (n : ℕ) → ((inward s).number ≡ n → ⊥)
+    → (0 ≡ length (items_taken (inward_at (kept s) n))) × (0 ≡ applied_items (inward_at (kept s) n))
 items-none s n other = (ap (λ (d : Inward). length (items_taken d)) (sym (kept-none s n other)), ap applied_items (sym (kept-none s n other)))
 
 -- The answer, by its tests.
 
 by : PrimaryHistory → SecondaryHistory → List Receipt → Bool → Bool → Bool → Result Settlement Refusal
-by p s receipts rest strange faulty = elim (first_refusal ((not rest, NotDrained) ∷ (strange, StrangeReceipt) ∷ (faulty, ReadFault) ∷ [])) as (λ _. Result Settlement Refusal) [ Some refusal ↦ Err refusal | None ↦ Ok (settlement p s receipts) ]
+by p s receipts rest strange faulty = elim (first_refusal ((not rest, NotDrained) ∷ (strange, StrangeReceipt) ∷ (faulty, ReadFault) ∷ [])) as
+    (λ _. Result Settlement Refusal) [ Some refusal ↦ Err refusal | None ↦ Ok (settlement p s receipts) ]
 
-pub not-at-rest : (p : PrimaryHistory) (s : SecondaryHistory) (receipts : List Receipt) (faulty : Bool) → is_at_rest p s ≡ false → settle p s receipts faulty ≡ Err NotDrained
+pub not-at-rest : (p : PrimaryHistory) (s : SecondaryHistory) (receipts : List Receipt) (faulty : Bool) → is_at_rest p s ≡ false
+    → settle p s receipts faulty ≡ Err NotDrained
 unfolding by
 not-at-rest p s receipts faulty rest = ap (λ (b : Bool). by p s receipts b (has_strange p.journal [] receipts) faulty) rest
 
-pub strange-given : (p : PrimaryHistory) (s : SecondaryHistory) (receipts : List Receipt) (faulty : Bool) → is_at_rest p s ≡ true → has_strange p.journal [] receipts ≡ true → settle p s receipts faulty ≡ Err StrangeReceipt
+pub strange-given : (p : PrimaryHistory) (s : SecondaryHistory) (receipts : List Receipt) (faulty : Bool) → is_at_rest p s ≡ true
+    → has_strange p.journal [] receipts ≡ true → settle p s receipts faulty ≡ Err StrangeReceipt
 unfolding by
 strange-given p s receipts faulty rest strange = λ i. by p s receipts (rest i) (strange i) faulty
 
-pub read-failed : (p : PrimaryHistory) (s : SecondaryHistory) (receipts : List Receipt) → is_at_rest p s ≡ true → has_strange p.journal [] receipts ≡ false → settle p s receipts true ≡ Err ReadFault
+pub read-failed : (p : PrimaryHistory) (s : SecondaryHistory) (receipts : List Receipt) → is_at_rest p s ≡ true → has_strange p.journal [] receipts ≡ false
+    → settle p s receipts true ≡ Err ReadFault
 unfolding by
 read-failed p s receipts rest strange = λ i. by p s receipts (rest i) (strange i) true
 
-pub is-settled : (p : PrimaryHistory) (s : SecondaryHistory) (receipts : List Receipt) → is_at_rest p s ≡ true → has_strange p.journal [] receipts ≡ false → settle p s receipts false ≡ Ok (settlement p s receipts)
+pub is-settled : (p : PrimaryHistory) (s : SecondaryHistory) (receipts : List Receipt) → is_at_rest p s ≡ true → has_strange p.journal [] receipts ≡ false
+    → settle p s receipts false ≡ Ok (settlement p s receipts)
 unfolding by
 is-settled p s receipts rest strange = λ i. by p s receipts (rest i) (strange i) false
 
 -- Where no connection is numbered above the primary's last one, what is kept settles as the whole does.
-pub kept-settles : (p : PrimaryHistory) (s : SecondaryHistory) (receipts : List Receipt) (faulty : Bool) → secondary.IsReached s → (inward s).number ≤ length p.connections
+pub kept-settles : (p : PrimaryHistory) (s : SecondaryHistory) (receipts : List Receipt) (faulty : Bool) → secondary.IsReached s
+    → (inward s).number ≤ length p.connections
     → settle p (kept s) receipts faulty ≡ settle p s receipts faulty
 kept-settles p s receipts faulty r most =
-    ap (λ (d : Inward). elim (first_refusal ((not (is_at_rest p s), NotDrained) ∷ (has_strange p.journal [] receipts, StrangeReceipt) ∷ (faulty, ReadFault) ∷ [])) as (λ _. Result Settlement Refusal) [
+    ap (λ (d : Inward). elim (first_refusal ((not (is_at_rest p s), NotDrained) ∷ (has_strange p.journal [] receipts, StrangeReceipt) ∷ (
+      faulty,
+      ReadFault,
+    ) ∷ [])) as (λ _. Result Settlement Refusal) [
       | Some refusal ↦ Err refusal
-      | None ↦ Ok (record { sent = items_sent (outward p); taken = length (items_taken d); applied = applied_items d; confirmed = length receipts; unmarked = unmarked_differences p s })
+      | None ↦ Ok (record {
+        sent = items_sent (outward p);
+        taken = length (items_taken d);
+        applied = applied_items d;
+        confirmed = length receipts;
+        unmarked = unmarked_differences p s;
+      })
     ]) (kept-at s (length p.connections) r most)
 
 -- What a settlement says of nodes that are joined, where the identifiers of both openings were honest.
@@ -119,16 +141,19 @@ settled-says p s rp rs honest joined receipts numbers is =
     (joined_settles o rp.events rs.events sound
     (subst (λ (q : PrimaryHistory). IsJoined q (secondary_run rs.events (secondary_at o))) (sym rp.is) (subst (IsJoined p) rs.reached joined))
     receipts false numbers
-    (subst (λ (q : PrimaryHistory). settle q (secondary_run rs.events (secondary_at o)) receipts false ≡ Ok numbers) (sym rp.is) (subst (λ (t : SecondaryHistory). settle p t receipts false ≡ Ok numbers) rs.reached is))))
+    (subst (λ (q : PrimaryHistory). settle q (secondary_run rs.events (secondary_at o)) receipts false ≡ Ok numbers) (sym rp.is)
+    (subst (λ (t : SecondaryHistory). settle p t receipts false ≡ Ok numbers) rs.reached is))))
   where
     o : Opening
     o = record { settings = rp.settings; peer_settings = rs.settings; local = rp.disk; peer = rs.disk; own = rp.tuple; peer_tuple = rs.tuple; marks = rp.marks }
 
     sound : IsSoundOpening o
     sound =
-        let here = subst (λ (q : PrimaryHistory). (q.settings ≡ o.settings) × (q.opening_map ≡ o.local) × (q.opening_marks ≡ o.marks) × (q.opening_tuple ≡ o.own)) rp.is
+        let here = subst (λ (q : PrimaryHistory). (q.settings ≡ o.settings) × (q.opening_map ≡ o.local) × (q.opening_marks ≡ o.marks)
+        × (q.opening_tuple ≡ o.own)) rp.is
         (let k = kept-opening-primary o rp.events in (k.settings, k.disk, k.marks, k.tuple)) in
-        let there = subst (λ (t : SecondaryHistory). (t.opening_map ≡ o.peer) × (t.opening_tuple ≡ o.peer_tuple)) (sym rs.reached) (let k = kept-opening-secondary o rs.events in (k.disk, k.tuple)) in
+        let there = subst (λ (t : SecondaryHistory). (t.opening_map ≡ o.peer) × (t.opening_tuple ≡ o.peer_tuple)) (sym rs.reached)
+        (let k = kept-opening-secondary o rs.events in (k.disk, k.tuple)) in
         let marked : (block : ℕ) → opening_marked p block ≡ marks_at o block
         = λ block. (λ i. nat_lt block (here.0 i).blocks && (here.2 i) block) in
         let covers : Cover (opening_marked p) p.opening_map s.opening_map → Cover (marks_at o) o.local o.peer
@@ -140,7 +165,8 @@ settled-says p s rp rs honest joined receipts numbers is =
           identifiers = record {
             own_data = subst (λ (t : Tuple). 0 < t.current) here.3 honest.own_data;
             same_current = λ same. covers (honest.same_current (ap (λ (t : Tuple). t.current) there.1 ∙ same ∙ sym (ap (λ (t : Tuple). t.current) here.3)));
-            from_bitmap = λ some same. covers (honest.from_bitmap (subst (λ (t : Tuple). 0 < t.bitmap) (sym here.3) some) (ap (λ (t : Tuple). t.current) there.1 ∙ same ∙ sym (ap (λ (t : Tuple). t.bitmap) here.3)));
+            from_bitmap = λ some same. covers (honest.from_bitmap (subst (λ (t : Tuple). 0 < t.bitmap) (sym here.3) some) (ap (λ (t : Tuple). t.current) there.1
+                ∙ same ∙ sym (ap (λ (t : Tuple). t.bitmap) here.3)));
           };
         }
 
@@ -153,7 +179,8 @@ settled-says-anyhow p s rp rs joined receipts numbers is =
     (joined_settles_anyhow o rp.events rs.events (record { here = rp.ranges; there = rs.in_range })
     (subst (λ (q : PrimaryHistory). IsJoined q (secondary_run rs.events (secondary_at o))) (sym rp.is) (subst (IsJoined p) rs.reached joined))
     receipts false numbers
-    (subst (λ (q : PrimaryHistory). settle q (secondary_run rs.events (secondary_at o)) receipts false ≡ Ok numbers) (sym rp.is) (subst (λ (t : SecondaryHistory). settle p t receipts false ≡ Ok numbers) rs.reached is))))
+    (subst (λ (q : PrimaryHistory). settle q (secondary_run rs.events (secondary_at o)) receipts false ≡ Ok numbers) (sym rp.is)
+    (subst (λ (t : SecondaryHistory). settle p t receipts false ≡ Ok numbers) rs.reached is))))
   where
     o : Opening
     o = record { settings = rp.settings; peer_settings = rs.settings; local = rp.disk; peer = rs.disk; own = rp.tuple; peer_tuple = rs.tuple; marks = rp.marks }

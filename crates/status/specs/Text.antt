@@ -3,7 +3,8 @@ use Rattle.std.specs.Prelude.{ℕ, List, ◌++◌, Bool, true, false, codes}
 use Rattle.std.specs.Fmt.{decimal}
 use Rattle.blocks.specs.declared.settings.Protocol.{Protocol}
 use Rattle.blocks.specs.declared.settings.Protocol.TheVariants as protocol
-use Rattle.model.specs.Status.{LinkState, StandAlone, WFReportParams, Connected, SyncSource, SyncTarget, Role, Primary, Secondary, Unknown, DiskState, UpToDate, Consistent, Inconsistent, DUnknown, Words, PrimaryLine, SecondaryLine}
+use Rattle.model.specs.Status.{LinkState, StandAlone, WFReportParams, Connected, SyncSource, SyncTarget, Role, Primary, Secondary, Unknown, DiskState, UpToDate}
+use Rattle.model.specs.Status.{Consistent, Inconsistent, DUnknown, Words, PrimaryLine, SecondaryLine}
 
 -- the state of an end
 abbrev pub link_text : LinkState → List ℕ
@@ -40,7 +41,8 @@ usable_text false = codes "No"
 -- the words of a line: the end, both roles and both disks
 abbrev pub words_text : Words → List ℕ
 words_text w =
-    codes "cs:" ++ link_text w.link ++ codes " ro:" ++ role_text w.own_role ++ codes "/" ++ role_text w.other_role ++ codes " ds:" ++ disk_text w.own_disk ++ codes "/" ++ disk_text w.other_disk
+    codes "cs:" ++ link_text w.link ++ codes " ro:" ++ role_text w.own_role ++ codes "/" ++ role_text w.other_role ++ codes " ds:" ++ disk_text w.own_disk
+    ++ codes "/" ++ disk_text w.other_disk
 
 -- the primary's numbers
 abbrev pub counts_text : PrimaryLine → List ℕ

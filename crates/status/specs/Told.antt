@@ -1,6 +1,7 @@
 -- The words by what a node tells of its end.
 use Rattle.std.specs.Prelude.{Bool, not, if◌then◌else◌}
-use Rattle.model.specs.Status.{StandAlone, WFReportParams, Connected, SyncSource, SyncTarget, Primary, Secondary, Unknown, UpToDate, Consistent, Inconsistent, DUnknown, Words}
+use Rattle.model.specs.Status.{StandAlone, WFReportParams, Connected, SyncSource, SyncTarget, Primary, Secondary, Unknown, UpToDate, Consistent, Inconsistent}
+use Rattle.model.specs.Status.{DUnknown, Words}
 
 -- the primary's
 abbrev pub primary_words_by : Bool → Bool → Bool → Words
@@ -14,6 +15,13 @@ primary_words_by is_open stands is_resync =
 abbrev pub secondary_words_by : Bool → Bool → Bool → Words
 secondary_words_by is_open is_hello_done consistent =
     if not is_hello_done
-    then record { link = if is_open then WFReportParams else StandAlone; own_role = Secondary; other_role = Unknown; own_disk = if consistent then Consistent else Inconsistent; other_disk = DUnknown }
+    then record {
+      link = if is_open then WFReportParams else StandAlone;
+      own_role = Secondary;
+      other_role = Unknown;
+      own_disk = if consistent then Consistent
+          else Inconsistent;
+      other_disk = DUnknown;
+    }
     else if consistent then record { link = Connected; own_role = Secondary; other_role = Primary; own_disk = UpToDate; other_disk = UpToDate }
     else record { link = SyncTarget; own_role = Secondary; other_role = Primary; own_disk = Inconsistent; other_disk = UpToDate }

@@ -31,4 +31,10 @@ disk_of disk.DUnknown = model.DUnknown
 
 -- all of them
 abbrev pub words_of : Words → model.Words
-words_of w = record { link = link_of w.link; own_role = role_of w.own_role; other_role = role_of w.other_role; own_disk = disk_of w.own_disk; other_disk = disk_of w.other_disk }
+words_of w = record {
+  link = link_of w.link;
+  own_role = role_of w.own_role;
+  other_role = role_of w.other_role;
+  own_disk = disk_of w.own_disk;
+  other_disk = disk_of w.other_disk;
+}

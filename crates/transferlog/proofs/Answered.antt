@@ -23,7 +23,8 @@ next_other : (first k : ℕ) (ws : List LogWrite) → NoneHas k ws → Each (IsA
 next_other first k [] none each = tt
 next_other first k (w ∷ ws) none each = (λ from below. each.0 from (other_is w.number k none.0 below), next_other first k ws none.1 each.1)
 
-next_by : (b : Bool) (first k low : ℕ) (w : LogWrite) (ws : List LogWrite) → has_number k w ≡ b → Rises low (w ∷ ws) → is_unanswered (write_at k (w ∷ ws)) ≡ false → Each (IsAnsweredBelow first k) (w ∷ ws)
+next_by : (b : Bool) (first k low : ℕ) (w : LogWrite) (ws : List LogWrite) → has_number k w ≡ b → Rises low (w ∷ ws)
+    → is_unanswered (write_at k (w ∷ ws)) ≡ false → Each (IsAnsweredBelow first k) (w ∷ ws)
     → (is_unanswered (write_at k ws) ≡ false → Each (IsAnsweredBelow first (k + 1)) ws) → Each (IsAnsweredBelow first (k + 1)) (w ∷ ws)
 next_by true first k low w ws is rises answered each rest =
     let number = number_is w.number k is in
@@ -31,7 +32,8 @@ next_by true first k low w ws is rises answered each rest =
 next_by false first k low w ws is rises answered each rest =
     (λ from below. each.0 from (other_is w.number k is below), rest (rw is at answered))
 
-pub answered_next : (first k low : ℕ) (ws : List LogWrite) → Rises low ws → is_unanswered (write_at k ws) ≡ false → Each (IsAnsweredBelow first k) ws → Each (IsAnsweredBelow first (k + 1)) ws
+pub answered_next : (first k low : ℕ) (ws : List LogWrite) → Rises low ws → is_unanswered (write_at k ws) ≡ false → Each (IsAnsweredBelow first k) ws
+    → Each (IsAnsweredBelow first (k + 1)) ws
 answered_next first k low [] rises answered each = tt
 answered_next first k low (w ∷ ws) rises answered each =
     next_by (has_number k w) first k low w ws refl rises answered each (λ more. answered_next first k (suc w.number) ws rises.1 more each.1)
@@ -50,7 +52,8 @@ below_inside : (first count n : ℕ) → is_between first count n ≡ true → n
 below_inside first count n is = grind (arith, nat_tests)
 
 -- a write that is not answered is found
-found_by : (b : Bool) (first count k : ℕ) (w : LogWrite) (ws : List LogWrite) → has_number k w ≡ b → first ≤ k → k < first + count → is_unanswered (write_at k (w ∷ ws)) ≡ true
+found_by : (b : Bool) (first count k : ℕ) (w : LogWrite) (ws : List LogWrite) → has_number k w ≡ b → first ≤ k → k < first + count
+    → is_unanswered (write_at k (w ∷ ws)) ≡ true
     → (is_unanswered (write_at k ws) ≡ true → list_any (λ v. is_between first count v.number && not v.answered) ws ≡ true)
     → list_any (λ v. is_between first count v.number && not v.answered) (w ∷ ws) ≡ true
 found_by true first count k w ws is from below lacks rest =
@@ -60,16 +63,19 @@ found_by true first count k w ws is from below lacks rest =
     rw (here, open_still) refl
 found_by false first count k w ws is from below lacks rest = rw (rest (rw is at lacks)) (or_true (is_between first count w.number && not w.answered))
 
-pub lacks_one : (first count k : ℕ) (ws : List LogWrite) → first ≤ k → k < first + count → is_unanswered (write_at k ws) ≡ true → list_any (λ v. is_between first count v.number && not v.answered) ws ≡ true
+pub lacks_one : (first count k : ℕ) (ws : List LogWrite) → first ≤ k → k < first + count → is_unanswered (write_at k ws) ≡ true
+    → list_any (λ v. is_between first count v.number && not v.answered) ws ≡ true
 lacks_one first count k [] from below lacks = cc
 lacks_one first count k (w ∷ ws) from below lacks =
     found_by (has_number k w) first count k w ws refl from below lacks (λ more. lacks_one first count k ws from below more)
 
 -- none lacks an answer, where each below the last number is answered
-lacks_not : (b : Bool) (first count : ℕ) (w : LogWrite) → is_between first count w.number ≡ b → IsAnsweredBelow first (first + count) w → (is_between first count w.number && not w.answered) ≡ false
+lacks_not : (b : Bool) (first count : ℕ) (w : LogWrite) → is_between first count w.number ≡ b → IsAnsweredBelow first (first + count) w
+    → (is_between first count w.number && not w.answered) ≡ false
 lacks_not true first count w is answered = rw is (answered (from_inside first count w.number is) (below_inside first count w.number is))
 lacks_not false first count w is answered = rw is refl
 
-pub lacks_none : (first count : ℕ) (ws : List LogWrite) → Each (IsAnsweredBelow first (first + count)) ws → list_any (λ v. is_between first count v.number && not v.answered) ws ≡ false
+pub lacks_none : (first count : ℕ) (ws : List LogWrite) → Each (IsAnsweredBelow first (first + count)) ws
+    → list_any (λ v. is_between first count v.number && not v.answered) ws ≡ false
 lacks_none first count [] each = refl
 lacks_none first count (w ∷ ws) each = rw (lacks_not (is_between first count w.number) first count w refl each.0) (lacks_none first count ws each.1)

@@ -28,7 +28,8 @@ within from n is = grind (arith, nat_tests)
 outside : (from n : ℕ) → nat_le from n ≡ false → n < from
 outside from n is = grind (arith, nat_tests)
 
-found_by : (passes same : Bool) (from n low : ℕ) (w v : LogWrite) (ws : List LogWrite) → nat_le from w.number ≡ passes → has_number n w ≡ same → Rises low (w ∷ ws) → from ≤ n
+found_by : (passes same : Bool) (from n low : ℕ) (w v : LogWrite) (ws : List LogWrite) → nat_le from w.number ≡ passes → has_number n w ≡ same
+    → Rises low (w ∷ ws) → from ≤ n
     → LiesFrom from n w → write_at n (w ∷ ws) ≡ Some v → (write_at n ws ≡ Some v → write_at n ws ≡ find (λ x. nat_le from x.number) ws)
     → write_at n (w ∷ ws) ≡ find (λ x. nat_le from x.number) (w ∷ ws)
 found_by true true from n low w v ws passes is rises least here some rest = rw (is, passes) refl
@@ -46,7 +47,8 @@ pub first_found : (from n low : ℕ) (w : LogWrite) (ws : List LogWrite) → Ris
     → write_at n ws ≡ find (λ x. nat_le from x.number) ws
 first_found from n low v [] rises least each some = refl
 first_found from n low v (w ∷ ws) rises least each some =
-    found_by (nat_le from w.number) (has_number n w) from n low w v ws refl refl rises least each.0 some (first_found from n (suc w.number) v ws rises.1 least each.1)
+    found_by (nat_le from w.number) (has_number n w) from n low w v ws refl refl rises least each.0 some
+    (first_found from n (suc w.number) v ws rises.1 least each.1)
 
 none_by : (passes : Bool) (from n : ℕ) (w : LogWrite) (ws : List LogWrite) → nat_le from w.number ≡ passes → LiesFrom from n w → w.number < n
     → find (λ x. nat_le from x.number) ws ≡ None → find (λ x. nat_le from x.number) (w ∷ ws) ≡ None

@@ -1,14 +1,17 @@
 -- What is kept about a log where something happened to one write, or an epoch was acknowledged.
-use Rattle.std.proofs.Common.{◌≡◌, ℕ, ◌+◌, ◌<◌, ◌≤◌, ◌==◌, nat_le, Bool, true, false, ◌&&◌, ◌||◌, List, [], ◌∷◌, ◌++◌, length, drop, refl, sym, ◌∙◌, ap, arith, Option, not}
+use Rattle.std.proofs.Common.{◌≡◌, ℕ, ◌+◌, ◌<◌, ◌≤◌, ◌==◌, nat_le, Bool, true, false, ◌&&◌, ◌||◌, List, [], ◌∷◌, ◌++◌, length, drop, refl, sym, ◌∙◌, ap, arith}
+use Rattle.std.proofs.Common.{Option, not}
 use Rattle.std.specs.Prelude.{filter, sum, vec_capacity, Result, Ok}
 use Rattle.blocks.specs.declared.refusal.Refusal.{Refusal}
 use Rattle.std.specs.Option.{option_map}
 use Rattle.std.proofs.lemmas.Bool.Decides.{nat_tests}
 use Rattle.std.proofs.lemmas.Grind.{common_steps}
+use Rattle.blocks.specs.Positions.{StreamPosition}
 use Rattle.epochs.specs.Epochs.{EpochsState, is_in_last, ended_if, is_awaited, begins_with, acknowledging}
 use Rattle.transferlog.specs.Writes.{LogWrite, is_released, is_settled}
 use Rattle.transferlog.specs.Ring.{Each, ReleasedFrom, ReleasedBelow, on, with_change, changed}
-use Rattle.transferlog.specs.Log.{LogState, moved, changing, ended_by, closes_any, home_in, with_latest, accepted_write, accepting, confirming, may_confirm, lacks_answer, asks_answers}
+use Rattle.transferlog.specs.Log.{LogState, moved, changing, ended_by, closes_any, home_in, with_latest, accepted_write, accepting, confirming, may_confirm}
+use Rattle.transferlog.specs.Log.{lacks_answer, asks_answers}
 use Rattle.transferlog.specs.Fields.{IsKept, IsAlone, IsLog}
 use Rattle.transferlog.specs.declared.log.TransferLog.TheInside.{Inside}
 use Rattle.transferlog.specs.declared.report.Accepted.{Accepted}
@@ -28,10 +31,14 @@ pub record IsBounded (confirmed accepted : ℕ) (e : EpochsState) : Type 0 where
   pub begun : 0 < e.size → e.first + e.size ≤ accepted + 1
 
 bounded_if : (b : Bool) (confirmed accepted : ℕ) (e : EpochsState) → IsBounded confirmed accepted e → IsBounded confirmed accepted (ended_if b e).1
-bounded_if true confirmed accepted e bounded = record { confirmed_writes = omega (arith, sum-push e.sizes e.size, bounded.confirmed_writes); begun = λ positive. absurd (omega arith) }
+bounded_if true confirmed accepted e bounded = record {
+  confirmed_writes = omega (arith, sum-push e.sizes e.size, bounded.confirmed_writes);
+  begun = λ positive. absurd (omega arith);
+}
 bounded_if false confirmed accepted e bounded = bounded
 
-pub bounded_ended : (b : Bool) (number confirmed accepted : ℕ) (e : EpochsState) → IsBounded confirmed accepted e → IsBounded confirmed accepted (ended_by b number e).1
+pub bounded_ended : (b : Bool) (number confirmed accepted : ℕ) (e : EpochsState) → IsBounded confirmed accepted e
+    → IsBounded confirmed accepted (ended_by b number e).1
 bounded_ended true number confirmed accepted e bounded = bounded_if (is_in_last number e) confirmed accepted e bounded
 bounded_ended false number confirmed accepted e bounded = bounded
 
@@ -43,16 +50,19 @@ alone_changed change.Failed w alone = alone
 alone_changed change.Unlinked w alone = refl
 
 -- what is kept about a log is kept where one write was changed, and released if it is
-pub log_changed : (l m : Inside) (number : ℕ) (what : Change) → IsLog l → m.ring.next ≡ l.ring.next → m.accepted ≡ l.accepted → m.connection ≡ l.connection → m.confirmed ≡ l.confirmed → m.backlog ≡ l.backlog
+pub log_changed : (l m : Inside) (number : ℕ) (what : Change) → IsLog l → m.ring.next ≡ l.ring.next → m.accepted ≡ l.accepted → m.connection ≡ l.connection
+    → m.confirmed ≡ l.confirmed → m.backlog ≡ l.backlog
     → m.ring.writes ≡ filter (λ w. not (is_released l.confirmed w)) (with_change number (changed what) l.ring.writes)
     → vec_capacity m.released ≡ vec_capacity l.released → vec_capacity m.completed ≡ vec_capacity l.completed
     → IsBounded l.confirmed l.accepted m.epochs.state → IsLog m
 log_changed l m number what log next accepted connection confirmed backlog writes released completed bounded =
-    let few : length m.ring.writes ≤ length l.ring.writes = rw writes (few_left (λ w. not (is_released l.confirmed w)) (on number (changed what)) l.ring.writes) in
+    let few : length m.ring.writes ≤ length l.ring.writes =
+    rw writes (few_left (λ w. not (is_released l.confirmed w)) (on number (changed what)) l.ring.writes) in
     record {
       next = next ∙ (log.next ∙ ap (λ n. n + 1) (sym accepted));
       few_accepted = rw accepted log.few_accepted;
       kept = rw (confirmed, writes) (left_kept l.confirmed (with_change number (changed what) l.ring.writes));
+      numbered = rw connection log.numbered;
       alone = λ none. rw writes (each_filter IsAlone (λ w. not (is_released l.confirmed w)) (with_change number (changed what) l.ring.writes)
           (each_changed IsAlone number (changed what) l.ring.writes (alone_changed what) (log.alone (sym connection ∙ none))));
       few = omega (arith, few, log.few, backlog);
@@ -64,17 +74,21 @@ log_changed l m number what log next accepted connection confirmed backlog write
     }
 
 -- the log after a change, by its parts
-pub changed_is : (s : LogState) (number : ℕ) (f : LogWrite → LogWrite) (writes : List LogWrite) (released : List Released) (completed : List Completed) (ended : Option ℕ × EpochsState)
-    → writes ≡ (moved (on number f) s.confirmed s).writes → released ≡ (moved (on number f) s.confirmed s).released → completed ≡ (moved (on number f) s.confirmed s).completed
+pub changed_is : (s : LogState) (number : ℕ) (f : LogWrite → LogWrite) (writes : List LogWrite) (released : List Released) (completed : List Completed)
+    (ended : Option ℕ × EpochsState)
+    → writes ≡ (moved (on number f) s.confirmed s).writes → released ≡ (moved (on number f) s.confirmed s).released
+    → completed ≡ (moved (on number f) s.confirmed s).completed
     → ended ≡ ended_by (closes_any (on number f) s) number s.epochs
-    → let result : Option ℕ × LogState = (ended.0, record s { writes = writes; released = released; completed = completed; epochs = ended.1 }) in result ≡ changing number f s
+    → let result : Option ℕ × LogState = (ended.0, record s { writes = writes; released = released; completed = completed; epochs = ended.1 }) in result ≡
+    changing number f s
 changed_is s number f writes released completed ended w r c e = rw (w, r, c, e) refl
 
 -- the log after a write was accepted, by its parts
-pub accepted_is : (s : LogState) (first count : ℕ) (contents : List ℕ) (home : Option (ℕ × ℕ)) (barrier place : Option ℕ) (e : EpochsState) (latest : List ℕ) (writes : List LogWrite)
+pub accepted_is : (s : LogState) (first count : ℕ) (contents : List ℕ) (home : Option StreamPosition) (barrier place : Option ℕ) (e : EpochsState)
+    (latest : List ℕ) (writes : List LogWrite)
     (released : List Released) (completed : List Completed)
-    → (let answer : Option (ℕ × ℕ) × (Option ℕ × EpochsState) = (home, (barrier, e)) in answer ≡ home_in s.connection (s.accepted + 1) s.epochs)
-    → place ≡ option_map (λ h. h.1) home → latest ≡ with_latest (s.accepted + 1) first count s.latest
+    → (let answer : Option StreamPosition × (Option ℕ × EpochsState) = (home, (barrier, e)) in answer ≡ home_in s.connection (s.accepted + 1) s.epochs)
+    → place ≡ option_map (λ h. h.place) home → latest ≡ with_latest (s.accepted + 1) first count s.latest
     → writes ≡ s.writes ++ accepted_write first count contents home s ∷ [] → released ≡ [] → completed ≡ []
     → (let result : Accepted × LogState = (
       record { number = s.accepted + 1; place = place; barrier = barrier },
@@ -123,7 +137,8 @@ and_right true b is = is
 and_right false b is = cc
 
 -- the epochs' writes were accepted after those confirmed, where one more epoch is
-pub bounded_confirmed : (number size confirmed accepted : ℕ) (e : EpochsState) → is_awaited number size e ≡ true → IsBounded confirmed accepted e → IsBounded (confirmed + size) accepted (acknowledging number size e).1
+pub bounded_confirmed : (number size confirmed accepted : ℕ) (e : EpochsState) → is_awaited number size e ≡ true → IsBounded confirmed accepted e
+    → IsBounded (confirmed + size) accepted (acknowledging number size e).1
 bounded_confirmed number size confirmed accepted e awaited bounded =
     let first = sum-first size e.sizes (and_right (number + length e.sizes == e.ended + 1) (begins_with size e.sizes) awaited) in
     rw awaited (record { confirmed_writes = omega (arith, first, bounded.confirmed_writes); begun = bounded.begun })
@@ -131,7 +146,8 @@ bounded_confirmed number size confirmed accepted e awaited bounded =
 pub awaited_of : (number size : ℕ) (s : LogState) → may_confirm number size s ≡ true → is_awaited number size s.epochs ≡ true
 awaited_of number size s may = and_left (is_awaited number size s.epochs) (not (asks_answers s.protocol && lacks_answer size s)) may
 
-pub log_confirmed : (l m : Inside) (confirmed : ℕ) → IsLog l → m.ring.next ≡ l.ring.next → m.accepted ≡ l.accepted → m.connection ≡ l.connection → m.confirmed ≡ confirmed → m.backlog ≡ l.backlog
+pub log_confirmed : (l m : Inside) (confirmed : ℕ) → IsLog l → m.ring.next ≡ l.ring.next → m.accepted ≡ l.accepted → m.connection ≡ l.connection
+    → m.confirmed ≡ confirmed → m.backlog ≡ l.backlog
     → m.ring.writes ≡ filter (λ w. not (is_released confirmed w)) l.ring.writes
     → vec_capacity m.released ≡ vec_capacity l.released → vec_capacity m.completed ≡ vec_capacity l.completed
     → IsBounded confirmed l.accepted m.epochs.state → IsLog m
@@ -141,6 +157,7 @@ log_confirmed l m confirmed log next accepted connection confirmed_is backlog wr
       next = next ∙ (log.next ∙ ap (λ n. n + 1) (sym accepted));
       few_accepted = rw accepted log.few_accepted;
       kept = rw (confirmed_is, writes) (left_kept confirmed l.ring.writes);
+      numbered = rw connection log.numbered;
       alone = λ none. rw writes (each_filter IsAlone (λ w. not (is_released confirmed w)) l.ring.writes (log.alone (sym connection ∙ none)));
       few = omega (arith, few, log.few, backlog);
       some = rw backlog log.some;
@@ -151,8 +168,11 @@ log_confirmed l m confirmed log next accepted connection confirmed_is backlog wr
     }
 
 -- the log after an epoch was acknowledged, by its parts
-pub confirmed_is : (number size : ℕ) (s : LogState) (confirmed : ℕ) (writes : List LogWrite) (e : EpochsState) (released : List Released) (completed : List Completed)
-    → confirmed ≡ s.confirmed + size → writes ≡ (confirming number size s).writes → e ≡ (confirming number size s).epochs → released ≡ (confirming number size s).released → completed ≡ []
-    → (let result : Result (Unit {0}) Refusal × LogState = (Ok tt, record s { confirmed = confirmed; writes = writes; epochs = e; released = released; completed = completed }) in
+pub confirmed_is : (number size : ℕ) (s : LogState) (confirmed : ℕ) (writes : List LogWrite) (e : EpochsState) (released : List Released)
+    (completed : List Completed)
+    → confirmed ≡ s.confirmed + size → writes ≡ (confirming number size s).writes → e ≡ (confirming number size s).epochs
+    → released ≡ (confirming number size s).released → completed ≡ []
+    → (let result : Result (Unit {0}) Refusal × LogState =
+    (Ok tt, record s { confirmed = confirmed; writes = writes; epochs = e; released = released; completed = completed }) in
     result ≡ (Ok tt, confirming number size s))
 confirmed_is number size s confirmed writes e released completed c w ep r d = rw (c, w, ep, r, d) refl

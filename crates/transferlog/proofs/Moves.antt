@@ -1,5 +1,6 @@
 -- What happens to one write, in a list whose numbers rise.
-use Rattle.std.proofs.Common.{◌≡◌, ℕ, suc, ◌<◌, ◌≤◌, ◌==◌, Bool, true, false, ◌&&◌, ◌||◌, List, [], ◌∷◌, length, refl, sym, ◌∙◌, ap, arith, Option, Some, None, not}
+use Rattle.std.proofs.Common.{◌≡◌, ℕ, suc, ◌<◌, ◌≤◌, ◌==◌, Bool, true, false, ◌&&◌, ◌||◌, List, [], ◌∷◌, length, refl, sym, ◌∙◌, ap, arith, Option, Some, None}
+use Rattle.std.proofs.Common.{not}
 use Rattle.std.specs.Prelude.{filter, map, is_some, if◌then◌else◌}
 use Rattle.std.specs.Option.{option_map, option_and_then, option_to_list}
 use Rattle.std.specs.List.{list_any}
@@ -28,12 +29,14 @@ KeptBut n confirmed w = has_number n w ≡ false → is_released confirmed w ≡
 abbrev pub KeepsNumber : (LogWrite → LogWrite) → Type 0
 KeepsNumber f = (w : LogWrite) → (f w).number ≡ w.number
 
-changed_kept : (b : Bool) (n confirmed : ℕ) (f : LogWrite → LogWrite) (w : LogWrite) → has_number n w ≡ b → KeepsNumber f → IsKept confirmed w → KeptBut n confirmed (if b then f w else w)
+changed_kept : (b : Bool) (n confirmed : ℕ) (f : LogWrite → LogWrite) (w : LogWrite) → has_number n w ≡ b → KeepsNumber f → IsKept confirmed w
+    → KeptBut n confirmed (if b then f w else w)
 changed_kept true n confirmed f w is keeps kept = λ other. let has : ((f w).number == n) ≡ true = rw (keeps w) is in cc
 changed_kept false n confirmed f w is keeps kept = λ other. kept
 
 -- only the changed write can be released
-pub kept_but : (n confirmed : ℕ) (f : LogWrite → LogWrite) (ws : List LogWrite) → KeepsNumber f → Each (IsKept confirmed) ws → Each (KeptBut n confirmed) (with_change n f ws)
+pub kept_but : (n confirmed : ℕ) (f : LogWrite → LogWrite) (ws : List LogWrite) → KeepsNumber f → Each (IsKept confirmed) ws
+    → Each (KeptBut n confirmed) (with_change n f ws)
 kept_but n confirmed f [] keeps kept = tt
 kept_but n confirmed f (w ∷ ws) keeps kept = (changed_kept (has_number n w) n confirmed f w refl keeps kept.0, kept_but n confirmed f ws keeps kept.1)
 
@@ -74,7 +77,8 @@ pub one_released : (b : Bool) (w : LogWrite) → map released_of (if b then w �
 one_released true w = refl
 one_released false w = refl
 
-released_by : (b : Bool) (n confirmed low : ℕ) (w : LogWrite) (ws : List LogWrite) → has_number n w ≡ b → Rises low (w ∷ ws) → Each (KeptBut n confirmed) (w ∷ ws)
+released_by : (b : Bool) (n confirmed low : ℕ) (w : LogWrite) (ws : List LogWrite) → has_number n w ≡ b → Rises low (w ∷ ws)
+    → Each (KeptBut n confirmed) (w ∷ ws)
     → map released_of (filter (is_released confirmed) ws) ≡ option_to_list (option_and_then (release_of confirmed) (write_at n ws))
     → map released_of (filter (is_released confirmed) (w ∷ ws)) ≡ option_to_list (option_and_then (release_of confirmed) (write_at n (w ∷ ws)))
 released_by true n confirmed low w ws is rises kept rest =
@@ -89,7 +93,8 @@ released_one n confirmed low [] rises kept = refl
 released_one n confirmed low (w ∷ ws) rises kept =
     released_by (has_number n w) n confirmed low w ws refl rises kept (released_one n confirmed (suc w.number) ws rises.1 kept.1)
 
-pub one_left : (b : Bool) (w : LogWrite) (ws : List LogWrite) → (if not b then w ∷ ws else ws) ≡ (if is_some (if b then Some (released_of w) else None) then ws else w ∷ ws)
+pub one_left : (b : Bool) (w : LogWrite) (ws : List LogWrite)
+    → (if not b then w ∷ ws else ws) ≡ (if is_some (if b then Some (released_of w) else None) then ws else w ∷ ws)
 one_left true w ws = refl
 one_left false w ws = refl
 
@@ -99,13 +104,15 @@ left_after false w ws vs = refl
 
 left_by : (b : Bool) (n confirmed low : ℕ) (w : LogWrite) (ws : List LogWrite) → has_number n w ≡ b → Rises low (w ∷ ws) → Each (KeptBut n confirmed) (w ∷ ws)
     → filter (λ v. not (is_released confirmed v)) ws ≡ (if is_some (option_and_then (release_of confirmed) (write_at n ws)) then without n ws else ws)
-    → filter (λ v. not (is_released confirmed v)) (w ∷ ws) ≡ (if is_some (option_and_then (release_of confirmed) (write_at n (w ∷ ws))) then without n (w ∷ ws) else w ∷ ws)
+    → filter (λ v. not (is_released confirmed v)) (w ∷ ws) ≡ (if is_some (option_and_then (release_of confirmed) (write_at n (w ∷ ws))) then without n (w ∷ ws)
+    else w ∷ ws)
 left_by true n confirmed low w ws is rises kept rest =
     let number = number_is w.number n is in
     let none = none_above n (suc w.number) ws (omega arith) rises.1 in
     rw is (rw (all_left n confirmed ws none kept.1) (rw (without-none n ws none) (one_left (is_released confirmed w) w ws)))
 left_by false n confirmed low w ws is rises kept rest =
-    rw is (rw (kept.0 is) (ap (λ more. w ∷ more) rest ∙ sym (left_after (is_some (option_and_then (release_of confirmed) (write_at n ws))) w (without n ws) ws)))
+    rw is (rw (kept.0 is) (ap (λ more. w ∷ more) rest
+    ∙ sym (left_after (is_some (option_and_then (release_of confirmed) (write_at n ws))) w (without n ws) ws)))
 
 -- what is left is all but the one write, if it is released
 pub left_one : (n confirmed low : ℕ) (ws : List LogWrite) → Rises low ws → Each (KeptBut n confirmed) ws
@@ -137,11 +144,13 @@ still_open : (b : Bool) (n : ℕ) (f : LogWrite → LogWrite) (w : LogWrite) (ws
 still_open true n f w ws is none rest same = rw is (rw none (rw (open_not_completed w is) same))
 still_open false n f w ws is none rest same = rw is same
 
-none_completed : (n : ℕ) (f : LogWrite → LogWrite) (ws : List LogWrite) → NoneHas n ws → map completed_of (filter is_completed (map (on n f) (filter is_open ws))) ≡ []
+none_completed : (n : ℕ) (f : LogWrite → LogWrite) (ws : List LogWrite) → NoneHas n ws
+    → map completed_of (filter is_completed (map (on n f) (filter is_open ws))) ≡ []
 none_completed n f [] none = refl
 none_completed n f (w ∷ ws) none = still_open (is_open w) n f w ws refl none.0 [] (none_completed n f ws none.1)
 
-completed_head : (o d : Bool) (n : ℕ) (f : LogWrite → LogWrite) (w : LogWrite) (ws : List LogWrite) → has_number n w ≡ true → is_open w ≡ o → is_completed (f w) ≡ d
+completed_head : (o d : Bool) (n : ℕ) (f : LogWrite → LogWrite) (w : LogWrite) (ws : List LogWrite) → has_number n w ≡ true → is_open w ≡ o
+    → is_completed (f w) ≡ d
     → map completed_of (filter is_completed (map (on n f) (filter is_open ws))) ≡ []
     → map completed_of (filter is_completed (map (on n f) (filter is_open (w ∷ ws)))) ≡ completion_in (option_map (turn_of f) (write_at n (w ∷ ws)))
 completed_head true true n f w ws is o d rest = rw o (rw is (rw d (rw o (ap (λ more. completed_of (f w) ∷ more) rest))))
@@ -190,7 +199,8 @@ closes_one n low f [] rises = refl
 closes_one n low f (w ∷ ws) rises = closes_by (has_number n w) n low f w ws refl rises (closes_one n (suc w.number) f ws rises.1)
 
 -- what is left is kept
-kept_if : (b : Bool) (confirmed : ℕ) (w : LogWrite) (ws : List LogWrite) → is_released confirmed w ≡ b → Each (IsKept confirmed) ws → Each (IsKept confirmed) (if not b then w ∷ ws else ws)
+kept_if : (b : Bool) (confirmed : ℕ) (w : LogWrite) (ws : List LogWrite) → is_released confirmed w ≡ b → Each (IsKept confirmed) ws
+    → Each (IsKept confirmed) (if not b then w ∷ ws else ws)
 kept_if true confirmed w ws is rest = rest
 kept_if false confirmed w ws is rest = (is, rest)
 
@@ -210,7 +220,8 @@ each_on : (b : Bool) (P : LogWrite → Type 0) (f : LogWrite → LogWrite) (w : 
 each_on true P f w keeps here = keeps w here
 each_on false P f w keeps here = here
 
-pub each_changed : (P : LogWrite → Type 0) (n : ℕ) (f : LogWrite → LogWrite) (ws : List LogWrite) → ((v : LogWrite) → P v → P (f v)) → Each P ws → Each P (with_change n f ws)
+pub each_changed : (P : LogWrite → Type 0) (n : ℕ) (f : LogWrite → LogWrite) (ws : List LogWrite) → ((v : LogWrite) → P v → P (f v)) → Each P ws
+    → Each P (with_change n f ws)
 each_changed P n f [] keeps each = tt
 each_changed P n f (w ∷ ws) keeps each = (each_on (has_number n w) P f w keeps each.0, each_changed P n f ws keeps each.1)
 

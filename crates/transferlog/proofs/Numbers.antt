@@ -33,7 +33,8 @@ pub without-none : (number : ℕ) (ws : List LogWrite) → NoneHas number ws →
 without-none number [] none = refl
 without-none number (w ∷ ws) none = rw none.0 (ap (λ more. w ∷ more) (without-none number ws none.1))
 
-number_by : (same : Bool) (n : ℕ) (w v : LogWrite) (ws : List LogWrite) → has_number n v ≡ same → write_at n (v ∷ ws) ≡ Some w → (write_at n ws ≡ Some w → w.number ≡ n) → w.number ≡ n
+number_by : (same : Bool) (n : ℕ) (w v : LogWrite) (ws : List LogWrite) → has_number n v ≡ same → write_at n (v ∷ ws) ≡ Some w
+    → (write_at n ws ≡ Some w → w.number ≡ n) → w.number ≡ n
 number_by true n w v ws is some rest =
     let first : Some v ≡ Some w = rw is at some in
     let same : v ≡ w = cc in

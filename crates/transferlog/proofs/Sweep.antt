@@ -1,5 +1,6 @@
 -- Writes that go one number after another: what comes of them and what is left, number by number.
-use Rattle.std.proofs.Common.{◌≡◌, ℕ, suc, ◌+◌, ◌<◌, ◌≤◌, ◌==◌, nat_lt, Bool, true, false, ◌&&◌, List, [], ◌∷◌, ◌++◌, length, refl, ap, arith, Option, Some, None, not, length-append}
+use Rattle.std.proofs.Common.{◌≡◌, ℕ, suc, ◌+◌, ◌<◌, ◌≤◌, ◌==◌, nat_lt, Bool, true, false, ◌&&◌, List, [], ◌∷◌, ◌++◌, length, refl, ap, arith, Option, Some}
+use Rattle.std.proofs.Common.{None, not, length-append}
 use Rattle.std.specs.Prelude.{filter, map, is_some, if◌then◌else◌, IsSome}
 use Rattle.std.specs.Option.{option_and_then, option_to_list}
 use Rattle.std.proofs.lemmas.List.{length-map}
@@ -44,7 +45,8 @@ all_remain p k low (w ∷ ws) above rises =
     rw (not_below_is w.number k (omega (arith, rises.0))) (ap (λ more. w ∷ more) (all_remain p k (suc w.number) ws (omega (arith, rises.0)) rises.1))
 
 -- the write with the number, where those below it have gone
-found_if : (b : Bool) (k : ℕ) (w : LogWrite) (ws : List LogWrite) (found : Option LogWrite) → has_number k w ≡ false → write_at k ws ≡ found → write_at k (if not b then w ∷ ws else ws) ≡ found
+found_if : (b : Bool) (k : ℕ) (w : LogWrite) (ws : List LogWrite) (found : Option LogWrite) → has_number k w ≡ false → write_at k ws ≡ found
+    → write_at k (if not b then w ∷ ws else ws) ≡ found
 found_if true k w ws found other is = is
 found_if false k w ws found other is = rw other is
 
@@ -73,7 +75,8 @@ one_out : {X : Type 0} (b : Bool) (out : LogWrite → X) (w : LogWrite) → map 
 one_out true out w = refl
 one_out false out w = refl
 
-one_left : {X : Type 0} (b : Bool) (out : LogWrite → X) (w : LogWrite) (ws : List LogWrite) → (if not b then w ∷ ws else ws) ≡ (if is_some (if b then Some (out w) else None) then ws else w ∷ ws)
+one_left : {X : Type 0} (b : Bool) (out : LogWrite → X) (w : LogWrite) (ws : List LogWrite)
+    → (if not b then w ∷ ws else ws) ≡ (if is_some (if b then Some (out w) else None) then ws else w ∷ ws)
 one_left true out w ws = refl
 one_left false out w ws = refl
 
@@ -82,7 +85,8 @@ gone_if : {X : Type 0} (b : Bool) (out : LogWrite → X) (w : LogWrite) (xs ys :
 gone_if true out w xs ys more is = ap (λ rest. out w ∷ rest) is
 gone_if false out w xs ys more is = is
 
-gone_by : {X : Type 0} (below same : Bool) (p : LogWrite → Bool) (out : LogWrite → X) (k low : ℕ) (w : LogWrite) (ws : List LogWrite) → nat_lt w.number k ≡ below → has_number k w ≡ same → Rises low (w ∷ ws)
+gone_by : {X : Type 0} (below same : Bool) (p : LogWrite → Bool) (out : LogWrite → X) (k low : ℕ) (w : LogWrite) (ws : List LogWrite)
+    → nat_lt w.number k ≡ below → has_number k w ≡ same → Rises low (w ∷ ws)
     → map out (filter (goes p (k + 1)) ws) ≡ map out (filter (goes p k) ws) ++ option_to_list (out_at p out k ws)
     → map out (filter (goes p (k + 1)) (w ∷ ws)) ≡ map out (filter (goes p k) (w ∷ ws)) ++ option_to_list (out_at p out k (w ∷ ws))
 gone_by true same p out k low w ws below is rises rest =
@@ -113,9 +117,11 @@ left_if true some k w xs ys other is = is
 left_if false true k w xs ys other is = rw other (ap (λ more. w ∷ more) is)
 left_if false false k w xs ys other is = ap (λ more. w ∷ more) is
 
-left_by : {X : Type 0} (below same : Bool) (p : LogWrite → Bool) (out : LogWrite → X) (k low : ℕ) (w : LogWrite) (ws : List LogWrite) → nat_lt w.number k ≡ below → has_number k w ≡ same → Rises low (w ∷ ws)
+left_by : {X : Type 0} (below same : Bool) (p : LogWrite → Bool) (out : LogWrite → X) (k low : ℕ) (w : LogWrite) (ws : List LogWrite)
+    → nat_lt w.number k ≡ below → has_number k w ≡ same → Rises low (w ∷ ws)
     → filter (remains p (k + 1)) ws ≡ (if is_some (out_at p out k ws) then without k (filter (remains p k) ws) else filter (remains p k) ws)
-    → filter (remains p (k + 1)) (w ∷ ws) ≡ (if is_some (out_at p out k (w ∷ ws)) then without k (filter (remains p k) (w ∷ ws)) else filter (remains p k) (w ∷ ws))
+    → filter (remains p (k + 1)) (w ∷ ws) ≡ (if is_some (out_at p out k (w ∷ ws)) then without k (filter (remains p k) (w ∷ ws))
+    else filter (remains p k) (w ∷ ws))
 left_by true same p out k low w ws below is rises rest =
     let less = below_or_not w.number k below in
     let other = lower_number w.number k less in
@@ -151,7 +157,8 @@ gone_is false true h = h refl
 gone_is false false h = refl
 
 -- At the beginning nothing has gone.
-pub all_before : (p : LogWrite → Bool) (k : ℕ) (ws : List LogWrite) → Each (λ w. p w ≡ true → k ≤ w.number) ws → (filter (goes p k) ws ≡ []) × (filter (remains p k) ws ≡ ws)
+pub all_before : (p : LogWrite → Bool) (k : ℕ) (ws : List LogWrite) → Each (λ w. p w ≡ true → k ≤ w.number) ws
+    → (filter (goes p k) ws ≡ []) × (filter (remains p k) ws ≡ ws)
 all_before p k [] each = (refl, refl)
 all_before p k (w ∷ ws) each =
     let none = not_gone (nat_lt w.number k) (p w) (λ released below. absurd (omega (arith, each.0 released, below_or_not w.number k below))) in
@@ -182,7 +189,8 @@ one_more None some = cc
 one_more (Some r) some = refl
 
 -- where a write is released, not all have gone yet
-pub room_left : {X : Type 0} (p : LogWrite → Bool) (out : LogWrite → X) (k : ℕ) (ws : List LogWrite) → Rises 0 ws → IsSome (out_at p out k ws) → length (filter (goes p k) ws) < length ws
+pub room_left : {X : Type 0} (p : LogWrite → Bool) (out : LogWrite → X) (k : ℕ) (ws : List LogWrite) → Rises 0 ws → IsSome (out_at p out k ws)
+    → length (filter (goes p k) ws) < length ws
 room_left p out k ws rises some =
     let next = ap length (gone_next p out k 0 ws rises) in
     let lengths = simp (length-append, length-map) at next in

@@ -9,18 +9,22 @@ use Rattle.transferlog.specs.Ring.{Each}
 use Rattle.transferlog.specs.Fields.{IsKept}
 use Rattle.transferlog.specs.declared.report.Released.{Released}
 use Rattle.transferlog.specs.declared.report.Turn.{Turn}
-use Rattle.transferlog.proofs.Moves.{KeepsNumber, kept_but, rises_changed, write_at-changed, released_one, left_one, completion_in, closes_in, completed_one, closes_one}
+use Rattle.transferlog.proofs.Moves.{KeepsNumber, kept_but, rises_changed, write_at-changed, released_one, left_one, completion_in, closes_in, completed_one}
+use Rattle.transferlog.proofs.Moves.{closes_one}
 
 -- the writes after something happened to one of them
 abbrev After : ℕ → (LogWrite → LogWrite) → LogState → List LogWrite
 After n f s = with_change n f s.writes
 
-pub released_is : (s : LogState) (n : ℕ) (f : LogWrite → LogWrite) (release : Option Released) → KeepsNumber f → Rises 0 s.writes → Each (IsKept s.confirmed) s.writes
+pub released_is : (s : LogState) (n : ℕ) (f : LogWrite → LogWrite) (release : Option Released) → KeepsNumber f → Rises 0 s.writes
+    → Each (IsKept s.confirmed) s.writes
     → release ≡ option_and_then (release_of s.confirmed) (write_at n (After n f s)) → option_to_list release ≡ (moved (on n f) s.confirmed s).released
 released_is s n f release keeps rises kept is =
-    ap option_to_list is ∙ sym (released_one n s.confirmed 0 (After n f s) (rises_changed n 0 f s.writes keeps rises) (kept_but n s.confirmed f s.writes keeps kept))
+    ap option_to_list is ∙ sym (released_one n s.confirmed 0 (After n f s) (rises_changed n 0 f s.writes keeps rises)
+    (kept_but n s.confirmed f s.writes keeps kept))
 
-pub writes_are : (s : LogState) (n : ℕ) (f : LogWrite → LogWrite) (release : Option Released) → KeepsNumber f → Rises 0 s.writes → Each (IsKept s.confirmed) s.writes
+pub writes_are : (s : LogState) (n : ℕ) (f : LogWrite → LogWrite) (release : Option Released) → KeepsNumber f → Rises 0 s.writes
+    → Each (IsKept s.confirmed) s.writes
     → release ≡ option_and_then (release_of s.confirmed) (write_at n (After n f s))
     → (if is_some release then without n (After n f s) else After n f s) ≡ (moved (on n f) s.confirmed s).writes
 writes_are s n f release keeps rises kept is =
@@ -47,7 +51,8 @@ no_release s n f keeps is =
     sym (ap (option_and_then (release_of s.confirmed)) found)
 
 -- the same, where the ring was changed and then released the write
-pub after_release : (s : LogState) (n : ℕ) (f : LogWrite → LogWrite) (mid new : RingState) (release : Option Released) → KeepsNumber f → Rises 0 s.writes → Each (IsKept s.confirmed) s.writes
+pub after_release : (s : LogState) (n : ℕ) (f : LogWrite → LogWrite) (mid new : RingState) (release : Option Released) → KeepsNumber f → Rises 0 s.writes
+    → Each (IsKept s.confirmed) s.writes
     → mid.writes ≡ After n f s → release ≡ option_and_then (release_of s.confirmed) (write_at n mid.writes)
     → new.writes ≡ (if is_some release then without n mid.writes else mid.writes)
     → (new.writes ≡ (moved (on n f) s.confirmed s).writes) × (option_to_list release ≡ (moved (on n f) s.confirmed s).released)

@@ -1,5 +1,6 @@
 -- Writes that lose their connection one number after another.
-use Rattle.std.proofs.Common.{◌≡◌, ℕ, suc, ◌+◌, ◌<◌, ◌≤◌, ◌==◌, nat_lt, Bool, true, false, ◌&&◌, List, [], ◌∷◌, ◌++◌, length, refl, ◌∙◌, ap, arith, Option, Some, None}
+use Rattle.std.proofs.Common.{◌≡◌, ℕ, suc, ◌+◌, ◌<◌, ◌≤◌, ◌==◌, nat_lt, Bool, true, false, ◌&&◌, List, [], ◌∷◌, ◌++◌, length, refl, ◌∙◌, ap, arith, Option}
+use Rattle.std.proofs.Common.{Some, None}
 use Rattle.std.proofs.lemmas.List.{length-map}
 use Rattle.std.specs.Prelude.{filter, map, if◌then◌else◌}
 use Rattle.std.specs.Option.{option_map, option_and_then}
@@ -65,21 +66,27 @@ unlinked_next k (w ∷ ws) = both _ _ _ _ (next_by (nat_lt w.number k) (has_numb
 
 pub none_unlinked : (k : ℕ) (ws : List LogWrite) → Each (λ w. k ≤ w.number) ws → map (unlinked k) ws ≡ ws
 none_unlinked k [] each = refl
-none_unlinked k (w ∷ ws) each = let least : nat_lt w.number k ≡ false = not_below w.number k each.0 in rw least (ap (λ more. w ∷ more) (none_unlinked k ws each.1))
+none_unlinked k (w ∷ ws) each = let least : nat_lt w.number k ≡ false = not_below w.number k each.0 in rw least
+    (ap (λ more. w ∷ more) (none_unlinked k ws each.1))
 
 pub all_unlinked : (k : ℕ) (ws : List LogWrite) → Each (λ w. w.number < k) ws → map (unlinked k) ws ≡ map unlinking ws
 all_unlinked k [] each = refl
-all_unlinked k (w ∷ ws) each = let below : nat_lt w.number k ≡ true = is_below w.number k each.0 in rw below (ap (λ more. unlinking w ∷ more) (all_unlinked k ws each.1))
+all_unlinked k (w ∷ ws) each = let below : nat_lt w.number k ≡ true = is_below w.number k each.0 in rw below
+    (ap (λ more. unlinking w ∷ more) (all_unlinked k ws each.1))
 
 -- the completion of a turn is what comes of a write that is completed
-turned_by : (found : Option LogWrite) → option_and_then (λ (t : Turn). t.completion) (option_map (turn_of unlinking) found) ≡ option_and_then (λ w. if completes w then Some (completed_of w) else None) found
+turned_by : (found : Option LogWrite)
+    → option_and_then (λ (t : Turn). t.completion) (option_map (turn_of unlinking) found) ≡ option_and_then (λ w. if completes w then Some (completed_of w)
+    else None) found
 turned_by None = refl
 turned_by (Some w) = refl
 
-pub completion_at : (k : ℕ) (ws left : List LogWrite) (turn : Option Turn) → turn ≡ option_map (turn_of unlinking) (write_at k left) → left ≡ map (unlinked k) ws
+pub completion_at : (k : ℕ) (ws left : List LogWrite) (turn : Option Turn) → turn ≡ option_map (turn_of unlinking) (write_at k left)
+    → left ≡ map (unlinked k) ws
     → option_and_then (λ (t : Turn). t.completion) turn ≡ out_at completes completed_of k ws
 completion_at k ws left turn is left_is =
-    ap (option_and_then (λ (t : Turn). t.completion)) (is ∙ (ap (λ vs. option_map (turn_of unlinking) (write_at k vs)) left_is ∙ ap (option_map (turn_of unlinking)) (found_linked k ws)))
+    ap (option_and_then (λ (t : Turn). t.completion)) (is
+    ∙ (ap (λ vs. option_map (turn_of unlinking) (write_at k vs)) left_is ∙ ap (option_map (turn_of unlinking)) (found_linked k ws)))
     ∙ turned_by (write_at k ws)
 
 all_by : (o d : Bool) (w : LogWrite) (ws : List LogWrite) → is_open w ≡ o → is_completed (unlinking w) ≡ d
@@ -100,10 +107,12 @@ numbers_from low first [] from numbered = tt
 numbers_from low first (None ∷ slots) from numbered = numbers_from low (suc first) slots (omega arith) numbered
 numbers_from low first (Some w ∷ slots) from numbered = (omega (arith, numbered.0), numbers_from low (suc first) slots (omega arith) numbered.1)
 
-pub numbers_below : (high first : ℕ) (slots : List (Option LogWrite)) → first + length slots ≤ high → AreNumbered first slots → Each (λ w. w.number < high) (writes_in slots)
+pub numbers_below : (high first : ℕ) (slots : List (Option LogWrite)) → first + length slots ≤ high → AreNumbered first slots
+    → Each (λ w. w.number < high) (writes_in slots)
 numbers_below high first [] below numbered = tt
 numbers_below high first (None ∷ slots) below numbered = numbers_below high (suc first) slots (omega (arith, below)) numbered
-numbers_below high first (Some w ∷ slots) below numbered = (omega (arith, numbered.0, below), numbers_below high (suc first) slots (omega (arith, below)) numbered.1)
+numbers_below high first (Some w ∷ slots) below numbered =
+    (omega (arith, numbered.0, below), numbers_below high (suc first) slots (omega (arith, below)) numbered.1)
 
 pub each_alone : (ws : List LogWrite) → Each IsAlone (map unlinking ws)
 each_alone [] = tt

@@ -85,13 +85,15 @@ found_by false true n low w ws waits is rises each at rest =
     absurd (cc)
 found_by false false n low w ws waits is rises each at rest = rw (is, waits) (rest (rw is at at))
 
-pub first_found : (n low : ℕ) (ws : List LogWrite) → Rises low ws → Each (WaitsFrom n) ws → is_waiting_at (write_at n ws) ≡ true → write_at n ws ≡ find is_waiting ws
+pub first_found : (n low : ℕ) (ws : List LogWrite) → Rises low ws → Each (WaitsFrom n) ws → is_waiting_at (write_at n ws) ≡ true
+    → write_at n ws ≡ find is_waiting ws
 first_found n low [] rises each at = refl
 first_found n low (w ∷ ws) rises each at =
     found_by (is_waiting w) (has_number n w) n low w ws refl refl rises each at (first_found n (suc w.number) ws rises.1 each.1)
 
 -- where all numbers are below it, none waits
-none_by : (waits : Bool) (n : ℕ) (w : LogWrite) (ws : List LogWrite) → is_waiting w ≡ waits → WaitsFrom n w → w.number < n → find is_waiting ws ≡ None → find is_waiting (w ∷ ws) ≡ None
+none_by : (waits : Bool) (n : ℕ) (w : LogWrite) (ws : List LogWrite) → is_waiting w ≡ waits → WaitsFrom n w → w.number < n → find is_waiting ws ≡ None
+    → find is_waiting (w ∷ ws) ≡ None
 none_by true n w ws waits from below rest = absurd (omega (arith, from waits))
 none_by false n w ws waits from below rest = rw waits rest
 

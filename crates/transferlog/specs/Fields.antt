@@ -1,9 +1,13 @@
 -- What the fields of a transfer log stand for, and what is kept about them.
-use Rattle.std.specs.Prelude.{ℕ, ◌≡◌, ◌+◌, ◌<◌, ◌≤◌, false, length, min, sum, vec_capacity, None}
+use Rattle.std.specs.Prelude.{ℕ, ◌≡◌, ◌+◌, ◌-◌, ◌<◌, ◌≤◌, false, length, min, sum, vec_capacity, Option, None, IfSome, option_map}
 use Rattle.transferlog.specs.Writes.{LogWrite, is_released}
 use Rattle.transferlog.specs.Ring.{Each}
 use Rattle.transferlog.specs.Log.{LogState, LogValue}
 use Rattle.transferlog.specs.declared.log.TransferLog.TheInside.{Inside}
+
+-- the index of a connection, by its number, which is counted from 1
+abbrev pub index_of : Option ℕ → Option ℕ
+index_of connection = option_map (λ number. number - 1) connection
 
 -- the fields as plain values
 abbrev pub log_of : Inside → LogState
@@ -11,7 +15,7 @@ log_of l = record {
   protocol = l.protocol;
   backlog = l.backlog;
   accepted = l.accepted;
-  connection = l.connection;
+  connection = index_of l.connection;
   confirmed = l.confirmed;
   latest = l.latest.items;
   writes = l.ring.writes;
@@ -32,13 +36,14 @@ IsKept confirmed w = is_released confirmed w ≡ false
 abbrev pub IsAlone : LogWrite → Type 0
 IsAlone w = w.linked ≡ false
 
--- No write is released, none has a connection where no stream stands, there are no more than may be, and what a call reports
+-- No write is released, the connection is counted from 1, no write has one where no stream stands, there are no more than may be, and what a call reports
 -- has room; the epochs' writes were accepted after
 -- those confirmed.
 pub record IsLog (l : Inside) : Type 0 where
   pub next : l.ring.next ≡ l.accepted + 1
   pub few_accepted : l.accepted ≤ 1048576
   pub kept : Each (IsKept l.confirmed) l.ring.writes
+  pub numbered : IfSome l.connection (λ number. 0 < number)
   pub alone : l.connection ≡ None → Each IsAlone l.ring.writes
   pub few : length l.ring.writes ≤ l.backlog
   pub some : 0 < l.backlog

@@ -1,13 +1,16 @@
 -- The transfer log in plain values, and how each call changes it. The rules are this project's, after the DRBD User's Guide,
 -- "Replication modes", and DRBD's transfer log.
-use Rattle.std.specs.Prelude.{ℕ, ◌+◌, ◌==◌, Bool, true, false, ◌&&◌, not, if◌then◌else◌, List, [], ◌∷◌, ◌++◌, length, take, drop, map, filter, replicate, slice_get, Option, Some, None, is_some, Result, Ok, Err}
+use Rattle.std.specs.Prelude.{ℕ, ◌+◌, ◌==◌, Bool, true, false, ◌&&◌, not, if◌then◌else◌, List, [], ◌∷◌, ◌++◌, length, take, drop, map, filter, replicate}
+use Rattle.std.specs.Prelude.{slice_get, Option, Some, None, is_some, Result, Ok, Err}
 use Rattle.std.specs.List.{list_any}
 use Rattle.transferlog.specs.declared.local.Local.TheVariants.{Waiting}
 use Rattle.std.specs.Option.{option_map}
+use Rattle.blocks.specs.Positions.{StreamPosition}
 use Rattle.blocks.specs.declared.settings.Protocol.{Protocol}
 use Rattle.blocks.specs.declared.settings.Protocol.TheVariants as protocol
 use Rattle.epochs.specs.Epochs.{EpochsState, empty, completing, placed, uncounted, is_awaited, acknowledging}
-use Rattle.transferlog.specs.Writes.{LogWrite, is_open, is_completed, is_released, completed_of, released_of, awaits, sending, answering, storing, failing, unlinking}
+use Rattle.transferlog.specs.Writes.{LogWrite, is_open, is_completed, is_released, completed_of, released_of, awaits, sending, answering, storing, failing}
+use Rattle.transferlog.specs.Writes.{unlinking}
 use Rattle.transferlog.specs.Ring.{on, write_at}
 use Rattle.transferlog.specs.declared.report.Accepted.{Accepted}
 use Rattle.blocks.specs.Contents.{blocks_of}
@@ -20,8 +23,8 @@ use Rattle.transferlog.specs.declared.report.Completed.{Completed}
 use Rattle.transferlog.specs.declared.report.Named.{Named}
 use Rattle.transferlog.specs.declared.report.Released.{Released}
 
--- The protocol and the most unreleased writes; how many writes were accepted, which is the last number; the connection whose
--- stream stands; the number up to which every write with a connection has its epoch's acknowledgement; of each block of the
+-- The protocol and the most unreleased writes; how many writes were accepted, which is the last number; the index of the
+-- connection whose stream stands; the number up to which every write with a connection has its epoch's acknowledgement; of each block of the
 -- device, the number of the last accepted write that has it, or 0; the unreleased writes by rising number; the epochs of the
 -- stream; and what the last call released and completed, by rising number.
 pub record LogState : Type 0 where
@@ -56,9 +59,9 @@ empty_log protocol blocks max_epoch backlog = record {
   completed = [];
 }
 
--- a stream begins: no item is in it, and no write has that connection yet
+-- a stream begins, on the connection of this index: no item is in it, and no write has that connection yet
 abbrev pub connecting : ℕ → LogState → LogState
-connecting connection s = record s { connection = Some connection; confirmed = s.accepted; epochs = empty s.epochs.max_epoch; released = []; completed = [] }
+connecting index s = record s { connection = Some index; confirmed = s.accepted; epochs = empty s.epochs.max_epoch; released = []; completed = [] }
 
 -- Something happens to each write, and all with a connection and a number up to this one have their acknowledgement: those that
 -- were open and are completed now, those that are released now, and those that are left.
@@ -115,7 +118,7 @@ abbrev pub with_latest : ℕ → ℕ → ℕ → List ℕ → List ℕ
 with_latest number first count latest = take first latest ++ replicate count number ++ drop (first + count) latest
 
 -- the write that is accepted next, at its home, or without one
-abbrev pub accepted_write : ℕ → ℕ → List ℕ → Option (ℕ × ℕ) → LogState → LogWrite
+abbrev pub accepted_write : ℕ → ℕ → List ℕ → Option StreamPosition → LogState → LogWrite
 accepted_write first count contents home s = record {
   number = s.accepted + 1;
   first = first;
@@ -142,15 +145,15 @@ with_write w e s = record s {
 
 -- The home of the next write: where a stream stands, it is the next place there. Its home, the barrier that follows it, and the
 -- epochs then.
-abbrev pub home_in : Option ℕ → ℕ → EpochsState → Option (ℕ × ℕ) × (Option ℕ × EpochsState)
+abbrev pub home_in : Option ℕ → ℕ → EpochsState → Option StreamPosition × (Option ℕ × EpochsState)
 home_in None number e = (None, (None, e))
-home_in (Some connection) number e = let answer = placed number e in (Some (connection, answer.0), answer.1)
+home_in (Some index) number e = let answer = placed number e in (Some (record { index = index; place = answer.0 }), answer.1)
 
 -- A write is accepted: its number, place and barrier, and what is left.
 abbrev pub accepting : ℕ → ℕ → List ℕ → LogState → Accepted × LogState
 accepting first count contents s =
     let home = home_in s.connection (s.accepted + 1) s.epochs in (
-      record { number = s.accepted + 1; place = option_map (λ h. h.1) home.0; barrier = home.1.0 },
+      record { number = s.accepted + 1; place = option_map (λ h. h.place) home.0; barrier = home.1.0 },
       with_write (accepted_write first count contents home.0 s) home.1.1 s,
     )
 

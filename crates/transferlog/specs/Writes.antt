@@ -1,5 +1,6 @@
 -- An unreleased write: what is known of it, when it is completed, and when it is released.
 use Rattle.std.specs.Prelude.{ℕ, nat_le, ◌==◌, Bool, true, false, ◌&&◌, ◌||◌, not, if◌then◌else◌, List, Option, Some, None}
+use Rattle.blocks.specs.Positions.{StreamPosition}
 use Rattle.transferlog.specs.declared.local.Local.{Local}
 use Rattle.transferlog.specs.declared.report.Completed.{Completed}
 use Rattle.transferlog.specs.declared.report.Named.{Named}
@@ -7,8 +8,8 @@ use Rattle.transferlog.specs.declared.report.Released.{Released}
 use Rattle.transferlog.specs.declared.report.Turn.{Turn}
 use Rattle.transferlog.specs.declared.local.Local.TheVariants.{Waiting, OnDisk, Failed}
 
--- An accepted write: its number, its range, its bytes, and the blocks that these are; its home, which is the connection and the
--- place in its stream, where it has one; whether its connection stands; whether it was sent, and answered as the protocol asks;
+-- An accepted write: its number, its range, its bytes, and the blocks that these are; its home, which is where it stands in a
+-- stream, where it does; whether its connection stands; whether it was sent, and answered as the protocol asks;
 -- and what the local disk did with it.
 pub record LogWrite : Type 0 where
   pub number : ℕ
@@ -16,7 +17,7 @@ pub record LogWrite : Type 0 where
   pub count : ℕ
   pub contents : List ℕ
   pub blocks : List (List ℕ)
-  pub home : Option (ℕ × ℕ)
+  pub home : Option StreamPosition
   pub linked : Bool
   pub sent : Bool
   pub answered : Bool
@@ -90,9 +91,9 @@ abbrev pub release_of : ℕ → LogWrite → Option Released
 release_of confirmed w = if is_released confirmed w then Some (released_of w) else None
 
 -- whether a home is at this place
-abbrev pub is_at : ℕ → Option (ℕ × ℕ) → Bool
+abbrev pub is_at : ℕ → Option StreamPosition → Bool
 is_at place None = false
-is_at place (Some home) = home.1 == place
+is_at place (Some home) = home.place == place
 
 -- whether a write is the one that an answer names: its place, first block and count are those, and it was sent on the connection
 -- that stands and is not answered

@@ -1,5 +1,5 @@
 //! The transfer log of a primary.
-ghost use Rattle.std.specs.Prelude.{filter, find, nat_le, slice_get, ◌≡◌, ◌+◌, ◌<◌, ◌≤◌, length, IfOk, IfErr, IfSome};
+ghost use Rattle.std.specs.Prelude.{filter, find, nat_le, slice_get, suc, ◌≡◌, ◌+◌, ◌<◌, ◌≤◌, length, IfOk, IfErr, IfSome};
 ghost use Rattle.std.specs.Option.{option_copied, option_map};
 ghost use Rattle.transferlog.specs.Log.{clears, empty_log};
 ghost use Rattle.epochs.specs.Epochs.{unacknowledged};
@@ -35,6 +35,7 @@ pub struct TransferLog {
     protocol: Protocol,
     backlog: u32,
     accepted: u64,
+    // Its number, counted from 1.
     connection: Option<u32>,
     confirmed: u64,
     latest: Vec<u32>,
@@ -151,9 +152,9 @@ impl TransferLog {
         self.epochs.last()
     }
 
-    /// The connection whose stream stands, if one does.
+    /// The number of the connection whose stream stands, counted from 1, if one does.
     pub fn connection(&self) -> Option<u32>
-        ensures { result ≡ self.now.state.connection }
+        ensures { result ≡ option_map suc self.now.state.connection }
     {
         self.connection
     }

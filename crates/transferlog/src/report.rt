@@ -2,6 +2,8 @@
 ghost use Rattle.std.specs.Prelude.{◌≡◌, ◌<◌, ◌++◌, vec_len, vec_capacity, IsSome};
 ghost use Rattle.std.specs.Option.{option_to_list};
 
+use blocks::StreamPosition;
+
 /// A write was accepted.
 #[derive(Clone, Copy, Debug, PartialEq, Eq)]
 pub struct Accepted {
@@ -24,8 +26,8 @@ pub struct Completed {
     pub count: u64,
     /// Whether the peer has answered it, as the protocol asks; else it was completed without the peer.
     pub linked: bool,
-    /// The connection and the place in its stream, if it has one.
-    pub home: Option<(u32, u32)>,
+    /// Where it stands in a connection's stream, if it does.
+    pub home: Option<StreamPosition>,
 }
 
 /// A write was released: it has left the log.
@@ -71,6 +73,33 @@ pub(crate) struct Turn {
     pub(crate) closes: bool,
     /// It is completed by that.
     pub(crate) completion: Option<Completed>,
+}
+
+/// Adds a completion, if there is one, to a list that has room for it.
+pub(crate) fn note_completed(list: &mut Vec<Completed>, entry: Option<Completed>)
+    requires { IsSome entry → vec_len list.old < vec_capacity list.old }
+    ensures items { list.new.items ≡ list.old.items ++ option_to_list entry }
+    ensures capacity { vec_capacity list.new ≡ vec_capacity list.old }
+{
+    // Not by `note`: docs/DECISIONS.md, "Positions".
+    if let Some(
+        Completed {
+            number,
+            first,
+            count,
+            linked,
+            home,
+        },
+    ) = entry
+    {
+        list.push_reserved(Completed {
+            number,
+            first,
+            count,
+            linked,
+            home,
+        });
+    }
 }
 
 /// Adds an entry, if there is one, to a list that has room for it.

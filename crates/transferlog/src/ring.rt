@@ -7,7 +7,7 @@ ghost use Rattle.transferlog.specs.Writes.{completed_of, is_completed, is_open, 
 ghost use Rattle.transferlog.specs.Writes as writes;
 ghost use Rattle.transferlog.specs.Ring.{Each, ReleasedBelow, ReleasedFrom, Rises, WaitsFrom, changed, is_unanswered, is_waiting_at, with_change, without, write_at};
 
-use crate::report::{Completed, Released, Turn, note};
+use crate::report::{Completed, Released, Turn, note, note_completed};
 use crate::write::{Change, Write};
 use std::alloc::{AllocError, Global};
 use std::collections::VecDeque;
@@ -294,7 +294,7 @@ impl Ring {
         let to = self.first + self.slots.len() as u64;
         for number in from..to {
             let turn = self.change(number, Change::Unlinked);
-            note(completed, completion_in(turn));
+            note_completed(completed, completion_in(turn));
         }
     }
 
@@ -329,5 +329,8 @@ impl Ring {
 fn completion_in(turn: Option<Turn>) -> Option<Completed>
     ensures { result ≡ option_and_then (λ t. t.completion) turn }
 {
-    turn?.completion
+    match turn {
+        Some(turn) => turn.completion,
+        None => None,
+    }
 }

@@ -18,7 +18,7 @@ ghost use Rattle.transferlog.specs.Ring.{changed};
 
 use crate::local::Local;
 use crate::report::{Completed, Named, Released, Turn};
-use blocks::Range;
+use blocks::{Range, StreamPosition};
 use bytes::Bytes;
 use std::marker::Model;
 
@@ -28,7 +28,7 @@ pub struct Write {
     number: u64,
     range: Range,
     contents: Bytes,
-    home: Option<(u32, u32)>,
+    home: Option<StreamPosition>,
     linked: bool,
     sent: bool,
     answered: bool,
@@ -94,8 +94,8 @@ impl Write {
         &self.contents
     }
 
-    /// The connection and the place in its stream, if it has one.
-    pub fn home(&self) -> Option<(u32, u32)>
+    /// Where it stands in a connection's stream, if it does.
+    pub fn home(&self) -> Option<StreamPosition>
         ensures { result ≡ self.now.home }
     {
         self.home
@@ -123,7 +123,12 @@ impl Write {
     }
 
     /// A write that the local disk has to do, at its home in a stream, or without one.
-    pub(crate) fn new(number: u64, range: Range, contents: Bytes, home: Option<(u32, u32)>) -> Write
+    pub(crate) fn new(
+        number: u64,
+        range: Range,
+        contents: Bytes,
+        home: Option<StreamPosition>,
+    ) -> Write
         ensures { result ≡ record {
           number = number;
           first = range.first.0;
@@ -221,7 +226,7 @@ impl Write {
         ensures { result ≡ is_at place self.now.home }
     {
         match self.home {
-            Some((_, here)) => here == place,
+            Some(here) => here.place() == place,
             None => false,
         }
     }

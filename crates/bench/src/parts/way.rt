@@ -95,11 +95,11 @@ fn answer(log: &mut TransferLog, number: u64) -> Result<Option<u32>, Refusal> {
 /// How the peer names the write.
 fn named(log: &TransferLog, number: u64) -> Option<Named> {
     let write = log.get(number)?;
-    let (_, place) = write.home()?;
+    let home = write.home()?;
     let range = write.range();
     Some(Named {
         number,
-        place,
+        place: home.place(),
         first: range.first.0,
         count: range.count,
     })

@@ -1,5 +1,6 @@
 -- The begin of a stream keeps the account of unmarked blocks.
-use Rattle.std.proofs.Common.{ℕ, ◌≡◌, ◌-◌, ◌<◌, inl, inr, true, false, List, [], ◌∷◌, ◌++◌, length, Some, slice_get, Ok, refl, sym, ◌∙◌, ap, subst, arith, nat_lt}
+use Rattle.std.proofs.Common.{ℕ, ◌≡◌, ◌-◌, ◌<◌, inl, inr, true, false, List, [], ◌∷◌, ◌++◌, length, Some, slice_get, Ok, refl, sym, ◌∙◌, ap, subst, arith}
+use Rattle.std.proofs.Common.{nat_lt}
 use Rattle.std.specs.Prelude.{if◌then◌else◌}
 use Rattle.std.proofs.lemmas.Bool.{both_ways, lt-ltb}
 use Rattle.std.proofs.lemmas.Option.{slice_get_within}
@@ -48,15 +49,18 @@ began-begins h later peer decided f standing new is accounted b = elim accounted
     record {
       connection = last_index h.connections;
       end = f (outward h);
-      at = subst (λ (l : List Outward). slice_get l (last_index h.connections) ≡ Some (f (outward h))) (sym b.connections) (get-last-changed f (no_outward h.tuple) h.connections (outward h) (open-at h standing) refl);
+      at = subst (λ (l : List Outward). slice_get l (last_index h.connections) ≡ Some (f (outward h))) (sym b.connections)
+          (get-last-changed f (no_outward h.tuple) h.connections (outward h) (open-at h standing) refl);
       begun = b.begun;
-      earlier = λ k d early at. elim (get-change-back f (no_outward h.tuple) h.connections k d (subst (λ (l : List Outward). slice_get l k ≡ Some d) b.connections at)) [
-        | inl same ↦ none.none k d same
-        | inr changed ↦ absurd (let end = changed.2 in omega arith)
-      ];
+      earlier = λ k d early at. elim (get-change-back f (no_outward h.tuple) h.connections k d
+          (subst (λ (l : List Outward). slice_get l k ≡ Some d) b.connections at)) [
+            | inl same ↦ none.none k d same
+            | inr changed ↦ absurd (let end = changed.2 in omega arith)
+          ];
       peer = peer;
       n = length (outward h).taken;
-      taken = subst (λ (l : List Received). slice_get l (length (outward h).taken) ≡ Some (Ok (UuidsFrame peer))) (sym b.taken) (get-end (outward h).taken (Ok (UuidsFrame peer)));
+      taken = subst (λ (l : List Received). slice_get l (length (outward h).taken) ≡ Some (Ok (UuidsFrame peer))) (sym b.taken)
+          (get-end (outward h).taken (Ok (UuidsFrame peer)));
       decides = subst (λ (t : Tuple). decision t peer ≡ Ok decided) (none.tuple ∙ sym b.opening_tuple) is;
     },
     λ whole block inside unmarked latest_none. b.full whole block inside unmarked,
@@ -64,7 +68,8 @@ began-begins h later peer decided f standing new is accounted b = elim accounted
   | inr first ↦
       let old = first.1 in
       let last : ℕ = last_index h.connections in
-      let stays : (k : ℕ) (c : Outward) → slice_get h.connections k ≡ Some c → c.begun ≡ true → slice_get later.connections k ≡ Some c = λ k c at was. elim (get-change f (no_outward h.tuple) h.connections k c at) [
+      let stays : (k : ℕ) (c : Outward) → slice_get h.connections k ≡ Some c → c.begun ≡ true
+      → slice_get later.connections k ≡ Some c = λ k c at was. elim (get-change f (no_outward h.tuple) h.connections k c at) [
         | inl same ↦ subst (λ (l : List Outward). slice_get l k ≡ Some c) (sym b.connections) same
         | inr changed ↦ absurd (both_ways (outward h).begun new (ap (λ (x : Outward). x.begun) (sym changed.1) ∙ was))
       ] in
@@ -75,20 +80,23 @@ began-begins h later peer decided f standing new is accounted b = elim accounted
           end = old.end;
           at = stays old.connection old.end old.at old.begun;
           begun = old.begun;
-          earlier = λ k d early at. elim (get-change-back f (no_outward h.tuple) h.connections k d (subst (λ (l : List Outward). slice_get l k ≡ Some d) b.connections at)) [
-            | inl same ↦ old.earlier k d early same
-            | inr changed ↦ absurd (let end = changed.2 in let within = slice_get_within h.connections old.connection old.end old.at in omega arith)
-          ];
+          earlier = λ k d early at. elim (get-change-back f (no_outward h.tuple) h.connections k d
+              (subst (λ (l : List Outward). slice_get l k ≡ Some d) b.connections at)) [
+                | inl same ↦ old.earlier k d early same
+                | inr changed ↦ absurd (let end = changed.2 in let within = slice_get_within h.connections old.connection old.end old.at in omega arith)
+              ];
           peer = old.peer;
           n = old.n;
           taken = old.taken;
           decides = subst (λ (t : Tuple). decision t old.peer ≡ Ok first.0) (sym b.opening_tuple) old.decides;
         },
-        λ whole block inside unmarked none. first.2 whole block (subst (λ s. block < s) (ap (λ s. s.blocks) b.settings) inside) (b.marks block inside unmarked) (sym (b.last block) ∙ none),
+        λ whole block inside unmarked none. first.2 whole block (subst (λ s. block < s) (ap (λ s. s.blocks) b.settings) inside) (b.marks block inside unmarked)
+            (sym (b.last block) ∙ none),
       )
 ]
 
-account-beginning : (h later : PrimaryHistory) (peer : Tuple) (decided : Decision) (f : Outward → Outward) → (outward h).closed ≡ false → (outward h).begun ≡ false
+account-beginning : (h later : PrimaryHistory) (peer : Tuple) (decided : Decision) (f : Outward → Outward) → (outward h).closed ≡ false
+    → (outward h).begun ≡ false
     → decision h.tuple peer ≡ Ok decided → IsAccounted h → IsKnown later → Begins h later peer decided f → IsAccounted later
 account-beginning h later peer decided f standing new is accounted known b =
     let homes = accounted.known.tracked.homes in
@@ -99,16 +107,20 @@ account-beginning h later peer decided f standing new is accounted known b =
       grows = record {
         stream = ((f c).stream, ap (λ (l : List Item). l ++ (f c).stream) empty);
         pushed = let same = b.pushed in omega arith;
-        frames = subst (λ (l : List Received). IsBeginning (accepted_frames c) l) (sym b.frames) (frames-taking c (Ok (UuidsFrame peer)) (open-plain h homes standing));
+        frames = subst (λ (l : List Received). IsBeginning (accepted_frames c) l) (sym b.frames)
+            (frames-taking c (Ok (UuidsFrame peer)) (open-plain h homes standing));
       };
       closed = λ closed. sym b.closed ∙ closed;
       taken = taken;
     } in
-    accounted-from h later accounted known (carries-change h later f b.connections (λ i a at. (a, subst (λ ws. slice_get ws i ≡ Some a) (sym b.writes) at, refl, refl, λ w. w)) keeps)
-    (λ i a at. (a, subst (λ ws. slice_get ws i ≡ Some a) b.writes at, refl, refl, λ w. w)) b.settings b.opening_marks (began-begins h later peer decided f standing new is accounted b) b.marks (λ block unmarked. b.last block)
+    accounted-from h later accounted known
+    (carries-change h later f b.connections (λ i a at. (a, subst (λ ws. slice_get ws i ≡ Some a) (sym b.writes) at, refl, refl, λ w. w)) keeps)
+    (λ i a at. (a, subst (λ ws. slice_get ws i ≡ Some a) b.writes at, refl, refl, λ w. w)) b.settings b.opening_marks
+    (began-begins h later peer decided f standing new is accounted b) b.marks (λ block unmarked. b.last block)
 
 -- the begin of a stream keeps the account, whatever was decided
-pub account-begins : (h : PrimaryHistory) (peer : Tuple) (decided : Decision) → (outward h).closed ≡ false → (outward h).begun ≡ false → decision h.tuple peer ≡ Ok decided → IsAccounted h
+pub account-begins : (h : PrimaryHistory) (peer : Tuple) (decided : Decision) → (outward h).closed ≡ false → (outward h).begun ≡ false
+    → decision h.tuple peer ≡ Ok decided → IsAccounted h
     → IsKnown (begun_with decided (record (with_outward (with_frame (Ok (UuidsFrame peer))) h) { peer = Some peer }))
     → IsAccounted (begun_with decided (record (with_outward (with_frame (Ok (UuidsFrame peer))) h) { peer = Some peer }))
 account-begins h peer decided standing new is accounted = go decided is
@@ -123,17 +135,22 @@ account-begins h peer decided standing new is accounted = go decided is
     some none = both_ways (outward h).closed standing (ap (λ (l : List Outward). (last_of (no_outward h.tuple) l).closed) none)
 
     -- the first item of a resync touches no block
-    sync-last : (word : ℕ) (f : Outward → Outward) (block : ℕ) → (f (outward h)).stream ≡ SyncUuidItem word ∷ [] → latest (change_last f h.connections) block ≡ latest h.connections block
+    sync-last : (word : ℕ) (f : Outward → Outward) (block : ℕ) → (f (outward h)).stream ≡ SyncUuidItem word ∷ []
+        → latest (change_last f h.connections) block ≡ latest h.connections block
     sync-last word f block is =
         let empty = accounted.known.tracked.homes.empty (length h.connections - 1) (outward h) (open-at h standing) new in
-        latest-appended (no_outward h.tuple) f (SyncUuidItem word) h.connections block some (is ∙ ap (λ (l : List Item). l ++ SyncUuidItem word ∷ []) (sym empty))
-        ∙ ap (λ b. if b then Some (record { connection = last_index h.connections; place = length (outward h).stream; item = SyncUuidItem word }) else latest h.connections block) (touches-nothing 0 block)
+        latest-appended (no_outward h.tuple) f (SyncUuidItem word) h.connections block some (is
+        ∙ ap (λ (l : List Item). l ++ SyncUuidItem word ∷ []) (sym empty))
+        ∙ ap (λ b. if b then Some (record { connection = last_index h.connections; place = length (outward h).stream; item = SyncUuidItem word })
+        else latest h.connections block) (touches-nothing 0 block)
 
-    go : (v : Decision) → decision h.tuple peer ≡ Ok v → IsKnown (begun_with v (record (with_outward (with_frame (Ok (UuidsFrame peer))) h) { peer = Some peer }))
+    go : (v : Decision) → decision h.tuple peer ≡ Ok v
+        → IsKnown (begun_with v (record (with_outward (with_frame (Ok (UuidsFrame peer))) h) { peer = Some peer }))
         → IsAccounted (begun_with v (record (with_outward (with_frame (Ok (UuidsFrame peer))) h) { peer = Some peer }))
     go NoSync is known =
         let f : Outward → Outward = λ c. record c { taken = c.taken ++ Ok (UuidsFrame peer) ∷ []; begun = true } in
-        let twice : (begun_with NoSync taken).connections ≡ change_last f h.connections = change-twice (with_frame (Ok (UuidsFrame peer))) (λ c. record c { begun = true }) h.connections in
+        let twice : (begun_with NoSync taken).connections ≡ change_last f h.connections = change-twice (with_frame (Ok (UuidsFrame peer)))
+        (λ c. record c { begun = true }) h.connections in
         account-beginning h (begun_with NoSync taken) peer NoSync f standing new is accounted known (record {
           connections = twice;
           writes = refl;
@@ -152,7 +169,8 @@ account-begins h peer decided standing new is accounted = go decided is
     go BitmapSync is known =
         let word : ℕ = (outward taken).sync in
         let f : Outward → Outward = λ c. record c { taken = c.taken ++ Ok (UuidsFrame peer) ∷ []; begun = true; stream = SyncUuidItem word ∷ [] } in
-        let twice : (begun_with BitmapSync taken).connections ≡ change_last f h.connections = change-twice (with_frame (Ok (UuidsFrame peer))) (λ c. record c { begun = true; stream = SyncUuidItem word ∷ [] }) h.connections in
+        let twice : (begun_with BitmapSync taken).connections ≡ change_last f h.connections = change-twice (with_frame (Ok (UuidsFrame peer)))
+        (λ c. record c { begun = true; stream = SyncUuidItem word ∷ [] }) h.connections in
         account-beginning h (begun_with BitmapSync taken) peer BitmapSync f standing new is accounted known (record {
           connections = twice;
           writes = refl;
@@ -171,7 +189,8 @@ account-begins h peer decided standing new is accounted = go decided is
     go FullSync is known =
         let word : ℕ = (outward taken).sync in
         let f : Outward → Outward = λ c. record c { taken = c.taken ++ Ok (UuidsFrame peer) ∷ []; begun = true; stream = SyncUuidItem word ∷ [] } in
-        let twice : (begun_with FullSync taken).connections ≡ change_last f h.connections = change-twice (with_frame (Ok (UuidsFrame peer))) (λ c. record c { begun = true; stream = SyncUuidItem word ∷ [] }) h.connections in
+        let twice : (begun_with FullSync taken).connections ≡ change_last f h.connections = change-twice (with_frame (Ok (UuidsFrame peer)))
+        (λ c. record c { begun = true; stream = SyncUuidItem word ∷ [] }) h.connections in
         account-beginning h (begun_with FullSync taken) peer FullSync f standing new is accounted known (record {
           connections = twice;
           writes = refl;

@@ -32,12 +32,15 @@ reflected h block a clean = elim (cases_lt block h.settings.blocks) [
   | inl inside ↦
       let parts = or_parts (is_marked h block) (list_any (λ (x : Accepted). covers x.write block) (unreleased h)) clean in
       let unmarked : h.marks block ≡ false = sym (ap (λ b. b && h.marks block) (lt-ltb block h.settings.blocks inside)) ∙ parts.0 in
-      let free : (i : ℕ) (accepted : Accepted) → slice_get h.writes i ≡ Some accepted → is_released h accepted ≡ false → covers accepted.write block ≡ false = λ i accepted at held. elim (cases_Bool (covers accepted.write block)) [
-        | inl covered ↦ absurd (both_ways (list_any (λ (x : Accepted). covers x.write block) (unreleased h)) parts.1 (held-covers h block i accepted at held covered))
+      let free : (i : ℕ) (accepted : Accepted) → slice_get h.writes i ≡ Some accepted → is_released h accepted ≡ false
+      → covers accepted.write block ≡ false = λ i accepted at held. elim (cases_Bool (covers accepted.write block)) [
+        | inl covered ↦ absurd (both_ways (list_any (λ (x : Accepted). covers x.write block) (unreleased h)) parts.1
+            (held-covers h block i accepted at held covered))
         | inr not_so ↦ not_so
       ] in
       let same : sent_map h block ≡ local_map h block =
-      a.known.tracked.equal block inside unmarked ∙ settled-is-local h block (λ i accepted at waits. free i accepted at (ap (λ w. not w && (is_confirmed h accepted || is_alone h accepted)) waits)) in
+      a.known.tracked.equal block inside unmarked
+      ∙ settled-is-local h block (λ i accepted at waits. free i accepted at (ap (λ w. not w && (is_confirmed h accepted || is_alone h accepted)) waits)) in
       by-last h block a inside unmarked free same (latest h.connections block) refl
 ]
   where
@@ -57,7 +60,8 @@ reflected h block a clean = elim (cases_lt block h.settings.blocks) [
               let accepted : Accepted = held.1 in
               let home = a.known.tracked.homes.housed held.0 touch.connection touch.place accepted held.2 held.3 in
               let end : there.0 ≡ home.0 = same-at h.connections touch.connection there.0 home.0 there.1 home.1 in
-              let item : touch.item ≡ WriteItem accepted.write = same-at home.0.stream touch.place touch.item (WriteItem accepted.write) (subst (λ (c : Outward). slice_get c.stream touch.place ≡ Some touch.item) end there.2) home.2 in
+              let item : touch.item ≡ WriteItem accepted.write = same-at home.0.stream touch.place touch.item (WriteItem accepted.write)
+              (subst (λ (c : Outward). slice_get c.stream touch.place ≡ Some touch.item) end there.2) home.2 in
               both_ways (covers accepted.write block) (free held.0 accepted held.2 held.4) (subst (λ (x : Item). touches x block ≡ true) item there.3))
           | inl sure ↦
               let last : content_at touch.item block ≡ local_map h block = sym (ap (content_of (h.opening_map block) block) is) ∙ same in
@@ -72,17 +76,20 @@ reflected h block a clean = elim (cases_lt block h.settings.blocks) [
                 sure = sure.sure;
                 content = sure.same sure.place sure.item (omega arith) sure.there sure.touched ∙ last;
                 later = λ other next c i at stands touched after. elim after [
-                  | inl beyond_it ↦ absurd (elim (latest-last h.connections block touch is other next c i at stands touched) [ inl before ↦ omega arith | inr here ↦ let e = here.0 in omega arith ])
+                  | inl beyond_it ↦ absurd (elim (latest-last h.connections block touch is other next c i at stands touched)
+                      [ inl before ↦ omega arith | inr here ↦ let e = here.0 in omega arith ])
                   | inr behind ↦
                       let less = behind.1 in
-                      let end : c ≡ sure.end = same-at h.connections touch.connection c sure.end (subst (λ (n : ℕ). slice_get h.connections n ≡ Some c) (sym behind.0) at) sure.at in
+                      let end : c ≡ sure.end = same-at h.connections touch.connection c sure.end
+                      (subst (λ (n : ℕ). slice_get h.connections n ≡ Some c) (sym behind.0) at) sure.at in
                       sure.same next i (omega arith) (subst (λ (x : Outward). slice_get x.stream next ≡ Some i) end stands) touched ∙ last
                 ];
               })
         ]
 
 -- Where no stream stands, an unreleased write waits without a connection, so its blocks are marked.
-pub rest-marked : (h : PrimaryHistory) (block : ℕ) → IsAccounted h → IsLastOpen h → stands (outward h) ≡ false → is_covered h block ≡ true → is_marked h block ≡ true
+pub rest-marked : (h : PrimaryHistory) (block : ℕ) → IsAccounted h → IsLastOpen h → stands (outward h) ≡ false → is_covered h block ≡ true
+    → is_marked h block ≡ true
 rest-marked h block a closed resting covered = elim (or_cases (is_marked h block) (list_any (λ (x : Accepted). covers x.write block) (unreleased h)) covered) [
   | inl marked ↦ marked
   | inr under ↦
@@ -92,9 +99,11 @@ rest-marked h block a closed resting covered = elim (or_cases (is_marked h block
       let waits : is_waiting some.1.outcome ≡ true = elim (cases_Bool (is_waiting some.1.outcome)) [
         | inl is ↦ is
         | inr done ↦ absurd (both_ways (is_released h some.1) (not-true (is_released h some.1) stood.2) (
-            subst (λ w. (not w && (is_confirmed h some.1 || is_alone h some.1)) ≡ true) (sym done) (or_right (is_confirmed h some.1) (is_alone h some.1) alone)))
+            subst (λ w. (not w && (is_confirmed h some.1 || is_alone h some.1)) ≡ true) (sym done)
+            (or_right (is_confirmed h some.1) (is_alone h some.1) alone)))
       ] in
-      and_from (nat_lt block h.settings.blocks) (h.marks block) (lt-ltb block h.settings.blocks (covered-inside h a.known stood.0 block some.1 stood.1 some.3)) (a.waiting stood.0 block some.1 stood.1 alone waits some.3)
+      and_from (nat_lt block h.settings.blocks) (h.marks block) (lt-ltb block h.settings.blocks (covered-inside h a.known stood.0 block some.1 stood.1 some.3))
+      (a.waiting stood.0 block some.1 stood.1 alone waits some.3)
 ]
   where
     homes-of : (h : PrimaryHistory) → IsAccounted h → HasHomes h

@@ -11,6 +11,7 @@ use Rattle.model.specs.LocalRuns.{PrimaryEvent, primary_run}
 use Rattle.model.specs.Marks.{is_cleared, releasing}
 use Rattle.model.specs.Primary.{OnDisk, Accepted, PrimaryHistory, primary_opening, outward, last_index, is_waiting}
 use Rattle.model.specs.PrimarySteps.{with_outcome}
+use Rattle.laws.proofs.Rules.EpochEnds.{takes-writes}
 use Rattle.laws.specs.Reflections.{touches}
 use Rattle.laws.proofs.Lists.Beginnings.{begins-self}
 use Rattle.laws.proofs.Lists.Elements.{same-at}
@@ -28,7 +29,8 @@ use Rattle.laws.proofs.Accounted.Steps.{began-carries}
 use Rattle.laws.proofs.Accounted.Kept.{accounted-kept, accounted-opening}
 
 -- no write that has a block that is cleared waits for the local disk
-done-with : (h : PrimaryHistory) (block i : ℕ) (b : Accepted) → IsInOrder h → IsCleared h block → slice_get h.writes i ≡ Some b → covers b.write block ≡ true → is_waiting b.outcome ≡ true → ⊥
+done-with : (h : PrimaryHistory) (block i : ℕ) (b : Accepted) → IsInOrder h → IsCleared h block → slice_get h.writes i ≡ Some b → covers b.write block ≡ true
+    → is_waiting b.outcome ≡ true → ⊥
 done-with h block i b order c at covered waits = elim (cases_lt c.index i) [
   | inl later ↦ both_ways (covers b.write block) (c.last i b later at) covered
   | inr not_later ↦ elim (cases_lt i c.index) [
@@ -41,7 +43,8 @@ done-with h block i b order c at covered waits = elim (cases_lt c.index i) [
 ]
 
 -- the last write on a block that is cleared is sure, and what is sent behind it is the same
-sure-cleared : (h : PrimaryHistory) (block : ℕ) (touch : Touch) → IsAccounted h → IsInOrder h → IsCleared h block → latest h.connections block ≡ Some touch → IsSure h.connections block touch
+sure-cleared : (h : PrimaryHistory) (block : ℕ) (touch : Touch) → IsAccounted h → IsInOrder h → IsCleared h block → latest h.connections block ≡ Some touch
+    → IsSure h.connections block touch
 sure-cleared h block touch a order c is =
     let last = latest-since h block a.known.tracked order c touch is in
     record {
@@ -52,14 +55,17 @@ sure-cleared h block touch a order c is =
       there = c.there;
       touched = c.covered;
       sure = c.confirmed;
-      same = λ next i from found touched. sent-since h block a.known.tracked order c next i from found touched ∙ sym (sent-since h block a.known.tracked order c touch.place touch.item last.1.0 last.1.1.0 last.1.1.1);
+      same = λ next i from found touched. sent-since h block a.known.tracked order c next i from found touched
+          ∙ sym (sent-since h block a.known.tracked order c touch.place touch.item last.1.0 last.1.1.0 last.1.1.1);
     }
 
-account-release : (h later : PrimaryHistory) → ((block : ℕ) → is_cleared h later block ≡ true → IsCleared later block) → IsInOrder later → IsKnown (releasing h later) → IsAccounted later → IsAccounted (releasing h later)
+account-release : (h later : PrimaryHistory) → ((block : ℕ) → is_cleared h later block ≡ true → IsCleared later block) → IsInOrder later
+    → IsKnown (releasing h later) → IsAccounted later → IsAccounted (releasing h later)
 account-release h later clears order known a = record {
   known = known;
   waiting = λ i block b at alone waits covered. elim (cases_Bool (is_cleared h later block)) [
-    | inr kept ↦ and_from (later.marks block) (not (is_cleared h later block)) (a.waiting i block b at alone waits covered) (not_from_false (is_cleared h later block) kept)
+    | inr kept ↦ and_from (later.marks block) (not (is_cleared h later block)) (a.waiting i block b at alone waits covered)
+        (not_from_false (is_cleared h later block) kept)
     | inl cleared ↦ absurd (done-with later block i b order (clears block cleared) at covered waits)
   ];
   settled = λ block touch unmarked is. elim (and_cases (later.marks block) (not (is_cleared h later block)) unmarked) [
@@ -76,7 +82,9 @@ account-release h later clears order known a = record {
       | inl so ↦ so
       | inr cleared ↦ absurd (
           let c = clears block (not-false (is_cleared h later block) cleared) in
-          both_ways (touches (WriteItem c.accepted.write) block) (latest-none later.connections block none (last_index later.connections) c.place (outward later) (WriteItem c.accepted.write) c.connected c.there) c.covered)
+          both_ways (touches (WriteItem c.accepted.write) block)
+          (latest-none later.connections block none (last_index later.connections) c.place (outward later) (WriteItem c.accepted.write) c.connected c.there)
+          c.covered)
     ]
 
     keeps : KeepsBegun later (releasing h later)
@@ -89,7 +97,8 @@ Both settings h = Ordered settings h × IsAccounted h
 abbrev pub BothAfter : Settings → PrimaryHistory → Type 0
 BothAfter settings h = OrderedAfter settings h × IsAccounted h
 
-both-release : (settings : Settings) (h later : PrimaryHistory) → IsRelease h later → Both settings h → BothAfter settings later → BothAfter settings (releasing h later)
+both-release : (settings : Settings) (h later : PrimaryHistory) → IsRelease h later → Both settings h → BothAfter settings later
+    → BothAfter settings (releasing h later)
 both-release settings h later release p q =
     let ordered = ordered-release settings h later release p.0 q.0 in
     (ordered, account-release h later (λ block cleared. release-clears settings h later block p.0 q.0.1.1.0.0 q.0.1.0 release cleared) q.0.1.1.1 ordered.0 q.1)
@@ -101,9 +110,13 @@ both-released settings = record {
 }
 
 -- Every run of a primary keeps both.
-pub accounted-run : (settings : Settings) (disk : BlockMap) (tuple : Tuple) (marks : ℕ → Bool) (events : List PrimaryEvent) → IsInRange settings → ((block : ℕ) → block < settings.blocks → is_some (disk block) ≡ true)
-    → Ordered settings (primary_run events (primary_opening settings disk tuple marks)) × IsAccounted (primary_run events (primary_opening settings disk tuple marks))
+pub accounted-run : (settings : Settings) (disk : BlockMap) (tuple : Tuple) (marks : ℕ → Bool) (events : List PrimaryEvent) → IsInRange settings
+    → ((block : ℕ) → block < settings.blocks → is_some (disk block) ≡ true)
+    → Ordered settings (primary_run events (primary_opening settings disk tuple marks))
+    × IsAccounted (primary_run events (primary_opening settings disk tuple marks))
 accounted-run settings disk tuple marks events range sized =
     let opening = ordered-opening settings disk tuple marks sized in
-    keeps-run (Both settings) (BothAfter settings) (both-kept (Ordered settings) (OrderedAfter settings) IsAccounted IsAccounted (in-order-kept settings range.max_epoch.0) accounted-kept) (both-released settings) events (primary_opening settings disk tuple marks)
+    keeps-run (Both settings) (BothAfter settings)
+    (both-kept (Ordered settings) (OrderedAfter settings) IsAccounted IsAccounted (in-order-kept settings (takes-writes settings range)) accounted-kept)
+    (both-released settings) events (primary_opening settings disk tuple marks)
     (opening, accounted-opening settings disk tuple marks opening.0)

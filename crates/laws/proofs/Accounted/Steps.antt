@@ -1,5 +1,6 @@
 -- The moves that neither accept a write nor begin, clear or close anything keep the account of unmarked blocks.
-use Rattle.std.proofs.Common.{ℕ, ◌≡◌, ◌-◌, ◌+◌, ◌<◌, ◌⊎◌, inl, inr, Bool, true, false, List, [], ◌∷◌, ◌++◌, length, Some, None, slice_get, refl, sym, ◌∙◌, ap, subst, arith, nat_lt, nat_le}
+use Rattle.std.proofs.Common.{ℕ, ◌≡◌, ◌-◌, ◌+◌, ◌<◌, ◌⊎◌, inl, inr, Bool, true, false, List, [], ◌∷◌, ◌++◌, length, Some, None, slice_get, refl, sym, ◌∙◌, ap}
+use Rattle.std.proofs.Common.{subst, arith, nat_lt, nat_le}
 use Rattle.std.specs.Prelude.{if◌then◌else◌}
 use Rattle.std.proofs.lemmas.Bool.{cases_Bool, both_ways, and_parts, ltb-true}
 use Rattle.blocks.specs.declared.settings.Settings.{Settings}
@@ -31,17 +32,21 @@ pub record KeepsEnd (c d : Outward) : Type 0 where
 
 -- each write is still there, and does not wait again
 abbrev pub StayThere : List Accepted → List Accepted → Type 0
-StayThere ws vs = (i : ℕ) (a : Accepted) → slice_get ws i ≡ Some a → (b : Accepted) × (slice_get vs i ≡ Some b) × (b.write ≡ a.write) × (b.home ≡ a.home) × (is_waiting a.outcome ≡ false → is_waiting b.outcome ≡ false)
+StayThere ws vs = (i : ℕ) (a : Accepted) → slice_get ws i ≡ Some a
+    → (b : Accepted) × (slice_get vs i ≡ Some b) × (b.write ≡ a.write) × (b.home ≡ a.home) × (is_waiting a.outcome ≡ false → is_waiting b.outcome ≡ false)
 
 -- a change of the last connection
-pub grows-change : (h later : PrimaryHistory) (f : Outward → Outward) → later.connections ≡ change_last f h.connections → Grows (outward h) (f (outward h)) → AllGrow h.connections later.connections
-grows-change h later f connections grows = subst (AllGrow h.connections) (sym connections) (λ k c at. elim (get-change f (no_outward h.tuple) h.connections k c at) [
-  | inl same ↦ (c, same, grows-self c)
-  | inr changed ↦ (f c, changed.0, subst (λ (x : Outward). Grows x (f x)) (sym changed.1) grows)
-])
+pub grows-change : (h later : PrimaryHistory) (f : Outward → Outward) → later.connections ≡ change_last f h.connections → Grows (outward h) (f (outward h))
+    → AllGrow h.connections later.connections
+grows-change h later f connections grows = subst (AllGrow h.connections) (sym connections)
+    (λ k c at. elim (get-change f (no_outward h.tuple) h.connections k c at) [
+      | inl same ↦ (c, same, grows-self c)
+      | inr changed ↦ (f c, changed.0, subst (λ (x : Outward). Grows x (f x)) (sym changed.1) grows)
+    ])
 
 -- a change of the last connection that keeps its end carries what accounts for a block
-pub carries-change : (h later : PrimaryHistory) (f : Outward → Outward) → later.connections ≡ change_last f h.connections → StayThere h.writes later.writes → KeepsEnd (outward h) (f (outward h)) → Carries h later
+pub carries-change : (h later : PrimaryHistory) (f : Outward → Outward) → later.connections ≡ change_last f h.connections → StayThere h.writes later.writes
+    → KeepsEnd (outward h) (f (outward h)) → Carries h later
 carries-change h later f connections writes keeps = record {
   grow = grows-change h later f connections keeps.grows;
   former = λ k d at. elim (get-change-back f (no_outward h.tuple) h.connections k d (subst (λ (l : List Outward). slice_get l k ≡ Some d) connections at)) [
@@ -57,20 +62,22 @@ carries-change h later f connections writes keeps = record {
 }
 
 -- a change of the last connection that begins nothing
-pub begun-change : (h later : PrimaryHistory) (f : Outward → Outward) → later.connections ≡ change_last f h.connections → (f (outward h)).begun ≡ (outward h).begun
+pub begun-change : (h later : PrimaryHistory) (f : Outward → Outward) → later.connections ≡ change_last f h.connections
+    → (f (outward h)).begun ≡ (outward h).begun
     → IsBeginning (outward h).taken (f (outward h)).taken → KeepsBegun h later
 begun-change h later f connections begun taken =
     let none : Outward = no_outward h.tuple in
     record {
-      forward = λ k c at was. subst (λ (l : List Outward). (d : Outward) × (slice_get l k ≡ Some d) × (d.begun ≡ true) × IsBeginning c.taken d.taken) (sym connections) (elim (get-change f none h.connections k c at) [
-        | inl same ↦ (c, same, was, begins-self c.taken)
-        | inr changed ↦ (
-          f c,
-          changed.0,
-          subst (λ (x : Outward). (f x).begun ≡ x.begun) (sym changed.1) begun ∙ was,
-          subst (λ (x : Outward). IsBeginning x.taken (f x).taken) (sym changed.1) taken,
-        )
-      ]);
+      forward = λ k c at was. subst (λ (l : List Outward). (d : Outward) × (slice_get l k ≡ Some d) × (d.begun ≡ true) × IsBeginning c.taken d.taken)
+          (sym connections) (elim (get-change f none h.connections k c at) [
+            | inl same ↦ (c, same, was, begins-self c.taken)
+            | inr changed ↦ (
+              f c,
+              changed.0,
+              subst (λ (x : Outward). (f x).begun ≡ x.begun) (sym changed.1) begun ∙ was,
+              subst (λ (x : Outward). IsBeginning x.taken (f x).taken) (sym changed.1) taken,
+            )
+          ]);
       back = λ k d at. elim (get-change-back f none h.connections k d (subst (λ (l : List Outward). slice_get l k ≡ Some d) connections at)) [
         | inl same ↦ inl (d, same, refl)
         | inr changed ↦ inl (outward h, changed.1, subst (λ (x : Outward). x.begun ≡ (outward h).begun) (sym changed.0) begun)
@@ -79,10 +86,12 @@ begun-change h later f connections begun taken =
 
 -- What is said of the streams that began.
 abbrev pub Began : PrimaryHistory → Type 0
-Began h = NoneBegan h ⊎ ((decided : Decision) × FirstBegan h decided × (decided ≡ FullSync → (block : ℕ) → block < h.settings.blocks → h.marks block ≡ false → latest h.connections block ≡ None → ⊥))
+Began h = NoneBegan h ⊎ ((decided : Decision) × FirstBegan h decided × (decided ≡ FullSync → (block : ℕ) → block < h.settings.blocks → h.marks block ≡ false
+    → latest h.connections block ≡ None → ⊥))
 
 -- a block that a write has lies in the device
-pub covered-inside : (h : PrimaryHistory) → IsKnown h → (i block : ℕ) (b : Accepted) → slice_get h.writes i ≡ Some b → covers b.write block ≡ true → block < h.settings.blocks
+pub covered-inside : (h : PrimaryHistory) → IsKnown h → (i block : ℕ) (b : Accepted) → slice_get h.writes i ≡ Some b → covers b.write block ≡ true
+    → block < h.settings.blocks
 covered-inside h known i block b at covered =
     let parts = and_parts (nat_le b.write.first block) (nat_lt block (b.write.first + length b.write.contents)) covered in
     let before : block < b.write.first + length b.write.contents = ltb-true block (b.write.first + length b.write.contents) parts.1 in
@@ -90,7 +99,8 @@ covered-inside h known i block b at covered =
     omega arith
 
 -- Nothing closes, no mark of the device goes, and no block gets another last item: all is accounted for as before.
-pub accounted-from : (h later : PrimaryHistory) → IsAccounted h → IsKnown later → Carries h later → ComeFrom h later → later.settings ≡ h.settings → later.opening_marks ≡ h.opening_marks → Began later
+pub accounted-from : (h later : PrimaryHistory) → IsAccounted h → IsKnown later → Carries h later → ComeFrom h later → later.settings ≡ h.settings
+    → later.opening_marks ≡ h.opening_marks → Began later
     → ((block : ℕ) → block < later.settings.blocks → later.marks block ≡ false → h.marks block ≡ false)
     → ((block : ℕ) → later.marks block ≡ false → latest later.connections block ≡ latest h.connections block) → IsAccounted later
 accounted-from h later accounted known carries come settings opening_marks began marks last = record {
@@ -103,39 +113,49 @@ accounted-from h later accounted known carries come settings opening_marks began
       ];
   settled = λ block touch unmarked is.
       let was : latest h.connections block ≡ Some touch = sym (last block unmarked) ∙ is in
-      settled-carries h later block touch accounted carries (latest-at h.connections block touch was) (marks block (known.tracked.items_inside block touch is) unmarked) was is;
+      settled-carries h later block touch accounted carries (latest-at h.connections block touch was)
+      (marks block (known.tracked.items_inside block touch is) unmarked) was is;
   untouched = λ block inside unmarked none.
-      ap (λ (m : ℕ → Bool). m block) opening_marks ∙ accounted.untouched block (subst (λ (s : Settings). block < s.blocks) settings inside) (marks block inside unmarked) (sym (last block unmarked) ∙ none);
+      ap (λ (m : ℕ → Bool). m block) opening_marks
+      ∙ accounted.untouched block (subst (λ (s : Settings). block < s.blocks) settings inside) (marks block inside unmarked) (sym (last block unmarked)
+      ∙ none);
   began = began;
 }
 
 -- what began carries over
-pub began-carries : (h later : PrimaryHistory) → KeepsBegun h later → later.settings ≡ h.settings → later.opening_tuple ≡ h.opening_tuple → (NoneBegan h → later.tuple ≡ h.tuple)
-    → ((block : ℕ) → block < later.settings.blocks → later.marks block ≡ false → latest later.connections block ≡ None → (h.marks block ≡ false) × (latest h.connections block ≡ None)) → Began h → Began later
+pub began-carries : (h later : PrimaryHistory) → KeepsBegun h later → later.settings ≡ h.settings → later.opening_tuple ≡ h.opening_tuple
+    → (NoneBegan h → later.tuple ≡ h.tuple)
+    → ((block : ℕ) → block < later.settings.blocks → later.marks block ≡ false → latest later.connections block ≡ None
+    → (h.marks block ≡ false) × (latest h.connections block ≡ None)) → Began h → Began later
 began-carries h later keeps settings opening_tuple tuple clean began = elim began [
   | inl none ↦ inl (none-carries h later keeps opening_tuple (tuple none) none)
   | inr first ↦ inr (
     first.0,
     first-carries h later first.0 keeps opening_tuple first.1,
-    λ full block inside unmarked none. let was = clean block inside unmarked none in first.2 full block (subst (λ (s : Settings). block < s.blocks) settings inside) was.0 was.1,
+    λ full block inside unmarked none. let was = clean block inside unmarked none in first.2 full block
+        (subst (λ (s : Settings). block < s.blocks) settings inside) was.0 was.1,
   )
 ]
 
 -- a move that carries it and touches no block keeps the account
 pub accounted-carries : (h later : PrimaryHistory) → IsAccounted h → IsKnown later → Carries h later → ComeFrom h later → KeepsBegun h later
     → later.settings ≡ h.settings → later.opening_marks ≡ h.opening_marks → later.opening_tuple ≡ h.opening_tuple → (NoneBegan h → later.tuple ≡ h.tuple)
-    → ((block : ℕ) → later.marks block ≡ false → h.marks block ≡ false) → ((block : ℕ) → later.marks block ≡ false → latest later.connections block ≡ latest h.connections block) → IsAccounted later
+    → ((block : ℕ) → later.marks block ≡ false → h.marks block ≡ false)
+    → ((block : ℕ) → later.marks block ≡ false → latest later.connections block ≡ latest h.connections block) → IsAccounted later
 accounted-carries h later accounted known carries come keeps settings opening_marks opening_tuple tuple marks last =
     accounted-from h later accounted known carries come settings opening_marks
-    (began-carries h later keeps settings opening_tuple tuple (λ block inside unmarked none. (marks block unmarked, sym (last block unmarked) ∙ none)) accounted.began) (λ block inside unmarked. marks block unmarked) last
+    (began-carries h later keeps settings opening_tuple tuple (λ block inside unmarked none. (marks block unmarked, sym (last block unmarked) ∙ none))
+    accounted.began) (λ block inside unmarked. marks block unmarked) last
 
 -- the same, where the last connection changes and its stream does not
 pub accounted-change : (h later : PrimaryHistory) (f : Outward → Outward) → IsAccounted h → IsKnown later → later.connections ≡ change_last f h.connections
-    → KeepsWrites h.writes later.writes → KeepsEnd (outward h) (f (outward h)) → (f (outward h)).begun ≡ (outward h).begun → (f (outward h)).stream ≡ (outward h).stream
+    → KeepsWrites h.writes later.writes → KeepsEnd (outward h) (f (outward h)) → (f (outward h)).begun ≡ (outward h).begun
+    → (f (outward h)).stream ≡ (outward h).stream
     → later.settings ≡ h.settings → later.opening_marks ≡ h.opening_marks → later.opening_tuple ≡ h.opening_tuple → (NoneBegan h → later.tuple ≡ h.tuple)
     → ((block : ℕ) → later.marks block ≡ false → h.marks block ≡ false) → IsAccounted later
 accounted-change h later f accounted known connections writes keeps begun stream settings opening_marks opening_tuple tuple marks =
-    accounted-carries h later accounted known (carries-change h later f connections writes.forward keeps) writes.back (begun-change h later f connections begun keeps.taken) settings opening_marks opening_tuple tuple marks
+    accounted-carries h later accounted known (carries-change h later f connections writes.forward keeps) writes.back
+    (begun-change h later f connections begun keeps.taken) settings opening_marks opening_tuple tuple marks
     (λ block unmarked. ap (λ (l : List Outward). latest l block) connections ∙ latest-same-last (no_outward h.tuple) f h.connections block stream)
 
 -- no connection changes
@@ -143,19 +163,29 @@ pub keeps-end : (c : Outward) → KeepsEnd c c
 keeps-end c = record { grows = grows-self c; closed = λ x. x; taken = begins-self c.taken }
 
 -- a move that changes no connection keeps the account
-pub accounted-still : (h later : PrimaryHistory) → IsAccounted h → IsKnown later → later.connections ≡ h.connections → KeepsWrites h.writes later.writes → later.settings ≡ h.settings
+pub accounted-still : (h later : PrimaryHistory) → IsAccounted h → IsKnown later → later.connections ≡ h.connections → KeepsWrites h.writes later.writes
+    → later.settings ≡ h.settings
     → later.opening_marks ≡ h.opening_marks → later.opening_tuple ≡ h.opening_tuple
     → (NoneBegan h → later.tuple ≡ h.tuple) → ((block : ℕ) → later.marks block ≡ false → h.marks block ≡ false) → IsAccounted later
 accounted-still h later accounted known connections writes settings opening_marks opening_tuple tuple marks =
-    accounted-change h later (λ c. c) accounted known (connections ∙ sym (change-none h.connections)) writes (keeps-end (outward h)) refl refl settings opening_marks opening_tuple tuple marks
+    accounted-change h later (λ c. c) accounted known (connections
+    ∙ sym (change-none h.connections)) writes (keeps-end (outward h)) refl refl settings opening_marks opening_tuple tuple marks
 
 -- one more frame was pushed, or taken
 pub keeps-pushed : (c : Outward) → KeepsEnd c (pushing c)
-keeps-pushed c = record { grows = record { stream = begins-self c.stream; pushed = omega arith; frames = begins-self (accepted_frames c) }; closed = λ x. x; taken = begins-self c.taken }
+keeps-pushed c = record {
+  grows = record { stream = begins-self c.stream; pushed = omega arith; frames = begins-self (accepted_frames c) };
+  closed = λ x. x;
+  taken = begins-self c.taken;
+}
 
 -- an end that takes a frame more is kept
 pub keeps-taken : (c : Outward) (frame : Received) → c.refused ≡ false → KeepsEnd c (with_frame frame c)
-keeps-taken c frame plain = record { grows = record { stream = begins-self c.stream; pushed = omega arith; frames = frames-taking c frame plain }; closed = λ x. x; taken = (frame ∷ [], refl) }
+keeps-taken c frame plain = record {
+  grows = record { stream = begins-self c.stream; pushed = omega arith; frames = frames-taking c frame plain };
+  closed = λ x. x;
+  taken = (frame ∷ [], refl);
+}
 
 -- the open end has refused nothing
 pub open-plain : (h : PrimaryHistory) → HasHomes h → (outward h).closed ≡ false → (outward h).refused ≡ false
@@ -173,17 +203,25 @@ pub begun-some : (h : PrimaryHistory) → (outward h).begun ≡ true → h.conne
 begun-some h begun none = both_ways (outward h).begun (ap (λ (l : List Outward). (last_of (no_outward h.tuple) l).begun) none) begun
 
 -- An item that touches marked blocks alone, or none, goes to the end of the stream.
-pub accounted-appending : (h later : PrimaryHistory) (item : Item) → ((block : ℕ) → h.marks block ≡ false → touches item block ≡ false) → IsAccounted h → IsKnown later
+pub accounted-appending : (h later : PrimaryHistory) (item : Item) → ((block : ℕ) → h.marks block ≡ false → touches item block ≡ false) → IsAccounted h
+    → IsKnown later
     → (outward h).begun ≡ true → later.connections ≡ change_last (λ c. record c { stream = c.stream ++ item ∷ [] }) h.connections
-    → later.writes ≡ h.writes → later.settings ≡ h.settings → later.opening_marks ≡ h.opening_marks → later.opening_tuple ≡ h.opening_tuple → later.marks ≡ h.marks → IsAccounted later
+    → later.writes ≡ h.writes → later.settings ≡ h.settings → later.opening_marks ≡ h.opening_marks → later.opening_tuple ≡ h.opening_tuple
+    → later.marks ≡ h.marks → IsAccounted later
 accounted-appending h later item none accounted known begun connections writes settings opening_marks opening_tuple marks =
     let f : Outward → Outward = λ c. record c { stream = c.stream ++ item ∷ [] } in
     let keeps : KeepsEnd (outward h) (f (outward h)) =
-    record { grows = record { stream = (item ∷ [], refl); pushed = omega arith; frames = begins-self (accepted_frames (outward h)) }; closed = λ x. x; taken = begins-self (outward h).taken } in
+    record {
+      grows = record { stream = (item ∷ [], refl); pushed = omega arith; frames = begins-self (accepted_frames (outward h)) };
+      closed = λ x. x;
+      taken = begins-self (outward h).taken;
+    } in
     let kept : KeepsWrites h.writes later.writes = subst (KeepsWrites h.writes) (sym writes) (keeps-writes h.writes) in
-    accounted-carries h later accounted known (carries-change h later f connections kept.forward keeps) kept.back (begun-change h later f connections refl keeps.taken) settings opening_marks opening_tuple
+    accounted-carries h later accounted known (carries-change h later f connections kept.forward keeps) kept.back
+    (begun-change h later f connections refl keeps.taken) settings opening_marks opening_tuple
     (λ began. absurd (both_ways (outward h).begun (began.none (length h.connections - 1) (outward h) (begun-at h begun)) begun))
     (λ block unmarked. ap (λ (m : ℕ → Bool). m block) (sym marks) ∙ unmarked)
     (λ block unmarked. ap (λ (l : List Outward). latest l block) connections
     ∙ (latest-appended (no_outward h.tuple) f item h.connections block (begun-some h begun) refl
-    ∙ ap (λ b. if b then Some (record { connection = last_index h.connections; place = length (outward h).stream; item = item }) else latest h.connections block) (none block (ap (λ (m : ℕ → Bool). m block) (sym marks) ∙ unmarked))))
+    ∙ ap (λ b. if b then Some (record { connection = last_index h.connections; place = length (outward h).stream; item = item })
+    else latest h.connections block) (none block (ap (λ (m : ℕ → Bool). m block) (sym marks) ∙ unmarked))))

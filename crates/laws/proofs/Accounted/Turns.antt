@@ -1,27 +1,32 @@
 -- Accepting a write and the close of an end keep the account of unmarked blocks.
-use Rattle.std.proofs.Common.{ℕ, ◌≡◌, ◌-◌, ◌<◌, inl, inr, Bool, true, false, not, ◌&&◌, ◌||◌, List, [], ◌∷◌, ◌++◌, length, Option, Some, None, slice_get, refl, sym, ◌∙◌, ap, subst, arith}
+use Rattle.std.proofs.Common.{ℕ, ◌≡◌, ◌-◌, ◌<◌, inl, inr, Bool, true, false, not, ◌&&◌, ◌||◌, List, [], ◌∷◌, ◌++◌, length, Option, Some, None, slice_get, refl}
+use Rattle.std.proofs.Common.{sym, ◌∙◌, ap, subst, arith}
 use Rattle.std.specs.Prelude.{if◌then◌else◌}
 use Rattle.std.specs.List.{list_any}
-use Rattle.std.proofs.lemmas.Bool.{cases_Bool, both_ways, or_parts, or_left, or_right}
+use Rattle.std.proofs.lemmas.Bool.{cases_Bool, both_ways}
 use Rattle.std.proofs.lemmas.List.{append-nil}
+use Rattle.blocks.specs.Positions.{StreamPosition}
 use Rattle.blocks.specs.declared.tuple.Tuple.{Tuple}
 use Rattle.model.specs.Contents.{Write, covers}
 use Rattle.model.specs.Stream.{Item, WriteItem, IsBeginning, epoch_of}
 use Rattle.model.specs.Frames.{Received}
 use Rattle.model.specs.Identifiers.{lost}
 use Rattle.model.specs.Marks.{marking}
-use Rattle.model.specs.Primary.{Waiting, Accepted, Outward, PrimaryHistory, no_outward, last_of, outward, last_index, change_last, with_outward, stands, accepted_frames, is_waiting, is_alone, is_confirmed, is_released, unreleased, barrier_acknowledged, is_barrier_ack}
+use Rattle.model.specs.Primary.{Waiting, Accepted, Outward, PrimaryHistory, no_outward, last_of, outward, last_index, change_last, with_outward, stands}
+use Rattle.model.specs.Primary.{accepted_frames, is_waiting, is_alone, is_confirmed, is_released, unreleased, barrier_acknowledged, is_barrier_ack}
 use Rattle.model.specs.PrimarySteps.{appending, submission, submitted, closing}
+use Rattle.laws.proofs.Rules.CloseMarks.{close-parts}
+use Rattle.laws.proofs.Rules.Marking.{unmarked-by, marked-still, marked-covered}
 use Rattle.laws.specs.Reflections.{touches}
 use Rattle.laws.proofs.Lists.Beginnings.{begins-self}
 use Rattle.laws.proofs.Lists.Last.{get-change, get-last-changed, change-twice, last-change}
 use Rattle.laws.proofs.Primary.Moves.{with_frame, refusing}
 use Rattle.laws.proofs.Primary.Homes.{alone-homeless, told-at, HasHomes, Grows, grows-self, AllGrow, open-at, alone-at}
-use Rattle.laws.proofs.Blocks.Latest.{Touch, latest}
+use Rattle.laws.proofs.Blocks.Latest.{latest}
 use Rattle.laws.proofs.Blocks.LatestMoves.{latest-same-last, latest-appended}
 use Rattle.laws.proofs.Blocks.LatestPlaces.{latest-at}
 use Rattle.laws.proofs.Tracked.Kept.{IsKnown}
-use Rattle.laws.proofs.Accounted.{IsAccounted, Carries, KeepsBegun, held-covers}
+use Rattle.laws.proofs.Accounted.{home-of, IsAccounted, Carries, KeepsBegun, held-covers}
 use Rattle.laws.proofs.Accounted.Moves.{sure-carries, settled-carries, alone-before}
 use Rattle.laws.proofs.Accounted.Steps.{KeepsEnd, open-plain, begun-some, grows-change, carries-change, begun-change, began-carries}
 use Rattle.laws.proofs.Lists.Elements.{get-left, get-more, get-end, same-at}
@@ -30,14 +35,18 @@ use Rattle.laws.proofs.Primary.Ends.{stands-parts, frames-refusing}
 -- The end closes.
 
 -- what a close does: the end's last frame may be refused, its stream stays, and all that is not released is marked
-pub account-shuts : (h later : PrimaryHistory) (f : Outward → Outward) → (outward h).closed ≡ false → IsAccounted h → IsKnown later → later.connections ≡ change_last f h.connections
+pub account-shuts : (h later : PrimaryHistory) (f : Outward → Outward) → (outward h).closed ≡ false → IsAccounted h → IsKnown later
+    → later.connections ≡ change_last f h.connections
     → later.writes ≡ h.writes → Grows (outward h) (f (outward h)) → (f (outward h)).stream ≡ (outward h).stream → (f (outward h)).begun ≡ (outward h).begun
     → IsBeginning (outward h).taken (f (outward h)).taken
-    → later.settings ≡ h.settings → later.opening_marks ≡ h.opening_marks → later.opening_tuple ≡ h.opening_tuple → ((outward h).begun ≡ false → later.tuple ≡ h.tuple)
-    → ((block : ℕ) → later.marks block ≡ false → (h.marks block ≡ false) × ((i : ℕ) (a : Accepted) → slice_get h.writes i ≡ Some a → is_released h a ≡ false → covers a.write block ≡ false)) → IsAccounted later
+    → later.settings ≡ h.settings → later.opening_marks ≡ h.opening_marks → later.opening_tuple ≡ h.opening_tuple
+    → ((outward h).begun ≡ false → later.tuple ≡ h.tuple)
+    → ((block : ℕ) → later.marks block ≡ false → (h.marks block ≡ false) × ((i : ℕ) (a : Accepted) → slice_get h.writes i ≡ Some a → is_released h a ≡ false
+    → covers a.write block ≡ false)) → IsAccounted later
 account-shuts h later f standing accounted known connections writes grows stream begun taken settings opening_marks opening_tuple tuple marks =
     let grow : AllGrow h.connections later.connections = grows-change h later f connections grows in
-    let last : (block : ℕ) → latest later.connections block ≡ latest h.connections block = λ block. ap (λ (l : List Outward). latest l block) connections ∙ latest-same-last (no_outward h.tuple) f h.connections block stream in
+    let last : (block : ℕ) → latest later.connections block ≡ latest h.connections block = λ block. ap (λ (l : List Outward). latest l block) connections
+    ∙ latest-same-last (no_outward h.tuple) f h.connections block stream in
     record {
       known = known;
       waiting = λ i block b at alone waits covered. elim (cases_Bool (later.marks block)) [
@@ -56,17 +65,21 @@ account-shuts h later f standing accounted known connections writes grows stream
                 let a : Accepted = held.1 in
                 let home = accounted.known.tracked.homes.housed held.0 touch.connection touch.place a held.2 held.3 in
                 let same : there.0 ≡ home.0 = same-at h.connections touch.connection there.0 home.0 there.1 home.1 in
-                let item : touch.item ≡ WriteItem a.write = same-at home.0.stream touch.place touch.item (WriteItem a.write) (subst (λ (c : Outward). slice_get c.stream touch.place ≡ Some touch.item) same there.2) home.2 in
+                let item : touch.item ≡ WriteItem a.write = same-at home.0.stream touch.place touch.item (WriteItem a.write)
+                (subst (λ (c : Outward). slice_get c.stream touch.place ≡ Some touch.item) same there.2) home.2 in
                 both_ways (covers a.write block) (clean.1 held.0 a held.2 held.4) (subst (λ (x : Item). touches x block ≡ true) item there.3))
           ];
       untouched =
-          λ block inside unmarked none. ap (λ (m : ℕ → Bool). m block) opening_marks ∙ accounted.untouched block (subst (λ s. block < s) (ap (λ s. s.blocks) settings) inside) (marks block unmarked).0 (sym (last block) ∙ none);
-      began = began-carries h later (begun-change h later f connections begun taken) settings opening_tuple (λ none. tuple (none.none (length h.connections - 1) (outward h) (open-at h standing)))
+          λ block inside unmarked none. ap (λ (m : ℕ → Bool). m block) opening_marks
+          ∙ accounted.untouched block (subst (λ s. block < s) (ap (λ s. s.blocks) settings) inside) (marks block unmarked).0 (sym (last block) ∙ none);
+      began = began-carries h later (begun-change h later f connections begun taken) settings opening_tuple
+          (λ none. tuple (none.none (length h.connections - 1) (outward h) (open-at h standing)))
           (λ block inside unmarked none. ((marks block unmarked).0, sym (last block) ∙ none)) accounted.began;
     }
 
 -- a test that no element of a filtered list passes
-none-unreleased : (h : PrimaryHistory) (block i : ℕ) (a : Accepted) → list_any (λ (x : Accepted). covers x.write block) (unreleased h) ≡ false → slice_get h.writes i ≡ Some a
+none-unreleased : (h : PrimaryHistory) (block i : ℕ) (a : Accepted) → list_any (λ (x : Accepted). covers x.write block) (unreleased h) ≡ false
+    → slice_get h.writes i ≡ Some a
     → is_released h a ≡ false → covers a.write block ≡ false
 none-unreleased h block i a none at held = elim (cases_Bool (covers a.write block)) [
   | inl covered ↦ absurd (both_ways (list_any (λ (x : Accepted). covers x.write block) (unreleased h)) none (held-covers h block i a at held covered))
@@ -80,15 +93,17 @@ tuple-stays loss t b new = ap (λ x. if x then lost loss t else t) new
 -- the close of an end keeps the account
 pub account-closes : (h : PrimaryHistory) → (outward h).closed ≡ false → IsAccounted h → IsKnown (closing h) → IsAccounted (closing h)
 account-closes h standing accounted known = account-shuts h (closing h) (λ c. record c { closed = true }) standing accounted known refl refl
-    (record { stream = begins-self (outward h).stream; pushed = omega arith; frames = begins-self (accepted_frames (outward h)) }) refl refl (begins-self (outward h).taken) refl refl refl (λ new. tuple-stays (outward h).loss h.tuple (outward h).begun new)
+    (record { stream = begins-self (outward h).stream; pushed = omega arith; frames = begins-self (accepted_frames (outward h)) }) refl refl
+    (begins-self (outward h).taken) refl refl refl (λ new. tuple-stays (outward h).loss h.tuple (outward h).begun new)
     (λ block unmarked.
-    let parts = or_parts (h.marks block) (list_any (λ (x : Accepted). covers x.write block) (unreleased h)) unmarked in
+    let parts = close-parts h block unmarked in
     (parts.0, λ i a at held. none-unreleased h block i a parts.1 at held))
 
 -- A refused frame releases nothing.
 
 -- a change of the last connection that neither accepts a frame nor closes the end
-same-released : (h later : PrimaryHistory) (f : Outward → Outward) → HasHomes h → later.connections ≡ change_last f h.connections → (f (outward h)).stream ≡ (outward h).stream
+same-released : (h later : PrimaryHistory) (f : Outward → Outward) → HasHomes h → later.connections ≡ change_last f h.connections
+    → (f (outward h)).stream ≡ (outward h).stream
     → accepted_frames (f (outward h)) ≡ accepted_frames (outward h) → (f (outward h)).closed ≡ (outward h).closed
     → (i : ℕ) (a : Accepted) → slice_get h.writes i ≡ Some a → is_released later a ≡ is_released h a
 same-released h later f homes connections stream frames closed i a at = go a.home refl
@@ -98,11 +113,13 @@ same-released h later f homes connections stream frames closed i a at = go a.hom
         → (barrier_acknowledged d (epoch_of d.stream place) || d.closed) ≡ (barrier_acknowledged c (epoch_of c.stream place) || c.closed)
     alike c d place s fr cl =
         ap (λ (l : List Item). list_any (is_barrier_ack (epoch_of l place)) (accepted_frames d) || d.closed) s
-        ∙ (ap (λ (l : List Received). list_any (is_barrier_ack (epoch_of c.stream place)) l || d.closed) fr ∙ ap (λ b. barrier_acknowledged c (epoch_of c.stream place) || b) cl)
+        ∙ (ap (λ (l : List Received). list_any (is_barrier_ack (epoch_of c.stream place)) l || d.closed) fr
+        ∙ ap (λ b. barrier_acknowledged c (epoch_of c.stream place) || b) cl)
 
-    go : (v : Option (ℕ × ℕ)) → a.home ≡ v → is_released later a ≡ is_released h a
+    go : (v : Option StreamPosition) → a.home ≡ v → is_released later a ≡ is_released h a
     go None is =
-        let one : (g : PrimaryHistory) → is_released g a ≡ not (is_waiting a.outcome) = λ g. ap (λ b. not (is_waiting a.outcome) && (is_confirmed g a || b)) (alone-homeless g a is) ∙ always (not (is_waiting a.outcome)) (is_confirmed g a) in
+        let one : (g : PrimaryHistory) → is_released g a ≡ not (is_waiting a.outcome) = λ g. ap (λ b. not (is_waiting a.outcome) && (is_confirmed g a || b))
+        (alone-homeless g a is) ∙ always (not (is_waiting a.outcome)) (is_confirmed g a) in
         one later ∙ sym (one h)
       where
         always : (x y : Bool) → (x && (y || true)) ≡ x
@@ -110,14 +127,18 @@ same-released h later f homes connections stream frames closed i a at = go a.hom
         always true false = refl
         always false y = refl
     go (Some home) is =
-        let was = homes.housed i home.0 home.1 a at is in
-        let both : (g : PrimaryHistory) (c : Outward) → slice_get g.connections home.0 ≡ Some c → is_released g a ≡ (not (is_waiting a.outcome) && (barrier_acknowledged c (epoch_of c.stream home.1) || c.closed)) =
+        let was = homes.housed i home.index home.place a at is in
+        let both : (g : PrimaryHistory) (c : Outward) → slice_get g.connections home.index ≡ Some c
+        → is_released g a ≡ (not (is_waiting a.outcome) && (barrier_acknowledged c (epoch_of c.stream home.place) || c.closed)) =
         λ g c there. ap (λ b. not (is_waiting a.outcome) && b) (told-at g a home c is there) in
-        elim (get-change f (no_outward h.tuple) h.connections home.0 was.0 was.1) [
-          | inl same ↦ both later was.0 (subst (λ (l : List Outward). slice_get l home.0 ≡ Some was.0) (sym connections) same) ∙ sym (both h was.0 was.1)
+        elim (get-change f (no_outward h.tuple) h.connections home.index was.0 was.1) [
+          | inl same ↦ both later was.0 (subst (λ (l : List Outward). slice_get l home.index ≡ Some was.0) (sym connections) same) ∙ sym (both h was.0 was.1)
           | inr changed ↦
-              both later (f was.0) (subst (λ (l : List Outward). slice_get l home.0 ≡ Some (f was.0)) (sym connections) changed.0)
-              ∙ (ap (λ b. not (is_waiting a.outcome) && b) (subst (λ (x : Outward). (barrier_acknowledged (f x) (epoch_of (f x).stream home.1) || (f x).closed) ≡ (barrier_acknowledged x (epoch_of x.stream home.1) || x.closed)) (sym changed.1) (alike (outward h) (f (outward h)) home.1 stream frames closed))
+              both later (f was.0) (subst (λ (l : List Outward). slice_get l home.index ≡ Some (f was.0)) (sym connections) changed.0)
+              ∙ (ap (λ b. not (is_waiting a.outcome) && b)
+              (subst (λ (x : Outward). (barrier_acknowledged (f x) (epoch_of (f x).stream home.place) || (f x).closed) ≡
+              (barrier_acknowledged x (epoch_of x.stream home.place) || x.closed)) (sym changed.1)
+              (alike (outward h) (f (outward h)) home.place stream frames closed))
               ∙ sym (both h was.0 was.1))
         ]
 
@@ -132,50 +153,94 @@ account-refuses h frame peer standing accounted known =
     let plain = open-plain h accounted.known.tracked.homes standing in
     let twice : before.connections ≡ change_last g h.connections = change-twice (with_frame frame) refusing h.connections in
     let frames : accepted_frames (f (outward h)) ≡ accepted_frames (outward h) = frames-refusing (outward h) frame plain in
-    let ends : outward before ≡ g (outward h) = ap (last_of (no_outward h.tuple)) twice ∙ elim (last-change g (no_outward h.tuple) (no_outward h.tuple) h.connections) [
+    let ends : outward before ≡ g (outward h) = ap (last_of (no_outward h.tuple)) twice
+    ∙ elim (last-change g (no_outward h.tuple) (no_outward h.tuple) h.connections) [
       | inl none ↦ absurd (both_ways (outward h).closed standing (ap (λ (l : List Outward). (last_of (no_outward h.tuple) l).closed) none))
       | inr is ↦ is
     ] in
     account-shuts h (closing before) f standing accounted known
     (ap (change_last (λ (c : Outward). record c { closed = true })) twice ∙ change-twice g (λ c. record c { closed = true }) h.connections) refl
-    (record { stream = begins-self (outward h).stream; pushed = omega arith; frames = ([], append-nil (accepted_frames (outward h)) ∙ sym frames) }) refl refl (frame ∷ [], refl) refl refl refl
+    (record { stream = begins-self (outward h).stream; pushed = omega arith; frames = ([], append-nil (accepted_frames (outward h)) ∙ sym frames) }) refl refl
+    (frame ∷ [], refl) refl refl refl
     (λ new. tuple-stays (outward before).loss h.tuple (outward before).begun (ap (λ (c : Outward). c.begun) ends ∙ new))
     (λ block unmarked.
-    let parts = or_parts (h.marks block) (list_any (λ (x : Accepted). covers x.write block) (unreleased before)) unmarked in
-    (parts.0, λ i a at held. none-unreleased before block i a parts.1 at (same-released h before g accounted.known.tracked.homes twice refl frames refl i a at ∙ held)))
+    let parts = close-parts before block unmarked in (
+      parts.0,
+      λ i a at held. none-unreleased before block i a parts.1 at (same-released h before g accounted.known.tracked.homes twice refl frames refl i a at
+          ∙ held),
+    ))
 
 -- A write is accepted.
 
 -- a new write joins the others
 stay-and-one : (ws : List Accepted) (added : Accepted) (i : ℕ) (a : Accepted) → slice_get ws i ≡ Some a
-    → (b : Accepted) × (slice_get (ws ++ added ∷ []) i ≡ Some b) × (b.write ≡ a.write) × (b.home ≡ a.home) × (is_waiting a.outcome ≡ false → is_waiting b.outcome ≡ false)
+    → (b : Accepted) × (slice_get (ws ++ added ∷ []) i ≡ Some b) × (b.write ≡ a.write) × (b.home ≡ a.home) × (is_waiting a.outcome ≡ false
+    → is_waiting b.outcome ≡ false)
 stay-and-one ws added i a at = (a, get-left ws (added ∷ []) i a at, refl, refl, λ w. w)
 
 -- accepting a write keeps the account
-pub account-submits : (h : PrimaryHistory) (first : ℕ) (contents : List (List ℕ)) → IsAccounted h → IsKnown (submitted h first contents) → IsAccounted (submitted h first contents)
+pub account-submits : (h : PrimaryHistory) (first : ℕ) (contents : List (List ℕ)) → IsAccounted h → IsKnown (submitted h first contents)
+    → IsAccounted (submitted h first contents)
 account-submits h first contents accounted known = go (stands (outward h)) refl known
   where
     go : (b : Bool) → stands (outward h) ≡ b → IsKnown (elim b as (λ _. PrimaryHistory) [
-      | true ↦ appending (WriteItem (submission h first contents)) (record h { writes = h.writes ++ record { write = submission h first contents; journal_length = length h.journal; home = Some (last_index h.connections, length (outward h).stream); outcome = Waiting } ∷ [] })
-      | false ↦ record h { writes = h.writes ++ record { write = submission h first contents; journal_length = length h.journal; home = None; outcome = Waiting } ∷ []; marks = marking (submission h first contents) h.marks }
+      | true ↦ appending (WriteItem (submission h first contents))
+          (record h {
+            writes = h.writes ++ record {
+              write = submission h first contents;
+              journal_length = length h.journal;
+              home = Some (record { index = last_index h.connections; place = length (outward h).stream });
+              outcome = Waiting;
+            } ∷ [];
+          })
+      | false ↦ record h {
+        writes = h.writes ++ record {
+          write = submission h first contents;
+          journal_length = length h.journal;
+          home = None;
+          outcome = Waiting;
+        } ∷ [];
+        marks = marking (submission h first contents) h.marks;
+      }
     ]) → IsAccounted (elim b as (λ _. PrimaryHistory) [
-      | true ↦ appending (WriteItem (submission h first contents)) (record h { writes = h.writes ++ record { write = submission h first contents; journal_length = length h.journal; home = Some (last_index h.connections, length (outward h).stream); outcome = Waiting } ∷ [] })
-      | false ↦ record h { writes = h.writes ++ record { write = submission h first contents; journal_length = length h.journal; home = None; outcome = Waiting } ∷ []; marks = marking (submission h first contents) h.marks }
+      | true ↦ appending (WriteItem (submission h first contents))
+          (record h {
+            writes = h.writes ++ record {
+              write = submission h first contents;
+              journal_length = length h.journal;
+              home = Some (record { index = last_index h.connections; place = length (outward h).stream });
+              outcome = Waiting;
+            } ∷ [];
+          })
+      | false ↦ record h {
+        writes = h.writes ++ record {
+          write = submission h first contents;
+          journal_length = length h.journal;
+          home = None;
+          outcome = Waiting;
+        } ∷ [];
+        marks = marking (submission h first contents) h.marks;
+      }
     ])
     go false is known =
         let w : Write = submission h first contents in
         let added : Accepted = record { write = w; journal_length = length h.journal; home = None; outcome = Waiting } in
         let later : PrimaryHistory = record h { writes = h.writes ++ added ∷ []; marks = marking w h.marks } in
-        let carries : Carries h later = record { grow = λ k c at. (c, at, grows-self c); former = λ k d at. inl (d, at, λ c. c, begins-self d.taken); writes = stay-and-one h.writes added } in
+        let carries : Carries h later = record {
+          grow = λ k c at. (c, at, grows-self c);
+          former = λ k d at. inl (d, at, λ c. c, begins-self d.taken);
+          writes = stay-and-one h.writes added;
+        } in
         let keeps : KeepsBegun h later = record { forward = λ k c at was. (c, at, was, begins-self c.taken); back = λ k d at. inl (d, at, refl) } in
-        let clean : (block : ℕ) → later.marks block ≡ false → h.marks block ≡ false = λ block unmarked. (or_parts (h.marks block) (covers w block) unmarked).0 in
+        let clean : (block : ℕ) → later.marks block ≡ false → h.marks block ≡ false = λ block unmarked. (unmarked-by w h.marks block unmarked).0 in
         record {
           known = known;
           waiting = λ i block b at alone waits covered. elim (get-more h.writes added i b at) [
-            | inl old ↦ or_left (h.marks block) (covers w block) (accounted.waiting i block b old alone waits covered)
-            | inr new ↦ or_right (h.marks block) (covers w block) (ap (λ (x : Accepted). covers x.write block) (sym new.1) ∙ covered)
+            | inl old ↦ marked-still w h.marks block (accounted.waiting i block b old alone waits covered)
+            | inr new ↦ marked-covered w h.marks block (ap (λ (x : Accepted). covers x.write block) (sym new.1) ∙ covered)
           ];
-          settled = λ block touch unmarked is. settled-carries h later block touch accounted carries (latest-at h.connections block touch is) (clean block unmarked) is is;
+          settled = λ block touch unmarked is. settled-carries h later block touch accounted carries (latest-at h.connections block touch is)
+              (clean block unmarked) is is;
           untouched = λ block inside unmarked none. accounted.untouched block inside (clean block unmarked) none;
           began = began-carries h later keeps refl refl (λ none. refl) (λ block inside unmarked none. (clean block unmarked, none)) accounted.began;
         }
@@ -184,34 +249,47 @@ account-submits h first contents accounted known = go (stands (outward h)) refl 
         let standing = stands-parts (outward h) is in
         let k0 : ℕ = last_index h.connections in
         let p0 : ℕ = length (outward h).stream in
-        let added : Accepted = record { write = w; journal_length = length h.journal; home = Some (k0, p0); outcome = Waiting } in
+        let added : Accepted = record { write = w; journal_length = length h.journal; home = Some (record { index = k0; place = p0 }); outcome = Waiting } in
         let f : Outward → Outward = λ c. record c { stream = c.stream ++ WriteItem w ∷ [] } in
         let later : PrimaryHistory = appending (WriteItem w) (record h { writes = h.writes ++ added ∷ [] }) in
         let keeps : KeepsEnd (outward h) (f (outward h)) =
-        record { grows = record { stream = (WriteItem w ∷ [], refl); pushed = omega arith; frames = begins-self (accepted_frames (outward h)) }; closed = λ x. x; taken = begins-self (outward h).taken } in
+        record {
+          grows = record { stream = (WriteItem w ∷ [], refl); pushed = omega arith; frames = begins-self (accepted_frames (outward h)) };
+          closed = λ x. x;
+          taken = begins-self (outward h).taken;
+        } in
         let carries : Carries h later = carries-change h later f refl (stay-and-one h.writes added) keeps in
-        let there : slice_get later.connections k0 ≡ Some (f (outward h)) = get-last-changed f (no_outward h.tuple) h.connections (outward h) (open-at h standing.0) refl in
-        let last : (block : ℕ) → latest later.connections block ≡ (if covers w block then Some (record { connection = k0; place = p0; item = WriteItem w }) else latest h.connections block)
+        let there : slice_get later.connections k0 ≡ Some (f (outward h)) = get-last-changed f (no_outward h.tuple) h.connections (outward h)
+        (open-at h standing.0) refl in
+        let last : (block : ℕ) → latest later.connections block ≡ (if covers w block then Some (record { connection = k0; place = p0; item = WriteItem w })
+        else latest h.connections block)
         = λ block. latest-appended (no_outward h.tuple) f (WriteItem w) h.connections block (begun-some h standing.1) refl in
         let past : (block : ℕ) → latest later.connections block ≡ None → latest h.connections block ≡ None = λ block none. elim (cases_Bool (covers w block)) [
-          | inl covered ↦ absurd (let e : latest later.connections block ≡ Some (record { connection = k0; place = p0; item = WriteItem w }) = last block ∙ ap (λ b. if b then Some (record { connection = k0; place = p0; item = WriteItem w }) else latest h.connections block) covered in cc (e, none))
-          | inr free ↦ sym (last block ∙ ap (λ b. if b then Some (record { connection = k0; place = p0; item = WriteItem w }) else latest h.connections block) free) ∙ none
+          | inl covered ↦ absurd (let e : latest later.connections block ≡ Some (record { connection = k0; place = p0; item = WriteItem w }) = last block
+              ∙ ap (λ b. if b then Some (record { connection = k0; place = p0; item = WriteItem w }) else latest h.connections block) covered in cc (e, none))
+          | inr free ↦ sym (last block ∙ ap (λ b. if b then Some (record { connection = k0; place = p0; item = WriteItem w })
+              else latest h.connections block) free) ∙ none
         ] in
         record {
           known = known;
           waiting = λ i block b at alone waits covered. elim (get-more h.writes added i b at) [
             | inl old ↦ accounted.waiting i block b old (alone-before h later i b b accounted.known.tracked.homes carries old refl alone) waits covered
-            | inr new ↦ absurd (both_ways (outward h).closed standing.0 (sym (alone-at later b (k0, p0) (f (outward h)) (ap (λ (x : Accepted). x.home) new.1) there) ∙ alone))
+            | inr new ↦ absurd (both_ways (outward h).closed standing.0
+                (sym (alone-at later b (record { index = k0; place = p0 }) (f (outward h)) (ap (λ (x : Accepted). x.home) new.1) there) ∙ alone))
           ];
           settled = λ block touch unmarked is. elim (cases_Bool (covers w block)) [
             | inl covered ↦
-                let one : Some (record { connection = k0; place = p0; item = WriteItem w }) ≡ Some touch = sym (ap (λ b. if b then Some (record { connection = k0; place = p0; item = WriteItem w }) else latest h.connections block) covered) ∙ (sym (last block) ∙ is) in
+                let one : Some (record { connection = k0; place = p0; item = WriteItem w }) ≡ Some touch =
+                sym (ap (λ b. if b then Some (record { connection = k0; place = p0; item = WriteItem w }) else latest h.connections block) covered)
+                ∙ (sym (last block) ∙ is) in
                 let same : record { connection = k0; place = p0; item = WriteItem w } ≡ touch = cc in
-                inr (length h.writes, added, get-end h.writes added, ap (λ (t : Touch). Some (t.connection, t.place)) same, refl)
+                inr (length h.writes, added, get-end h.writes added, ap home-of same, refl)
             | inr free ↦
-                let was : latest h.connections block ≡ Some touch = sym (ap (λ b. if b then Some (record { connection = k0; place = p0; item = WriteItem w }) else latest h.connections block) free) ∙ (sym (last block) ∙ is) in
+                let was : latest h.connections block ≡ Some touch = sym (ap (λ b. if b then Some (record { connection = k0; place = p0; item = WriteItem w })
+                else latest h.connections block) free) ∙ (sym (last block) ∙ is) in
                 settled-carries h later block touch accounted carries (latest-at h.connections block touch was) unmarked was is
           ];
           untouched = λ block inside unmarked none. accounted.untouched block inside unmarked (past block none);
-          began = began-carries h later (begun-change h later f refl refl (begins-self (outward h).taken)) refl refl (λ none. refl) (λ block inside unmarked none. (unmarked, past block none)) accounted.began;
+          began = began-carries h later (begun-change h later f refl refl (begins-self (outward h).taken)) refl refl (λ none. refl)
+              (λ block inside unmarked none. (unmarked, past block none)) accounted.began;
         }

@@ -42,7 +42,11 @@ sent_map h block = content_of (h.opening_map block) block (latest h.connections 
 
 -- what a write lays on the local disk once it is done, where it waits
 abbrev pub settling_layer : Accepted → Layer
-settling_layer accepted = record { first = accepted.write.first; contents = accepted.write.contents; laid = λ offset. is_waiting accepted.outcome || offset_reached accepted.outcome offset }
+settling_layer accepted = record {
+  first = accepted.write.first;
+  contents = accepted.write.contents;
+  laid = λ offset. is_waiting accepted.outcome || offset_reached accepted.outcome offset;
+}
 
 -- what the local disk comes to hold once every waiting write is done
 abbrev pub settling_map : PrimaryHistory → ℕ → Option (List ℕ)
@@ -50,8 +54,10 @@ settling_map h block = overlay h.opening_map (map settling_layer h.writes) block
 
 -- one item more at the end of a stream
 pub latest-append : (block place : ℕ) (found : Option (ℕ × Item)) (items : List Item) (item : Item)
-    → latest_from block place found (items ++ item ∷ []) ≡ (if touches item block then Some (place + length items, item) else latest_from block place found items)
+    → latest_from block place found (items ++ item ∷ []) ≡ (if touches item block then Some (place + length items, item)
+    else latest_from block place found items)
 latest-append block place found [] item = ap (λ (n : ℕ). if touches item block then Some (n, item) else found) (omega arith)
 latest-append block place found (x ∷ items) item =
     latest-append block (suc place) (if touches x block then Some (place, x) else found) items item
-    ∙ ap (λ (n : ℕ). if touches item block then Some (n, item) else latest_from block (suc place) (if touches x block then Some (place, x) else found) items) (omega arith)
+    ∙ ap (λ (n : ℕ). if touches item block then Some (n, item) else latest_from block (suc place) (if touches x block then Some (place, x) else found) items)
+    (omega arith)

@@ -1,5 +1,6 @@
 -- The last item that touches a block: where it stands, and that no item behind it touches the block.
-use Rattle.std.proofs.Common.{ℕ, zero, suc, ◌≡◌, ◌+◌, ◌≤◌, ◌<◌, ◌⊎◌, inl, inr, true, false, List, [], ◌∷◌, Option, Some, None, slice_get, refl, sym, ◌∙◌, ap, arith}
+use Rattle.std.proofs.Common.{ℕ, zero, suc, ◌≡◌, ◌+◌, ◌≤◌, ◌<◌, ◌⊎◌, inl, inr, true, false, List, [], ◌∷◌, Option, Some, None, slice_get, refl, sym, ◌∙◌, ap}
+use Rattle.std.proofs.Common.{arith}
 use Rattle.std.specs.Prelude.{if◌then◌else◌}
 use Rattle.std.proofs.lemmas.Bool.{cases_Bool}
 use Rattle.model.specs.Stream.{Item}
@@ -14,22 +15,25 @@ record Stands (block start : ℕ) (items : List Item) (entry : ℕ × Item) : Ty
   there : slice_get items offset ≡ Some entry.1
   touches : touches entry.1 block ≡ true
 
-from-at : (block start : ℕ) (found : Option (ℕ × Item)) (items : List Item) (entry : ℕ × Item) → latest_from block start found items ≡ Some entry → (found ≡ Some entry) ⊎ Stands block start items entry
+from-at : (block start : ℕ) (found : Option (ℕ × Item)) (items : List Item) (entry : ℕ × Item) → latest_from block start found items ≡ Some entry
+    → (found ≡ Some entry) ⊎ Stands block start items entry
 from-at block start found [] entry is = inl is
 from-at block start found (x ∷ items) entry is = elim (cases_Bool (touches x block)) [
-  | inl touched ↦ elim (from-at block (suc start) (Some (start, x)) items entry (ap (λ b. latest_from block (suc start) (if b then Some (start, x) else found) items) (sym touched) ∙ is)) [
-    | inl first ↦
-        let here : ℕ × Item = (start, x) in
-        let same : here ≡ entry = cc in
-        let is : start ≡ entry.0 = ap (λ (e : ℕ × Item). e.0) same in
-        let item : x ≡ entry.1 = ap (λ (e : ℕ × Item). e.1) same in
-        inr (record { offset = 0; is = omega arith; there = ap (λ (i : Item). Some i) item; touches = rw (← item) touched })
-    | inr later ↦ inr (record { offset = suc later.offset; is = omega (arith, later.is); there = later.there; touches = later.touches })
-  ]
-  | inr other ↦ elim (from-at block (suc start) found items entry (ap (λ b. latest_from block (suc start) (if b then Some (start, x) else found) items) (sym other) ∙ is)) [
-    | inl before ↦ inl before
-    | inr later ↦ inr (record { offset = suc later.offset; is = omega (arith, later.is); there = later.there; touches = later.touches })
-  ]
+  | inl touched ↦ elim (from-at block (suc start) (Some (start, x)) items entry
+      (ap (λ b. latest_from block (suc start) (if b then Some (start, x) else found) items) (sym touched) ∙ is)) [
+        | inl first ↦
+            let here : ℕ × Item = (start, x) in
+            let same : here ≡ entry = cc in
+            let is : start ≡ entry.0 = ap (λ (e : ℕ × Item). e.0) same in
+            let item : x ≡ entry.1 = ap (λ (e : ℕ × Item). e.1) same in
+            inr (record { offset = 0; is = omega arith; there = ap (λ (i : Item). Some i) item; touches = rw (← item) touched })
+        | inr later ↦ inr (record { offset = suc later.offset; is = omega (arith, later.is); there = later.there; touches = later.touches })
+      ]
+  | inr other ↦ elim (from-at block (suc start) found items entry
+      (ap (λ b. latest_from block (suc start) (if b then Some (start, x) else found) items) (sym other) ∙ is)) [
+        | inl before ↦ inl before
+        | inr later ↦ inr (record { offset = suc later.offset; is = omega (arith, later.is); there = later.there; touches = later.touches })
+      ]
 ]
 
 -- likewise among some connections
@@ -41,7 +45,8 @@ record StandsIn (block k : ℕ) (connections : List Outward) (touch : Touch) : T
   there : slice_get end.stream touch.place ≡ Some touch.item
   touches : touches touch.item block ≡ true
 
-of-at : (block k : ℕ) (found : Option Touch) (connections : List Outward) (touch : Touch) → latest_of block k found connections ≡ Some touch → (found ≡ Some touch) ⊎ StandsIn block k connections touch
+of-at : (block k : ℕ) (found : Option Touch) (connections : List Outward) (touch : Touch) → latest_of block k found connections ≡ Some touch
+    → (found ≡ Some touch) ⊎ StandsIn block k connections touch
 of-at block k found [] touch is = inl is
 of-at block k found (c ∷ connections) touch is = go (latest_from block 0 None c.stream) refl (λ before h. of-at block (suc k) before connections touch h) is
   where
@@ -50,7 +55,14 @@ of-at block k found (c ∷ connections) touch is = go (latest_from block 0 None 
         → latest_of block (suc k) (found_in k v found) connections ≡ Some touch → (found ≡ Some touch) ⊎ StandsIn block k (c ∷ connections) touch
     go None none rest is = elim (rest found is) [
       | inl before ↦ inl before
-      | inr later ↦ inr (record { offset = suc later.offset; end = later.end; is = omega (arith, later.is); end_there = later.end_there; there = later.there; touches = later.touches })
+      | inr later ↦ inr (record {
+        offset = suc later.offset;
+        end = later.end;
+        is = omega (arith, later.is);
+        end_there = later.end_there;
+        there = later.there;
+        touches = later.touches;
+      })
     ]
     go (Some entry) some rest is = elim (rest (Some (record { connection = k; place = entry.0; item = entry.1 })) is) [
       | inl here ↦
@@ -63,9 +75,23 @@ of-at block k found (c ∷ connections) touch is = go (latest_from block 0 None 
             | inl nothing ↦ absurd (cc)
             | inr stands ↦
                 let place : stands.offset ≡ touch.place = omega (arith, stands.is) in
-                inr (record { offset = 0; end = c; is = omega arith; end_there = refl; there = rw (← place, ← ii) stands.there; touches = rw (← ii) stands.touches })
+                inr (record {
+                  offset = 0;
+                  end = c;
+                  is = omega arith;
+                  end_there = refl;
+                  there = rw (← place, ← ii) stands.there;
+                  touches = rw (← ii) stands.touches;
+                })
           ]
-      | inr later ↦ inr (record { offset = suc later.offset; end = later.end; is = omega (arith, later.is); end_there = later.end_there; there = later.there; touches = later.touches })
+      | inr later ↦ inr (record {
+        offset = suc later.offset;
+        end = later.end;
+        is = omega (arith, later.is);
+        end_there = later.end_there;
+        there = later.there;
+        touches = later.touches;
+      })
     ]
 
 -- What is found last stands where it is said to, and touches the block.
@@ -78,7 +104,8 @@ latest-at connections block touch is = elim (of-at block 0 None connections touc
 
 -- What was found stays, or a later item takes its place.
 
-from-keeps : (block start : ℕ) (entry : ℕ × Item) (items : List Item) → entry.0 ≤ start → (last : ℕ × Item) × (latest_from block start (Some entry) items ≡ Some last) × (entry.0 ≤ last.0)
+from-keeps : (block start : ℕ) (entry : ℕ × Item) (items : List Item) → entry.0 ≤ start
+    → (last : ℕ × Item) × (latest_from block start (Some entry) items ≡ Some last) × (entry.0 ≤ last.0)
 from-keeps block start entry [] before = (entry, refl, omega arith)
 from-keeps block start entry (x ∷ items) before = elim (cases_Bool (touches x block)) [
   | inl touched ↦
@@ -109,15 +136,25 @@ of-keeps : (block k : ℕ) (touch : Touch) (connections : List Outward) → touc
 of-keeps block k touch [] before = (touch, refl, inr refl)
 of-keeps block k touch (c ∷ connections) before = go (latest_from block 0 None c.stream) (λ found h. of-keeps block (suc k) found connections h)
   where
-    go : (v : Option (ℕ × Item)) → ((found : Touch) → found.connection < suc k → (last : Touch) × (latest_of block (suc k) (Some found) connections ≡ Some last) × ((found.connection < last.connection) ⊎ (last ≡ found)))
-        → (last : Touch) × (latest_of block (suc k) (found_in k v (Some touch)) connections ≡ Some last) × ((touch.connection < last.connection) ⊎ (last ≡ touch))
+    go : (v : Option (ℕ × Item)) → ((found : Touch) → found.connection < suc k
+        → (last : Touch) × (latest_of block (suc k) (Some found) connections ≡ Some last) × ((found.connection < last.connection) ⊎ (last ≡ found)))
+        → (last : Touch) × (latest_of block (suc k) (found_in k v (Some touch)) connections ≡ Some last)
+        × ((touch.connection < last.connection) ⊎ (last ≡ touch))
     go None more = more touch (omega arith)
     go (Some entry) more =
         let here : Touch = record { connection = k; place = entry.0; item = entry.1 } in
-        let rest = more here (omega arith) in
-        (rest.0, rest.1, elim rest.2 [ inl more ↦ inl (omega arith) | inr same ↦ let is : rest.0.connection ≡ k = ap (λ (t : Touch). t.connection) same in inl (omega arith) ])
+        let rest = more here (omega arith) in (
+          rest.0,
+          rest.1,
+          elim rest.2 [
+            | inl more ↦ inl (omega arith)
+            | inr same ↦ let is : rest.0.connection ≡ k = ap (λ (t : Touch). t.connection) same in inl
+                (omega arith)
+          ],
+        )
 
-of-has : (block k : ℕ) (found : Option Touch) (connections : List Outward) (n place : ℕ) (c : Outward) (item : Item) → slice_get connections n ≡ Some c → slice_get c.stream place ≡ Some item → touches item block ≡ true
+of-has : (block k : ℕ) (found : Option Touch) (connections : List Outward) (n place : ℕ) (c : Outward) (item : Item) → slice_get connections n ≡ Some c
+    → slice_get c.stream place ≡ Some item → touches item block ≡ true
     → (last : Touch) × (latest_of block k found connections ≡ Some last) × ((k + n < last.connection) ⊎ ((k + n ≡ last.connection) × (place ≤ last.place)))
 of-has block k found [] n place c item at there touched = absurd (cc)
 of-has block k found (d ∷ connections) zero place c item at there touched =
@@ -141,14 +178,16 @@ of-has block k found (d ∷ connections) (suc n) place c item at there touched =
     (rest.0, rest.1, elim rest.2 [ inl more ↦ inl (omega arith) | inr same ↦ let is = same.0 in inr (omega arith, same.1) ])
 
 -- Where an item touches a block one is found, there or behind it.
-pub latest-some : (connections : List Outward) (block k place : ℕ) (c : Outward) (item : Item) → slice_get connections k ≡ Some c → slice_get c.stream place ≡ Some item → touches item block ≡ true
+pub latest-some : (connections : List Outward) (block k place : ℕ) (c : Outward) (item : Item) → slice_get connections k ≡ Some c
+    → slice_get c.stream place ≡ Some item → touches item block ≡ true
     → (touch : Touch) × (latest connections block ≡ Some touch) × ((k < touch.connection) ⊎ ((k ≡ touch.connection) × (place ≤ touch.place)))
 latest-some connections block k place c item at there touched =
     let found = of-has block 0 None connections k place c item at there touched in
     (found.0, found.1, elim found.2 [ inl more ↦ inl (omega arith) | inr here ↦ let is = here.0 in inr (omega arith, here.1) ])
 
 -- Where nothing is found no item touches the block.
-pub latest-none : (connections : List Outward) (block : ℕ) → latest connections block ≡ None → (k place : ℕ) (c : Outward) (item : Item) → slice_get connections k ≡ Some c
+pub latest-none : (connections : List Outward) (block : ℕ) → latest connections block ≡ None → (k place : ℕ) (c : Outward) (item : Item)
+    → slice_get connections k ≡ Some c
     → slice_get c.stream place ≡ Some item → touches item block ≡ false
 latest-none connections block none k place c item at there = elim (cases_Bool (touches item block)) [
   | inl touched ↦ let found = of-has block 0 None connections k place c item at there touched in absurd (let is = found.1 in cc)
@@ -156,7 +195,8 @@ latest-none connections block none k place c item at there = elim (cases_Bool (t
 ]
 
 -- No item that touches the block stands behind the one that is found.
-pub latest-last : (connections : List Outward) (block : ℕ) (touch : Touch) → latest connections block ≡ Some touch → (k place : ℕ) (c : Outward) (item : Item) → slice_get connections k ≡ Some c
+pub latest-last : (connections : List Outward) (block : ℕ) (touch : Touch) → latest connections block ≡ Some touch → (k place : ℕ) (c : Outward) (item : Item)
+    → slice_get connections k ≡ Some c
     → slice_get c.stream place ≡ Some item → touches item block ≡ true → (k < touch.connection) ⊎ ((k ≡ touch.connection) × (place ≤ touch.place))
 latest-last connections block touch is k place c item at there touched =
     let found = of-has block 0 None connections k place c item at there touched in

@@ -5,7 +5,8 @@ use Rattle.blocks.specs.Contents.{overwritten}
 -- What a block holds after blocks were written from a place on: one of them, or what it held.
 pub written-inside : (device written : List (List ℕ)) (first block : ℕ) → first ≤ length device → first ≤ block → block < first + length written
     → slice_get (overwritten device first written) block ≡ slice_get written (block - first)
-written-inside device written zero block fits from less = let same : block - 0 ≡ block = omega arith in front written (drop (0 + length written) device) block (omega arith) ∙ ap (slice_get written) (sym same)
+written-inside device written zero block fits from less = let same : block - 0 ≡ block = omega arith in front written (drop (0 + length written) device) block
+    (omega arith) ∙ ap (slice_get written) (sym same)
   where
     front : (xs ys : List (List ℕ)) (n : ℕ) → n < length xs → slice_get (xs ++ ys) n ≡ slice_get xs n
     front [] ys n less = absurd (omega arith)
@@ -18,7 +19,8 @@ written-inside (d ∷ device) written (suc first) (suc block) fits from less =
     let same : suc block - suc first ≡ block - first = omega arith in
     rw (next, same) (written-inside device written first block (omega arith) (omega arith) (omega arith))
 
-pub written-before : (device written : List (List ℕ)) (first block : ℕ) → first ≤ length device → block < first → slice_get (overwritten device first written) block ≡ slice_get device block
+pub written-before : (device written : List (List ℕ)) (first block : ℕ) → first ≤ length device → block < first
+    → slice_get (overwritten device first written) block ≡ slice_get device block
 written-before device written zero block fits less = absurd (omega arith)
 written-before [] written (suc first) block fits less = absurd (omega arith)
 written-before (d ∷ device) written (suc first) zero fits less = refl
@@ -26,8 +28,10 @@ written-before (d ∷ device) written (suc first) (suc block) fits less =
     let next : suc first + length written ≡ suc (first + length written) = omega arith in
     rw next (written-before device written first block (omega arith) (omega arith))
 
-pub written-after : (device written : List (List ℕ)) (first block : ℕ) → first ≤ length device → first + length written ≤ block → slice_get (overwritten device first written) block ≡ slice_get device block
-written-after device written zero block fits past = let none : 0 + length written ≡ length written = omega arith in rw none (behind written device block (omega arith))
+pub written-after : (device written : List (List ℕ)) (first block : ℕ) → first ≤ length device → first + length written ≤ block
+    → slice_get (overwritten device first written) block ≡ slice_get device block
+written-after device written zero block fits past = let none : 0 + length written ≡ length written =
+    omega arith in rw none (behind written device block (omega arith))
   where
     nothing : (n : ℕ) → drop {A = List ℕ} n [] ≡ []
     nothing zero = refl

@@ -1,35 +1,39 @@
 -- The primary accepts each frame that the secondary pushed, or refuses the tuple of its hello: an acknowledgement that was due
 -- is of an item that was sent, comes once, and a barrier's comes in its turn.
-use Rattle.std.proofs.Common.{ℕ, zero, suc, ◌≡◌, ◌-◌, ◌≤◌, ◌<◌, inl, inr, Bool, true, false, cond, not, ◌&&◌, ◌||◌, List, [], ◌∷◌, ◌++◌, length, take, map, Option, Some, None, slice_get, Result, Ok, Err, refl, sym, ◌∙◌, ap, subst, arith, ◌==◌, nat_lt}
-use Rattle.std.specs.Prelude.{find}
-use Rattle.std.specs.List.{list_any, list_all}
-use Rattle.std.proofs.lemmas.Bool.{cases_Bool, cases_lt, and_parts, and_from, eq-eqb, lt-ltb, both_ways, not_from_false}
+use Rattle.std.proofs.Common.{ℕ, zero, suc, ◌≡◌, ◌-◌, ◌<◌, ◌⊎◌, inl, inr, Bool, true, false, cond, not, ◌&&◌, ◌||◌, List, [], ◌∷◌, ◌++◌, length, take, map}
+use Rattle.std.proofs.Common.{Option, Some, None, slice_get, Result, Ok, Err, refl, sym, ◌∙◌, ap, subst, arith, nat_lt}
+use Rattle.std.specs.List.{list_any}
+use Rattle.std.proofs.lemmas.Bool.{cases_lt, and_parts, and_from, eq-eqb, lt-ltb, not_from_false}
 use Rattle.std.proofs.lemmas.Option.{slice_get_within}
 use Rattle.blocks.specs.declared.refusal.Refusal.{Refusal}
-use Rattle.blocks.specs.declared.refusal.Refusal.TheVariants.{PrimaryStale, SplitBrain, Unrelated, UsedIdentifier}
+use Rattle.blocks.specs.declared.refusal.Refusal.TheVariants.{UsedIdentifier}
 use Rattle.blocks.specs.declared.outcome.Decision.{Decision}
-use Rattle.blocks.specs.declared.outcome.Decision.TheVariants.{NoSync, BitmapSync, FullSync}
 use Rattle.blocks.specs.declared.outcome.What.{What}
 use Rattle.blocks.specs.declared.outcome.What.TheVariants as what
 use Rattle.blocks.specs.declared.settings.Settings.{Settings}
 use Rattle.blocks.specs.declared.settings.Protocol.{Protocol}
 use Rattle.blocks.specs.declared.settings.Protocol.TheVariants as protocol
 use Rattle.blocks.specs.declared.tuple.Tuple.{Tuple}
-use Rattle.model.specs.Stream.{Item, WriteItem, ResyncItem, BarrierItem, SyncUuidItem, UuidsItem, has_blocks, is_write, epoch_of, epoch_size, items_of_epoch, IsBeginning}
-use Rattle.model.specs.Frames.{Packet, ProtocolFrame, SizesFrame, UuidsFrame, RecvAckFrame, WriteAckFrame, RsWriteAckFrame, BarrierAckFrame, Acknowledged, Received, naming, hello_of}
-use Rattle.model.specs.Identifiers.{stands_in, decision, is_historical, share_identifier}
-use Rattle.model.specs.Primary.{Outward, PrimaryHistory, outward, items_sent, accepted_frames, same_naming, is_recv_ack, is_write_ack, is_rs_write_ack, is_barrier_ack, was_received, was_written, was_resynced, barrier_acknowledged, is_resync}
+use Rattle.model.specs.Contents.{Write, is_range}
+use Rattle.model.specs.Stream.{Item, WriteItem, ResyncItem, BarrierItem, has_blocks, is_write, epoch_of, epoch_size}
+use Rattle.model.specs.Stream.{IsBeginning}
+use Rattle.model.specs.Frames.{Packet, ProtocolFrame, SizesFrame, UuidsFrame, RecvAckFrame, WriteAckFrame, RsWriteAckFrame, BarrierAckFrame, Acknowledged}
+use Rattle.model.specs.Frames.{Received, naming, hello_of}
+use Rattle.model.specs.Identifiers.{stands_in, decision}
+use Rattle.model.specs.Primary.{Outward, PrimaryHistory, outward, items_sent, accepted_frames, same_naming, is_recv_ack, is_write_ack, is_rs_write_ack}
+use Rattle.model.specs.Primary.{is_answered_by, is_barrier_ack, was_received, was_written, was_resynced, barrier_acknowledged, is_resync}
 use Rattle.model.specs.Secondary.{Inward, items_taken, answers_due}
-use Rattle.model.specs.Acknowledgements.{same_protocol, Taken, begun_with, meeting, taking_hello, names_sent, was_named, is_protocol, is_acknowledged, is_unacknowledged, oldest_barrier, is_barrier_of, taking_ack, taking}
+use Rattle.model.specs.Acknowledgements.{same_protocol, Taken, begun_with, meeting, taking_hello, names_sent, was_named, is_protocol}
+use Rattle.model.specs.Acknowledgements.{taking_ack, taking}
+use Rattle.laws.proofs.Rules.AckTurns.{IsTurn, turn-by}
+use Rattle.laws.proofs.Rules.Decisions.{decision-has}
 use Rattle.laws.specs.Statements.{is_protocol_error}
 use Rattle.laws.proofs.Lists.Beginnings.{begins-take, begins-trans, get-beginning}
-use Rattle.laws.proofs.Lists.Fronts.{get-front, front-get, all-get, find-first}
+use Rattle.laws.proofs.Lists.Fronts.{get-front}
 use Rattle.laws.proofs.Streams.Barriers.{barrier-of, behind-barrier}
 use Rattle.laws.proofs.Streams.Places.{epoch-grows, epoch-behind, get-grows}
-use Rattle.laws.proofs.Streams.Sendable.{MayStand}
 use Rattle.laws.proofs.Joining.Taking.{read}
 use Rattle.laws.proofs.Joining.HonestEnds.{AreHonestEnds, protocol-self, accepted-front}
-use Rattle.laws.proofs.Joining.Receiving.{get-of-epoch}
 use Rattle.laws.proofs.Secondary.Fits.{is_said, is_answered_to, FitsReceived, FitsWritten, FitsResynced, FitsBarrier, Fits, size-stays, same-self}
 
 -- a frame that is accepted, or refused but not as a protocol error
@@ -48,36 +52,28 @@ abbrev IsMild : Result Decision Refusal → Type 0
 IsMild (Ok decided) = Unit {0}
 IsMild (Err refusal) = is_protocol_error refusal ≡ false
 
--- every case of it
-mild-cases : (a b c d e f g i : Bool) → IsMild (cond a (Ok FullSync) (cond b (Ok NoSync) (cond c (Ok BitmapSync) (cond d (Err PrimaryStale)
-    (cond e (Ok FullSync) (cond f (Err PrimaryStale) (cond g (Err SplitBrain) (cond i (Err SplitBrain) (Err Unrelated)))))))))
-mild-cases true b c d e f g i = tt
-mild-cases false true c d e f g i = tt
-mild-cases false false true d e f g i = tt
-mild-cases false false false true e f g i = refl
-mild-cases false false false false true f g i = tt
-mild-cases false false false false false true g i = refl
-mild-cases false false false false false false true i = refl
-mild-cases false false false false false false false true = refl
-mild-cases false false false false false false false false = refl
-
 decision-mild : (own peer : Tuple) → IsMild (decision own peer)
-decision-mild own peer =
-    mild-cases (peer.current == 0) (own.current == peer.current) (own.bitmap == peer.current) (nat_lt 0 own.current && (peer.bitmap == own.current))
-    (is_historical peer.current own) (is_historical own.current peer) (nat_lt 0 own.bitmap && (own.bitmap == peer.bitmap)) (share_identifier own peer)
+decision-mild = decision-has IsMild (λ decided. tt) refl refl refl
 
 meeting-fine : (peer : Tuple) (h : PrimaryHistory) → IsFineToo (meeting peer h)
 meeting-fine peer h = go (stands_in (outward h).sync peer || stands_in (outward h).loss peer) (decision h.tuple peer) (decision-mild h.tuple peer)
   where
     go : (used : Bool) (v : Result Decision Refusal) → IsMild v → IsFineToo (elim used as (λ _. Taken) [
       | true ↦ Err (UsedIdentifier, record h { peer = Some peer })
-      | false ↦ elim v as (λ _. Taken) [ Err refusal ↦ Err (refusal, record h { peer = Some peer }) | Ok decided ↦ Ok (what.Decided decided, begun_with decided (record h { peer = Some peer })) ]
+      | false ↦ elim v as (λ _. Taken) [
+        | Err refusal ↦ Err (refusal, record h { peer = Some peer })
+        | Ok decided ↦ Ok (
+          what.Decided decided,
+          begun_with decided (record h { peer = Some peer }),
+        )
+      ]
     ])
     go true v mild = refl
     go false (Err refusal) mild = mild
     go false (Ok decided) mild = tt
 
-hello-fine : (settings : Settings) (tuple : Tuple) (rest : List Packet) (n : ℕ) (packet : Packet) (h : PrimaryHistory) → h.settings ≡ settings → n < 3 → slice_get (hello_of settings tuple ++ rest) n ≡ Some packet → IsFineToo (taking_hello n packet h)
+hello-fine : (settings : Settings) (tuple : Tuple) (rest : List Packet) (n : ℕ) (packet : Packet) (h : PrimaryHistory) → h.settings ≡ settings → n < 3
+    → slice_get (hello_of settings tuple ++ rest) n ≡ Some packet → IsFineToo (taking_hello n packet h)
 hello-fine settings tuple rest zero packet h same early at =
     let is : ProtocolFrame settings.protocol ≡ packet = cc in
     subst (λ p. IsFineToo (taking_hello 0 p h)) is (fine-if _ _ _ (rw same (protocol-self settings.protocol)))
@@ -104,27 +100,37 @@ said-read test [] = refl
 said-read test (x ∷ packets) = ap (λ b. test (Ok x) || b) (said-read test packets)
 
 -- what was accepted passes a test that no hello passes as what was due does
-said-before : (settings : Settings) (h : PrimaryHistory) (d : Inward) (m : ℕ) (test : Received → Bool) → Comes settings h d m → is_said test (hello_of settings d.hello ++ take m d.due) ≡ is_said test (take m d.due)
+said-before : (settings : Settings) (h : PrimaryHistory) (d : Inward) (m : ℕ) (test : Received → Bool) → Comes settings h d m
+    → is_said test (hello_of settings d.hello ++ take m d.due) ≡ is_said test (take m d.due)
     → list_any test (accepted_frames (outward h)) ≡ is_said test (take m d.due)
 said-before settings h d m test k plain = ap (list_any test) k.accepted ∙ (said-read test (hello_of settings d.hello ++ take m d.due) ∙ plain)
 
 -- an item that was taken was sent
-was-sent : (settings : Settings) (h : PrimaryHistory) (d : Inward) (m place : ℕ) (item : Item) → Comes settings h d m → slice_get (items_taken d) place ≡ Some item
+was-sent : (settings : Settings) (h : PrimaryHistory) (d : Inward) (m place : ℕ) (item : Item) → Comes settings h d m
+    → slice_get (items_taken d) place ≡ Some item
     → (slice_get (outward h).stream place ≡ Some item) × (place < items_sent (outward h))
 was-sent settings h d m place item k at =
-    let found = get-front (items_sent (outward h)) (outward h).stream place item (get-beginning (items_taken d) (take (items_sent (outward h)) (outward h).stream) place item k.begins at) in
+    let found = get-front (items_sent (outward h)) (outward h).stream place item
+    (get-beginning (items_taken d) (take (items_sent (outward h)) (outward h).stream) place item k.begins at) in
     (found.1, found.0)
 
 -- an acknowledgement that names an item taken names one that was sent
-names-item : (settings : Settings) (h : PrimaryHistory) (d : Inward) (m : ℕ) (kind : Item → Bool) (ack : Acknowledged) (item : Item) → Comes settings h d m → slice_get (items_taken d) ack.place ≡ Some item
+names-item : (settings : Settings) (h : PrimaryHistory) (d : Inward) (m : ℕ) (kind : Item → Bool) (ack : Acknowledged) (item : Item) → Comes settings h d m
+    → slice_get (items_taken d) ack.place ≡ Some item
     → kind item ≡ true → naming ack.place item ≡ ack → names_sent kind ack (outward h) ≡ true
 names-item settings h d m kind ack item k at is names =
     let sent = was-sent settings h d m ack.place item k at in
-    ap (λ (v : Option Item). elim v as (λ _. Bool) [ None ↦ false | Some i ↦ (kind i && same_naming (naming ack.place i) ack) && nat_lt ack.place (items_sent (outward h)) ]) sent.0
-    ∙ and_from _ _ (and_from _ _ is (subst (λ (a : Acknowledged). same_naming (naming ack.place item) a ≡ true) names (same-self (naming ack.place item)))) (lt-ltb ack.place (items_sent (outward h)) sent.1)
+    ap (λ (v : Option Item). elim v as (λ _. Bool) [
+      | None ↦ false
+      | Some i ↦ (kind i && same_naming (naming ack.place i) ack)
+          && nat_lt ack.place (items_sent (outward h))
+    ]) sent.0
+    ∙ and_from _ _ (and_from _ _ is (subst (λ (a : Acknowledged). same_naming (naming ack.place item) a ≡ true) names (same-self (naming ack.place item))))
+    (lt-ltb ack.place (items_sent (outward h)) sent.1)
 
 -- and was not named before
-not-named : (settings : Settings) (h : PrimaryHistory) (d : Inward) (m : ℕ) (before : Outward → ℕ → Item → Bool) (ack : Acknowledged) (item : Item) → Comes settings h d m → slice_get (items_taken d) ack.place ≡ Some item
+not-named : (settings : Settings) (h : PrimaryHistory) (d : Inward) (m : ℕ) (before : Outward → ℕ → Item → Bool) (ack : Acknowledged) (item : Item)
+    → Comes settings h d m → slice_get (items_taken d) ack.place ≡ Some item
     → before (outward h) ack.place item ≡ false → not (was_named before ack (outward h)) ≡ true
 not-named settings h d m before ack item k at fresh =
     let sent = was-sent settings h d m ack.place item k at in
@@ -135,110 +141,109 @@ of-protocol : (settings : Settings) (h : PrimaryHistory) (asked : Protocol) → 
 of-protocol settings h asked same is = ap (λ (s : Settings). same_protocol asked s.protocol) same ∙ (ap (same_protocol asked) is ∙ protocol-self asked)
 
 -- a RECV_ACK that fits is accepted
-received-fine : (settings : Settings) (h taken : PrimaryHistory) (d : Inward) (m : ℕ) (ack : Acknowledged) → Comes settings h d m → FitsReceived settings.protocol (items_taken d) (take m d.due) ack → IsFineToo (taking_ack (RecvAckFrame ack) h taken)
-received-fine settings h taken d m ack k f = fine-if _ _ _ (and_from _ _ (and_from _ _ (of-protocol settings h protocol.B k.setting f.protocol) (names-item settings h d m is_write ack (WriteItem f.write) k f.there refl f.names))
-    (not-named settings h d m was_received ack (WriteItem f.write) k f.there (said-before settings h d m (is_recv_ack (naming ack.place (WriteItem f.write))) k refl ∙ f.first)))
+received-fine : (settings : Settings) (h taken : PrimaryHistory) (d : Inward) (m : ℕ) (ack : Acknowledged) → Comes settings h d m
+    → FitsReceived settings.protocol (items_taken d) (take m d.due) ack → IsFineToo (taking_ack (RecvAckFrame ack) h taken)
+received-fine settings h taken d m ack k f =
+    fine-if _ _ _ (and_from _ _ (and_from _ _ (of-protocol settings h protocol.B k.setting f.protocol)
+    (names-item settings h d m is_write ack (WriteItem f.write) k f.there refl f.names))
+    (not-named settings h d m was_received ack (WriteItem f.write) k f.there
+    (said-before settings h d m (is_recv_ack (naming ack.place (WriteItem f.write))) k refl ∙ f.first)))
 
 -- so is a WRITE_ACK
-written-fine : (settings : Settings) (h taken : PrimaryHistory) (d : Inward) (m : ℕ) (ack : Acknowledged) → Comes settings h d m → FitsWritten settings.protocol (items_taken d) d.applied (take m d.due) ack → IsFineToo (taking_ack (WriteAckFrame ack) h taken)
-written-fine settings h taken d m ack k f = fine-if _ _ _ (and_from _ _ (and_from _ _ (of-protocol settings h protocol.C k.setting f.protocol) (names-item settings h d m is_write ack (WriteItem f.write) k f.there refl f.names))
-    (not-named settings h d m was_written ack (WriteItem f.write) k f.there (said-before settings h d m (is_write_ack (naming ack.place (WriteItem f.write))) k refl ∙ f.first)))
+written-fine : (settings : Settings) (h taken : PrimaryHistory) (d : Inward) (m : ℕ) (ack : Acknowledged) → Comes settings h d m
+    → FitsWritten settings.protocol (items_taken d) d.applied (take m d.due) ack → IsFineToo (taking_ack (WriteAckFrame ack) h taken)
+written-fine settings h taken d m ack k f =
+    fine-if _ _ _ (and_from _ _ (and_from _ _ (of-protocol settings h protocol.C k.setting f.protocol)
+    (names-item settings h d m is_write ack (WriteItem f.write) k f.there refl f.names))
+    (not-named settings h d m was_written ack (WriteItem f.write) k f.there
+    (said-before settings h d m (is_write_ack (naming ack.place (WriteItem f.write))) k refl ∙ f.first)))
 
 -- so is the acknowledgement of a resync block
-resynced-fine : (settings : Settings) (h taken : PrimaryHistory) (d : Inward) (m : ℕ) (ack : Acknowledged) → Comes settings h d m → FitsResynced (items_taken d) d.applied (take m d.due) ack → IsFineToo (taking_ack (RsWriteAckFrame ack) h taken)
-resynced-fine settings h taken d m ack k f = fine-if _ _ _ (and_from _ _ (names-item settings h d m is_resync ack (ResyncItem f.block f.contents) k f.there refl f.names)
-    (not-named settings h d m was_resynced ack (ResyncItem f.block f.contents) k f.there (said-before settings h d m (is_rs_write_ack (naming ack.place (ResyncItem f.block f.contents))) k refl ∙ f.first)))
+resynced-fine : (settings : Settings) (h taken : PrimaryHistory) (d : Inward) (m : ℕ) (ack : Acknowledged) → Comes settings h d m
+    → FitsResynced (items_taken d) d.applied (take m d.due) ack → IsFineToo (taking_ack (RsWriteAckFrame ack) h taken)
+resynced-fine settings h taken d m ack k f =
+    fine-if _ _ _ (and_from _ _ (names-item settings h d m is_resync ack (ResyncItem f.block f.contents) k f.there refl f.names)
+    (not-named settings h d m was_resynced ack (ResyncItem f.block f.contents) k f.there
+    (said-before settings h d m (is_rs_write_ack (naming ack.place (ResyncItem f.block f.contents))) k refl ∙ f.first)))
 
 -- Barriers.
 
 -- the whole stream goes on behind what was taken
 stream-begins : (settings : Settings) (h : PrimaryHistory) (d : Inward) (m : ℕ) → Comes settings h d m → IsBeginning (items_taken d) (outward h).stream
-stream-begins settings h d m k = begins-trans (items_taken d) (take (items_sent (outward h)) (outward h).stream) (outward h).stream k.begins (begins-take (items_sent (outward h)) (outward h).stream)
+stream-begins settings h d m k = begins-trans (items_taken d) (take (items_sent (outward h)) (outward h).stream) (outward h).stream k.begins
+    (begins-take (items_sent (outward h)) (outward h).stream)
 
 -- a barrier's acknowledgement was accepted if it was due before
-barrier-before : (settings : Settings) (h : PrimaryHistory) (d : Inward) (m epoch : ℕ) → Comes settings h d m → barrier_acknowledged (outward h) epoch ≡ is_said (is_barrier_ack epoch) (take m d.due)
+barrier-before : (settings : Settings) (h : PrimaryHistory) (d : Inward) (m epoch : ℕ) → Comes settings h d m
+    → barrier_acknowledged (outward h) epoch ≡ is_said (is_barrier_ack epoch) (take m d.due)
 barrier-before settings h d m epoch k = said-before settings h d m (is_barrier_ack epoch) k refl
 
--- the acknowledgement is of the oldest barrier that was sent and is not acknowledged
-oldest-is : (settings : Settings) (h : PrimaryHistory) (d : Inward) (m number size : ℕ) → Comes settings h d m → FitsBarrier settings.protocol (items_taken d) (take m d.due) number size → is_barrier_of number (oldest_barrier (outward h)) ≡ true
-oldest-is settings h d m number size k f =
-    let c : Outward = outward h in
+-- what the protocol asks of an item with blocks of the epoch was due
+asked-of : (settings : Settings) (h : PrimaryHistory) (d : Inward) (m number size place : ℕ) (item : Item) → Comes settings h d m
+    → FitsBarrier settings.protocol (items_taken d) (take m d.due) number size → slice_get (outward h).stream place ≡ Some item
+    → epoch_of (outward h).stream place ≡ number → has_blocks item ≡ true → is_answered_to settings.protocol (take m d.due) place item ≡ true
+asked-of settings h d m number size place item k f at is blocks =
+    let begins = stream-begins settings h d m k in
+    let whole : epoch_of (items_taken d ++ begins.0) place ≡ epoch_of (outward h).stream place = ap (λ (l : List Item). epoch_of l place) begins.1 in
+    let upto = f.upto in
+    elim (cases_lt place (length (items_taken d))) [
+      | inl within ↦
+          let taken : slice_get (items_taken d) place ≡ Some item = sym (get-grows (items_taken d) begins.0 place within)
+          ∙ (ap (λ (l : List Item). slice_get l place) begins.1 ∙ at) in
+          let same = epoch-grows (items_taken d) begins.0 place (omega arith) in
+          f.answered place item taken (omega arith) blocks
+      | inr behind ↦ absurd (let late = epoch-behind (items_taken d) begins.0 place behind in omega arith)
+    ]
+
+-- A barrier's acknowledgement is in turn.
+barrier-turn : (settings : Settings) (h : PrimaryHistory) (d : Inward) (m number size : ℕ) → Comes settings h d m
+    → FitsBarrier settings.protocol (items_taken d) (take m d.due) number size → IsTurn h number size
+barrier-turn settings h d m number size k f =
     let begins = stream-begins settings h d m k in
     let there = barrier-of (items_taken d) number f.from f.upto in
     let within = slice_get_within (items_taken d) there.0 (BarrierItem there.1) there.2 in
     let sent = was-sent settings h d m there.0 (BarrierItem there.1) k there.2 in
-    let within_stream = slice_get_within c.stream there.0 (BarrierItem there.1) sent.0 in
-    let same : epoch_of c.stream there.0 ≡ epoch_of (items_taken d) there.0 = ap (λ (l : List Item). epoch_of l there.0) (sym begins.1) ∙ epoch-grows (items_taken d) begins.0 there.0 (omega arith) in
+    let within_stream = slice_get_within (outward h).stream there.0 (BarrierItem there.1) sent.0 in
+    let same : epoch_of (outward h).stream there.0 ≡ epoch_of (items_taken d) there.0 = ap (λ (l : List Item). epoch_of l there.0) (sym begins.1)
+    ∙ epoch-grows (items_taken d) begins.0 there.0 (omega arith) in
     let epoch : there.1 ≡ number = k.ends.lawful.barriers there.0 there.1 sent.0 ∙ (same ∙ there.3) in
-    let found : find (is_unacknowledged c) (take (items_sent c) c.stream) ≡ Some (BarrierItem there.1) =
-    find-first (is_unacknowledged c) (take (items_sent c) c.stream) there.0 (BarrierItem there.1) (front-get (items_sent c) c.stream there.0 (BarrierItem there.1) sent.1 sent.0)
-    (ap not (barrier-before settings h d m there.1 k ∙ (ap (λ n. is_said (is_barrier_ack n) (take m d.due)) epoch ∙ f.first)))
-    (λ j y less at. before there.0 (omega arith) (sym (same ∙ there.3)) j y less (get-front (items_sent c) c.stream j y at).1) in
-    ap (is_barrier_of number) found ∙ eq-eqb number there.1 (sym epoch)
+    let number_is : number ≡ epoch_of (outward h).stream there.0 = sym (same ∙ there.3) in
+    record {
+      place = there.0;
+      sent = sent.1;
+      there = sent.0 ∙ ap (λ n. Some (BarrierItem n)) epoch;
+      first = barrier-before settings h d m number k ∙ f.first;
+      before = λ j e less at.
+          let lawful : e ≡ epoch_of (outward h).stream j = k.ends.lawful.barriers j e at in
+          let later = behind-barrier (outward h).stream j there.0 e less (omega arith) at in
+          barrier-before settings h d m e k ∙ f.earlier e (omega arith) (omega arith);
+      sized = f.counts ∙ (sym (size-stays (items_taken d) begins.0 number f.upto) ∙ ap (λ (l : List Item). epoch_size l number) begins.1);
+      blocks = λ place block contents at is. said-before settings h d m (is_rs_write_ack (naming place (ResyncItem block contents))) k refl
+          ∙ asked-of settings h d m number size place (ResyncItem block contents) k f at is refl;
+      writes = λ place write at is.
+          subst (λ (x : Settings). (x.protocol ≡ protocol.A) ⊎ (is_answered_by x.protocol (outward h) place (WriteItem write) ≡ true)) (sym k.setting)
+          (answers settings.protocol place write (asked-of settings h d m number size place (WriteItem write) k f at is
+          (some-blocks write (k.ends.fit.stream.stands place (WriteItem write) at))));
+    }
   where
-    before : (place : ℕ) → place ≤ length (outward h).stream → number ≡ epoch_of (outward h).stream place → (j : ℕ) (y : Item) → j < place → slice_get (outward h).stream j ≡ Some y → is_unacknowledged (outward h) y ≡ false
-    before place within is j (BarrierItem epoch) less at =
-        let lawful : epoch ≡ epoch_of (outward h).stream j = k.ends.lawful.barriers j epoch at in
-        let later = behind-barrier (outward h).stream j place epoch less within at in
-        ap not (barrier-before settings h d m epoch k ∙ f.earlier epoch (omega arith) (omega arith))
-    before place within is j (WriteItem write) less at = refl
-    before place within is j (ResyncItem block contents) less at = refl
-    before place within is j (SyncUuidItem word) less at = refl
-    before place within is j (UuidsItem tuple) less at = refl
+    -- each write in a stream has blocks
+    some-blocks : (write : Write) → is_range settings write.first (length write.contents) ≡ true → has_blocks (WriteItem write) ≡ true
+    some-blocks write may = (and_parts (nat_lt 0 (length write.contents)) _ (and_parts _ _ (and_parts _ _ may).0).0).0
 
--- what the protocol asks of an item that was taken of the epoch was accepted
-asked-of : (settings : Settings) (h : PrimaryHistory) (d : Inward) (m place : ℕ) (item : Item) → Comes settings h d m → is_answered_to settings.protocol (take m d.due) place item ≡ true → is_acknowledged h.settings.protocol (outward h) (place, item) ≡ true
-asked-of settings h d m place item k answered = subst (λ (s : Settings). is_acknowledged s.protocol (outward h) (place, item) ≡ true) (sym k.setting) (go settings.protocol item answered)
-  where
-    go : (asked : Protocol) (x : Item) → is_answered_to asked (take m d.due) place x ≡ true → is_acknowledged asked (outward h) (place, x) ≡ true
-    go protocol.A (WriteItem write) a = refl
-    go protocol.B (WriteItem write) a = said-before settings h d m (is_recv_ack (naming place (WriteItem write))) k refl ∙ a
-    go protocol.C (WriteItem write) a = said-before settings h d m (is_write_ack (naming place (WriteItem write))) k refl ∙ a
-    go asked (ResyncItem block contents) a = said-before settings h d m (is_rs_write_ack (naming place (ResyncItem block contents))) k refl ∙ a
-    go asked (BarrierItem epoch) a = refl
-    go asked (SyncUuidItem word) a = refl
-    go asked (UuidsItem tuple) a = refl
+    answers : (asked : Protocol) (place : ℕ) (write : Write) → is_answered_to asked (take m d.due) place (WriteItem write) ≡ true
+        → (asked ≡ protocol.A) ⊎ (is_answered_by asked (outward h) place (WriteItem write) ≡ true)
+    answers protocol.A place write a = inl refl
+    answers protocol.B place write a = inr (said-before settings h d m (is_recv_ack (naming place (WriteItem write))) k refl ∙ a)
+    answers protocol.C place write a = inr (said-before settings h d m (is_write_ack (naming place (WriteItem write))) k refl ∙ a)
 
--- nothing is asked of an item without blocks, and each write in a stream has some
-none-asked : (settings : Settings) (front : List Item) (asked : Protocol) (c : Outward) (place : ℕ) (item : Item) → MayStand settings front item → has_blocks item ≡ false → is_acknowledged asked c (place, item) ≡ true
-none-asked settings front asked c place (WriteItem write) may none =
-    let count : ℕ = length write.contents in
-    absurd (both_ways (nat_lt 0 count) none (and_parts (nat_lt 0 count) _ (and_parts _ _ (and_parts _ _ may).0).0).0)
-none-asked settings front asked c place (ResyncItem block contents) may none = absurd (cc)
-none-asked settings front asked c place (BarrierItem epoch) may none = refl
-none-asked settings front asked c place (SyncUuidItem word) may none = refl
-none-asked settings front asked c place (UuidsItem tuple) may none = refl
-
--- all that the items of the epoch want was accepted
-all-asked : (settings : Settings) (h : PrimaryHistory) (d : Inward) (m number size : ℕ) → Comes settings h d m → FitsBarrier settings.protocol (items_taken d) (take m d.due) number size
-    → list_all (is_acknowledged h.settings.protocol (outward h)) (items_of_epoch (outward h).stream number) ≡ true
-all-asked settings h d m number size k f = all-get (is_acknowledged h.settings.protocol (outward h)) (items_of_epoch (outward h).stream number) (λ n entry at.
-    let begins = stream-begins settings h d m k in
-    let there = get-of-epoch (outward h).stream number n entry at in
-    let whole : epoch_of (items_taken d ++ begins.0) there.0 ≡ epoch_of (outward h).stream there.0 = ap (λ (l : List Item). epoch_of l there.0) begins.1 in
-    let epoch = there.4 in
-    let upto = f.upto in
-    subst (λ (e : ℕ × Item). is_acknowledged h.settings.protocol (outward h) e ≡ true) (sym there.2) (elim (cases_Bool (has_blocks there.1)) [
-      | inr none ↦ none-asked settings (take there.0 (outward h).stream) h.settings.protocol (outward h) there.0 there.1 (k.ends.fit.stream.stands there.0 there.1 there.3) none
-      | inl blocks ↦ elim (cases_lt there.0 (length (items_taken d))) [
-        | inl within ↦
-            let taken : slice_get (items_taken d) there.0 ≡ Some there.1 = sym (get-grows (items_taken d) begins.0 there.0 within) ∙ (ap (λ (l : List Item). slice_get l there.0) begins.1 ∙ there.3) in
-            let same = epoch-grows (items_taken d) begins.0 there.0 (omega arith) in
-            asked-of settings h d m there.0 there.1 k (f.answered there.0 there.1 taken (omega arith) blocks)
-        | inr behind ↦ absurd (let late = epoch-behind (items_taken d) begins.0 there.0 behind in omega arith)
-      ]
-    ]))
-
--- A barrier's acknowledgement is in turn.
-barrier-fine : (settings : Settings) (h taken : PrimaryHistory) (d : Inward) (m number size : ℕ) → Comes settings h d m → FitsBarrier settings.protocol (items_taken d) (take m d.due) number size
+barrier-fine : (settings : Settings) (h taken : PrimaryHistory) (d : Inward) (m number size : ℕ) → Comes settings h d m
+    → FitsBarrier settings.protocol (items_taken d) (take m d.due) number size
     → IsFineToo (taking_ack (BarrierAckFrame number size) h taken)
-barrier-fine settings h taken d m number size k f =
-    let begins = stream-begins settings h d m k in
-    let counts : size ≡ epoch_size (outward h).stream number = f.counts ∙ (sym (size-stays (items_taken d) begins.0 number f.upto) ∙ ap (λ (l : List Item). epoch_size l number) begins.1) in
-    fine-if _ _ _ (and_from _ _ (and_from _ _ (oldest-is settings h d m number size k f) (eq-eqb size (epoch_size (outward h).stream number) counts)) (all-asked settings h d m number size k f))
+barrier-fine settings h taken d m number size k f = fine-if _ _ _ (turn-by h number size (barrier-turn settings h d m number size k f))
 
 -- Each acknowledgement that was due is accepted.
-ack-fine : (settings : Settings) (h taken : PrimaryHistory) (d : Inward) (m : ℕ) (packet : Packet) → Comes settings h d m → Fits settings.protocol (items_taken d) d.applied (take m d.due) packet → IsFineToo (taking_ack packet h taken)
+ack-fine : (settings : Settings) (h taken : PrimaryHistory) (d : Inward) (m : ℕ) (packet : Packet) → Comes settings h d m
+    → Fits settings.protocol (items_taken d) d.applied (take m d.due) packet → IsFineToo (taking_ack packet h taken)
 ack-fine settings h taken d m (RecvAckFrame ack) k f = received-fine settings h taken d m ack k f
 ack-fine settings h taken d m (WriteAckFrame ack) k f = written-fine settings h taken d m ack k f
 ack-fine settings h taken d m (RsWriteAckFrame ack) k f = resynced-fine settings h taken d m ack k f
@@ -246,8 +251,10 @@ ack-fine settings h taken d m (BarrierAckFrame number size) k f = barrier-fine s
 ack-fine settings h taken d m packet k f = absurd f
 
 -- Each frame that the secondary pushed is accepted when its turn comes, or its tuple is refused.
-pub acknowledging-fine : (settings : Settings) (h taken : PrimaryHistory) (d : Inward) (packet : Packet) → h.settings ≡ settings → taken.settings ≡ settings → AreHonestEnds settings (outward h) d → (outward h).closed ≡ false
-    → IsBeginning (items_taken d) (take (items_sent (outward h)) (outward h).stream) → slice_get (take d.pushed (answers_due settings d)) (length (outward h).taken) ≡ Some packet → IsFineToo (taking (Ok packet) h taken)
+pub acknowledging-fine : (settings : Settings) (h taken : PrimaryHistory) (d : Inward) (packet : Packet) → h.settings ≡ settings → taken.settings ≡ settings
+    → AreHonestEnds settings (outward h) d → (outward h).closed ≡ false
+    → IsBeginning (items_taken d) (take (items_sent (outward h)) (outward h).stream)
+    → slice_get (take d.pushed (answers_due settings d)) (length (outward h).taken) ≡ Some packet → IsFineToo (taking (Ok packet) h taken)
 acknowledging-fine settings h taken d packet same same_too e standing begins next = go (outward h).begun refl
   where
     there : slice_get (answers_due settings d) (length (outward h).taken) ≡ Some packet
@@ -256,8 +263,14 @@ acknowledging-fine settings h taken d packet same same_too e standing begins nex
     behind : (m : ℕ) → length (outward h).taken ≡ suc (suc (suc m)) → IsFineToo (taking_ack packet h taken)
     behind m size =
         let at : slice_get d.due m ≡ Some packet = subst (λ n. slice_get (answers_due settings d) n ≡ Some packet) size there in
-        ack-fine settings h taken d m packet (record { setting = same; ends = e; accepted = accepted-front settings (outward h) d m e standing size; begins = begins }) (e.orderly.fits m packet at)
+        ack-fine settings h taken d m packet (record {
+          setting = same;
+          ends = e;
+          accepted = accepted-front settings (outward h) d m e standing size;
+          begins = begins;
+        }) (e.orderly.fits m packet at)
 
-    go : (begun : Bool) → (outward h).begun ≡ begun → IsFineToo (elim begun as (λ _. Taken) [ true ↦ taking_ack packet h taken | false ↦ taking_hello (length (outward h).taken) packet taken ])
+    go : (begun : Bool) → (outward h).begun ≡ begun
+        → IsFineToo (elim begun as (λ _. Taken) [ true ↦ taking_ack packet h taken | false ↦ taking_hello (length (outward h).taken) packet taken ])
     go true is = let late = e.fit.late is in behind (length (outward h).taken - 3) (omega arith)
     go false is = hello-fine settings d.hello d.due (length (outward h).taken) packet taken same_too (e.fit.early standing is) there

@@ -1,25 +1,28 @@
 -- The two ends of a link with what each keeps by itself: what the one takes is the front of what the other owes.
-use Rattle.std.proofs.Common.{ℕ, zero, suc, ◌≡◌, ◌+◌, ◌-◌, ◌<◌, inl, inr, true, false, List, [], ◌∷◌, ◌++◌, length, take, drop, map, Some, slice_get, refl, sym, ◌∙◌, ap, arith}
+use Rattle.std.proofs.Common.{ℕ, suc, ◌≡◌, ◌-◌, ◌<◌, inl, inr, true, false, List, ◌++◌, length, take, drop, map, Some, slice_get, refl}
+use Rattle.std.proofs.Common.{◌∙◌, ap, arith}
 use Rattle.std.specs.Prelude.{filter_map, if◌then◌else◌}
 use Rattle.std.proofs.lemmas.Bool.{cases_Bool, both_ways}
 use Rattle.blocks.specs.declared.settings.Settings.{Settings}
 use Rattle.blocks.specs.declared.settings.Protocol.{Protocol}
 use Rattle.blocks.specs.declared.settings.Protocol.TheVariants as protocol
 use Rattle.model.specs.Contents.{Write}
-use Rattle.model.specs.Stream.{Item, WriteItem, IsLawful, IsBeginning}
-use Rattle.model.specs.Frames.{Packet, Received, frame_of, frames_from, hello_of}
+use Rattle.model.specs.Stream.{WriteItem, IsLawful, IsBeginning}
+use Rattle.model.specs.Frames.{Received, hello_of}
 use Rattle.model.specs.Primary.{Outward, frames_due, accepted_frames}
 use Rattle.model.specs.Secondary.{Inward, items_taken, received_item, answers_due}
 use Rattle.model.specs.Acknowledgements.{same_protocol}
+use Rattle.laws.proofs.Rules.FramesDue.{due-items}
+use Rattle.laws.proofs.Rules.EpochEnds.{most_writes}
 use Rattle.laws.proofs.Lists.Fronts.{begins-image}
-use Rattle.laws.proofs.Joining.Taking.{read, items_of_frames}
+use Rattle.laws.proofs.Joining.Taking.{read}
 use Rattle.laws.proofs.Primary.Ends.{accepted-all}
 use Rattle.laws.proofs.Primary.Sendable.{IsFitEnd}
 use Rattle.laws.proofs.Secondary.Orderly.{IsOrderly, plain}
 
 -- The two ends of a link of a pair.
 pub record AreHonestEnds (settings : Settings) (c : Outward) (d : Inward) : Type 0 where
-  pub lawful : IsLawful settings.max_epoch c.stream
+  pub lawful : IsLawful (most_writes settings) c.stream
   pub fit : IsFitEnd settings c
   pub orderly : IsOrderly settings.protocol d
   pub numbered : (place : ℕ) (write : Write) → slice_get c.stream place ≡ Some (WriteItem write) → 0 < write.number
@@ -33,26 +36,20 @@ protocol-self protocol.A = refl
 protocol-self protocol.B = refl
 protocol-self protocol.C = refl
 
--- what stands among the frames of a stream is the frame of the item there
-pub get-frames : (start : ℕ) (items : List Item) (n : ℕ) (packet : Packet) → slice_get (frames_from start items) n ≡ Some packet → (item : Item) × (slice_get items n ≡ Some item) × (packet ≡ frame_of (start + n) item)
-get-frames start [] n packet at = absurd (cc)
-get-frames start (x ∷ items) zero packet at =
-    let same : frame_of start x ≡ packet = cc in
-    (x, refl, sym same ∙ ap (λ n. frame_of n x) (omega arith))
-get-frames start (x ∷ items) (suc n) packet at =
-    let rest = get-frames (start + 1) items n packet at in
-    (rest.0, rest.1, rest.2 ∙ ap (λ m. frame_of m rest.0) (omega arith))
-
 -- behind the hello, the items that an open end has taken are as many of the stream as frames were taken behind it
-pub items-front : (settings : Settings) (c : Outward) (d : Inward) (m : ℕ) → AreHonestEnds settings c d → d.closed ≡ false → length d.taken ≡ suc (suc (suc m)) → items_taken d ≡ take m c.stream
+pub items-front : (settings : Settings) (c : Outward) (d : Inward) (m : ℕ) → AreHonestEnds settings c d → d.closed ≡ false → length d.taken ≡ suc (suc (suc m))
+    → items_taken d ≡ take m c.stream
 items-front settings c d m e standing size =
     let accepted = plain d e.orderly.good standing in
-    let taken : d.taken ≡ map read (take (suc (suc (suc m))) (frames_due settings c)) = begins-image read c.pushed d.taken (frames_due settings c) e.out ∙ ap (λ n. map read (take n (frames_due settings c))) size in
+    let taken : d.taken ≡ map read (take (suc (suc (suc m))) (frames_due settings c)) = begins-image read c.pushed d.taken (frames_due settings c) e.out
+    ∙ ap (λ n. map read (take n (frames_due settings c))) size in
     ap (λ b. filter_map received_item (drop 3 (if b then take (length d.taken - 1) d.taken else d.taken))) accepted
-    ∙ (ap (λ (l : List Received). filter_map received_item (drop 3 l)) taken ∙ items_of_frames m 0 c.stream)
+    ∙ (ap (λ (l : List Received). filter_map received_item (drop 3 l)) taken
+    ∙ (due-items settings c (suc (suc (suc m))) ∙ ap (λ n. take n c.stream) (omega arith)))
 
 -- behind the hello, the frames that an open end has accepted are as many of those due
-pub accepted-front : (settings : Settings) (c : Outward) (d : Inward) (m : ℕ) → AreHonestEnds settings c d → c.closed ≡ false → length c.taken ≡ suc (suc (suc m))
+pub accepted-front : (settings : Settings) (c : Outward) (d : Inward) (m : ℕ) → AreHonestEnds settings c d → c.closed ≡ false
+    → length c.taken ≡ suc (suc (suc m))
     → accepted_frames c ≡ map read (hello_of settings d.hello ++ take m d.due)
 accepted-front settings c d m e standing size =
     let accepted : c.refused ≡ false = elim (cases_Bool c.refused) [ inl was ↦ absurd (both_ways c.closed standing (e.refused was)) | inr not_so ↦ not_so ] in

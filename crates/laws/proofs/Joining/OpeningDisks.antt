@@ -1,6 +1,7 @@
 -- The two ends of joined nodes, and the opening disks: they agree on a block that stands as it did at the opening and was
 -- not marked there.
-use Rattle.std.proofs.Common.{ℕ, zero, suc, ◌≡◌, ◌<◌, ◌⊎◌, inl, inr, Bool, true, false, ◌&&◌, List, [], ◌∷◌, take, Option, Some, None, slice_get, Ok, refl, sym, ◌∙◌, ap, subst, arith, nat_lt}
+use Rattle.std.proofs.Common.{ℕ, zero, suc, ◌≡◌, ◌<◌, ◌⊎◌, inl, inr, Bool, true, false, ◌&&◌, List, [], ◌∷◌, take, Option, Some, None, slice_get, Ok, refl, sym}
+use Rattle.std.proofs.Common.{◌∙◌, ap, subst, arith, nat_lt}
 use Rattle.std.specs.Prelude.{is_some}
 use Rattle.std.specs.List.{list_any}
 use Rattle.std.proofs.lemmas.Bool.{cases_Bool, both_ways, or_from, ltb-true, lt-ltb, cases_lt, and_right}
@@ -17,6 +18,7 @@ use Rattle.model.specs.Pair.{same_block}
 use Rattle.model.specs.LocalRuns.{PrimaryEvent, primary_run, SecondaryEvent, secondary_run}
 use Rattle.model.specs.Headline.{IsJoined, IsGrounded, Cover, opening_marked, pushed_back_by}
 use Rattle.model.specs.Theorems.{Opening, IsSoundOpening, primary_at, secondary_at, marks_at}
+use Rattle.laws.proofs.Rules.Decisions.{decided-by}
 use Rattle.laws.specs.Reflections.{FromOpening, FirstBegan, NoneBegan}
 use Rattle.laws.proofs.Lists.Beginnings.{begins-take, get-beginning}
 use Rattle.laws.proofs.Primary.Homes.{HasHomes}
@@ -24,7 +26,7 @@ use Rattle.laws.proofs.Primary.HomesMoves.{homes-kept, homes-released, homes-ope
 use Rattle.laws.proofs.Primary.Moves.{keeps-run}
 use Rattle.laws.proofs.Joining.Promises.{read-back}
 use Rattle.laws.proofs.Joining.Openings.{HasOpening, HasOpeningToo, kept-opening-primary, kept-opening-secondary}
-use Rattle.laws.proofs.Blocks.SameBlocks.{same-equal, decided-by}
+use Rattle.laws.proofs.Blocks.SameBlocks.{same-equal}
 use Rattle.laws.proofs.Secondary.Tuples.{secondary_hello}
 use Rattle.laws.proofs.Joining.SureApplied.{taken-begins}
 use Rattle.laws.proofs.Secondary.TrueBarriers.{due_is_no_tuple}
@@ -36,14 +38,16 @@ use Rattle.laws.proofs.Primary.Met.{HasMet, primary-met}
 use Rattle.laws.proofs.Lists.Each.{each-get}
 
 -- a tuple among the frames that a secondary owes is that of its hello, if none was due
-pub named : (settings : Settings) (d : Inward) (n : ℕ) (t : Tuple) → slice_get (answers_due settings d) n ≡ Some (UuidsFrame t) → ((m : ℕ) → slice_get d.due m ≡ Some (UuidsFrame t) → ⊥) → t ≡ d.hello
+pub named : (settings : Settings) (d : Inward) (n : ℕ) (t : Tuple) → slice_get (answers_due settings d) n ≡ Some (UuidsFrame t)
+    → ((m : ℕ) → slice_get d.due m ≡ Some (UuidsFrame t) → ⊥) → t ≡ d.hello
 named settings d zero t at none = absurd (cc)
 named settings d (suc zero) t at none = absurd (cc)
 named settings d (suc (suc zero)) t at none = let same : UuidsFrame d.hello ≡ UuidsFrame t = cc in cc
 named settings d (suc (suc (suc n))) t at none = absurd (none n at)
 
 -- The first stream that began was decided on the peer's opening tuple.
-pub first-peer : (o : Opening) (here : List PrimaryEvent) (there : List SecondaryEvent) (decided : Decision) → IsJoined (primary_run here (primary_at o)) (secondary_run there (secondary_at o))
+pub first-peer : (o : Opening) (here : List PrimaryEvent) (there : List SecondaryEvent) (decided : Decision)
+    → IsJoined (primary_run here (primary_at o)) (secondary_run there (secondary_at o))
     → (first : FirstBegan (primary_run here (primary_at o)) decided) → first.peer ≡ o.peer_tuple
 first-peer o here there decided joined first =
     let p : PrimaryHistory = primary_run here (primary_at o) in
@@ -54,12 +58,16 @@ first-peer o here there decided joined first =
     let d : Inward = end.1 in
     let back = joined-back p s rise joined first.connection end.0 first.end d end.2 in
     let pushed = get-beginning first.end.taken (pushed_back_by s d) first.n (Ok (UuidsFrame first.peer)) back first.taken in
-    let owed = get-beginning (take d.pushed (answers_due s.settings d)) (answers_due s.settings d) first.n (UuidsFrame first.peer) (begins-take d.pushed (answers_due s.settings d)) (read-back (take d.pushed (answers_due s.settings d)) first.n (UuidsFrame first.peer) pushed) in
-    let hello : first.peer ≡ d.hello = named s.settings d first.n first.peer owed (λ m at. due_is_no_tuple o.peer_settings o.peer o.peer_tuple there end.0 m d first.peer end.2.inward at) in
-    hello ∙ secondary_hello o.peer_settings o.peer o.peer_tuple there end.0 d end.2.inward (λ j e less at. nothing-before p s rise joined first end.0 d end.2 homes j e less at (items_taken e) refl)
+    let owed = get-beginning (take d.pushed (answers_due s.settings d)) (answers_due s.settings d) first.n (UuidsFrame first.peer)
+    (begins-take d.pushed (answers_due s.settings d)) (read-back (take d.pushed (answers_due s.settings d)) first.n (UuidsFrame first.peer) pushed) in
+    let hello : first.peer ≡ d.hello = named s.settings d first.n first.peer owed
+    (λ m at. due_is_no_tuple o.peer_settings o.peer o.peer_tuple there end.0 m d first.peer end.2.inward at) in
+    hello ∙ secondary_hello o.peer_settings o.peer o.peer_tuple there end.0 d end.2.inward
+    (λ j e less at. nothing-before p s rise joined first end.0 d end.2 homes j e less at (items_taken e) refl)
   where
     -- what the secondary took before the first stream began is nothing
-    nothing-before : (p : PrimaryHistory) (s : SecondaryHistory) → NumbersRise s.connections → IsJoined p s → (first : FirstBegan p decided) → (i : ℕ) (d : Inward) → AreEnds p s first.connection i first.end d → HasHomes p
+    nothing-before : (p : PrimaryHistory) (s : SecondaryHistory) → NumbersRise s.connections → IsJoined p s → (first : FirstBegan p decided)
+        → (i : ℕ) (d : Inward) → AreEnds p s first.connection i first.end d → HasHomes p
         → (j : ℕ) (e : Inward) → j < i → slice_get s.connections j ≡ Some e → (items : List Item) → items_taken e ≡ items → items_taken e ≡ []
     nothing-before p s rise joined first i d ends homes j e less at [] is = is
     nothing-before p s rise joined first i d ends homes j e less at (item ∷ items) is = absurd (
@@ -92,7 +100,8 @@ none-there None h = refl
 none-there (Some x) h = absurd (cc)
 
 -- Where a stream began, both devices are of one size.
-sizes-agree : (o : Opening) (here : List PrimaryEvent) (there : List SecondaryEvent) (decided : Decision) → IsJoined (primary_run here (primary_at o)) (secondary_run there (secondary_at o))
+sizes-agree : (o : Opening) (here : List PrimaryEvent) (there : List SecondaryEvent) (decided : Decision)
+    → IsJoined (primary_run here (primary_at o)) (secondary_run there (secondary_at o))
     → FirstBegan (primary_run here (primary_at o)) decided → o.settings.blocks ≡ o.peer_settings.blocks
 sizes-agree o here there decided joined first =
     let p : PrimaryHistory = primary_run here (primary_at o) in
@@ -102,17 +111,23 @@ sizes-agree o here there decided joined first =
     let size = met.sized (inl first.begun) (met.late first.begun) in
     let end = secondary-end p s joined first.connection 1 first.end (Ok (SizesFrame o.settings.blocks)) first.at size in
     let d : Inward = end.1 in
-    let pushed = get-beginning first.end.taken (pushed_back_by s d) 1 (Ok (SizesFrame o.settings.blocks)) (joined-back p s rise joined first.connection end.0 first.end d end.2) size in
+    let pushed = get-beginning first.end.taken (pushed_back_by s d) 1 (Ok (SizesFrame o.settings.blocks))
+    (joined-back p s rise joined first.connection end.0 first.end d end.2) size in
     let owed : slice_get (answers_due s.settings d) 1 ≡ Some (SizesFrame o.settings.blocks) =
-    get-beginning (take d.pushed (answers_due s.settings d)) (answers_due s.settings d) 1 (SizesFrame o.settings.blocks) (begins-take d.pushed (answers_due s.settings d)) (read-back (take d.pushed (answers_due s.settings d)) 1 (SizesFrame o.settings.blocks) pushed) in
+    get-beginning (take d.pushed (answers_due s.settings d)) (answers_due s.settings d) 1 (SizesFrame o.settings.blocks)
+    (begins-take d.pushed (answers_due s.settings d)) (read-back (take d.pushed (answers_due s.settings d)) 1 (SizesFrame o.settings.blocks) pushed) in
     let frame : SizesFrame s.settings.blocks ≡ SizesFrame o.settings.blocks = cc in
     let same : s.settings.blocks ≡ o.settings.blocks = cc in
     sym same ∙ ap (λ (x : Settings). x.blocks) (kept-opening-secondary o there).settings
 
 -- The opening disks agree on a block that was not marked at the opening, where the first stream that began did not mark all.
-pub unmarked-agree : (o : Opening) (here : List PrimaryEvent) (there : List SecondaryEvent) → IsSoundOpening o → IsJoined (primary_run here (primary_at o)) (secondary_run there (secondary_at o))
-    → IsGrounded (primary_run here (primary_at o)) (secondary_run there (secondary_at o)) → (block : ℕ) → opening_marked (primary_run here (primary_at o)) block ≡ false
-    → NoneBegan (primary_run here (primary_at o)) ⊎ ((decided : Decision) × FirstBegan (primary_run here (primary_at o)) decided × (block < (primary_run here (primary_at o)).settings.blocks → decided ≡ FullSync → ⊥)) → o.local block ≡ o.peer block
+pub unmarked-agree : (o : Opening) (here : List PrimaryEvent) (there : List SecondaryEvent) → IsSoundOpening o
+    → IsJoined (primary_run here (primary_at o)) (secondary_run there (secondary_at o))
+    → IsGrounded (primary_run here (primary_at o)) (secondary_run there (secondary_at o)) → (block : ℕ)
+    → opening_marked (primary_run here (primary_at o)) block ≡ false
+    → NoneBegan (primary_run here (primary_at o))
+    ⊎ ((decided : Decision) × FirstBegan (primary_run here (primary_at o)) decided × (block < (primary_run here (primary_at o)).settings.blocks
+    → decided ≡ FullSync → ⊥)) → o.local block ≡ o.peer block
 unmarked-agree o here there sound joined grounded block clean began =
     let p : PrimaryHistory = primary_run here (primary_at o) in
     let s : SecondaryHistory = secondary_run there (secondary_at o) in
@@ -120,30 +135,37 @@ unmarked-agree o here there sound joined grounded block clean began =
     let theirs : HasOpeningToo o s = kept-opening-secondary o there in
     elim (cases_lt block o.settings.blocks) [
       | inr past ↦
-          let out : nat_lt block o.settings.blocks ≡ false = elim (cases_Bool (nat_lt block o.settings.blocks)) [ inr outside ↦ outside | inl inside ↦ absurd (let less = ltb-true block o.settings.blocks inside in omega arith) ] in
+          let out : nat_lt block o.settings.blocks ≡ false =
+          elim (cases_Bool (nat_lt block o.settings.blocks))
+          [ inr outside ↦ outside | inl inside ↦ absurd (let less = ltb-true block o.settings.blocks inside in omega arith) ] in
           elim grounded [
-            | inr cover ↦ ap (λ (m : BlockMap). m block) (sym mine.disk) ∙ (covered-same (opening_marked p) p.opening_map s.opening_map block cover clean ∙ ap (λ (m : BlockMap). m block) theirs.disk)
+            | inr cover ↦ ap (λ (m : BlockMap). m block) (sym mine.disk)
+                ∙ (covered-same (opening_marked p) p.opening_map s.opening_map block cover clean ∙ ap (λ (m : BlockMap). m block) theirs.disk)
             | inl begun ↦ elim began [
               | inl none ↦ absurd (both_ways (list_any (λ (c : Outward). c.begun) p.connections) (none-begun p.connections none.none) begun)
               | inr first ↦
                   let size = sizes-agree o here there first.0 joined first.1 in
-                  none-there (o.local block) (sound.local block ∙ out) ∙ sym (none-there (o.peer block) (sound.peer block ∙ subst (λ (n : ℕ). nat_lt block n ≡ false) size out))
+                  none-there (o.local block) (sound.local block ∙ out)
+                  ∙ sym (none-there (o.peer block) (sound.peer block ∙ subst (λ (n : ℕ). nat_lt block n ≡ false) size out))
             ]
           ]
       | inl inside ↦
-          let within : nat_lt block p.settings.blocks ≡ true = ap (λ (x : Settings). nat_lt block x.blocks) mine.settings ∙ lt-ltb block o.settings.blocks inside in
+          let within : nat_lt block p.settings.blocks ≡ true = ap (λ (x : Settings). nat_lt block x.blocks) mine.settings
+          ∙ lt-ltb block o.settings.blocks inside in
           let less : block < p.settings.blocks = subst (λ (x : Settings). block < x.blocks) (sym mine.settings) inside in
           let bare : p.opening_marks block ≡ false = sym (ap (λ b. b && p.opening_marks block) within) ∙ clean in
           let unmarked : o.marks block ≡ false = ap (λ (m : ℕ → Bool). m block) (sym mine.marks) ∙ bare in
           let marked_not : marks_at o block ≡ false = and_right (nat_lt block o.settings.blocks) (o.marks block) unmarked in
           elim grounded [
-            | inr cover ↦ ap (λ (m : BlockMap). m block) (sym mine.disk) ∙ (covered-same (opening_marked p) p.opening_map s.opening_map block cover clean ∙ ap (λ (m : BlockMap). m block) theirs.disk)
+            | inr cover ↦ ap (λ (m : BlockMap). m block) (sym mine.disk)
+                ∙ (covered-same (opening_marked p) p.opening_map s.opening_map block cover clean ∙ ap (λ (m : BlockMap). m block) theirs.disk)
             | inl begun ↦ elim began [
               | inl none ↦ absurd (both_ways (list_any (λ (c : Outward). c.begun) p.connections) (none-begun p.connections none.none) begun)
               | inr first ↦
                   let peer : first.1.peer ≡ o.peer_tuple = first-peer o here there first.0 joined first.1 in
                   let decides : decision o.own o.peer_tuple ≡ Ok first.0 =
-                  subst (λ (t : Tuple). decision o.own t ≡ Ok first.0) peer (subst (λ (t : Tuple). decision t first.1.peer ≡ Ok first.0) mine.tuple first.1.decides) in
+                  subst (λ (t : Tuple). decision o.own t ≡ Ok first.0) peer
+                  (subst (λ (t : Tuple). decision t first.1.peer ≡ Ok first.0) mine.tuple first.1.decides) in
                   elim (decided-by o.own o.peer_tuple first.0 decides) [
                     | inl full ↦ absurd (first.2 less full)
                     | inr other ↦ elim other [
@@ -156,6 +178,8 @@ unmarked-agree o here there sound joined grounded block clean began =
     ]
 
 -- So they agree on one that stands as it did at the opening.
-pub openings-agree : (o : Opening) (here : List PrimaryEvent) (there : List SecondaryEvent) → IsSoundOpening o → IsJoined (primary_run here (primary_at o)) (secondary_run there (secondary_at o))
-    → IsGrounded (primary_run here (primary_at o)) (secondary_run there (secondary_at o)) → (block : ℕ) → FromOpening (primary_run here (primary_at o)) block → o.local block ≡ o.peer block
+pub openings-agree : (o : Opening) (here : List PrimaryEvent) (there : List SecondaryEvent) → IsSoundOpening o
+    → IsJoined (primary_run here (primary_at o)) (secondary_run there (secondary_at o))
+    → IsGrounded (primary_run here (primary_at o)) (secondary_run there (secondary_at o)) → (block : ℕ) → FromOpening (primary_run here (primary_at o)) block
+    → o.local block ≡ o.peer block
 openings-agree o here there sound joined grounded block a = unmarked-agree o here there sound joined grounded block a.unmarked a.began

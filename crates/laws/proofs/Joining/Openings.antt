@@ -31,8 +31,24 @@ kept-submits : (o : Opening) (h : PrimaryHistory) (first : ℕ) (contents : List
 kept-submits o h first contents a = go (stands (outward h))
   where
     go : (b : Bool) → HasOpening o (elim b as (λ _. PrimaryHistory) [
-      | true ↦ appending (WriteItem (submission h first contents)) (record h { writes = h.writes ++ record { write = submission h first contents; journal_length = length h.journal; home = Some (last_index h.connections, length (outward h).stream); outcome = Waiting } ∷ [] })
-      | false ↦ record h { writes = h.writes ++ record { write = submission h first contents; journal_length = length h.journal; home = None; outcome = Waiting } ∷ []; marks = marking (submission h first contents) h.marks }
+      | true ↦ appending (WriteItem (submission h first contents))
+          (record h {
+            writes = h.writes ++ record {
+              write = submission h first contents;
+              journal_length = length h.journal;
+              home = Some (record { index = last_index h.connections; place = length (outward h).stream });
+              outcome = Waiting;
+            } ∷ [];
+          })
+      | false ↦ record h {
+        writes = h.writes ++ record {
+          write = submission h first contents;
+          journal_length = length h.journal;
+          home = None;
+          outcome = Waiting;
+        } ∷ [];
+        marks = marking (submission h first contents) h.marks;
+      }
     ])
     go true = kept o h _ refl refl refl refl a
     go false = kept o h _ refl refl refl refl a
@@ -40,11 +56,17 @@ kept-submits o h first contents a = go (stands (outward h))
 kept-faults : (o : Opening) (h : PrimaryHistory) (number : ℕ) (offsets : List ℕ) → HasOpening o h → HasOpening o (faulted number offsets h)
 kept-faults o h number offsets a = go (accepted_at h number)
   where
-    go : (v : Option Accepted) → HasOpening o (elim v as (λ _. PrimaryHistory) [ None ↦ h | Some accepted ↦ with_outcome number (Failed (within (length accepted.write.contents) offsets)) (record h { marks = marking accepted.write h.marks }) ])
+    go : (v : Option Accepted) → HasOpening o
+        (elim v as (λ _. PrimaryHistory) [
+          | None ↦ h
+          | Some accepted ↦ with_outcome number (Failed (within (length accepted.write.contents) offsets))
+              (record h { marks = marking accepted.write h.marks })
+        ])
     go None = a
     go (Some accepted) = kept o h _ refl refl refl refl a
 
-kept-begins : (o : Opening) (h : PrimaryHistory) (peer : Tuple) (decided : Decision) → HasOpening o h → HasOpening o (begun_with decided (record (with_outward (with_frame (Ok (UuidsFrame peer))) h) { peer = Some peer }))
+kept-begins : (o : Opening) (h : PrimaryHistory) (peer : Tuple) (decided : Decision) → HasOpening o h
+    → HasOpening o (begun_with decided (record (with_outward (with_frame (Ok (UuidsFrame peer))) h) { peer = Some peer }))
 kept-begins o h peer decided a = go decided
   where
     go : (v : Decision) → HasOpening o (begun_with v (record (with_outward (with_frame (Ok (UuidsFrame peer))) h) { peer = Some peer }))
@@ -55,7 +77,8 @@ kept-begins o h peer decided a = go decided
 opening-kept : (o : Opening) → IsKeptByMoves (HasOpening o) (HasOpening o)
 opening-kept o = record {
   following =
-      following-from (HasOpening o) (HasOpening o) (HasOpening o) (λ h a. kept o h _ refl refl refl refl a) (λ g over a. kept o g _ refl refl refl refl a) (λ g on a. a) (λ g over a. kept o g _ refl refl refl refl a) (λ g a. a);
+      following-from (HasOpening o) (HasOpening o) (HasOpening o) (λ h a. kept o h _ refl refl refl refl a) (λ g over a. kept o g _ refl refl refl refl a)
+      (λ g on a. a) (λ g over a. kept o g _ refl refl refl refl a) (λ g a. a);
   opens = λ h sync loss closed fresh a. kept o h _ refl refl refl refl a;
   submits = λ h first contents may a. kept-submits o h first contents a;
   writes = λ h number waiting a. kept o h _ refl refl refl refl a;
@@ -78,7 +101,8 @@ opening-released o = kept-by-releases (HasOpening o) (HasOpening o) (λ h marks 
 
 -- Every run of a primary keeps its opening.
 pub kept-opening-primary : (o : Opening) (here : List PrimaryEvent) → HasOpening o (primary_run here (primary_at o))
-kept-opening-primary o here = keeps-run (HasOpening o) (HasOpening o) (opening-kept o) (opening-released o) here (primary_at o) (record { settings = refl; disk = refl; marks = refl; tuple = refl })
+kept-opening-primary o here = keeps-run (HasOpening o) (HasOpening o) (opening-kept o) (opening-released o) here (primary_at o)
+    (record { settings = refl; disk = refl; marks = refl; tuple = refl })
 
 -- A secondary's history that began at this opening.
 pub record HasOpeningToo (o : Opening) (h : SecondaryHistory) : Type 0 where
@@ -87,7 +111,8 @@ pub record HasOpeningToo (o : Opening) (h : SecondaryHistory) : Type 0 where
   pub tuple : h.opening_tuple ≡ o.peer_tuple
 
 -- a step that changes none of the three
-kept-too : (o : Opening) (h later : SecondaryHistory) → later.settings ≡ h.settings → later.opening_map ≡ h.opening_map → later.opening_tuple ≡ h.opening_tuple → HasOpeningToo o h → HasOpeningToo o later
+kept-too : (o : Opening) (h later : SecondaryHistory) → later.settings ≡ h.settings → later.opening_map ≡ h.opening_map → later.opening_tuple ≡ h.opening_tuple
+    → HasOpeningToo o h → HasOpeningToo o later
 kept-too o h later settings disk tuple a = record { settings = settings ∙ a.settings; disk = disk ∙ a.disk; tuple = tuple ∙ a.tuple }
 
 kept-after : (o : Opening) (event : SecondaryEvent) (h : SecondaryHistory) → HasOpeningToo o h → HasOpeningToo o (secondary_after event h)

@@ -1,14 +1,17 @@
 -- What a completion over the link promises, of a primary and a secondary that ran by themselves and whose frames are joined.
-use Rattle.std.proofs.Common.{ℕ, zero, suc, ◌≡◌, ◌-◌, ◌<◌, Bool, true, false, List, [], ◌∷◌, length, take, map, Some, slice_get, Ok, Err, refl, sym, ◌∙◌, ap, subst}
+use Rattle.std.proofs.Common.{ℕ, zero, suc, ◌≡◌, ◌-◌, ◌<◌, Bool, true, false, List, [], ◌∷◌, length, take, map, Some, slice_get, Ok, Err, refl, sym, ◌∙◌, ap}
+use Rattle.std.proofs.Common.{subst}
 use Rattle.std.specs.Prelude.{if◌then◌else◌}
 use Rattle.std.proofs.lemmas.Bool.{ltb-true}
 use Rattle.std.proofs.lemmas.Option.{slice_get_within}
+use Rattle.blocks.specs.Positions.{StreamPosition}
 use Rattle.blocks.specs.declared.settings.Settings.{Settings}
 use Rattle.blocks.specs.declared.settings.Protocol.{Protocol}
 use Rattle.blocks.specs.declared.settings.Protocol.TheVariants as protocol
 use Rattle.model.specs.Contents.{Write}
 use Rattle.model.specs.Stream.{Item, WriteItem, IsBeginning, is_whole}
-use Rattle.model.specs.Frames.{Packet, DataFrame, RsDataReplyFrame, BarrierFrame, ProtocolFrame, UuidsFrame, SizesFrame, SyncUuidFrame, RecvAckFrame, WriteAckFrame, RsWriteAckFrame, BarrierAckFrame, Acknowledged, Received, naming}
+use Rattle.model.specs.Frames.{Packet, DataFrame, RsDataReplyFrame, BarrierFrame, ProtocolFrame, UuidsFrame, SizesFrame, SyncUuidFrame, RecvAckFrame}
+use Rattle.model.specs.Frames.{WriteAckFrame, RsWriteAckFrame, BarrierAckFrame, Acknowledged, Received, naming}
 use Rattle.model.specs.Primary.{Outward, PrimaryHistory, items_sent, accepted_frames, same_naming, is_recv_ack, is_write_ack, is_answered_by, outward_at}
 use Rattle.model.specs.Secondary.{Inward, SecondaryHistory, items_taken, answers_due, inward_at}
 use Rattle.model.specs.LocalRuns.{primary_run, secondary_run}
@@ -26,7 +29,8 @@ use Rattle.laws.proofs.Lists.Each.{Each, each-get}
 use Rattle.laws.proofs.Joining.Ends.{outward-there, each-at}
 
 -- the acknowledgement in a frame that passes
-recv-ack : (of : Acknowledged) (frame : Received) → is_recv_ack of frame ≡ true → (ack : Acknowledged) × (frame ≡ Ok (RecvAckFrame ack)) × (same_naming of ack ≡ true)
+recv-ack : (of : Acknowledged) (frame : Received) → is_recv_ack of frame ≡ true
+    → (ack : Acknowledged) × (frame ≡ Ok (RecvAckFrame ack)) × (same_naming of ack ≡ true)
 recv-ack of (Err fault) h = absurd (cc)
 recv-ack of (Ok (DataFrame write at)) h = absurd (cc)
 recv-ack of (Ok (RsDataReplyFrame block contents at)) h = absurd (cc)
@@ -40,7 +44,8 @@ recv-ack of (Ok (WriteAckFrame ack)) h = absurd (cc)
 recv-ack of (Ok (RsWriteAckFrame ack)) h = absurd (cc)
 recv-ack of (Ok (BarrierAckFrame number size)) h = absurd (cc)
 
-write-ack : (of : Acknowledged) (frame : Received) → is_write_ack of frame ≡ true → (ack : Acknowledged) × (frame ≡ Ok (WriteAckFrame ack)) × (same_naming of ack ≡ true)
+write-ack : (of : Acknowledged) (frame : Received) → is_write_ack of frame ≡ true
+    → (ack : Acknowledged) × (frame ≡ Ok (WriteAckFrame ack)) × (same_naming of ack ≡ true)
 write-ack of (Err fault) h = absurd (cc)
 write-ack of (Ok (DataFrame write at)) h = absurd (cc)
 write-ack of (Ok (RsDataReplyFrame block contents at)) h = absurd (cc)
@@ -76,17 +81,24 @@ behind-hello a b c packet due (suc (suc zero)) ha hb hc other at = absurd (let e
 behind-hello a b c packet due (suc (suc (suc n))) ha hb hc other at = (n, at)
 
 -- An accepted acknowledgement was due at the secondary.
-pub was-due : (settings : Settings) (c : Outward) (d : Inward) (n : ℕ) (packet : Packet) → is_hello packet ≡ false → IsBeginning c.taken (map read (take d.pushed (answers_due settings d)))
+pub was-due : (settings : Settings) (c : Outward) (d : Inward) (n : ℕ) (packet : Packet) → is_hello packet ≡ false
+    → IsBeginning c.taken (map read (take d.pushed (answers_due settings d)))
     → slice_get (accepted_frames c) n ≡ Some (Ok packet)
     → (m : ℕ) × (slice_get d.due m ≡ Some packet)
 was-due settings c d n packet other joined at =
-    let accepted : IsBeginning (accepted_frames c) c.taken = elim c.refused as (λ b. IsBeginning (if b then take (length c.taken - 1) c.taken else c.taken) c.taken) [ true ↦ begins-take (length c.taken - 1) c.taken | false ↦ begins-self c.taken ] in
-    let pushed = get-beginning c.taken (map read (take d.pushed (answers_due settings d))) n (Ok packet) joined (get-beginning (accepted_frames c) c.taken n (Ok packet) accepted at) in
-    let there = get-beginning (take d.pushed (answers_due settings d)) (answers_due settings d) n packet (begins-take d.pushed (answers_due settings d)) (read-back (take d.pushed (answers_due settings d)) n packet pushed) in
+    let accepted : IsBeginning (accepted_frames c) c.taken =
+    elim c.refused as (λ b. IsBeginning (if b then take (length c.taken - 1) c.taken else c.taken) c.taken)
+    [ true ↦ begins-take (length c.taken - 1) c.taken | false ↦ begins-self c.taken ] in
+    let pushed = get-beginning c.taken (map read (take d.pushed (answers_due settings d))) n (Ok packet) joined
+    (get-beginning (accepted_frames c) c.taken n (Ok packet) accepted at) in
+    let there = get-beginning (take d.pushed (answers_due settings d)) (answers_due settings d) n packet (begins-take d.pushed (answers_due settings d))
+    (read-back (take d.pushed (answers_due settings d)) n packet pushed) in
     behind-hello _ _ _ packet d.due n refl refl refl other there
 
-promise-of : (asked : Protocol) (settings : Settings) (c : Outward) (d : Inward) (write : Write) (place : ℕ) → IsTruthful d → IsBeginning c.taken (map read (take d.pushed (answers_due settings d)))
-    → IsBeginning (items_taken d) (take (items_sent c) c.stream) → slice_get c.stream place ≡ Some (WriteItem write) → is_answered_by asked c place (WriteItem write) ≡ true → Promise asked c d write place
+promise-of : (asked : Protocol) (settings : Settings) (c : Outward) (d : Inward) (write : Write) (place : ℕ) → IsTruthful d
+    → IsBeginning c.taken (map read (take d.pushed (answers_due settings d)))
+    → IsBeginning (items_taken d) (take (items_sent c) c.stream) → slice_get c.stream place ≡ Some (WriteItem write)
+    → is_answered_by asked c place (WriteItem write) ≡ true → Promise asked c d write place
 promise-of protocol.A settings c d write place truthful joined items item answered = ltb-true place (items_sent c) answered
 promise-of protocol.B settings c d write place truthful joined items item answered =
     let found = pick-any (is_recv_ack (naming place (WriteItem write))) (accepted_frames c) answered in
@@ -103,7 +115,8 @@ promise-of protocol.C settings c d write place truthful joined items item answer
     let same : place ≡ ack.0.place = same-place (naming place (WriteItem write)) ack.0 ack.2 in
     let taken : slice_get (items_taken d) place ≡ Some names.item = subst (λ n. slice_get (items_taken d) n ≡ Some names.item) (sym same) names.there in
     let sent : slice_get c.stream place ≡ Some names.item =
-    get-beginning (items_taken d) c.stream place names.item (begins-trans (items_taken d) (take (items_sent c) c.stream) c.stream items (begins-take (items_sent c) c.stream)) taken in
+    get-beginning (items_taken d) c.stream place names.item
+    (begins-trans (items_taken d) (take (items_sent c) c.stream) c.stream items (begins-take (items_sent c) c.stream)) taken in
     let is : names.item ≡ WriteItem write = cc in
     subst (λ (i : Item). is_whole d.applied place i ≡ true) is (subst (λ n. is_whole d.applied n names.item ≡ true) (sym same) names.whole)
 
@@ -117,17 +130,28 @@ keeps_promises o here there any joined =
     record {
       promised = λ n k place entry at linked home.
           let l : IsLinked p.settings.protocol p.connections entry = homes.journal n entry at linked in
-          let one : ℕ × ℕ = (l.connection, l.place) in
-          let two : ℕ × ℕ = (k, place) in
+          let one : StreamPosition = record { index = l.connection; place = l.place } in
+          let two : StreamPosition = record { index = k; place = place } in
           let pairs : Some one ≡ Some two = sym l.home ∙ home in
           let same : one ≡ two = cc in
-          let kk : l.connection ≡ k = ap (λ (x : ℕ × ℕ). x.0) same in
-          let pp : l.place ≡ place = ap (λ (x : ℕ × ℕ). x.1) same in
+          let kk : l.connection ≡ k = ap (λ (x : StreamPosition). x.index) same in
+          let pp : l.place ≡ place = ap (λ (x : StreamPosition). x.place) same in
           let end : l.end ≡ outward_at p (suc k) = sym (outward-there p k l.end (subst (λ n. slice_get p.connections n ≡ Some l.end) kk l.there)) in
-          let item : slice_get (outward_at p (suc k)).stream place ≡ Some (WriteItem entry.write) = subst (λ (x : Outward). slice_get x.stream place ≡ Some (WriteItem entry.write)) end (subst (λ n. slice_get l.end.stream n ≡ Some (WriteItem entry.write)) pp l.item) in
+          let item : slice_get (outward_at p (suc k)).stream place ≡ Some (WriteItem entry.write) =
+          subst (λ (x : Outward). slice_get x.stream place ≡ Some (WriteItem entry.write)) end
+          (subst (λ n. slice_get l.end.stream n ≡ Some (WriteItem entry.write)) pp l.item) in
           let answered : is_answered_by p.settings.protocol (outward_at p (suc k)) place (WriteItem entry.write) ≡ true =
-          subst (λ (x : Outward). is_answered_by p.settings.protocol x place (WriteItem entry.write) ≡ true) end (subst (λ n. is_answered_by p.settings.protocol l.end n (WriteItem entry.write) ≡ true) pp l.answered) in
-          promise-of p.settings.protocol s.settings (outward_at p (suc k)) (inward_at s (suc k)) entry.write place (each-at IsTruthful s (λ j d at. each-get IsTruthful s.connections j d truthful at) (truthful-none s) (suc k))
+          subst (λ (x : Outward). is_answered_by p.settings.protocol x place (WriteItem entry.write) ≡ true) end
+          (subst (λ n. is_answered_by p.settings.protocol l.end n (WriteItem entry.write) ≡ true) pp l.answered) in
+          promise-of p.settings.protocol s.settings (outward_at p (suc k)) (inward_at s (suc k)) entry.write place
+          (each-at IsTruthful s (λ j d at. each-get IsTruthful s.connections j d truthful at) (truthful-none s) (suc k))
           (joined.back (suc k)) (takes_a_beginning p s joined (suc k)) item answered;
-      home = λ n entry at linked. let l : IsLinked p.settings.protocol p.connections entry = homes.journal n entry at linked in (l.connection, l.place, l.end, l.home, l.there, l.item);
+      home = λ n entry at linked. let l : IsLinked p.settings.protocol p.connections entry = homes.journal n entry at linked in (
+        l.connection,
+        l.place,
+        l.end,
+        l.home,
+        l.there,
+        l.item,
+      );
     }

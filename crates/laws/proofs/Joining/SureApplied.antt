@@ -1,10 +1,13 @@
 -- What the peer has surely applied, as a primary reads it off the frames that it took, the secondary has taken and applied.
-use Rattle.std.proofs.Common.{ℕ, ◌≡◌, ◌≤◌, inl, inr, true, List, length, map, take, ◌++◌, Some, slice_get, Ok, Err, refl, sym, ◌∙◌, ap, subst, arith, Bool, false, ◌-◌}
+use Rattle.std.proofs.Common.{ℕ, ◌≡◌, ◌≤◌, inl, inr, true, List, length, map, take, ◌++◌, Some, slice_get, Ok, Err, refl, sym, ◌∙◌, ap, subst, arith, Bool}
+use Rattle.std.proofs.Common.{false, ◌-◌}
 use Rattle.std.proofs.lemmas.Bool.{cases_Bool, both_ways, eqb-true, lt-ltb, cases_lt}
 use Rattle.blocks.specs.declared.settings.Settings.{Settings}
 use Rattle.model.specs.Contents.{Write}
-use Rattle.model.specs.Stream.{Item, WriteItem, ResyncItem, BarrierItem, SyncUuidItem, UuidsItem, Part, IsBeginning, is_whole, has_blocks, contents_of, epoch_of}
-use Rattle.model.specs.Frames.{DataFrame, RsDataReplyFrame, BarrierFrame, ProtocolFrame, UuidsFrame, SizesFrame, SyncUuidFrame, RecvAckFrame, WriteAckFrame, RsWriteAckFrame, BarrierAckFrame, Acknowledged, Received, naming, counting}
+use Rattle.model.specs.Stream.{Item, WriteItem, ResyncItem, BarrierItem, SyncUuidItem, UuidsItem, Part, IsBeginning, is_whole, has_blocks, contents_of}
+use Rattle.model.specs.Stream.{epoch_of}
+use Rattle.model.specs.Frames.{DataFrame, RsDataReplyFrame, BarrierFrame, ProtocolFrame, UuidsFrame, SizesFrame, SyncUuidFrame, RecvAckFrame, WriteAckFrame}
+use Rattle.model.specs.Frames.{RsWriteAckFrame, BarrierAckFrame, Acknowledged, Received, naming, counting}
 use Rattle.model.specs.Primary.{Outward, items_sent, accepted_frames, same_naming, is_rs_write_ack, is_barrier_ack, PrimaryHistory}
 use Rattle.model.specs.Secondary.{Inward, items_taken, answers_due, SecondaryHistory}
 use Rattle.model.specs.LocalRuns.{PrimaryEvent, primary_run, SecondaryEvent, secondary_run}
@@ -25,7 +28,8 @@ use Rattle.laws.proofs.Secondary.Numbers.{NumbersRise, numbers-rise}
 use Rattle.std.specs.List.{list_any}
 
 -- the acknowledgement of a barrier in a frame that passes
-barrier-ack : (epoch : ℕ) (frame : Received) → is_barrier_ack epoch frame ≡ true → (number : ℕ) × (size : ℕ) × (frame ≡ Ok (BarrierAckFrame number size)) × (number ≡ epoch)
+barrier-ack : (epoch : ℕ) (frame : Received) → is_barrier_ack epoch frame ≡ true
+    → (number : ℕ) × (size : ℕ) × (frame ≡ Ok (BarrierAckFrame number size)) × (number ≡ epoch)
 barrier-ack epoch (Err fault) h = absurd (cc)
 barrier-ack epoch (Ok (DataFrame write at)) h = absurd (cc)
 barrier-ack epoch (Ok (RsDataReplyFrame block contents at)) h = absurd (cc)
@@ -40,7 +44,8 @@ barrier-ack epoch (Ok (RsWriteAckFrame ack)) h = absurd (cc)
 barrier-ack epoch (Ok (BarrierAckFrame number size)) h = (number, size, refl, eqb-true number epoch h)
 
 -- the acknowledgement of a resync block in a frame that passes
-resync-ack : (of : Acknowledged) (frame : Received) → is_rs_write_ack of frame ≡ true → (ack : Acknowledged) × (frame ≡ Ok (RsWriteAckFrame ack)) × (same_naming of ack ≡ true)
+resync-ack : (of : Acknowledged) (frame : Received) → is_rs_write_ack of frame ≡ true
+    → (ack : Acknowledged) × (frame ≡ Ok (RsWriteAckFrame ack)) × (same_naming of ack ≡ true)
 resync-ack of (Err fault) h = absurd (cc)
 resync-ack of (Ok (DataFrame write at)) h = absurd (cc)
 resync-ack of (Ok (RsDataReplyFrame block contents at)) h = absurd (cc)
@@ -62,13 +67,17 @@ whole-blocks part place item whole = elim (cases_Bool (has_blocks item)) [
 ]
 
 -- What the secondary took on a connection begins the primary's stream.
-pub taken-begins : (p : PrimaryHistory) (s : SecondaryHistory) → NumbersRise s.connections → IsJoined p s → (k j : ℕ) (c : Outward) (d : Inward) → AreEnds p s k j c d → IsBeginning (items_taken d) c.stream
+pub taken-begins : (p : PrimaryHistory) (s : SecondaryHistory) → NumbersRise s.connections → IsJoined p s → (k j : ℕ) (c : Outward) (d : Inward)
+    → AreEnds p s k j c d → IsBeginning (items_taken d) c.stream
 taken-begins p s rise joined k j c d ends =
-    begins-trans (items_taken d) (take (items_sent c) c.stream) c.stream (items-begin p c d (joined-out p s rise joined k j c d ends)) (begins-take (items_sent c) c.stream)
+    begins-trans (items_taken d) (take (items_sent c) c.stream) c.stream (items-begin p c d (joined-out p s rise joined k j c d ends))
+    (begins-take (items_sent c) c.stream)
 
-sure-write : (o : Opening) (there : List SecondaryEvent) (settings : Settings) (k place : ℕ) (c : Outward) (d : Inward) (write : Write) → slice_get (secondary_run there (secondary_at o)).connections k ≡ Some d
+sure-write : (o : Opening) (there : List SecondaryEvent) (settings : Settings) (k place : ℕ) (c : Outward) (d : Inward) (write : Write)
+    → slice_get (secondary_run there (secondary_at o)).connections k ≡ Some d
     → IsBeginning c.taken (map read (take d.pushed (answers_due settings d))) → IsBeginning (items_taken d) c.stream
-    → slice_get c.stream place ≡ Some (WriteItem write) → is_sure c place (WriteItem write) ≡ true → (slice_get (items_taken d) place ≡ Some (WriteItem write)) × (is_whole d.applied place (WriteItem write) ≡ true)
+    → slice_get c.stream place ≡ Some (WriteItem write) → is_sure c place (WriteItem write) ≡ true
+    → (slice_get (items_taken d) place ≡ Some (WriteItem write)) × (is_whole d.applied place (WriteItem write) ≡ true)
 sure-write o there settings k place c d write inward joined begins at sure =
     let found = pick-any (is_barrier_ack (epoch_of c.stream place)) (accepted_frames c) sure in
     let ack = barrier-ack (epoch_of c.stream place) found.1 found.3 in
@@ -79,7 +88,8 @@ sure-write o there settings k place c d write inward joined begins at sure =
     let epochs : epoch_of (items_taken d ++ begins.0) place ≡ epoch_of c.stream place = ap (λ (l : List Item). epoch_of l place) stream in
     elim (cases_lt place (length (items_taken d))) [
       | inl within ↦
-          let taken : slice_get (items_taken d) place ≡ Some (WriteItem write) = sym (get-grows (items_taken d) begins.0 place within) ∙ (ap (λ (l : List Item). slice_get l place) stream ∙ at) in
+          let taken : slice_get (items_taken d) place ≡ Some (WriteItem write) = sym (get-grows (items_taken d) begins.0 place within)
+          ∙ (ap (λ (l : List Item). slice_get l place) stream ∙ at) in
           let early : epoch_of (items_taken d) place ≤ ack.0 = let same = epoch-grows (items_taken d) begins.0 place (omega arith) in omega arith in
           (taken, whole-blocks d.applied place (WriteItem write) (λ blocks. applied.1 place (WriteItem write) taken early blocks))
       | inr behind ↦ absurd (let late = epoch-behind (items_taken d) begins.0 place behind in let upto = applied.0 in omega arith)
@@ -104,8 +114,10 @@ sure-resync o there settings k place c d block contents inward joined begins at 
     )
 
 -- What is surely on the peer's disk, as the primary reads it, was taken at its place, and all of it is applied.
-pub sure-is-applied : (o : Opening) (here : List PrimaryEvent) (there : List SecondaryEvent) → IsJoined (primary_run here (primary_at o)) (secondary_run there (secondary_at o))
-    → (k j place : ℕ) (c : Outward) (d : Inward) (item : Item) → AreEnds (primary_run here (primary_at o)) (secondary_run there (secondary_at o)) k j c d → slice_get c.stream place ≡ Some item → is_sure c place item ≡ true
+pub sure-is-applied : (o : Opening) (here : List PrimaryEvent) (there : List SecondaryEvent)
+    → IsJoined (primary_run here (primary_at o)) (secondary_run there (secondary_at o))
+    → (k j place : ℕ) (c : Outward) (d : Inward) (item : Item) → AreEnds (primary_run here (primary_at o)) (secondary_run there (secondary_at o)) k j c d
+    → slice_get c.stream place ≡ Some item → is_sure c place item ≡ true
     → (slice_get (items_taken d) place ≡ Some item) × (is_whole d.applied place item ≡ true)
 sure-is-applied o here there joined k j place c d item ends at sure = go item at sure
   where
@@ -118,9 +130,12 @@ sure-is-applied o here there joined k j place c d item ends at sure = go item at
     rise : NumbersRise s.connections
     rise = numbers-rise there (secondary_at o) refl
 
-    go : (item : Item) → slice_get c.stream place ≡ Some item → is_sure c place item ≡ true → (slice_get (items_taken d) place ≡ Some item) × (is_whole d.applied place item ≡ true)
-    go (WriteItem write) at sure = sure-write o there s.settings j place c d write ends.inward (joined-back p s rise joined k j c d ends) (taken-begins p s rise joined k j c d ends) at sure
-    go (ResyncItem block contents) at sure = sure-resync o there s.settings j place c d block contents ends.inward (joined-back p s rise joined k j c d ends) (taken-begins p s rise joined k j c d ends) at sure
+    go : (item : Item) → slice_get c.stream place ≡ Some item → is_sure c place item ≡ true
+        → (slice_get (items_taken d) place ≡ Some item) × (is_whole d.applied place item ≡ true)
+    go (WriteItem write) at sure = sure-write o there s.settings j place c d write ends.inward (joined-back p s rise joined k j c d ends)
+        (taken-begins p s rise joined k j c d ends) at sure
+    go (ResyncItem block contents) at sure = sure-resync o there s.settings j place c d block contents ends.inward (joined-back p s rise joined k j c d ends)
+        (taken-begins p s rise joined k j c d ends) at sure
     go (BarrierItem epoch) at sure = absurd (cc)
     go (SyncUuidItem word) at sure = absurd (cc)
     go (UuidsItem tuple) at sure = absurd (cc)
@@ -133,7 +148,11 @@ sure-taken c place item sure = go item sure
     front = elim c.refused as (λ b. IsBeginning (counting b c.taken) c.taken) [ true ↦ begins-take (length c.taken - 1) c.taken | false ↦ begins-self c.taken ]
 
     one : (test : Received → Bool) → list_any test (accepted_frames c) ≡ true → (n : ℕ) × (frame : Received) × (slice_get c.taken n ≡ Some frame)
-    one test some = let found = pick-any test (accepted_frames c) some in (found.0, found.1, get-beginning (accepted_frames c) c.taken found.0 found.1 front found.2)
+    one test some = let found = pick-any test (accepted_frames c) some in (
+      found.0,
+      found.1,
+      get-beginning (accepted_frames c) c.taken found.0 found.1 front found.2,
+    )
 
     go : (item : Item) → is_sure c place item ≡ true → (n : ℕ) × (frame : Received) × (slice_get c.taken n ≡ Some frame)
     go (WriteItem write) sure = one (is_barrier_ack (epoch_of c.stream place)) sure

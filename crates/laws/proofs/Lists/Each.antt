@@ -19,7 +19,8 @@ each-append P [] x all new = (new, tt)
 each-append P (y ∷ ys) x all new = (all.0, each-append P ys x all.1 new)
 
 -- a change of the last element that keeps it
-pub each-change : {X : Type 0} (P : X → Type 0) (f : X → X) (none : X) (xs : List X) → Each P xs → (P (last_of none xs) → P (f (last_of none xs))) → Each P (change_last f xs)
+pub each-change : {X : Type 0} (P : X → Type 0) (f : X → X) (none : X) (xs : List X) → Each P xs → (P (last_of none xs) → P (f (last_of none xs)))
+    → Each P (change_last f xs)
 each-change P f none [] all keeps = tt
 each-change P f none (x ∷ []) all keeps = (keeps all.0, tt)
 each-change P f none (x ∷ y ∷ xs) all keeps = (all.0, each-change P f x (y ∷ xs) all.1 keeps)

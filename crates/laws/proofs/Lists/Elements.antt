@@ -8,7 +8,8 @@ get-left (y ∷ xs) ys zero x at = at
 get-left (y ∷ xs) ys (suc k) x at = get-left xs ys k x at
 
 -- an element of a list with one more is an old one, or the one at its end
-pub get-more : {X : Type 0} (xs : List X) (y : X) (k : ℕ) (x : X) → slice_get (xs ++ y ∷ []) k ≡ Some x → (slice_get xs k ≡ Some x) ⊎ ((k ≡ length xs) × (x ≡ y))
+pub get-more : {X : Type 0} (xs : List X) (y : X) (k : ℕ) (x : X) → slice_get (xs ++ y ∷ []) k ≡ Some x
+    → (slice_get xs k ≡ Some x) ⊎ ((k ≡ length xs) × (x ≡ y))
 get-more [] y zero x at = inr (refl, let e : y ≡ x = cc in sym e)
 get-more [] y (suc k) x at = absurd (cc)
 get-more (z ∷ xs) y zero x at = inl at
@@ -20,7 +21,8 @@ get-end [] y = refl
 get-end (x ∷ xs) y = get-end xs y
 
 -- an element of a joined list is in the front, or in what follows it
-pub get-split : {X : Type 0} (xs ys : List X) (k : ℕ) (x : X) → slice_get (xs ++ ys) k ≡ Some x → (slice_get xs k ≡ Some x) ⊎ ((n : ℕ) × (k ≡ length xs + n) × (slice_get ys n ≡ Some x))
+pub get-split : {X : Type 0} (xs ys : List X) (k : ℕ) (x : X) → slice_get (xs ++ ys) k ≡ Some x
+    → (slice_get xs k ≡ Some x) ⊎ ((n : ℕ) × (k ≡ length xs + n) × (slice_get ys n ≡ Some x))
 get-split [] ys k x at = inr (k, omega arith, at)
 get-split (z ∷ xs) ys zero x at = inl at
 get-split (z ∷ xs) ys (suc k) x at = elim (get-split xs ys k x at) [ inl old ↦ inl old | inr new ↦ inr (new.0, let n = new.1 in omega arith, new.2) ]

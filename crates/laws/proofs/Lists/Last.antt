@@ -9,7 +9,8 @@ get-change f none [] k x at = absurd (cc)
 get-change f none (y ∷ []) zero x at = let same : y ≡ x = cc in inr (ap (λ v. Some (f v)) same, sym same, omega arith)
 get-change f none (y ∷ []) (suc k) x at = absurd (cc)
 get-change f none (y ∷ z ∷ xs) zero x at = inl at
-get-change f none (y ∷ z ∷ xs) (suc k) x at = elim (get-change f y (z ∷ xs) k x at) [ inl same ↦ inl same | inr changed ↦ inr (changed.0, changed.1, let n = changed.2 in omega arith) ]
+get-change f none (y ∷ z ∷ xs) (suc k) x at =
+    elim (get-change f y (z ∷ xs) k x at) [ inl same ↦ inl same | inr changed ↦ inr (changed.0, changed.1, let n = changed.2 in omega arith) ]
 
 -- the other way: where an element of the changed list comes from
 pub get-change-back : {X : Type 0} (f : X → X) (none : X) (xs : List X) (k : ℕ) (y : X) → slice_get (change_last f xs) k ≡ Some y
@@ -18,7 +19,8 @@ get-change-back f none [] k y at = absurd (cc)
 get-change-back f none (x ∷ []) zero y at = inr (let e : f x ≡ y = cc in sym e, refl, omega arith)
 get-change-back f none (x ∷ []) (suc k) y at = absurd (cc)
 get-change-back f none (x ∷ z ∷ xs) zero y at = inl at
-get-change-back f none (x ∷ z ∷ xs) (suc k) y at = elim (get-change-back f x (z ∷ xs) k y at) [ inl same ↦ inl same | inr changed ↦ inr (changed.0, changed.1, let n = changed.2 in omega arith) ]
+get-change-back f none (x ∷ z ∷ xs) (suc k) y at =
+    elim (get-change-back f x (z ∷ xs) k y at) [ inl same ↦ inl same | inr changed ↦ inr (changed.0, changed.1, let n = changed.2 in omega arith) ]
 
 -- two changes of the last element are one
 pub change-twice : {X : Type 0} (f g : X → X) (xs : List X) → change_last g (change_last f xs) ≡ change_last (λ x. g (f x)) xs
@@ -60,13 +62,15 @@ length-change f (x ∷ []) = refl
 length-change f (x ∷ y ∷ xs) = let rest = length-change f (y ∷ xs) in omega arith
 
 -- the last element is the one that changed
-pub get-last-changed : {X : Type 0} (f : X → X) (none : X) (xs : List X) (x : X) → slice_get xs (length xs - 1) ≡ Some x → x ≡ last_of none xs → slice_get (change_last f xs) (length xs - 1) ≡ Some (f x)
+pub get-last-changed : {X : Type 0} (f : X → X) (none : X) (xs : List X) (x : X) → slice_get xs (length xs - 1) ≡ Some x → x ≡ last_of none xs
+    → slice_get (change_last f xs) (length xs - 1) ≡ Some (f x)
 get-last-changed f none [] x at is = absurd (cc)
 get-last-changed f none (y ∷ ys) x at is = elim (last-at none (change_last f (y ∷ ys))) [
   | inl empty ↦ absurd (let n : length (change_last f (y ∷ ys)) ≡ 0 = ap length empty in let m = length-change f (y ∷ ys) in omega arith)
   | inr there ↦
       let index : length (change_last f (y ∷ ys)) - 1 ≡ length (y ∷ ys) - 1 = ap (λ n. n - 1) (length-change f (y ∷ ys)) in
-      let last : last_of none (change_last f (y ∷ ys)) ≡ f (last_of none (y ∷ ys)) = elim (last-change f none none (y ∷ ys)) [ inl empty ↦ absurd (cc) | inr l ↦ l ] in
+      let last : last_of none (change_last f (y ∷ ys)) ≡ f (last_of none (y ∷ ys)) =
+      elim (last-change f none none (y ∷ ys)) [ inl empty ↦ absurd (cc) | inr l ↦ l ] in
       ap (λ n. slice_get (change_last f (y ∷ ys)) n) (sym index) ∙ (there ∙ (ap (λ v. Some v) last ∙ ap (λ v. Some (f v)) (sym is)))
 ]
 

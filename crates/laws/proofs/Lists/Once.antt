@@ -9,7 +9,8 @@ abbrev pub Once : {X : Type 0} → (X → ℕ) → List X → Type 0
 Once number xs = (m n : ℕ) (a b : _) → slice_get xs m ≡ Some a → slice_get xs n ≡ Some b → number a ≡ number b → m ≡ n
 
 -- an element with a number of its own comes first
-once-cons : {X : Type 0} (number : X → ℕ) (x : X) (xs : List X) → Once number xs → ((n : ℕ) (y : X) → slice_get xs n ≡ Some y → number x ≡ number y → ⊥) → Once number (x ∷ xs)
+once-cons : {X : Type 0} (number : X → ℕ) (x : X) (xs : List X) → Once number xs → ((n : ℕ) (y : X) → slice_get xs n ≡ Some y → number x ≡ number y → ⊥)
+    → Once number (x ∷ xs)
 once-cons number x xs once new zero zero a b ata atb same = refl
 once-cons number x xs once new zero (suc n) a b ata atb same = let is : x ≡ a = cc in absurd (new n b atb (ap number is ∙ same))
 once-cons number x xs once new (suc m) zero a b ata atb same = let is : x ≡ b = cc in absurd (new m a ata (ap number is ∙ sym same))
@@ -19,9 +20,11 @@ once-cons number x xs once new (suc m) (suc n) a b ata atb same = ap suc (once m
 pub once-filter : {X : Type 0} (number : X → ℕ) (p : X → Bool) (xs : List X) → Once number xs → Once number (filter p xs)
 once-filter number p [] once = λ m n a b ata atb same. absurd (cc)
 once-filter number p (x ∷ xs) once =
-    let rest : Once number (filter p xs) = once-filter number p xs (λ m n a b ata atb same. let index : suc m ≡ suc n = once (suc m) (suc n) a b ata atb same in omega arith) in
+    let rest : Once number (filter p xs) =
+    once-filter number p xs (λ m n a b ata atb same. let index : suc m ≡ suc n = once (suc m) (suc n) a b ata atb same in omega arith) in
     elim (cases_Bool (p x)) [
-      | inl passes ↦ subst (λ (v : Bool). Once number (cond v (x ∷ filter p xs) (filter p xs))) (sym passes) (once-cons number x (filter p xs) rest (λ n y at same.
+      | inl passes ↦ subst (λ (v : Bool). Once number (cond v (x ∷ filter p xs) (filter p xs))) (sym passes)
+          (once-cons number x (filter p xs) rest (λ n y at same.
           let there = pick-filtered p xs n y at in
           let index : 0 ≡ suc there.0 = once 0 (suc there.0) x y refl there.1 same in
           omega arith))

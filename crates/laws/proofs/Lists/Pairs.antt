@@ -17,7 +17,8 @@ pairs-length R (x ∷ xs) [] all = absurd all
 pairs-length R (x ∷ xs) (y ∷ ys) all = ap suc (pairs-length R xs ys all.1)
 
 -- two that stand at the same place
-pub pairs-get : {X Y : Type 0} (R : X → Y → Type 0) (xs : List X) (ys : List Y) (k : ℕ) (x : X) (y : Y) → Pairs R xs ys → slice_get xs k ≡ Some x → slice_get ys k ≡ Some y → R x y
+pub pairs-get : {X Y : Type 0} (R : X → Y → Type 0) (xs : List X) (ys : List Y) (k : ℕ) (x : X) (y : Y) → Pairs R xs ys → slice_get xs k ≡ Some x
+    → slice_get ys k ≡ Some y → R x y
 pairs-get R [] ys k x y all here there = absurd (cc)
 pairs-get R (v ∷ xs) [] k x y all here there = absurd all
 pairs-get R (v ∷ xs) (w ∷ ys) zero x y all here there =
@@ -27,7 +28,8 @@ pairs-get R (v ∷ xs) (w ∷ ys) zero x y all here there =
 pairs-get R (v ∷ xs) (w ∷ ys) (suc k) x y all here there = pairs-get R xs ys k x y all.1 here there
 
 -- one more of each
-pub pairs-append : {X Y : Type 0} (R : X → Y → Type 0) (xs : List X) (ys : List Y) (x : X) (y : Y) → Pairs R xs ys → R x y → Pairs R (xs ++ x ∷ []) (ys ++ y ∷ [])
+pub pairs-append : {X Y : Type 0} (R : X → Y → Type 0) (xs : List X) (ys : List Y) (x : X) (y : Y) → Pairs R xs ys → R x y
+    → Pairs R (xs ++ x ∷ []) (ys ++ y ∷ [])
 pairs-append R [] [] x y all new = (new, tt)
 pairs-append R [] (w ∷ ys) x y all new = absurd all
 pairs-append R (v ∷ xs) [] x y all new = absurd all

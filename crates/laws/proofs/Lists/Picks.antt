@@ -1,10 +1,11 @@
 -- What tests pick from a list: an element that passes, where some does, and what a filter lets through.
-use Rattle.std.proofs.Common.{ℕ, zero, suc, ◌≡◌, ◌<◌, inl, inr, Bool, true, false, cond, List, [], ◌∷◌, Some, slice_get, refl, sym, ◌∙◌, ap, subst, arith, length, filter, nat_lt}
+use Rattle.std.proofs.Common.{ℕ, zero, suc, ◌≡◌, ◌<◌, inl, inr, Bool, true, false, cond, List, [], ◌∷◌, Some, slice_get, refl, sym, ◌∙◌, ap, subst, arith}
+use Rattle.std.proofs.Common.{length, filter, nat_lt}
 use Rattle.std.specs.Prelude.{map, filter, find, is_some}
 use Rattle.std.specs.List.{list_any}
-use Rattle.std.proofs.lemmas.Bool.{cases_Bool, or_cases, or_left, or_right, both_ways, false_from_ne_true, or_from, lt-ltb}
+use Rattle.std.proofs.lemmas.Bool.{cases_Bool, cases_lt, or_cases, or_left, or_right, both_ways, false_from_ne_true, or_from, lt-ltb}
 use Rattle.model.specs.Stream.{below}
-use Rattle.laws.proofs.Lists.Elements.{get-more}
+use Rattle.laws.proofs.Lists.Elements.{get-left, get-more, get-end}
 use Rattle.std.proofs.lemmas.Option.{slice_get_within}
 
 -- where some element passes, one stands there that does
@@ -46,20 +47,28 @@ pub found-passes : {X : Type 0} (p : X → Bool) (xs : List X) (x : X) → find 
 found-passes p xs x found = (pick-found p xs x found).2
 
 -- what a filter lets through stands in the list, and passes
-pub pick-filtered : {X : Type 0} (p : X → Bool) (xs : List X) (n : ℕ) (x : X) → slice_get (filter p xs) n ≡ Some x → (i : ℕ) × (slice_get xs i ≡ Some x) × (p x ≡ true)
+pub pick-filtered : {X : Type 0} (p : X → Bool) (xs : List X) (n : ℕ) (x : X) → slice_get (filter p xs) n ≡ Some x
+    → (i : ℕ) × (slice_get xs i ≡ Some x) × (p x ≡ true)
 pick-filtered p [] n x at = absurd (cc)
 pick-filtered p (y ∷ xs) n x at = elim (cases_Bool (p y)) [
-  | inl passes ↦ first p y xs n x passes (subst (λ b. slice_get (cond b (y ∷ filter p xs) (filter p xs)) n ≡ Some x) passes at) (λ m there. pick-filtered p xs m x there)
-  | inr fails ↦ let rest = pick-filtered p xs n x (subst (λ b. slice_get (cond b (y ∷ filter p xs) (filter p xs)) n ≡ Some x) fails at) in (suc rest.0, rest.1, rest.2)
+  | inl passes ↦ first p y xs n x passes (subst (λ b. slice_get (cond b (y ∷ filter p xs) (filter p xs)) n ≡ Some x) passes at)
+      (λ m there. pick-filtered p xs m x there)
+  | inr fails ↦ let rest = pick-filtered p xs n x (subst (λ b. slice_get (cond b (y ∷ filter p xs) (filter p xs)) n ≡ Some x) fails at) in (
+    suc rest.0,
+    rest.1,
+    rest.2,
+  )
 ]
   where
     first : {X : Type 0} (p : X → Bool) (y : X) (xs : List X) (m : ℕ) (x : X) → p y ≡ true → slice_get (y ∷ filter p xs) m ≡ Some x
-        → ((n : ℕ) → slice_get (filter p xs) n ≡ Some x → (i : ℕ) × (slice_get xs i ≡ Some x) × (p x ≡ true)) → (i : ℕ) × (slice_get (y ∷ xs) i ≡ Some x) × (p x ≡ true)
+        → ((n : ℕ) → slice_get (filter p xs) n ≡ Some x → (i : ℕ) × (slice_get xs i ≡ Some x) × (p x ≡ true))
+        → (i : ℕ) × (slice_get (y ∷ xs) i ≡ Some x) × (p x ≡ true)
     first p y xs zero x passes at rest = let same : y ≡ x = cc in (0, at, rw (← same) passes)
     first p y xs (suc m) x passes at rest = let found = rest m at in (suc found.0, found.1, found.2)
 
 -- what stands in the list and passes is let through
-pub filtered-pick : {X : Type 0} (p : X → Bool) (xs : List X) (i : ℕ) (x : X) → slice_get xs i ≡ Some x → p x ≡ true → (n : ℕ) × (slice_get (filter p xs) n ≡ Some x)
+pub filtered-pick : {X : Type 0} (p : X → Bool) (xs : List X) (i : ℕ) (x : X) → slice_get xs i ≡ Some x → p x ≡ true
+    → (n : ℕ) × (slice_get (filter p xs) n ≡ Some x)
 filtered-pick p [] i x at passes = absurd (cc)
 filtered-pick p (y ∷ xs) zero x at passes =
     let same : y ≡ x = cc in
@@ -73,7 +82,8 @@ filtered-pick p (y ∷ xs) (suc i) x at passes =
     ]
 
 -- where one stands that passes both, some element that the filter lets through passes
-pub any-filtered : {X : Type 0} (p q : X → Bool) (xs : List X) (i : ℕ) (x : X) → slice_get xs i ≡ Some x → q x ≡ true → p x ≡ true → list_any p (filter q xs) ≡ true
+pub any-filtered : {X : Type 0} (p q : X → Bool) (xs : List X) (i : ℕ) (x : X) → slice_get xs i ≡ Some x → q x ≡ true → p x ≡ true
+    → list_any p (filter q xs) ≡ true
 any-filtered p q xs i x at passes found = let there = filtered-pick q xs i x at passes in any-pick p (filter q xs) there.0 x there.1 found
 
 -- what a search finds among those that a filter lets through passes the filter
@@ -94,7 +104,19 @@ pick-image f (x ∷ xs) (suc n) y at = pick-image f xs n y at
 -- the numbers below a number are below it
 pub pick-below : (n i x : ℕ) → slice_get (below n) i ≡ Some x → x < n
 pick-below zero i x at = absurd (cc)
-pick-below (suc n) i x at = elim (get-more (below n) n i x at) [ inl old ↦ let less = pick-below n i x old in omega arith | inr new ↦ let is = new.1 in omega arith ]
+pick-below (suc n) i x at = elim (get-more (below n) n i x at) [
+  | inl old ↦ let less = pick-below n i x old in omega arith
+  | inr new ↦ let is =
+      new.1 in omega arith
+]
+
+-- each number below another is one of those below it
+pub below-has : (n k : ℕ) → k < n → (i : ℕ) × (slice_get (below n) i ≡ Some k)
+below-has zero k less = absurd (omega arith)
+below-has (suc n) k less = elim (cases_lt k n) [
+  | inl lower ↦ let rest = below-has n k lower in (rest.0, get-left (below n) (n ∷ []) rest.0 k rest.1)
+  | inr top ↦ let is : n ≡ k = omega arith in (length (below n), get-end (below n) n ∙ ap (λ (m : ℕ). Some m) is)
+]
 
 -- a list of no length has no element
 pub none-short : {X : Type 0} (xs : List X) (n : ℕ) (x : X) → nat_lt 0 (length xs) ≡ false → slice_get xs n ≡ Some x → ⊥

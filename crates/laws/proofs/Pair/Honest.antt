@@ -1,5 +1,6 @@
 -- No step of a pair is refused as a protocol error.
-use Rattle.std.proofs.Common.{ℕ, suc, ◌≡◌, ◌-◌, ◌⊎◌, inl, inr, Bool, true, false, not, ◌&&◌, List, [], ◌∷◌, ◌++◌, length, take, map, Option, Some, None, is_none, slice_get, Ok, Err, refl, sym, ◌∙◌, ap, subst, arith, nat_le}
+use Rattle.std.proofs.Common.{ℕ, suc, ◌≡◌, ◌-◌, ◌⊎◌, inl, inr, Bool, true, false, not, ◌&&◌, List, [], ◌∷◌, ◌++◌, length, take, map, Option, Some, None}
+use Rattle.std.proofs.Common.{is_none, slice_get, Ok, Err, refl, sym, ◌∙◌, ap, subst, arith, nat_le}
 use Rattle.std.specs.Prelude.{option_map, if◌then◌else◌, unwrap_or}
 use Rattle.std.proofs.lemmas.Bool.{both_ways}
 use Rattle.blocks.specs.declared.refusal.Refusal.{Refusal}
@@ -13,14 +14,21 @@ use Rattle.model.specs.Frames.{Packet, Received}
 use Rattle.model.specs.Refusals.{Test, first_refusal, done_with}
 use Rattle.model.specs.Primary.{PrimaryHistory, Outward, OnDisk, no_outward, last_of, outward, with_outward, items_sent, frames_due, local_map, free_block}
 use Rattle.model.specs.Marks.{releasing}
-use Rattle.model.specs.PrimarySteps.{follows, appending, succeeding, open_tests, open_primary, opened, submit_tests, submitted, submit, is_unfinished, with_outcome, local_done, accepted_at, faulted, local_fault, send_tests, sending, send, resync_tests, resync_next, resync_fault, closing, close_primary}
+use Rattle.model.specs.PrimarySteps.{follows, appending, succeeding, open_tests, open_primary, opened, submit_tests, submitted, submit, is_unfinished}
+use Rattle.model.specs.PrimarySteps.{with_outcome, local_done, accepted_at, faulted, local_fault, send_tests, sending, send, resync_tests, resync_next}
+use Rattle.model.specs.PrimarySteps.{resync_fault, closing, close_primary}
 use Rattle.model.specs.Acknowledgements.{Taken, taking, take_frame, ack_in}
 use Rattle.model.specs.Secondary.{SecondaryHistory, Inward, no_inward, inward, with_inward, items_taken, pending, answers_due}
-use Rattle.model.specs.SecondarySteps.{succeeding_secondary, Checked, checking, take_item, receive, peer_tests, peer, peer_fault, applying, failing, answering_with, ack_out_tests, ack_out, open_secondary, close_secondary}
+use Rattle.model.specs.SecondarySteps.{succeeding_secondary, Checked, checking, take_item, receive, peer_tests, peer, peer_fault, applying, failing}
+use Rattle.model.specs.SecondarySteps.{answering_with, ack_out_tests, ack_out, open_secondary, close_secondary}
 use Rattle.model.specs.LocalRuns.{PrimaryEvent, primary_run, SecondaryEvent, secondary_run}
 use Rattle.model.specs.Headline.{IsJoined}
-use Rattle.model.specs.Pair.{Event, OpenEvent, SubmitEvent, LocalEvent, LocalFaultEvent, SendEvent, ReceiveEvent, PeerEvent, PeerFaultEvent, AckOutEvent, AckInEvent, ResyncEvent, ResyncFaultEvent, ClosePrimaryEvent, CloseSecondaryEvent, PairHistory, pushed_frames, pushed_answers, next_frame, next_answer, has_room, answers_have_room, open_pair_tests, open_pair, keeps_too_many, local_fault_kept, peer_fault_kept, step, run}
+use Rattle.model.specs.Pair.{Event, OpenEvent, SubmitEvent, LocalEvent, LocalFaultEvent, SendEvent, ReceiveEvent, PeerEvent, PeerFaultEvent, AckOutEvent}
+use Rattle.model.specs.Pair.{AckInEvent, ResyncEvent, ResyncFaultEvent, ClosePrimaryEvent, CloseSecondaryEvent, PairHistory, pushed_frames, pushed_answers}
+use Rattle.model.specs.Pair.{next_frame, next_answer, has_room, answers_have_room, open_pair_tests, open_pair, keeps_too_many, local_fault_kept}
+use Rattle.model.specs.Pair.{peer_fault_kept, step, run}
 use Rattle.model.specs.Theorems.{Opening, primary_at, secondary_at, pair_at, HasRanges, SharesSettings}
+use Rattle.laws.proofs.Rules.EpochEnds.{takes-writes}
 use Rattle.laws.specs.Statements.{is_protocol_error, EveryStepIsHonest}
 use Rattle.laws.proofs.Lists.Each.{each-get}
 use Rattle.laws.proofs.Lists.Last.{last-at}
@@ -51,14 +59,16 @@ record AreHonest (settings : Settings) (p : PrimaryHistory) (s : SecondaryHistor
   pub begins : (k : ℕ) (c : Outward) (d : Inward) → AreEnds p s k k c d → IsBeginning (items_taken d) (take (items_sent c) c.stream)
 
 -- two nodes that ran by themselves and whose frames are joined are so
-honest-joined : (o : Opening) (events : List PrimaryEvent) (others : List SecondaryEvent) → SharesSettings o → HasRanges o → IsJoined (primary_run events (primary_at o)) (secondary_run others (secondary_at o))
-    → length (primary_run events (primary_at o)).connections ≡ length (secondary_run others (secondary_at o)).connections → AreCounted (secondary_run others (secondary_at o)).connections
+honest-joined : (o : Opening) (events : List PrimaryEvent) (others : List SecondaryEvent) → SharesSettings o → HasRanges o
+    → IsJoined (primary_run events (primary_at o)) (secondary_run others (secondary_at o))
+    → length (primary_run events (primary_at o)).connections ≡ length (secondary_run others (secondary_at o)).connections
+    → AreCounted (secondary_run others (secondary_at o)).connections
     → AreHonest o.settings (primary_run events (primary_at o)) (secondary_run others (secondary_at o))
 honest-joined o events others shares ranges joined same counted =
     let p : PrimaryHistory = primary_run events (primary_at o) in
     let s : SecondaryHistory = secondary_run others (secondary_at o) in
     let homes : HasHomes p = (primary-between o.settings o.local o.own o.marks events ranges.here).0 in
-    let fit = primary_fit o.settings o.local o.own o.marks events ranges.here.max_epoch.0 in
+    let fit = primary_fit o.settings o.local o.own o.marks events (takes-writes o.settings ranges.here) in
     let orderly = subst (λ (x : Settings). HasOrderlyEnds x.protocol s) shares (secondary_orderly o.peer_settings o.peer o.peer_tuple others) in
     let rise = numbers-rise others (secondary_at o) refl in
     let here : p.settings ≡ o.settings = (kept-opening-primary o events).settings in
@@ -85,19 +95,23 @@ honest-joined o events others shares ranges joined same counted =
     }
 
 -- so are the two nodes of a pair after every run
-honest-run : (o : Opening) (events : List (Event × Bool)) → SharesSettings o → HasRanges o → AreHonest o.settings (run events (pair_at o)).1.primary (run events (pair_at o)).1.secondary
+honest-run : (o : Opening) (events : List (Event × Bool)) → SharesSettings o → HasRanges o
+    → AreHonest o.settings (run events (pair_at o)).1.primary (run events (pair_at o)).1.secondary
 honest-run o events shares ranges =
     let runs = pair_runs_are_joined o events in
     let here : PrimaryHistory = primary_run runs.0 (primary_at o) in
     let there : SecondaryHistory = secondary_run runs.1 (secondary_at o) in
     let both = subst (λ p. IsJoined p (run events (pair_at o)).1.secondary) runs.2 runs.4 in
     let ends = subst (λ s. IsJoined here s) runs.3 both in
-    let same : length here.connections ≡ length there.connections = ap (λ (p : PrimaryHistory). length p.connections) (sym runs.2) ∙ (runs.5 ∙ ap (λ (s : SecondaryHistory). length s.connections) runs.3) in
+    let same : length here.connections ≡ length there.connections = ap (λ (p : PrimaryHistory). length p.connections) (sym runs.2)
+    ∙ (runs.5 ∙ ap (λ (s : SecondaryHistory). length s.connections) runs.3) in
     let counted = subst (λ (s : SecondaryHistory). AreCounted s.connections) runs.3 runs.6 in
-    subst (λ p. AreHonest o.settings p (run events (pair_at o)).1.secondary) (sym runs.2) (subst (λ s. AreHonest o.settings here s) (sym runs.3) (honest-joined o runs.0 runs.1 shares ranges ends same counted))
+    subst (λ p. AreHonest o.settings p (run events (pair_at o)).1.secondary) (sym runs.2)
+    (subst (λ s. AreHonest o.settings here s) (sym runs.3) (honest-joined o runs.0 runs.1 shares ranges ends same counted))
 
 -- the last ends, where one of them is open
-last-ends : (settings : Settings) (p : PrimaryHistory) (s : SecondaryHistory) → AreHonest settings p s → ((outward p).closed ≡ false) ⊎ ((inward s).closed ≡ false) → AreEnds p s (length p.connections - 1) (length p.connections - 1) (outward p) (inward s)
+last-ends : (settings : Settings) (p : PrimaryHistory) (s : SecondaryHistory) → AreHonest settings p s
+    → ((outward p).closed ≡ false) ⊎ ((inward s).closed ≡ false) → AreEnds p s (length p.connections - 1) (length p.connections - 1) (outward p) (inward s)
 last-ends settings p s a standing = go (last-at (no_outward p.tuple) p.connections) (last-at (no_inward s) s.connections)
   where
     none-here : p.connections ≡ [] → (outward p).closed ≡ true
@@ -111,13 +125,20 @@ last-ends settings p s a standing = go (last-at (no_outward p.tuple) p.connectio
     no-length (x ∷ xs) size = absurd (omega arith)
 
     neither : p.connections ≡ [] → s.connections ≡ [] → ⊥
-    neither here there = elim standing [ inl still ↦ both_ways (outward p).closed still (none-here here) | inr still ↦ both_ways (inward s).closed still (none-there there) ]
+    neither here there = elim standing [
+      | inl still ↦ both_ways (outward p).closed still (none-here here)
+      | inr still ↦ both_ways (inward s).closed still
+          (none-there there)
+    ]
 
-    go : (p.connections ≡ []) ⊎ (slice_get p.connections (length p.connections - 1) ≡ Some (outward p)) → (s.connections ≡ []) ⊎ (slice_get s.connections (length s.connections - 1) ≡ Some (inward s)) → AreEnds p s (length p.connections - 1) (length p.connections - 1) (outward p) (inward s)
+    go : (p.connections ≡ []) ⊎ (slice_get p.connections (length p.connections - 1) ≡ Some (outward p))
+        → (s.connections ≡ []) ⊎ (slice_get s.connections (length s.connections - 1) ≡ Some (inward s))
+        → AreEnds p s (length p.connections - 1) (length p.connections - 1) (outward p) (inward s)
     go (inl none) other = absurd (neither none (no-length s.connections (sym a.same ∙ ap length none)))
     go (inr here) (inl none) = absurd (neither (no-length p.connections (a.same ∙ ap length none)) none)
     go (inr here) (inr there) =
-        let last : slice_get s.connections (length p.connections - 1) ≡ Some (inward s) = subst (λ n. slice_get s.connections (n - 1) ≡ Some (inward s)) (sym a.same) there in
+        let last : slice_get s.connections (length p.connections - 1) ≡ Some (inward s) = subst (λ n. slice_get s.connections (n - 1) ≡ Some (inward s))
+        (sym a.same) there in
         record { outward = here; inward = last; number = a.counted (length p.connections - 1) (inward s) last }
 
 -- Replies.
@@ -137,7 +158,8 @@ first-mild : (tests : List Test) → AreMild tests → (refusal : Refusal) → f
 first-mild [] mild refusal is = absurd (cc)
 first-mild (test ∷ tests) mild refusal is = go test.0 is (first-mild tests mild.1 refusal)
   where
-    go : (b : Bool) → (if b then Some test.1 else first_refusal tests) ≡ Some refusal → (first_refusal tests ≡ Some refusal → is_protocol_error refusal ≡ false) → is_protocol_error refusal ≡ false
+    go : (b : Bool) → (if b then Some test.1 else first_refusal tests) ≡ Some refusal → (first_refusal tests ≡ Some refusal → is_protocol_error refusal ≡ false)
+        → is_protocol_error refusal ≡ false
     go true same rest = let one : test.1 ≡ refusal = cc in subst (λ r. is_protocol_error r ≡ false) one mild.0
     go false same rest = rest same
 
@@ -146,7 +168,8 @@ by-tests : {X : Type 0} (tests : List Test) (h : X) (done : Unit {0} → Reply �
     → IsHonestReply (elim (first_refusal tests) as (λ _. Reply × X) [ Some refusal ↦ (reply.Refused refusal, h) | None ↦ done tt ]).0
 by-tests {X} tests h done mild honest = go (first_refusal tests) refl
   where
-    go : (v : Option Refusal) → first_refusal tests ≡ v → IsHonestReply (elim v as (λ _. Reply × X) [ Some refusal ↦ (reply.Refused refusal, h) | None ↦ done tt ]).0
+    go : (v : Option Refusal) → first_refusal tests ≡ v
+        → IsHonestReply (elim v as (λ _. Reply × X) [ Some refusal ↦ (reply.Refused refusal, h) | None ↦ done tt ]).0
     go (Some refusal) is = first-mild tests mild refusal is
     go None is = honest is
 
@@ -154,18 +177,27 @@ by-tests {X} tests h done mild honest = go (first_refusal tests) refl
 
 honest-submit : (first : ℕ) (contents : List (List ℕ)) (starved : Bool) (h : PrimaryHistory) → IsHonestReply (submit first contents starved h).0
 honest-submit first contents starved h =
-    by-tests (submit_tests h first contents starved) h (λ _. succeeding (what.Write (suc (length h.writes))) (submitted h first contents)) (refl, (refl, (refl, (refl, (refl, (refl, (refl, (refl, tt)))))))) (λ none. tt)
+    by-tests (submit_tests h first contents starved) h (λ _. succeeding (what.Write (suc (length h.writes))) (submitted h first contents)) (
+      refl,
+      (refl, (refl, (refl, (refl, (refl, (refl, (refl, tt))))))),
+    ) (λ none. tt)
 
 honest-local : (number : ℕ) (h : PrimaryHistory) → IsHonestReply (local_done number h).0
-honest-local number h = by-tests ((not (is_unfinished h number), UnknownJob) ∷ []) h (λ _. succeeding what.Nothing (releasing h (with_outcome number OnDisk h))) (refl, tt) (λ none. tt)
+honest-local number h = by-tests ((not (is_unfinished h number), UnknownJob) ∷ []) h (λ _. succeeding what.Nothing (releasing h (with_outcome number OnDisk h)))
+    (refl, tt) (λ none. tt)
 
 honest-fault : (number kept : ℕ) (h : PrimaryHistory) → IsHonestReply (local_fault_kept number kept h).0
 honest-fault number kept h =
-    by-tests ((not (is_unfinished h number), UnknownJob) ∷ (keeps_too_many kept (option_map (λ accepted. length accepted.write.contents) (accepted_at h number)), BadRange) ∷ []) h (λ _. local_fault number (below kept) h) (refl, (refl, tt)) (λ none.
+    by-tests ((not (is_unfinished h number), UnknownJob) ∷
+    (keeps_too_many kept (option_map (λ accepted. length accepted.write.contents) (accepted_at h number)), BadRange) ∷ []) h
+    (λ _. local_fault number (below kept) h) (refl, (refl, tt)) (λ none.
     by-tests ((not (is_unfinished h number), UnknownJob) ∷ []) h (λ _. succeeding what.Nothing (faulted number (below kept) h)) (refl, tt) (λ free. tt))
 
 honest-send : (room starved : Bool) (h : PrimaryHistory) → IsHonestReply (send room starved h).0
-honest-send room starved h = by-tests (send_tests h room starved) h (λ _. succeeding (sending h) (with_outward pushing h)) (refl, (refl, (refl, (refl, tt)))) (λ none. tt)
+honest-send room starved h = by-tests (send_tests h room starved) h (λ _. succeeding (sending h) (with_outward pushing h)) (
+  refl,
+  (refl, (refl, (refl, tt))),
+) (λ none. tt)
 
 honest-resync : (starved : Bool) (h : PrimaryHistory) → IsHonestReply (resync_next starved h).0
 honest-resync starved h = by-tests (resync_tests h starved) h (λ _. elim (free_block h) as (λ _. Reply × PrimaryHistory) [
@@ -175,7 +207,8 @@ honest-resync starved h = by-tests (resync_tests h starved) h (λ _. elim (free_
   where
     go : (v : Option ℕ) → IsHonestReply (elim v as (λ _. Reply × PrimaryHistory) [
       | None ↦ (reply.Refused NothingToDo, h)
-      | Some block ↦ succeeding (what.Block (record { 0 = block }) (length (outward h).stream)) (appending (ResyncItem block (unwrap_or (local_map h block) [])) h)
+      | Some block ↦ succeeding (what.Block (record { 0 = block }) (length (outward h).stream))
+          (appending (ResyncItem block (unwrap_or (local_map h block) [])) h)
     ]).0
     go None = refl
     go (Some block) = tt
@@ -184,14 +217,17 @@ honest-resync-fault : (starved : Bool) (h : PrimaryHistory) → IsHonestReply (r
 honest-resync-fault starved h = by-tests (resync_tests h starved) h (λ _. (reply.Refused ReadFault, h)) (refl, (refl, (refl, (refl, tt)))) (λ none. refl)
 
 honest-close : (h : PrimaryHistory) → IsHonestReply (close_primary h).0
-honest-close h = by-tests (((outward h).closed, NotConnected) ∷ []) h (λ _. let after = follows (closing h) in (reply.Closed (length after.completed), after.history)) (refl, tt) (λ none. tt)
+honest-close h = by-tests (((outward h).closed, NotConnected) ∷ []) h
+    (λ _. let after = follows (closing h) in (reply.Closed (length after.completed), after.history)) (refl, tt) (λ none. tt)
 
 -- a frame that is read is a packet that was pushed
-read-packet : (v : Option Packet) (frame : Received) → option_map (λ packet. Ok packet) v ≡ Some frame → (packet : Packet) × (v ≡ Some packet) × (frame ≡ Ok packet)
+read-packet : (v : Option Packet) (frame : Received) → option_map (λ packet. Ok packet) v ≡ Some frame
+    → (packet : Packet) × (v ≡ Some packet) × (frame ≡ Ok packet)
 read-packet None frame is = absurd (cc)
 read-packet (Some packet) frame is = (packet, refl, let same : Ok packet ≡ frame = cc in sym same)
 
-honest-frame : (settings : Settings) (h : PairHistory) (packet : Packet) → AreHonest settings h.primary h.secondary → (outward h.primary).closed ≡ false → slice_get (pushed_answers h) (length (outward h.primary).taken) ≡ Some packet
+honest-frame : (settings : Settings) (h : PairHistory) (packet : Packet) → AreHonest settings h.primary h.secondary → (outward h.primary).closed ≡ false
+    → slice_get (pushed_answers h) (length (outward h.primary).taken) ≡ Some packet
     → IsHonestReply (take_frame (Ok packet) h.primary).0
 honest-frame settings h packet a standing next =
     let p : PrimaryHistory = h.primary in
@@ -200,7 +236,8 @@ honest-frame settings h packet a standing next =
     let at : slice_get (take (inward s).pushed (answers_due settings (inward s))) (length (outward p).taken) ≡ Some packet
     = subst (λ (x : Settings). slice_get (take (inward s).pushed (answers_due x (inward s))) (length (outward p).taken) ≡ Some packet) a.there next in
     go (taking (Ok packet) p (with_outward (with_frame (Ok packet)) p))
-    (acknowledging-fine settings p (with_outward (with_frame (Ok packet)) p) (inward s) packet a.here a.here (a.ends _ (outward p) (inward s) ends) standing (a.begins _ (outward p) (inward s) ends) at)
+    (acknowledging-fine settings p (with_outward (with_frame (Ok packet)) p) (inward s) packet a.here a.here (a.ends _ (outward p) (inward s) ends) standing
+    (a.begins _ (outward p) (inward s) ends) at)
   where
     go : (v : Taken) → IsFineToo v → IsHonestReply (elim v as (λ _. Reply × PrimaryHistory) [
       | Ok done ↦ succeeding done.0 done.1
@@ -209,13 +246,17 @@ honest-frame settings h packet a standing next =
     go (Ok done) fine = tt
     go (Err error) fine = fine
 
-honest-ack-in : (settings : Settings) (starved : Bool) (h : PairHistory) → AreHonest settings h.primary h.secondary → IsHonestReply (ack_in (next_answer h) starved h.primary).0
+honest-ack-in : (settings : Settings) (starved : Bool) (h : PairHistory) → AreHonest settings h.primary h.secondary
+    → IsHonestReply (ack_in (next_answer h) starved h.primary).0
 honest-ack-in settings starved h a =
     let rest : List Test = (not (outward h.primary).begun && starved, NoMemory) ∷ (is_none (next_answer h), NothingThere) ∷ [] in
-    by-tests (((outward h.primary).closed, NotConnected) ∷ rest) h.primary (λ _. elim (next_answer h) as (λ _. Reply × PrimaryHistory) [ None ↦ (reply.Refused NothingThere, h.primary) | Some taken ↦ take_frame taken h.primary ]) (refl, (refl, (refl, tt)))
+    by-tests (((outward h.primary).closed, NotConnected) ∷ rest) h.primary
+    (λ _. elim (next_answer h) as (λ _. Reply × PrimaryHistory)
+    [ None ↦ (reply.Refused NothingThere, h.primary) | Some taken ↦ take_frame taken h.primary ]) (refl, (refl, (refl, tt)))
     (λ none. go (next_answer h) refl (test-passed (outward h.primary).closed NotConnected rest none).0)
   where
-    go : (v : Option Received) → next_answer h ≡ v → (outward h.primary).closed ≡ false → IsHonestReply (elim v as (λ _. Reply × PrimaryHistory) [ None ↦ (reply.Refused NothingThere, h.primary) | Some taken ↦ take_frame taken h.primary ]).0
+    go : (v : Option Received) → next_answer h ≡ v → (outward h.primary).closed ≡ false
+        → IsHonestReply (elim v as (λ _. Reply × PrimaryHistory) [ None ↦ (reply.Refused NothingThere, h.primary) | Some taken ↦ take_frame taken h.primary ]).0
     go None is standing = refl
     go (Some taken) is standing =
         let found = read-packet (slice_get (pushed_answers h) (length (outward h.primary).taken)) taken is in
@@ -223,7 +264,8 @@ honest-ack-in settings starved h a =
 
 -- Steps of the secondary.
 
-honest-item : (settings : Settings) (h : PairHistory) (packet : Packet) → AreHonest settings h.primary h.secondary → (inward h.secondary).closed ≡ false → slice_get (pushed_frames h) (length (inward h.secondary).taken) ≡ Some packet
+honest-item : (settings : Settings) (h : PairHistory) (packet : Packet) → AreHonest settings h.primary h.secondary → (inward h.secondary).closed ≡ false
+    → slice_get (pushed_frames h) (length (inward h.secondary).taken) ≡ Some packet
     → IsHonestReply (take_item (Ok packet) h.secondary).0
 honest-item settings h packet a standing next =
     let p : PrimaryHistory = h.primary in
@@ -231,7 +273,8 @@ honest-item settings h packet a standing next =
     let ends = last-ends settings p s a (inr standing) in
     let at : slice_get (take (outward p).pushed (frames_due settings (outward p))) (length (inward s).taken) ≡ Some packet
     = subst (λ (x : Settings). slice_get (take (outward p).pushed (frames_due x (outward p))) (length (inward s).taken) ≡ Some packet) a.here next in
-    go (checking (Ok packet) (inward s) (with_inward (framed (Ok packet)) s)) (receiving-fine settings (outward p) (inward s) packet (with_inward (framed (Ok packet)) s) (a.ends _ (outward p) (inward s) ends) standing a.there at)
+    go (checking (Ok packet) (inward s) (with_inward (framed (Ok packet)) s))
+    (receiving-fine settings (outward p) (inward s) packet (with_inward (framed (Ok packet)) s) (a.ends _ (outward p) (inward s) ends) standing a.there at)
   where
     go : (v : Checked) → IsFine v → IsHonestReply (elim v as (λ _. Reply × SecondaryHistory) [
       | Ok done ↦ succeeding_secondary done.0 done.1
@@ -240,41 +283,64 @@ honest-item settings h packet a standing next =
     go (Ok done) fine = tt
     go (Err refusal) fine = fine
 
-honest-receive : (settings : Settings) (starved : Bool) (h : PairHistory) → AreHonest settings h.primary h.secondary → IsHonestReply (receive (next_frame h) starved h.secondary).0
+honest-receive : (settings : Settings) (starved : Bool) (h : PairHistory) → AreHonest settings h.primary h.secondary
+    → IsHonestReply (receive (next_frame h) starved h.secondary).0
 honest-receive settings starved h a =
     let s : SecondaryHistory = h.secondary in
-    let rest : List Test = (nat_le s.settings.pending (length (pending (inward s))), PendingFull) ∷ (starved, NoMemory) ∷ (is_none (next_frame h), NothingThere) ∷ [] in
-    by-tests (((inward s).closed, NotConnected) ∷ rest) s (λ _. elim (next_frame h) as (λ _. Reply × SecondaryHistory) [ None ↦ (reply.Refused NothingThere, s) | Some taken ↦ take_item taken s ]) (refl, (refl, (refl, (refl, tt))))
+    let rest : List Test = (nat_le s.settings.pending (length (pending (inward s))), PendingFull) ∷ (starved, NoMemory) ∷ (
+      is_none (next_frame h),
+      NothingThere,
+    ) ∷ [] in
+    by-tests (((inward s).closed, NotConnected) ∷ rest) s
+    (λ _. elim (next_frame h) as (λ _. Reply × SecondaryHistory) [ None ↦ (reply.Refused NothingThere, s) | Some taken ↦ take_item taken s ]) (
+      refl,
+      (refl, (refl, (refl, tt))),
+    )
     (λ none. go (next_frame h) refl (test-passed (inward s).closed NotConnected rest none).0)
   where
     go : (v : Option Received) → next_frame h ≡ v → (inward h.secondary).closed ≡ false
-        → IsHonestReply (elim v as (λ _. Reply × SecondaryHistory) [ None ↦ (reply.Refused NothingThere, h.secondary) | Some taken ↦ take_item taken h.secondary ]).0
+        → IsHonestReply (elim v as (λ _. Reply × SecondaryHistory)
+        [ None ↦ (reply.Refused NothingThere, h.secondary) | Some taken ↦ take_item taken h.secondary ]).0
     go None is standing = refl
     go (Some taken) is standing =
         let found = read-packet (slice_get (pushed_frames h) (length (inward h.secondary).taken)) taken is in
         subst (λ (f : Received). IsHonestReply (take_item f h.secondary).0) (sym found.2) (honest-item settings h found.0 a standing found.1)
 
 honest-peer : (place : ℕ) (h : SecondaryHistory) → IsHonestReply (peer place h).0
-honest-peer place h = by-tests (peer_tests h place) h (λ _. succeeding_secondary what.Nothing (with_inward (applying h.settings.protocol place) h)) (refl, (refl, tt)) (λ none. tt)
+honest-peer place h = by-tests (peer_tests h place) h (λ _. succeeding_secondary what.Nothing (with_inward (applying h.settings.protocol place) h)) (
+  refl,
+  (refl, tt),
+) (λ none. tt)
 
 honest-peer-fault : (place kept : ℕ) (h : SecondaryHistory) → IsHonestReply (peer_fault_kept place kept h).0
 honest-peer-fault place kept h =
-    by-tests (peer_tests h place ++ (keeps_too_many kept (option_map (λ item. length (contents_of item)) (slice_get (items_taken (inward h)) place)), BadRange) ∷ []) h (λ _. peer_fault place (below kept) h) (refl, (refl, (refl, tt))) (λ none.
+    by-tests (peer_tests h place ++ (
+      keeps_too_many kept (option_map (λ item. length (contents_of item)) (slice_get (items_taken (inward h)) place)),
+      BadRange,
+    ) ∷ []) h (λ _. peer_fault place (below kept) h) (refl, (refl, (refl, tt))) (λ none.
     by-tests (peer_tests h place) h (λ _. (reply.Ok (done_with what.Nothing), with_inward (failing place (below kept)) h)) (refl, (refl, tt)) (λ free. tt))
 
 honest-push : (room starved : Bool) (h : SecondaryHistory) → IsHonestReply (ack_out room starved h).0
-honest-push room starved h = by-tests (ack_out_tests h room starved) h (λ _. (reply.Ok (done_with (answering_with h)), with_inward (λ c. record c { pushed = suc c.pushed }) h)) (refl, (refl, (refl, (refl, tt)))) (λ none. tt)
+honest-push room starved h = by-tests (ack_out_tests h room starved) h
+    (λ _. (reply.Ok (done_with (answering_with h)), with_inward (λ c. record c { pushed = suc c.pushed }) h)) (refl, (refl, (refl, (refl, tt)))) (λ none. tt)
 
 honest-close-too : (h : SecondaryHistory) → IsHonestReply (close_secondary h).0
-honest-close-too h = by-tests (((inward h).closed, NotConnected) ∷ []) h (λ _. (reply.Ok (done_with what.Nothing), with_inward (λ c. record c { closed = true }) h)) (refl, tt) (λ none. tt)
+honest-close-too h = by-tests (((inward h).closed, NotConnected) ∷ []) h
+    (λ _. (reply.Ok (done_with what.Nothing), with_inward (λ c. record c { closed = true }) h)) (refl, tt) (λ none. tt)
 
 -- Steps of the pair.
 
 honest-open : (sync loss : ℕ) (starved : Bool) (h : PairHistory) → IsHonestReply (open_pair sync loss starved h).0
-honest-open sync loss starved h = by-tests (open_pair_tests h sync loss starved) h (λ _. let primary = open_primary sync loss starved h.primary in (primary.0, record { primary = primary.1; secondary = (open_secondary 0 h.secondary).1 }))
-    (refl, (refl, (refl, (refl, (refl, tt))))) (λ none. by-tests (open_tests h.primary sync loss starved) h.primary (λ _. succeeding what.Nothing (opened h.primary sync loss)) (refl, (refl, (refl, (refl, tt)))) (λ free. tt))
+honest-open sync loss starved h = by-tests (open_pair_tests h sync loss starved) h
+    (λ _. let primary = open_primary sync loss starved h.primary in (primary.0, record { primary = primary.1; secondary = (open_secondary 0 h.secondary).1 }))
+    (refl, (refl, (refl, (refl, (refl, tt)))))
+    (λ none. by-tests (open_tests h.primary sync loss starved) h.primary (λ _. succeeding what.Nothing (opened h.primary sync loss)) (
+      refl,
+      (refl, (refl, (refl, tt))),
+    ) (λ free. tt))
 
-honest-step : (settings : Settings) (event : Event) (starved : Bool) (h : PairHistory) → AreHonest settings h.primary h.secondary → IsHonestReply (step event starved h).0
+honest-step : (settings : Settings) (event : Event) (starved : Bool) (h : PairHistory) → AreHonest settings h.primary h.secondary
+    → IsHonestReply (step event starved h).0
 honest-step settings (OpenEvent sync loss) starved h a = honest-open sync loss starved h
 honest-step settings (SubmitEvent first contents) starved h a = honest-submit first contents starved h.primary
 honest-step settings (LocalEvent number) starved h a = honest-local number h.primary
@@ -292,4 +358,5 @@ honest-step settings CloseSecondaryEvent starved h a = honest-close-too h.second
 
 -- No step of the pair is refused as a protocol error.
 pub every_step_is_honest : EveryStepIsHonest
-every_step_is_honest o events event starved refusal shares ranges is = subst IsHonestReply is (honest-step o.settings event starved (run events (pair_at o)).1 (honest-run o events shares ranges))
+every_step_is_honest o events event starved refusal shares ranges is =
+    subst IsHonestReply is (honest-step o.settings event starved (run events (pair_at o)).1 (honest-run o events shares ranges))

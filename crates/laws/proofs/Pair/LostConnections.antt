@@ -1,24 +1,32 @@
 -- What a primary does that refuses a frame: the marks, the tuple and the completions of the close in the same step.
-use Rattle.std.proofs.Common.{ℕ, zero, suc, ◌≡◌, ◌-◌, ◌==◌, Bool, true, false, not, ◌&&◌, ◌||◌, List, [], ◌∷◌, ◌++◌, length, map, Option, Some, None, slice_get, refl, sym, ◌∙◌, ap, ◌⊎◌, inl, inr}
+use Rattle.std.proofs.Common.{ℕ, zero, suc, ◌≡◌, ◌-◌, ◌==◌, Bool, true, false, not, ◌&&◌, ◌||◌, List, [], ◌∷◌, ◌++◌, length, map, Option, Some, None, slice_get}
+use Rattle.std.proofs.Common.{refl, sym, ◌∙◌, ap, ◌⊎◌, inl, inr}
 use Rattle.std.specs.Prelude.{if◌then◌else◌, option_map}
 use Rattle.std.specs.List.{list_any}
-use Rattle.std.proofs.lemmas.Bool.{both_ways, and_parts, and_from, or_left, or_right, eq-eqb}
+use Rattle.std.proofs.lemmas.Bool.{both_ways, and_from, or_left, or_right, eq-eqb}
 use Rattle.std.proofs.lemmas.List.Elements.{filter_agree}
 use Rattle.std.proofs.lemmas.List.Folds.{list_any-append}
 use Rattle.std.proofs.lemmas.Option.{slice_get-map}
-use Rattle.model.specs.Contents.{covers}
+use Rattle.blocks.specs.Positions.{StreamPosition}
 use Rattle.model.specs.Stream.{BarrierItem, epoch_of, last_epoch}
 use Rattle.model.specs.Frames.{Received, counting}
 use Rattle.model.specs.Identifiers.{lost}
 use Rattle.model.specs.Marks.{marking_unreleased}
-use Rattle.model.specs.Primary.{LocalOutcome, Waiting, OnDisk, Failed, Accepted, Completion, PrimaryHistory, Outward, no_outward, outward, last_of, last_index, change_last, stands, is_alone, is_answered, is_barrier_ack, barrier_acknowledged, is_completed, is_confirmed, is_failed, is_on_disk, is_open, is_released, is_waiting, completes, unreleased, accepted_frames}
-use Rattle.model.specs.PrimarySteps.{follows, closing, newly_completed, completion_of, with_completions, appending, ending_resync, epoch_is_over, resync_is_over}
+use Rattle.model.specs.Primary.{LocalOutcome, Waiting, OnDisk, Failed, Accepted, Completion, PrimaryHistory, Outward, no_outward, outward, last_of, last_index}
+use Rattle.model.specs.Primary.{change_last, is_alone, is_answered, is_barrier_ack, barrier_acknowledged, is_completed, is_confirmed, is_failed, is_on_disk}
+use Rattle.model.specs.Primary.{is_open, is_released, is_waiting, completes, unreleased, accepted_frames}
+use Rattle.model.specs.PrimarySteps.{follows, closing, newly_completed, completion_of, with_completions, appending, ending_resync, epoch_is_over}
+use Rattle.model.specs.PrimarySteps.{resync_is_over}
 use Rattle.model.specs.Acknowledgements.{ack_in}
+use Rattle.laws.proofs.Rules.Completions.{completes-by}
+use Rattle.laws.proofs.Rules.CloseMarks.{close-same}
+use Rattle.laws.proofs.Rules.EpochEnds.{over-standing}
 use Rattle.laws.specs.Statements.{with_refused, RefusedFramesLoseTheConnection}
 use Rattle.laws.proofs.Lists.Last.{last-at, last-change, length-change}
 use Rattle.laws.proofs.Lists.Picks.{any-pick, filtered-pick}
 use Rattle.laws.proofs.Primary.Moves.{after_barrier, after_resync, follows-history, following-from}
-use Rattle.laws.proofs.Primary.StaysClosed.{open-stands, over-stands}
+use Rattle.laws.proofs.Primary.StaysClosed.{open-stands}
+use Rattle.laws.proofs.Rules.ResyncEnds.{over-stands}
 use Rattle.laws.proofs.Pair.RefusedFrames.{close-open, refused-open, others-count, had-open, refused_frames_close_the_primary}
 
 -- The frame itself releases nothing.
@@ -28,7 +36,8 @@ abbrev refusing_end : Received → Outward → Outward
 refusing_end frame c = record c { taken = c.taken ++ frame ∷ []; refused = true }
 
 -- what is read off an element sees no change of the last one that it does not see there
-unseen : {X Y : Type 0} (seen : Option X → Y) (f : X → X) (none : X) (xs : List X) (k : ℕ) → seen (Some (f (last_of none xs))) ≡ seen (Some (last_of none xs)) → seen (slice_get (change_last f xs) k) ≡ seen (slice_get xs k)
+unseen : {X Y : Type 0} (seen : Option X → Y) (f : X → X) (none : X) (xs : List X) (k : ℕ) → seen (Some (f (last_of none xs))) ≡ seen (Some (last_of none xs))
+    → seen (slice_get (change_last f xs) k) ≡ seen (slice_get xs k)
 unseen seen f none [] k same = refl
 unseen seen f none (x ∷ []) zero same = same
 unseen seen f none (x ∷ []) (suc k) same = refl
@@ -40,24 +49,37 @@ frames-same : (frame : Received) (c : Outward) → c.refused ≡ false → accep
 frames-same frame c unrefused = others-count frame c.taken ∙ sym (ap (λ b. counting b c.taken) unrefused)
 
 -- the same epochs are acknowledged
-confirmed-same : (frame : Received) (p : PrimaryHistory) → (outward p).refused ≡ false → (a : Accepted) → is_confirmed (with_refused frame p) a ≡ is_confirmed p a
+confirmed-same : (frame : Received) (p : PrimaryHistory) → (outward p).refused ≡ false → (a : Accepted)
+    → is_confirmed (with_refused frame p) a ≡ is_confirmed p a
 confirmed-same frame p unrefused a = go a.home
   where
-    go : (home : Option (ℕ × ℕ)) → elim home as (λ _. Bool) [ None ↦ false | Some h ↦ elim (slice_get (with_refused frame p).connections h.0) as (λ _. Bool) [ None ↦ false | Some c ↦ barrier_acknowledged c (epoch_of c.stream h.1) ] ]
-        ≡ elim home as (λ _. Bool) [ None ↦ false | Some h ↦ elim (slice_get p.connections h.0) as (λ _. Bool) [ None ↦ false | Some c ↦ barrier_acknowledged c (epoch_of c.stream h.1) ] ]
+    go : (home : Option StreamPosition) → elim home as
+        (λ _. Bool) [
+          | None ↦ false
+          | Some h ↦ elim (slice_get (with_refused frame p).connections h.index) as
+              (λ _. Bool) [ None ↦ false | Some c ↦ barrier_acknowledged c (epoch_of c.stream h.place) ]
+        ]
+        ≡ elim home as (λ _. Bool) [
+          | None ↦ false
+          | Some h ↦ elim (slice_get p.connections h.index) as
+              (λ _. Bool) [ None ↦ false | Some c ↦ barrier_acknowledged c (epoch_of c.stream h.place) ]
+        ]
     go None = refl
     go (Some home) =
-        unseen (λ (v : Option Outward). elim v as (λ _. Bool) [ None ↦ false | Some c ↦ barrier_acknowledged c (epoch_of c.stream home.1) ]) (refusing_end frame) (no_outward p.tuple) p.connections home.0
-        (ap (λ (frames : List Received). list_any (is_barrier_ack (epoch_of (outward p).stream home.1)) frames) (frames-same frame (outward p) unrefused))
+        unseen (λ (v : Option Outward). elim v as (λ _. Bool) [ None ↦ false | Some c ↦ barrier_acknowledged c (epoch_of c.stream home.place) ])
+        (refusing_end frame) (no_outward p.tuple) p.connections home.index
+        (ap (λ (frames : List Received). list_any (is_barrier_ack (epoch_of (outward p).stream home.place)) frames) (frames-same frame (outward p) unrefused))
 
 -- the same writes are without a connection
 alone-same : (frame : Received) (p : PrimaryHistory) (a : Accepted) → is_alone (with_refused frame p) a ≡ is_alone p a
 alone-same frame p a = go a.home
   where
-    go : (home : Option (ℕ × ℕ)) → elim home as (λ _. Bool) [ None ↦ true | Some h ↦ elim (slice_get (with_refused frame p).connections h.0) as (λ _. Bool) [ None ↦ true | Some c ↦ c.closed ] ]
-        ≡ elim home as (λ _. Bool) [ None ↦ true | Some h ↦ elim (slice_get p.connections h.0) as (λ _. Bool) [ None ↦ true | Some c ↦ c.closed ] ]
+    go : (home : Option StreamPosition) → elim home as
+        (λ _. Bool) [ None ↦ true | Some h ↦ elim (slice_get (with_refused frame p).connections h.index) as (λ _. Bool) [ None ↦ true | Some c ↦ c.closed ] ]
+        ≡ elim home as (λ _. Bool) [ None ↦ true | Some h ↦ elim (slice_get p.connections h.index) as (λ _. Bool) [ None ↦ true | Some c ↦ c.closed ] ]
     go None = refl
-    go (Some home) = unseen (λ (v : Option Outward). elim v as (λ _. Bool) [ None ↦ true | Some c ↦ c.closed ]) (refusing_end frame) (no_outward p.tuple) p.connections home.0 refl
+    go (Some home) = unseen (λ (v : Option Outward). elim v as (λ _. Bool) [ None ↦ true | Some c ↦ c.closed ]) (refusing_end frame)
+        (no_outward p.tuple) p.connections home.index refl
 
 -- the same writes are unreleased
 unreleased-same : (frame : Received) (p : PrimaryHistory) → (outward p).refused ≡ false → unreleased (with_refused frame p) ≡ unreleased p
@@ -77,27 +99,31 @@ record IsLost (p g : PrimaryHistory) : Type 0 where
 -- what follows leaves them: no stream stands
 lost-follows : (p h : PrimaryHistory) → IsLost p h → IsLost p (follows h).history
 lost-follows p = following-from (IsLost p) (IsLost p) (IsLost p) (λ h is. record { marks = is.marks; tuple = is.tuple; closed = is.closed })
-    (λ g over is. absurd (both_ways (outward g).closed (open-stands (outward g) (and_parts (stands (outward g)) _ over).0) is.closed)) (λ g on is. is)
+    (λ g over is. absurd (both_ways (outward g).closed (open-stands (outward g) (over-standing g over)) is.closed)) (λ g on is. is)
     (λ g over is. absurd (both_ways (outward g).closed (open-stands (outward g) (over-stands g over)) is.closed)) (λ g is. is)
 
 -- the last end with the frame refused, where there is one
 refused-last : (frame : Received) (p : PrimaryHistory) → (outward p).closed ≡ false → outward (with_refused frame p) ≡ refusing_end frame (outward p)
 refused-last frame p standing = go (last-change (refusing_end frame) (no_outward p.tuple) (no_outward p.tuple) p.connections)
   where
-    go : (p.connections ≡ []) ⊎ (last_of (no_outward p.tuple) (change_last (refusing_end frame) p.connections) ≡ refusing_end frame (outward p)) → last_of (no_outward p.tuple) (change_last (refusing_end frame) p.connections) ≡ refusing_end frame (outward p)
+    go : (p.connections ≡ []) ⊎ (last_of (no_outward p.tuple) (change_last (refusing_end frame) p.connections) ≡ refusing_end frame (outward p))
+        → last_of (no_outward p.tuple) (change_last (refusing_end frame) p.connections) ≡ refusing_end frame (outward p)
     go (inl empty) = absurd (both_ways (outward p).closed standing (ap (λ (cs : List Outward). (last_of (no_outward p.tuple) cs).closed) empty))
     go (inr is) = is
 
 -- the close of that end
 closing-lost : (frame : Received) (p : PrimaryHistory) → (outward p).closed ≡ false → (outward p).refused ≡ false → IsLost p (closing (with_refused frame p))
 closing-lost frame p standing unrefused = record {
-  marks = λ block. ap (λ (writes : List Accepted). p.marks block || list_any (λ a. covers a.write block) writes) (unreleased-same frame p unrefused);
+  marks = λ block. close-same p (with_refused frame p) block refl (unreleased-same frame p unrefused);
   tuple = ap (λ (c : Outward). if c.begun then lost c.loss p.tuple else p.tuple) (refused-last frame p standing);
-  closed = shut (last-change (λ (c : Outward). record c { closed = true }) (no_outward p.tuple) (no_outward (closing (with_refused frame p)).tuple) (with_refused frame p).connections);
+  closed = shut (last-change (λ (c : Outward). record c { closed = true }) (no_outward p.tuple) (no_outward (closing (with_refused frame p)).tuple)
+      (with_refused frame p).connections);
 }
   where
-    shut : ((with_refused frame p).connections ≡ []) ⊎ (outward (closing (with_refused frame p)) ≡ record (outward (with_refused frame p)) { closed = true }) → (outward (closing (with_refused frame p))).closed ≡ true
-    shut (inl empty) = ap (λ (cs : List Outward). (last_of (no_outward (closing (with_refused frame p)).tuple) (change_last (λ (c : Outward). record c { closed = true }) cs)).closed) empty
+    shut : ((with_refused frame p).connections ≡ []) ⊎ (outward (closing (with_refused frame p)) ≡ record (outward (with_refused frame p)) { closed = true })
+        → (outward (closing (with_refused frame p))).closed ≡ true
+    shut (inl empty) = ap (λ (cs : List Outward).
+        (last_of (no_outward (closing (with_refused frame p)).tuple) (change_last (λ (c : Outward). record c { closed = true }) cs)).closed) empty
     shut (inr is) = ap (λ (c : Outward). c.closed) is
 
 -- Completions.
@@ -107,10 +133,13 @@ follows-journal : (h : PrimaryHistory) → (follows h).history.journal ≡ (with
 follows-journal h = ap (λ (g : PrimaryHistory). g.journal) (follows-history h) ∙ (resynced (after_barrier (with_completions h)) ∙ parted (with_completions h))
   where
     parted : (g : PrimaryHistory) → (after_barrier g).journal ≡ g.journal
-    parted g = elim (epoch_is_over g) as (λ b. (elim b as (λ _. PrimaryHistory) [ true ↦ appending (BarrierItem (last_epoch (outward g).stream)) g | false ↦ g ]).journal ≡ g.journal) [ true ↦ refl | false ↦ refl ]
+    parted g = elim (epoch_is_over g) as
+        (λ b. (elim b as (λ _. PrimaryHistory) [ true ↦ appending (BarrierItem (last_epoch (outward g).stream)) g | false ↦ g ]).journal ≡ g.journal)
+        [ true ↦ refl | false ↦ refl ]
 
     resynced : (g : PrimaryHistory) → (after_resync g).journal ≡ g.journal
-    resynced g = elim (resync_is_over g) as (λ b. (elim b as (λ _. PrimaryHistory) [ true ↦ ending_resync g | false ↦ g ]).journal ≡ g.journal) [ true ↦ refl | false ↦ refl ]
+    resynced g = elim (resync_is_over g) as (λ b. (elim b as (λ _. PrimaryHistory) [ true ↦ ending_resync g | false ↦ g ]).journal ≡ g.journal)
+        [ true ↦ refl | false ↦ refl ]
 
 -- a write that the local disk has done did not fail
 done-unfailed : (outcome : LocalOutcome) → is_on_disk outcome ≡ true → is_failed outcome ≡ false
@@ -119,26 +148,35 @@ done-unfailed OnDisk is = refl
 done-unfailed (Failed offsets) is = absurd (cc)
 
 -- a write that the local disk has done, and that has no connection, is completed by the step
-completes-alone : (h : PrimaryHistory) (n : ℕ) (a : Accepted) → slice_get h.writes n ≡ Some a → is_on_disk a.outcome ≡ true → is_alone h a ≡ true → is_completed (with_completions h) a.write.number ≡ true
+completes-alone : (h : PrimaryHistory) (n : ℕ) (a : Accepted) → slice_get h.writes n ≡ Some a → is_on_disk a.outcome ≡ true → is_alone h a ≡ true
+    → is_completed (with_completions h) a.write.number ≡ true
 completes-alone h n a at is alone = go (is_completed h a.write.number) refl
   where
     named : Completion → Bool
     named entry = entry.write.number == a.write.number
 
     go : (b : Bool) → is_completed h a.write.number ≡ b → list_any named (h.journal ++ map (completion_of h) (newly_completed h)) ≡ true
-    go true was = list_any-append named h.journal (map (completion_of h) (newly_completed h)) ∙ or_left (list_any named h.journal) (list_any named (map (completion_of h) (newly_completed h))) was
+    go true was = list_any-append named h.journal (map (completion_of h) (newly_completed h))
+        ∙ or_left (list_any named h.journal) (list_any named (map (completion_of h) (newly_completed h))) was
     go false was =
-        let opened : is_open h a ≡ true = and_from (not (is_completed h a.write.number)) (not (is_failed a.outcome)) (ap not was) (ap not (done-unfailed a.outcome is)) in
-        let now : completes h a ≡ true = and_from (is_on_disk a.outcome) (is_answered h a || is_alone h a) is (or_right (is_answered h a) (is_alone h a) alone) in
-        let there = filtered-pick (λ accepted. is_open h accepted && completes h accepted) h.writes n a at (and_from (is_open h a) (completes h a) opened now) in
-        let entry : slice_get (map (completion_of h) (newly_completed h)) there.0 ≡ Some (completion_of h a) = slice_get-map (completion_of h) (newly_completed h) there.0 ∙ ap (λ (v : Option Accepted). option_map (completion_of h) v) there.1 in
+        let opened : is_open h a ≡ true = and_from (not (is_completed h a.write.number)) (not (is_failed a.outcome)) (ap not was)
+        (ap not (done-unfailed a.outcome is)) in
+        let now : completes h a ≡ true = completes-by h a is (or_right (is_answered h a) (is_alone h a) alone) in
+        let there = filtered-pick (λ accepted. is_open h accepted && completes h accepted) h.writes n a at
+        (and_from (is_open h a) (completes h a) opened now) in
+        let entry : slice_get (map (completion_of h) (newly_completed h)) there.0 ≡ Some (completion_of h a) =
+        slice_get-map (completion_of h) (newly_completed h) there.0 ∙ ap (λ (v : Option Accepted). option_map (completion_of h) v) there.1 in
         list_any-append named h.journal (map (completion_of h) (newly_completed h))
-        ∙ or_right (list_any named h.journal) (list_any named (map (completion_of h) (newly_completed h))) (any-pick named (map (completion_of h) (newly_completed h)) there.0 (completion_of h a) entry (eq-eqb a.write.number a.write.number refl))
+        ∙ or_right (list_any named h.journal) (list_any named (map (completion_of h) (newly_completed h)))
+        (any-pick named (map (completion_of h) (newly_completed h)) there.0 (completion_of h a) entry (eq-eqb a.write.number a.write.number refl))
 
 -- once the last end is closed its writes have no connection
-closing-alone : (h : PrimaryHistory) (a : Accepted) (place : ℕ) → a.home ≡ Some (last_index h.connections, place) → is_alone (closing h) a ≡ true
+closing-alone : (h : PrimaryHistory) (a : Accepted) (place : ℕ) → a.home ≡ Some (record { index = last_index h.connections; place = place })
+    → is_alone (closing h) a ≡ true
 closing-alone h a place home =
-    ap (λ (v : Option (ℕ × ℕ)). elim v as (λ _. Bool) [ None ↦ true | Some at ↦ elim (slice_get (closing h).connections at.0) as (λ _. Bool) [ None ↦ true | Some c ↦ c.closed ] ]) home ∙ go h.connections
+    ap (λ (v : Option StreamPosition). elim v as
+    (λ _. Bool) [ None ↦ true | Some at ↦ elim (slice_get (closing h).connections at.index) as (λ _. Bool) [ None ↦ true | Some c ↦ c.closed ] ]) home
+    ∙ go h.connections
   where
     shut : Outward → Outward
     shut c = record c { closed = true }
@@ -149,12 +187,14 @@ closing-alone h a place home =
         ap (λ n. elim (slice_get (change_last shut (c ∷ cs)) (n - 1)) as (λ _. Bool) [ None ↦ true | Some c ↦ c.closed ]) (sym (length-change shut (c ∷ cs)))
         ∙ last (last-at c (change_last shut (c ∷ cs))) (last-change shut c c (c ∷ cs))
       where
-        last : (change_last shut (c ∷ cs) ≡ []) ⊎ (slice_get (change_last shut (c ∷ cs)) (length (change_last shut (c ∷ cs)) - 1) ≡ Some (last_of c (change_last shut (c ∷ cs))))
+        last : (change_last shut (c ∷ cs) ≡ [])
+            ⊎ (slice_get (change_last shut (c ∷ cs)) (length (change_last shut (c ∷ cs)) - 1) ≡ Some (last_of c (change_last shut (c ∷ cs))))
             → (c ∷ cs ≡ []) ⊎ (last_of c (change_last shut (c ∷ cs)) ≡ shut (last_of c (c ∷ cs)))
             → elim (slice_get (change_last shut (c ∷ cs)) (length (change_last shut (c ∷ cs)) - 1)) as (λ _. Bool) [ None ↦ true | Some c ↦ c.closed ] ≡ true
         last (inl empty) is = ap (λ (l : List Outward). elim (slice_get l (length l - 1)) as (λ _. Bool) [ None ↦ true | Some c ↦ c.closed ]) empty
         last (inr there) (inl none) = absurd (cc)
-        last (inr there) (inr is) = ap (λ (v : Option Outward). elim v as (λ _. Bool) [ None ↦ true | Some c ↦ c.closed ]) there ∙ ap (λ (c : Outward). c.closed) is
+        last (inr there) (inr is) = ap (λ (v : Option Outward). elim v as (λ _. Bool) [ None ↦ true | Some c ↦ c.closed ]) there
+            ∙ ap (λ (c : Outward). c.closed) is
 
 -- A primary that refuses a frame loses its connection.
 pub refused_frames_lose_the_connection : RefusedFramesLoseTheConnection
@@ -164,7 +204,8 @@ refused_frames_lose_the_connection frame starved p refusal unrefused is other = 
   completed = λ n place a at home on_disk.
       ap (λ (h : PrimaryHistory). is_completed h a.write.number) after
       ∙ (ap (λ (journal : List Completion). list_any (λ entry. entry.write.number == a.write.number) journal) (follows-journal (closing (with_refused frame p)))
-      ∙ completes-alone (closing (with_refused frame p)) n a at on_disk (closing-alone (with_refused frame p) a place (home ∙ ap (λ k. Some (k - 1, place)) (sym (length-change (refusing_end frame) p.connections)))));
+      ∙ completes-alone (closing (with_refused frame p)) n a at on_disk (closing-alone (with_refused frame p) a place (home
+      ∙ ap (λ k. let at : StreamPosition = record { index = k - 1; place = place } in Some at) (sym (length-change (refusing_end frame) p.connections)))));
 }
   where
     standing : (outward p).closed ≡ false

@@ -1,10 +1,12 @@
 -- The primary's steps keep its connections linked to the ends of the other node, whatever those are.
-use Rattle.std.proofs.Common.{ℕ, zero, suc, ◌≡◌, ◌-◌, ◌<◌, inl, inr, Bool, true, false, cond, not, ◌&&◌, ◌||◌, List, [], ◌∷◌, ◌++◌, length, take, map, Option, Some, None, is_none, slice_get, Result, Ok, Err, refl, sym, ◌∙◌, ap, subst, nat_le}
+use Rattle.std.proofs.Common.{ℕ, zero, suc, ◌≡◌, ◌-◌, ◌<◌, inl, inr, Bool, true, false, cond, not, ◌&&◌, ◌||◌, List, [], ◌∷◌, ◌++◌, length, take, map, Option}
+use Rattle.std.proofs.Common.{Some, None, is_none, slice_get, Result, Ok, Err, refl, sym, ◌∙◌, ap, subst, nat_le}
 use Rattle.std.specs.Prelude.{option_map, unwrap_or}
 use Rattle.std.proofs.lemmas.Bool.{leb-false}
 use Rattle.std.proofs.lemmas.Option.{slice_get-map}
 use Rattle.blocks.specs.declared.refusal.Refusal.{Refusal}
-use Rattle.blocks.specs.declared.refusal.Refusal.TheVariants.{NoMemory, LinkFull, NotConnected, NothingThere, NothingToDo, ReadFault, UnknownJob, UsedIdentifier}
+use Rattle.blocks.specs.declared.refusal.Refusal.TheVariants.{NoMemory, LinkFull, NotConnected, NothingThere, NothingToDo, ReadFault, UnknownJob}
+use Rattle.blocks.specs.declared.refusal.Refusal.TheVariants.{UsedIdentifier}
 use Rattle.blocks.specs.declared.outcome.Decision.{Decision}
 use Rattle.blocks.specs.declared.outcome.Decision.TheVariants.{NoSync, BitmapSync, FullSync}
 use Rattle.blocks.specs.declared.outcome.What.{What}
@@ -18,8 +20,11 @@ use Rattle.model.specs.Frames.{Packet, ProtocolFrame, UuidsFrame, SizesFrame, Re
 use Rattle.model.specs.Identifiers.{decision, stands_in}
 use Rattle.model.specs.Marks.{marking, clearing, releasing}
 use Rattle.model.specs.Refusals.{Test}
-use Rattle.model.specs.Primary.{Accepted, Waiting, OnDisk, Failed, last_index, PrimaryHistory, Outward, no_outward, outward, last_of, change_last, with_outward, stands, frames_due, local_map, free_block}
-use Rattle.model.specs.PrimarySteps.{follows, appending, succeeding, submission, submit_tests, submitted, submit, is_unfinished, with_outcome, local_done, accepted_at, faulted, local_fault, send_tests, sending, send, resync_tests, resync_next, resync_fault, closing, close_primary}
+use Rattle.model.specs.Primary.{Accepted, Waiting, OnDisk, Failed, last_index, PrimaryHistory, Outward, no_outward, outward, last_of, change_last, with_outward}
+use Rattle.model.specs.Primary.{stands, frames_due, local_map, free_block}
+use Rattle.model.specs.PrimarySteps.{follows, appending, succeeding, submission, submit_tests, submitted, submit, is_unfinished, with_outcome, local_done}
+use Rattle.model.specs.PrimarySteps.{accepted_at, faulted, local_fault, send_tests, sending, send, resync_tests, resync_next, resync_fault, closing}
+use Rattle.model.specs.PrimarySteps.{close_primary}
 use Rattle.model.specs.Acknowledgements.{Taken, begun_with, meeting, taking_hello, taking_ack, taking, take_frame, ack_in}
 use Rattle.model.specs.Secondary.{Inward, answers_due}
 use Rattle.laws.proofs.Lists.Beginnings.{begins-self}
@@ -38,7 +43,8 @@ pub record HasEnds (here there : Settings) (ends : List Inward) (h : PrimaryHist
 
 -- What a taken frame leads to: more is due where it is accepted, and nothing where it is refused.
 abbrev TakesSo : PrimaryHistory → Taken → Type 0
-TakesSo taken (Ok done) = (g : Outward → Outward) × GoesOn (outward taken) (g (outward taken)) × (done.1.settings ≡ taken.settings) × (done.1.connections ≡ change_last g taken.connections)
+TakesSo taken (Ok done) = (g : Outward → Outward) × GoesOn (outward taken) (g (outward taken)) × (done.1.settings ≡ taken.settings)
+    × (done.1.connections ≡ change_last g taken.connections)
 TakesSo taken (Err error) = (error.1.settings ≡ taken.settings) × (error.1.connections ≡ taken.connections)
 
 goes-self : (c : Outward) → GoesOn c c
@@ -50,21 +56,47 @@ so-if taken done true name refusal settings connections = (λ c. c, goes-self (o
 so-if taken done false name refusal settings connections = (refl, refl)
 
 -- a stream that begins was empty
-so-begins : (peer : Tuple) (taken : PrimaryHistory) (decided : Decision) → (outward taken).stream ≡ [] → TakesSo taken (Ok (what.Decided decided, begun_with decided (record taken { peer = Some peer })))
-so-begins peer taken NoSync empty = (λ c. record c { begun = true }, record { hello = refl; stream = begins-self (outward taken).stream; pushed = refl; taken = refl }, refl, refl)
+so-begins : (peer : Tuple) (taken : PrimaryHistory) (decided : Decision) → (outward taken).stream ≡ []
+    → TakesSo taken (Ok (what.Decided decided, begun_with decided (record taken { peer = Some peer })))
+so-begins peer taken NoSync empty =
+    (λ c. record c { begun = true }, record { hello = refl; stream = begins-self (outward taken).stream; pushed = refl; taken = refl }, refl, refl)
 so-begins peer taken BitmapSync empty =
-    let start : List Item = SyncUuidItem (outward taken).sync ∷ [] in
-    (λ c. record c { begun = true; stream = start }, record { hello = refl; stream = subst (λ (s : List Item). IsBeginning s start) (sym empty) (start, refl); pushed = refl; taken = refl }, refl, refl)
+    let start : List Item = SyncUuidItem (outward taken).sync ∷ [] in (
+      λ c. record c { begun = true; stream = start },
+      record {
+        hello = refl;
+        stream = subst (λ (s : List Item). IsBeginning s start) (sym empty) (start, refl);
+        pushed = refl;
+        taken = refl;
+      },
+      refl,
+      refl,
+    )
 so-begins peer taken FullSync empty =
-    let start : List Item = SyncUuidItem (outward taken).sync ∷ [] in
-    (λ c. record c { begun = true; stream = start }, record { hello = refl; stream = subst (λ (s : List Item). IsBeginning s start) (sym empty) (start, refl); pushed = refl; taken = refl }, refl, refl)
+    let start : List Item = SyncUuidItem (outward taken).sync ∷ [] in (
+      λ c. record c { begun = true; stream = start },
+      record {
+        hello = refl;
+        stream = subst (λ (s : List Item). IsBeginning s start) (sym empty) (start, refl);
+        pushed = refl;
+        taken = refl;
+      },
+      refl,
+      refl,
+    )
 
 so-meeting : (peer : Tuple) (taken : PrimaryHistory) → (outward taken).stream ≡ [] → TakesSo taken (meeting peer taken)
 so-meeting peer taken empty = go (stands_in (outward taken).sync peer || stands_in (outward taken).loss peer) (decision taken.tuple peer)
   where
     go : (used : Bool) (v : Result Decision Refusal) → TakesSo taken (elim used as (λ _. Taken) [
       | true ↦ Err (UsedIdentifier, record taken { peer = Some peer })
-      | false ↦ elim v as (λ _. Taken) [ Err refusal ↦ Err (refusal, record taken { peer = Some peer }) | Ok decided ↦ Ok (what.Decided decided, begun_with decided (record taken { peer = Some peer })) ]
+      | false ↦ elim v as (λ _. Taken) [
+        | Err refusal ↦ Err (refusal, record taken { peer = Some peer })
+        | Ok decided ↦ Ok (
+          what.Decided decided,
+          begun_with decided (record taken { peer = Some peer }),
+        )
+      ]
     ])
     go true v = (refl, refl)
     go false (Err refusal) = (refl, refl)
@@ -96,7 +128,8 @@ taken-empty h frame empty = elim (last-change (with_frame frame) (no_outward h.t
   | inr last ↦ ap (λ (c : Outward). c.stream) last ∙ empty
 ]
 
-so-taking : (frame : Received) (h : PrimaryHistory) → HasHomes h → TakesSo (with_outward (with_frame frame) h) (taking frame h (with_outward (with_frame frame) h))
+so-taking : (frame : Received) (h : PrimaryHistory) → HasHomes h
+    → TakesSo (with_outward (with_frame frame) h) (taking frame h (with_outward (with_frame frame) h))
 so-taking (Err fault) h homes = (refl, refl)
 so-taking (Ok packet) h homes = go (outward h).begun refl
   where
@@ -109,20 +142,25 @@ so-taking (Ok packet) h homes = go (outward h).begun refl
 
 module _ (here there : Settings) (ends : List Inward) (none : Inward) where
   -- the last connection changes
-  ends-change : (h later : PrimaryHistory) (f : Outward → Outward) → HasEnds here there ends h → later.settings ≡ h.settings → later.connections ≡ change_last f h.connections
+  ends-change : (h later : PrimaryHistory) (f : Outward → Outward) → HasEnds here there ends h → later.settings ≡ h.settings
+      → later.connections ≡ change_last f h.connections
       → (AreLinked here there (outward h) (last_of none ends) → AreLinked here there (f (outward h)) (last_of none ends)) → HasEnds here there ends later
   ends-change h later f e settings connections keeps = record {
     settings = settings ∙ e.settings;
     pairs = rw connections (pairs-here (AreLinked here there) f (no_outward h.tuple) none h.connections ends e.pairs keeps);
   }
 
-  ends-on : (h later : PrimaryHistory) (f : Outward → Outward) → HasEnds here there ends h → later.settings ≡ h.settings → later.connections ≡ change_last f h.connections
+  ends-on : (h later : PrimaryHistory) (f : Outward → Outward) → HasEnds here there ends h → later.settings ≡ h.settings
+      → later.connections ≡ change_last f h.connections
       → GoesOn (outward h) (f (outward h)) → HasEnds here there ends later
-  ends-on h later f e settings connections on = ends-change h later f e settings connections (linked-on here there (outward h) (f (outward h)) (last_of none ends) on)
+  ends-on h later f e settings connections on = ends-change h later f e settings connections
+      (linked-on here there (outward h) (f (outward h)) (last_of none ends) on)
 
-  ends-appending : (item : Item) (h later : PrimaryHistory) → HasEnds here there ends h → later.settings ≡ h.settings → later.connections ≡ (appending item h).connections → HasEnds here there ends later
+  ends-appending : (item : Item) (h later : PrimaryHistory) → HasEnds here there ends h → later.settings ≡ h.settings
+      → later.connections ≡ (appending item h).connections → HasEnds here there ends later
   ends-appending item h later e settings connections =
-      ends-on h later (λ c. record c { stream = c.stream ++ item ∷ [] }) e settings connections (record { hello = refl; stream = (item ∷ [], refl); pushed = refl; taken = refl })
+      ends-on h later (λ c. record c { stream = c.stream ++ item ∷ [] }) e settings connections
+      (record { hello = refl; stream = (item ∷ [], refl); pushed = refl; taken = refl })
 
   -- what follows an effect
   pub ends-following : (h : PrimaryHistory) → HasEnds here there ends h → HasEnds here there ends (follows h).history
@@ -136,52 +174,81 @@ module _ (here there : Settings) (ends : List Inward) (none : Inward) where
   -- The steps but the opening.
 
   -- a write is submitted
-  pub ends-submit : (first : ℕ) (contents : List (List ℕ)) (starved : Bool) (h : PrimaryHistory) → HasEnds here there ends h → HasEnds here there ends (submit first contents starved h).1
-  ends-submit first contents starved h e = tested-keeps (HasEnds here there ends) h (submit_tests h first contents starved) (λ _. succeeding (what.Write (suc (length h.writes))) (submitted h first contents)) e (λ passed.
+  pub ends-submit : (first : ℕ) (contents : List (List ℕ)) (starved : Bool) (h : PrimaryHistory) → HasEnds here there ends h
+      → HasEnds here there ends (submit first contents starved h).1
+  ends-submit first contents starved h e = tested-keeps (HasEnds here there ends) h (submit_tests h first contents starved)
+      (λ _. succeeding (what.Write (suc (length h.writes))) (submitted h first contents)) e (λ passed.
       ends-following (submitted h first contents) (go (stands (outward h))))
     where
       go : (b : Bool) → HasEnds here there ends (elim b as (λ _. PrimaryHistory) [
-        | true ↦ appending (WriteItem (submission h first contents)) (record h { writes = h.writes ++ record { write = submission h first contents; journal_length = length h.journal; home = Some (last_index h.connections, length (outward h).stream); outcome = Waiting } ∷ [] })
-        | false ↦ record h { writes = h.writes ++ record { write = submission h first contents; journal_length = length h.journal; home = None; outcome = Waiting } ∷ []; marks = marking (submission h first contents) h.marks }
+        | true ↦ appending (WriteItem (submission h first contents))
+            (record h {
+              writes = h.writes ++ record {
+                write = submission h first contents;
+                journal_length = length h.journal;
+                home = Some (record { index = last_index h.connections; place = length (outward h).stream });
+                outcome = Waiting;
+              } ∷ [];
+            })
+        | false ↦ record h {
+          writes = h.writes ++ record {
+            write = submission h first contents;
+            journal_length = length h.journal;
+            home = None;
+            outcome = Waiting;
+          } ∷ [];
+          marks = marking (submission h first contents) h.marks;
+        }
       ])
       go true = ends-appending (WriteItem (submission h first contents)) h _ e refl refl
       go false = record { settings = e.settings; pairs = e.pairs }
 
   -- the local disk does a write
   pub ends-local : (number : ℕ) (h : PrimaryHistory) → HasEnds here there ends h → HasEnds here there ends (local_done number h).1
-  ends-local number h e = tested-keeps (HasEnds here there ends) h ((not (is_unfinished h number), UnknownJob) ∷ []) (λ _. succeeding what.Nothing (releasing h (with_outcome number OnDisk h))) e (λ passed.
+  ends-local number h e = tested-keeps (HasEnds here there ends) h ((not (is_unfinished h number), UnknownJob) ∷ [])
+      (λ _. succeeding what.Nothing (releasing h (with_outcome number OnDisk h))) e (λ passed.
       ends-following (releasing h (with_outcome number OnDisk h)) (record { settings = e.settings; pairs = e.pairs }))
 
   -- the local disk fails a write
   pub ends-fault : (number : ℕ) (offsets : List ℕ) (h : PrimaryHistory) → HasEnds here there ends h → HasEnds here there ends (local_fault number offsets h).1
-  ends-fault number offsets h e = tested-keeps (HasEnds here there ends) h ((not (is_unfinished h number), UnknownJob) ∷ []) (λ _. succeeding what.Nothing (faulted number offsets h)) e (λ passed.
+  ends-fault number offsets h e = tested-keeps (HasEnds here there ends) h ((not (is_unfinished h number), UnknownJob) ∷ [])
+      (λ _. succeeding what.Nothing (faulted number offsets h)) e (λ passed.
       ends-following (faulted number offsets h) (go (accepted_at h number)))
     where
-      go : (v : Option Accepted) → HasEnds here there ends (elim v as (λ _. PrimaryHistory) [ None ↦ h | Some accepted ↦ with_outcome number (Failed (within (length accepted.write.contents) offsets)) (record h { marks = marking accepted.write h.marks }) ])
+      go : (v : Option Accepted) → HasEnds here there ends
+          (elim v as (λ _. PrimaryHistory) [
+            | None ↦ h
+            | Some accepted ↦ with_outcome number (Failed (within (length accepted.write.contents) offsets))
+                (record h { marks = marking accepted.write h.marks })
+          ])
       go None = e
       go (Some accepted) = record { settings = e.settings; pairs = e.pairs }
 
   -- a frame is pushed, which was due
   pub ends-send : (room starved : Bool) (h : PrimaryHistory) → HasEnds here there ends h → HasEnds here there ends (send room starved h).1
-  ends-send room starved h e = tested-keeps (HasEnds here there ends) h (send_tests h room starved) (λ _. succeeding (sending h) (with_outward pushing h)) e (λ passed.
+  ends-send room starved h e = tested-keeps (HasEnds here there ends) h (send_tests h room starved) (λ _. succeeding (sending h) (with_outward pushing h)) e
+      (λ passed.
       let rest : List Test = (starved, NoMemory) ∷ (not room, LinkFull) ∷ [] in
       let nothing : Bool = nat_le (length (frames_due h.settings (outward h))) (outward h).pushed in
       let one = test-passed (outward h).closed NotConnected ((nothing, NothingThere) ∷ rest) passed in
       let two = test-passed nothing NothingThere rest one.1 in
       let due = leb-false (length (frames_due h.settings (outward h))) (outward h).pushed two.0 in
       ends-following (with_outward pushing h) (ends-change h (with_outward pushing h) pushing e refl refl
-      (linked-pushing here there (outward h) (last_of none ends) (subst (λ (s : Settings). (outward h).pushed < length (frames_due s (outward h))) e.settings due))))
+      (linked-pushing here there (outward h) (last_of none ends)
+      (subst (λ (s : Settings). (outward h).pushed < length (frames_due s (outward h))) e.settings due))))
 
   -- a resync block is appended
   pub ends-resync : (starved : Bool) (h : PrimaryHistory) → HasEnds here there ends h → HasEnds here there ends (resync_next starved h).1
   ends-resync starved h e = tested-keeps (HasEnds here there ends) h (resync_tests h starved) (λ _. elim (free_block h) as (λ _. Reply × PrimaryHistory) [
     | None ↦ (reply.Refused NothingToDo, h)
-    | Some block ↦ succeeding (what.Block (record { 0 = block }) (length (outward h).stream)) (appending (ResyncItem block (unwrap_or (local_map h block) [])) h)
+    | Some block ↦ succeeding (what.Block (record { 0 = block }) (length (outward h).stream))
+        (appending (ResyncItem block (unwrap_or (local_map h block) [])) h)
   ]) e (λ passed. go (free_block h))
     where
       go : (v : Option ℕ) → HasEnds here there ends (elim v as (λ _. Reply × PrimaryHistory) [
         | None ↦ (reply.Refused NothingToDo, h)
-        | Some block ↦ succeeding (what.Block (record { 0 = block }) (length (outward h).stream)) (appending (ResyncItem block (unwrap_or (local_map h block) [])) h)
+        | Some block ↦ succeeding (what.Block (record { 0 = block }) (length (outward h).stream))
+            (appending (ResyncItem block (unwrap_or (local_map h block) [])) h)
       ]).1
       go None = e
       go (Some block) = ends-following (appending (ResyncItem block (unwrap_or (local_map h block) [])) h) (ends-appending _ h _ e refl refl)
@@ -191,23 +258,28 @@ module _ (here there : Settings) (ends : List Inward) (none : Inward) where
   ends-resync-fault starved h e = tested-keeps (HasEnds here there ends) h (resync_tests h starved) (λ _. (reply.Refused ReadFault, h)) e (λ passed. e)
 
   ends-closing : (h : PrimaryHistory) → HasEnds here there ends h → HasEnds here there ends (closing h)
-  ends-closing h e = ends-on h (closing h) (λ c. record c { closed = true }) e refl refl (record { hello = refl; stream = begins-self (outward h).stream; pushed = refl; taken = refl })
+  ends-closing h e = ends-on h (closing h) (λ c. record c { closed = true }) e refl refl
+      (record { hello = refl; stream = begins-self (outward h).stream; pushed = refl; taken = refl })
 
   -- the end closes
   pub ends-close : (h : PrimaryHistory) → HasEnds here there ends h → HasEnds here there ends (close_primary h).1
-  ends-close h e = tested-keeps (HasEnds here there ends) h (((outward h).closed, NotConnected) ∷ []) (λ _. let after = follows (closing h) in (reply.Closed (length after.completed), after.history)) e (λ passed.
+  ends-close h e = tested-keeps (HasEnds here there ends) h (((outward h).closed, NotConnected) ∷ [])
+      (λ _. let after = follows (closing h) in (reply.Closed (length after.completed), after.history)) e (λ passed.
       ends-following (closing h) (ends-closing h e))
 
   -- a frame is taken that the other end pushed
   ends-frame : (frame : Received) (h : PrimaryHistory) → HasHomes h → HasEnds here there ends h
-      → slice_get (map read (take (last_of none ends).pushed (answers_due there (last_of none ends)))) (length (outward h).taken) ≡ Some frame → HasEnds here there ends (take_frame frame h).1
+      → slice_get (map read (take (last_of none ends).pushed (answers_due there (last_of none ends)))) (length (outward h).taken) ≡ Some frame
+      → HasEnds here there ends (take_frame frame h).1
   ends-frame frame h homes e next = go (taking frame h (with_outward (with_frame frame) h)) (so-taking frame h homes)
     where
       taken : HasEnds here there ends (with_outward (with_frame frame) h)
-      taken = ends-change h (with_outward (with_frame frame) h) (with_frame frame) e refl refl (linked-taking here there (outward h) (last_of none ends) frame next)
+      taken = ends-change h (with_outward (with_frame frame) h) (with_frame frame) e refl refl
+          (linked-taking here there (outward h) (last_of none ends) frame next)
 
       refused : (f : PrimaryHistory) → HasEnds here there ends f → HasEnds here there ends (with_outward refusing f)
-      refused f e' = ends-on f (with_outward refusing f) refusing e' refl refl (record { hello = refl; stream = begins-self (outward f).stream; pushed = refl; taken = refl })
+      refused f e' = ends-on f (with_outward refusing f) refusing e' refl refl
+          (record { hello = refl; stream = begins-self (outward f).stream; pushed = refl; taken = refl })
 
       go : (v : Taken) → TakesSo (with_outward (with_frame frame) h) v → HasEnds here there ends (elim v as (λ _. Reply × PrimaryHistory) [
         | Ok done ↦ succeeding done.0 done.1
@@ -215,16 +287,21 @@ module _ (here there : Settings) (ends : List Inward) (none : Inward) where
       ]).1
       go (Ok done) so = ends-following done.1 (ends-on (with_outward (with_frame frame) h) done.1 so.0 taken so.2 so.3 so.1)
       go (Err error) so =
-          ends-following (closing (with_outward refusing error.1)) (ends-closing (with_outward refusing error.1) (refused error.1 (record { settings = so.0 ∙ taken.settings; pairs = rw so.1 taken.pairs })))
+          ends-following (closing (with_outward refusing error.1))
+          (ends-closing (with_outward refusing error.1) (refused error.1 (record { settings = so.0 ∙ taken.settings; pairs = rw so.1 taken.pairs })))
 
   -- the next frame that the other end pushed is taken, if there is one
   pub ends-ack-in : (frame : Option Received) (starved : Bool) (h : PrimaryHistory) → HasHomes h → HasEnds here there ends h
-      → frame ≡ option_map read (slice_get (take (last_of none ends).pushed (answers_due there (last_of none ends))) (length (outward h).taken)) → HasEnds here there ends (ack_in frame starved h).1
+      → frame ≡ option_map read (slice_get (take (last_of none ends).pushed (answers_due there (last_of none ends))) (length (outward h).taken))
+      → HasEnds here there ends (ack_in frame starved h).1
   ends-ack-in frame starved h homes e next =
       let rest : List Test = (not (outward h).begun && starved, NoMemory) ∷ (is_none frame, NothingThere) ∷ [] in
-      tested-keeps (HasEnds here there ends) h (((outward h).closed, NotConnected) ∷ rest) (λ _. elim frame as (λ _. Reply × PrimaryHistory) [ None ↦ (reply.Refused NothingThere, h) | Some taken ↦ take_frame taken h ]) e
+      tested-keeps (HasEnds here there ends) h (((outward h).closed, NotConnected) ∷ rest)
+      (λ _. elim frame as (λ _. Reply × PrimaryHistory) [ None ↦ (reply.Refused NothingThere, h) | Some taken ↦ take_frame taken h ]) e
       (λ passed. go frame refl)
     where
-      go : (v : Option Received) → frame ≡ v → HasEnds here there ends (elim v as (λ _. Reply × PrimaryHistory) [ None ↦ (reply.Refused NothingThere, h) | Some taken ↦ take_frame taken h ]).1
+      go : (v : Option Received) → frame ≡ v
+          → HasEnds here there ends (elim v as (λ _. Reply × PrimaryHistory) [ None ↦ (reply.Refused NothingThere, h) | Some taken ↦ take_frame taken h ]).1
       go None is = e
-      go (Some taken) is = ends-frame taken h homes e (slice_get-map read (take (last_of none ends).pushed (answers_due there (last_of none ends))) (length (outward h).taken) ∙ (sym next ∙ is))
+      go (Some taken) is = ends-frame taken h homes e
+          (slice_get-map read (take (last_of none ends).pushed (answers_due there (last_of none ends))) (length (outward h).taken) ∙ (sym next ∙ is))

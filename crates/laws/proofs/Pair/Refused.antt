@@ -1,33 +1,44 @@
 -- A step of the pair that is refused leaves the history as it was, but where a frame is refused: then that end closes.
-use Rattle.std.proofs.Common.{ℕ, zero, suc, ◌≡◌, ◌==◌, Bool, true, false, not, ◌&&◌, ◌||◌, nat_lt, nat_le, List, [], ◌∷◌, ◌++◌, length, Option, Some, None, Result, Ok, Err, is_none, slice_get, refl, ap, ◌⊎◌, inl, inr, sym, ◌∙◌}
+use Rattle.std.proofs.Common.{ℕ, zero, suc, ◌≡◌, Bool, true, false, not, ◌&&◌, ◌||◌, nat_lt, nat_le, List, [], ◌∷◌, ◌++◌, length, Option, Some, None, Result}
+use Rattle.std.proofs.Common.{Ok, Err, is_none, slice_get, refl, ap, ◌⊎◌, inl, inr, sym, ◌∙◌}
 use Rattle.std.specs.Prelude.{option_map, if◌then◌else◌, unwrap_or}
-use Rattle.std.proofs.lemmas.Bool.{both_ways, and_parts}
+use Rattle.std.proofs.lemmas.Bool.{both_ways}
 use Rattle.blocks.specs.declared.tuple.Tuple.{Tuple}
 use Rattle.blocks.specs.declared.refusal.Refusal.{Refusal}
-use Rattle.blocks.specs.declared.refusal.Refusal.TheVariants.{BadRange, NoMemory, NothingToDo, NotConnected, NothingThere, ReadFault, UnknownJob, PendingFull, UsedIdentifier, PrimaryStale, SplitBrain, Unrelated, NotDrained}
+use Rattle.blocks.specs.declared.refusal.Refusal.TheVariants.{BadRange, NoMemory, NothingToDo, NotConnected, NothingThere, ReadFault, UnknownJob, PendingFull}
+use Rattle.blocks.specs.declared.refusal.Refusal.TheVariants.{UsedIdentifier, NotDrained}
 use Rattle.blocks.specs.declared.outcome.Decision.{Decision}
-use Rattle.blocks.specs.declared.outcome.Decision.TheVariants.{NoSync, BitmapSync, FullSync}
 use Rattle.blocks.specs.declared.outcome.Done.{Done}
 use Rattle.blocks.specs.declared.outcome.What.{What}
 use Rattle.blocks.specs.declared.outcome.What.TheVariants as what
 use Rattle.blocks.specs.declared.outcome.Reply.{Reply}
 use Rattle.blocks.specs.declared.outcome.Reply.TheVariants as reply
 use Rattle.model.specs.Stream.{ResyncItem, below, contents_of}
-use Rattle.model.specs.Frames.{Packet, DataFrame, RsDataReplyFrame, BarrierFrame, ProtocolFrame, UuidsFrame, SizesFrame, SyncUuidFrame, RecvAckFrame, WriteAckFrame, RsWriteAckFrame, BarrierAckFrame, Received}
+use Rattle.model.specs.Frames.{Packet, DataFrame, RsDataReplyFrame, BarrierFrame, ProtocolFrame, UuidsFrame, SizesFrame, SyncUuidFrame, RecvAckFrame}
+use Rattle.model.specs.Frames.{WriteAckFrame, RsWriteAckFrame, BarrierAckFrame, Received}
 use Rattle.model.specs.Refusals.{Test, first_refusal, done_with}
-use Rattle.model.specs.Identifiers.{stands_in, decision, is_historical, share_identifier}
-use Rattle.model.specs.Primary.{PrimaryHistory, OnDisk, outward, with_outward, local_map, free_block, Outward, no_outward, last_of, change_last, stands}
+use Rattle.model.specs.Identifiers.{stands_in, decision}
+use Rattle.model.specs.Primary.{PrimaryHistory, OnDisk, outward, with_outward, local_map, free_block, Outward, no_outward, last_of, change_last}
 use Rattle.model.specs.Marks.{releasing}
-use Rattle.model.specs.PrimarySteps.{follows, appending, succeeding, open_primary, submit_tests, submitted, submit, is_unfinished, with_outcome, local_done, accepted_at, faulted, local_fault, send_tests, sending, send, resync_tests, resync_next, resync_fault, closing, close_primary, open_tests, opened}
+use Rattle.model.specs.PrimarySteps.{follows, appending, succeeding, open_primary, submit_tests, submitted, submit, is_unfinished, with_outcome, local_done}
+use Rattle.model.specs.PrimarySteps.{accepted_at, faulted, local_fault, send_tests, sending, send, resync_tests, resync_next, resync_fault, closing}
+use Rattle.model.specs.PrimarySteps.{close_primary, open_tests, opened}
 use Rattle.model.specs.Acknowledgements.{Taken, begun_with, meeting, taking_hello, taking_ack, taking, take_frame, ack_in}
 use Rattle.model.specs.Secondary.{SecondaryHistory, Inward, inward, with_inward, items_taken, is_drained, pending, no_inward}
-use Rattle.model.specs.SecondarySteps.{succeeding_secondary, Checked, checking_hello, checking_item, checking, take_item, receive, peer_tests, peer, peer_fault, applying, failing, answering_with, ack_out_tests, ack_out, open_secondary, close_secondary}
-use Rattle.model.specs.Pair.{Event, OpenEvent, SubmitEvent, LocalEvent, LocalFaultEvent, SendEvent, ReceiveEvent, PeerEvent, PeerFaultEvent, AckOutEvent, AckInEvent, ResyncEvent, ResyncFaultEvent, ClosePrimaryEvent, CloseSecondaryEvent, PairHistory, pushed_frames, pushed_answers, next_frame, next_answer, has_room, answers_have_room, open_pair_tests, open_pair, keeps_too_many, local_fault_kept, peer_fault_kept, step}
+use Rattle.model.specs.SecondarySteps.{succeeding_secondary, Checked, checking_hello, checking_item, checking, take_item, receive, peer_tests, peer, peer_fault}
+use Rattle.model.specs.SecondarySteps.{applying, failing, answering_with, ack_out_tests, ack_out, open_secondary, close_secondary}
+use Rattle.model.specs.Pair.{Event, OpenEvent, SubmitEvent, LocalEvent, LocalFaultEvent, SendEvent, ReceiveEvent, PeerEvent, PeerFaultEvent, AckOutEvent}
+use Rattle.model.specs.Pair.{AckInEvent, ResyncEvent, ResyncFaultEvent, ClosePrimaryEvent, CloseSecondaryEvent, PairHistory, pushed_frames, pushed_answers}
+use Rattle.model.specs.Pair.{next_frame, next_answer, has_room, answers_have_room, open_pair_tests, open_pair, keeps_too_many, local_fault_kept}
+use Rattle.model.specs.Pair.{peer_fault_kept, step}
+use Rattle.laws.proofs.Rules.Decisions.{decision-has}
+use Rattle.laws.proofs.Rules.EpochEnds.{over-standing}
 use Rattle.laws.specs.Statements.{is_refused_frame, is_refused_by, is_closed_by, RefusedStepsChangeNothing, RefusedFramesClose}
 use Rattle.laws.proofs.Lists.Tests.{test-passed}
 use Rattle.laws.proofs.Primary.Moves.{with_frame, refusing, pushing, following-from}
 use Rattle.laws.proofs.Secondary.Moves.{framed, refused_end, pushed_one, closed_end}
-use Rattle.laws.proofs.Primary.StaysClosed.{open-stands, over-stands}
+use Rattle.laws.proofs.Primary.StaysClosed.{open-stands}
+use Rattle.laws.proofs.Rules.ResyncEnds.{over-stands}
 
 -- a step that leaves what it was given, where it is refused
 abbrev IsSpared : {X : Type 0} → X → Reply × X → Type 0
@@ -57,7 +68,8 @@ spared-tests {X} tests h done spared = go (first_refusal tests)
 -- The same of a step that takes a frame: it leaves what it was given, or refuses the frame and closes its end.
 abbrev IsSparedOrCloses : {X : Type 0} → (X → Bool) → X → Reply × X → Type 0
 IsSparedOrCloses {X} closed h done =
-    (refusal : Refusal) → done.0 ≡ reply.Refused refusal → ((is_refused_frame refusal ≡ false) × (done.1 ≡ h)) ⊎ ((is_refused_frame refusal ≡ true) × (closed done.1 ≡ true))
+    (refusal : Refusal) → done.0 ≡ reply.Refused refusal
+    → ((is_refused_frame refusal ≡ false) × (done.1 ≡ h)) ⊎ ((is_refused_frame refusal ≡ true) × (closed done.1 ≡ true))
 
 -- no test is about a frame
 abbrev pub AreOthers : List Test → Type 0
@@ -71,16 +83,22 @@ first-other ((true, first) ∷ tests) refusal others is = let same : first ≡ r
 first-other ((false, first) ∷ tests) refusal others is = first-other tests refusal others.1 is
 
 -- one by tests, none of them about a frame
-closes-tests : {X : Type 0} (closed : X → Bool) (tests : List Test) (h : X) (done : Unit {0} → Reply × X) → AreOthers tests → IsSparedOrCloses closed h (done tt)
+closes-tests : {X : Type 0} (closed : X → Bool) (tests : List Test) (h : X) (done : Unit {0} → Reply × X) → AreOthers tests
+    → IsSparedOrCloses closed h (done tt)
     → IsSparedOrCloses closed h (elim (first_refusal tests) as (λ _. Reply × X) [ Some refusal ↦ (reply.Refused refusal, h) | None ↦ done tt ])
 closes-tests {X} closed tests h done others taken = go (first_refusal tests) refl
   where
-    go : (v : Option Refusal) → first_refusal tests ≡ v → IsSparedOrCloses closed h (elim v as (λ _. Reply × X) [ Some refusal ↦ (reply.Refused refusal, h) | None ↦ done tt ])
-    go (Some first) is = λ refusal refused. let same : first ≡ refusal = cc in inl (first-other tests refusal others (is ∙ ap (λ (r : Refusal). Some r) same), refl)
+    go : (v : Option Refusal) → first_refusal tests ≡ v
+        → IsSparedOrCloses closed h (elim v as (λ _. Reply × X) [ Some refusal ↦ (reply.Refused refusal, h) | None ↦ done tt ])
+    go (Some first) is = λ refusal refused. let same : first ≡ refusal = cc in inl (
+      first-other tests refusal others (is ∙ ap (λ (r : Refusal). Some r) same),
+      refl,
+    )
     go None is = taken
 
 -- The last of the connections, once it is closed.
-last-closed : {X : Type 0} (closed : X → Bool) (f : X → X) → ((x : X) → closed (f x) ≡ true) → (none : X) → closed none ≡ true → (xs : List X) → closed (last_of none (change_last f xs)) ≡ true
+last-closed : {X : Type 0} (closed : X → Bool) (f : X → X) → ((x : X) → closed (f x) ≡ true) → (none : X) → closed none ≡ true → (xs : List X)
+    → closed (last_of none (change_last f xs)) ≡ true
 last-closed closed f closes none nothing [] = nothing
 last-closed closed f closes none nothing (x ∷ []) = closes x
 last-closed closed f closes none nothing (x ∷ y ∷ xs) = later x y xs
@@ -92,12 +110,13 @@ last-closed closed f closes none nothing (x ∷ y ∷ xs) = later x y xs
 -- what follows a step leaves a closed end so
 follows-closed : (h : PrimaryHistory) → (outward h).closed ≡ true → (outward (follows h).history).closed ≡ true
 follows-closed = following-from (λ g. (outward g).closed ≡ true) (λ g. (outward g).closed ≡ true) (λ g. (outward g).closed ≡ true) (λ h closed. closed)
-    (λ g over closed. absurd (both_ways (outward g).closed (open-stands (outward g) (and_parts (stands (outward g)) _ over).0) closed)) (λ g on closed. closed)
+    (λ g over closed. absurd (both_ways (outward g).closed (open-stands (outward g) (over-standing g over)) closed)) (λ g on closed. closed)
     (λ g over closed. absurd (both_ways (outward g).closed (open-stands (outward g) (over-stands g over)) closed)) (λ g closed. closed)
 
 -- a primary that refused a frame has closed its end
 refused-closed : (h : PrimaryHistory) → (outward (follows (closing h)).history).closed ≡ true
-refused-closed h = follows-closed (closing h) (last-closed (λ (c : Outward). c.closed) (λ c. record c { closed = true }) (λ c. refl) (no_outward (closing h).tuple) refl h.connections)
+refused-closed h = follows-closed (closing h)
+    (last-closed (λ (c : Outward). c.closed) (λ c. record c { closed = true }) (λ c. refl) (no_outward (closing h).tuple) refl h.connections)
 
 -- a secondary that refused a frame has closed its end
 refused-closed-too : (h : SecondaryHistory) → (inward (with_inward refused_end h)).closed ≡ true
@@ -120,28 +139,21 @@ abbrev IsOtherChecked : Checked → Type 0
 IsOtherChecked (Ok done) = Unit {0}
 IsOtherChecked (Err refusal) = is_refused_frame refusal ≡ true
 
--- one of two choices
-choice-if : (holds : Bool) (first second : Result Decision Refusal) → IsOtherChoice first → IsOtherChoice second → IsOtherChoice (if holds then first else second)
-choice-if true first second one two = one
-choice-if false first second one two = two
-
 -- a frame of the secondary that is taken, or refused as such
-taken-if : (holds : Bool) (done : What × PrimaryHistory) (error : Refusal × PrimaryHistory) → is_refused_frame error.0 ≡ true → IsOtherTaken (if holds then Ok done else Err error)
+taken-if : (holds : Bool) (done : What × PrimaryHistory) (error : Refusal × PrimaryHistory) → is_refused_frame error.0 ≡ true
+    → IsOtherTaken (if holds then Ok done else Err error)
 taken-if true done error other = tt
 taken-if false done error other = other
 
 -- a frame of the primary that is taken, or refused as such
-checked-if : (holds : Bool) (done : What × SecondaryHistory) (refusal : Refusal) → is_refused_frame refusal ≡ true → IsOtherChecked (if holds then Ok done else Err refusal)
+checked-if : (holds : Bool) (done : What × SecondaryHistory) (refusal : Refusal) → is_refused_frame refusal ≡ true
+    → IsOtherChecked (if holds then Ok done else Err refusal)
 checked-if true done refusal other = tt
 checked-if false done refusal other = other
 
 -- two tuples, as they are decided upon
 decision-other : (own peer : Tuple) → IsOtherChoice (decision own peer)
-decision-other own peer =
-    choice-if (peer.current == 0) (Ok FullSync) _ tt (choice-if (own.current == peer.current) (Ok NoSync) _ tt (choice-if (own.bitmap == peer.current) (Ok BitmapSync) _ tt
-    (choice-if (nat_lt 0 own.current && (peer.bitmap == own.current)) (Err PrimaryStale) _ refl (choice-if (is_historical peer.current own) (Ok FullSync) _ tt
-    (choice-if (is_historical own.current peer) (Err PrimaryStale) _ refl (choice-if (nat_lt 0 own.bitmap && (own.bitmap == peer.bitmap)) (Err SplitBrain) _ refl
-    (choice-if (share_identifier own peer) (Err SplitBrain) (Err Unrelated) refl refl)))))))
+decision-other = decision-has IsOtherChoice (λ decided. tt) refl refl refl
 
 -- the peer's tuple
 meeting-other : (peer : Tuple) (h : PrimaryHistory) → IsOtherTaken (meeting peer h)
@@ -213,7 +225,8 @@ ack-other (BarrierAckFrame number size) before h = taken-if _ _ _ refl
 taking-other : (packet : Packet) (before h : PrimaryHistory) → IsOtherTaken (taking (Ok packet) before h)
 taking-other packet before h = go (outward before).begun
   where
-    go : (begun : Bool) → IsOtherTaken (elim begun as (λ _. Taken) [ true ↦ taking_ack packet before h | false ↦ taking_hello (length (outward before).taken) packet h ])
+    go : (begun : Bool) → IsOtherTaken
+        (elim begun as (λ _. Taken) [ true ↦ taking_ack packet before h | false ↦ taking_hello (length (outward before).taken) packet h ])
     go true = ack-other packet before h
     go false = greeting-other (length (outward before).taken) packet h
 
@@ -273,7 +286,8 @@ item-other (BarrierAckFrame number size) place c h = refl
 checking-other : (packet : Packet) (c : Inward) (h : SecondaryHistory) → IsOtherChecked (checking (Ok packet) c h)
 checking-other packet c h = go (nat_lt (length c.taken) 3)
   where
-    go : (early : Bool) → IsOtherChecked (elim early as (λ _. Checked) [ true ↦ checking_hello (length c.taken) packet h | false ↦ checking_item packet (length (items_taken c)) c h ])
+    go : (early : Bool) → IsOtherChecked
+        (elim early as (λ _. Checked) [ true ↦ checking_hello (length c.taken) packet h | false ↦ checking_item packet (length (items_taken c)) c h ])
     go true = hello-other (length c.taken) packet h
     go false = item-other packet (length (items_taken c)) c h
 
@@ -281,16 +295,20 @@ checking-other packet c h = go (nat_lt (length c.taken) 3)
 
 -- a write is submitted
 spared-submit : (first : ℕ) (contents : List (List ℕ)) (starved : Bool) (h : PrimaryHistory) → IsSpared h (submit first contents starved h)
-spared-submit first contents starved h = spared-tests (submit_tests h first contents starved) h (λ _. succeeding (what.Write (suc (length h.writes))) (submitted h first contents)) (spared-ok h _ _)
+spared-submit first contents starved h = spared-tests (submit_tests h first contents starved) h
+    (λ _. succeeding (what.Write (suc (length h.writes))) (submitted h first contents)) (spared-ok h _ _)
 
 -- the local disk does a write
 spared-local : (number : ℕ) (h : PrimaryHistory) → IsSpared h (local_done number h)
-spared-local number h = spared-tests ((not (is_unfinished h number), UnknownJob) ∷ []) h (λ _. succeeding what.Nothing (releasing h (with_outcome number OnDisk h))) (spared-ok h _ _)
+spared-local number h = spared-tests ((not (is_unfinished h number), UnknownJob) ∷ []) h
+    (λ _. succeeding what.Nothing (releasing h (with_outcome number OnDisk h))) (spared-ok h _ _)
 
 -- the local disk fails a write
 spared-fault : (number kept : ℕ) (h : PrimaryHistory) → IsSpared h (local_fault_kept number kept h)
 spared-fault number kept h =
-    spared-tests ((not (is_unfinished h number), UnknownJob) ∷ (keeps_too_many kept (option_map (λ accepted. length accepted.write.contents) (accepted_at h number)), BadRange) ∷ []) h (λ _. local_fault number (below kept) h)
+    spared-tests ((not (is_unfinished h number), UnknownJob) ∷
+    (keeps_too_many kept (option_map (λ accepted. length accepted.write.contents) (accepted_at h number)), BadRange) ∷ []) h
+    (λ _. local_fault number (below kept) h)
     (spared-tests ((not (is_unfinished h number), UnknownJob) ∷ []) h (λ _. succeeding what.Nothing (faulted number (below kept) h)) (spared-ok h _ _))
 
 -- the primary pushes a frame
@@ -318,7 +336,8 @@ spared-resync-fault starved h = spared-tests (resync_tests h starved) h (λ _. (
 
 -- the primary closes its end
 spared-close : (h : PrimaryHistory) → IsSpared h (close_primary h)
-spared-close h = spared-tests (((outward h).closed, NotConnected) ∷ []) h (λ _. let after = follows (closing h) in (reply.Closed (length after.completed), after.history)) (spared-closed h _ _)
+spared-close h = spared-tests (((outward h).closed, NotConnected) ∷ []) h
+    (λ _. let after = follows (closing h) in (reply.Closed (length after.completed), after.history)) (spared-closed h _ _)
 
 -- a frame that the primary takes
 closes-frame : (packet : Packet) (h : PrimaryHistory) → IsSparedOrCloses (λ (p : PrimaryHistory). (outward p).closed) h (take_frame (Ok packet) h)
@@ -329,64 +348,94 @@ closes-frame packet h = go (taking (Ok packet) h (with_outward (with_frame (Ok p
       | Err error ↦ (reply.Refused error.0, (follows (closing (with_outward refusing error.1))).history)
     ])
     go (Ok done) other refusal refused = absurd (cc)
-    go (Err error) other refusal refused = let same : error.0 ≡ refusal = cc in inr (ap is_refused_frame (sym same) ∙ other, refused-closed (with_outward refusing error.1))
+    go (Err error) other refusal refused = let same : error.0 ≡ refusal = cc in inr (
+      ap is_refused_frame (sym same)
+          ∙ other,
+      refused-closed (with_outward refusing error.1),
+    )
 
 -- the next one of the link, if there is one
 closes-answer : (h : PrimaryHistory) (v : Option Packet)
-    → IsSparedOrCloses (λ (p : PrimaryHistory). (outward p).closed) h (elim (option_map {U = Received} (λ packet. Ok packet) v) as (λ _. Reply × PrimaryHistory) [ None ↦ (reply.Refused NothingThere, h) | Some taken ↦ take_frame taken h ])
+    → IsSparedOrCloses (λ (p : PrimaryHistory). (outward p).closed) h
+    (elim (option_map {U = Received} (λ packet. Ok packet) v) as
+    (λ _. Reply × PrimaryHistory) [ None ↦ (reply.Refused NothingThere, h) | Some taken ↦ take_frame taken h ])
 closes-answer h None = λ refusal refused. let same : NothingThere ≡ refusal = cc in inl (ap is_refused_frame (sym same), refl)
 closes-answer h (Some packet) = closes-frame packet h
 
 -- the primary takes what the link has for it
-closes-ack-in : (starved : Bool) (h : PairHistory) → IsSparedOrCloses (λ (p : PrimaryHistory). (outward p).closed) h.primary (ack_in (next_answer h) starved h.primary)
+closes-ack-in : (starved : Bool) (h : PairHistory)
+    → IsSparedOrCloses (λ (p : PrimaryHistory). (outward p).closed) h.primary (ack_in (next_answer h) starved h.primary)
 closes-ack-in starved h =
     let p : PrimaryHistory = h.primary in
-    closes-tests (λ (p : PrimaryHistory). (outward p).closed) (((outward p).closed, NotConnected) ∷ (not (outward p).begun && starved, NoMemory) ∷ (is_none (next_answer h), NothingThere) ∷ []) p
-    (λ _. elim (next_answer h) as (λ _. Reply × PrimaryHistory) [ None ↦ (reply.Refused NothingThere, p) | Some taken ↦ take_frame taken p ]) (refl, (refl, (refl, tt))) (closes-answer p (slice_get (pushed_answers h) (length (outward p).taken)))
+    closes-tests (λ (p : PrimaryHistory). (outward p).closed)
+    (((outward p).closed, NotConnected) ∷ (not (outward p).begun && starved, NoMemory) ∷ (is_none (next_answer h), NothingThere) ∷ []) p
+    (λ _. elim (next_answer h) as (λ _. Reply × PrimaryHistory) [ None ↦ (reply.Refused NothingThere, p) | Some taken ↦ take_frame taken p ]) (
+      refl,
+      (refl, (refl, tt)),
+    ) (closes-answer p (slice_get (pushed_answers h) (length (outward p).taken)))
 
 -- Steps of the secondary.
 
 -- a frame that the secondary takes
 closes-item : (packet : Packet) (h : SecondaryHistory) → IsSparedOrCloses (λ (s : SecondaryHistory). (inward s).closed) h (take_item (Ok packet) h)
-closes-item packet h = go (checking (Ok packet) (inward h) (with_inward (framed (Ok packet)) h)) (checking-other packet (inward h) (with_inward (framed (Ok packet)) h))
+closes-item packet h = go (checking (Ok packet) (inward h) (with_inward (framed (Ok packet)) h))
+    (checking-other packet (inward h) (with_inward (framed (Ok packet)) h))
   where
     go : (v : Checked) → IsOtherChecked v → IsSparedOrCloses (λ (s : SecondaryHistory). (inward s).closed) h (elim v as (λ _. Reply × SecondaryHistory) [
       | Ok done ↦ succeeding_secondary done.0 done.1
       | Err refusal ↦ (reply.Refused refusal, with_inward refused_end (with_inward (framed (Ok packet)) h))
     ])
     go (Ok done) other refusal refused = absurd (cc)
-    go (Err error) other refusal refused = let same : error ≡ refusal = cc in inr (ap is_refused_frame (sym same) ∙ other, refused-closed-too (with_inward (framed (Ok packet)) h))
+    go (Err error) other refusal refused = let same : error ≡ refusal = cc in inr (
+      ap is_refused_frame (sym same)
+          ∙ other,
+      refused-closed-too (with_inward (framed (Ok packet)) h),
+    )
 
 -- the next one of the link, if there is one
 closes-next : (h : SecondaryHistory) (v : Option Packet)
-    → IsSparedOrCloses (λ (s : SecondaryHistory). (inward s).closed) h (elim (option_map {U = Received} (λ packet. Ok packet) v) as (λ _. Reply × SecondaryHistory) [ None ↦ (reply.Refused NothingThere, h) | Some taken ↦ take_item taken h ])
+    → IsSparedOrCloses (λ (s : SecondaryHistory). (inward s).closed) h
+    (elim (option_map {U = Received} (λ packet. Ok packet) v) as
+    (λ _. Reply × SecondaryHistory) [ None ↦ (reply.Refused NothingThere, h) | Some taken ↦ take_item taken h ])
 closes-next h None = λ refusal refused. let same : NothingThere ≡ refusal = cc in inl (ap is_refused_frame (sym same), refl)
 closes-next h (Some packet) = closes-item packet h
 
 -- the secondary takes what the link has for it
-closes-receive : (starved : Bool) (h : PairHistory) → IsSparedOrCloses (λ (s : SecondaryHistory). (inward s).closed) h.secondary (receive (next_frame h) starved h.secondary)
+closes-receive : (starved : Bool) (h : PairHistory)
+    → IsSparedOrCloses (λ (s : SecondaryHistory). (inward s).closed) h.secondary (receive (next_frame h) starved h.secondary)
 closes-receive starved h =
     let s : SecondaryHistory = h.secondary in
-    closes-tests (λ (s : SecondaryHistory). (inward s).closed) (((inward s).closed, NotConnected) ∷ (nat_le s.settings.pending (length (pending (inward s))), PendingFull) ∷ (starved, NoMemory) ∷ (is_none (next_frame h), NothingThere) ∷ []) s
-    (λ _. elim (next_frame h) as (λ _. Reply × SecondaryHistory) [ None ↦ (reply.Refused NothingThere, s) | Some taken ↦ take_item taken s ]) (refl, (refl, (refl, (refl, tt)))) (closes-next s (slice_get (pushed_frames h) (length (inward s).taken)))
+    closes-tests (λ (s : SecondaryHistory). (inward s).closed)
+    (((inward s).closed, NotConnected) ∷ (nat_le s.settings.pending (length (pending (inward s))), PendingFull) ∷ (starved, NoMemory) ∷
+    (is_none (next_frame h), NothingThere) ∷ []) s
+    (λ _. elim (next_frame h) as (λ _. Reply × SecondaryHistory) [ None ↦ (reply.Refused NothingThere, s) | Some taken ↦ take_item taken s ]) (
+      refl,
+      (refl, (refl, (refl, tt))),
+    ) (closes-next s (slice_get (pushed_frames h) (length (inward s).taken)))
 
 -- the secondary's disk does an item
 spared-peer : (place : ℕ) (h : SecondaryHistory) → IsSpared h (peer place h)
-spared-peer place h = spared-tests (peer_tests h place) h (λ _. succeeding_secondary what.Nothing (with_inward (applying h.settings.protocol place) h)) (spared-ok h _ _)
+spared-peer place h = spared-tests (peer_tests h place) h (λ _. succeeding_secondary what.Nothing (with_inward (applying h.settings.protocol place) h))
+    (spared-ok h _ _)
 
 -- the secondary's disk fails an item
 spared-peer-fault : (place kept : ℕ) (h : SecondaryHistory) → IsSpared h (peer_fault_kept place kept h)
 spared-peer-fault place kept h =
-    spared-tests (peer_tests h place ++ (keeps_too_many kept (option_map (λ item. length (contents_of item)) (slice_get (items_taken (inward h)) place)), BadRange) ∷ []) h (λ _. peer_fault place (below kept) h)
+    spared-tests (peer_tests h place ++ (
+      keeps_too_many kept (option_map (λ item. length (contents_of item)) (slice_get (items_taken (inward h)) place)),
+      BadRange,
+    ) ∷ []) h (λ _. peer_fault place (below kept) h)
     (spared-tests (peer_tests h place) h (λ _. (reply.Ok (done_with what.Nothing), with_inward (failing place (below kept)) h)) (spared-ok h _ _))
 
 -- the secondary pushes an answer
 spared-push : (room starved : Bool) (h : SecondaryHistory) → IsSpared h (ack_out room starved h)
-spared-push room starved h = spared-tests (ack_out_tests h room starved) h (λ _. (reply.Ok (done_with (answering_with h)), with_inward pushed_one h)) (spared-ok h _ _)
+spared-push room starved h = spared-tests (ack_out_tests h room starved) h (λ _. (reply.Ok (done_with (answering_with h)), with_inward pushed_one h))
+    (spared-ok h _ _)
 
 -- the secondary closes its end
 spared-close-too : (h : SecondaryHistory) → IsSpared h (close_secondary h)
-spared-close-too h = spared-tests (((inward h).closed, NotConnected) ∷ []) h (λ _. (reply.Ok (done_with what.Nothing), with_inward closed_end h)) (spared-ok h _ _)
+spared-close-too h = spared-tests (((inward h).closed, NotConnected) ∷ []) h (λ _. (reply.Ok (done_with what.Nothing), with_inward closed_end h))
+    (spared-ok h _ _)
 
 -- Steps of the pair.
 
@@ -399,10 +448,13 @@ with-secondary : (h : PairHistory) (done : Reply × SecondaryHistory) → IsSpar
 with-secondary h done spared refusal refused = ap (λ (s : SecondaryHistory). record h { secondary = s }) (spared refusal refused)
 
 -- where its tests pass, the primary's opening is not refused
-opening-done : (sync loss : ℕ) (starved : Bool) (p : PrimaryHistory) (refusal : Refusal) → first_refusal (open_tests p sync loss starved) ≡ None → (open_primary sync loss starved p).0 ≡ reply.Refused refusal → ⊥
+opening-done : (sync loss : ℕ) (starved : Bool) (p : PrimaryHistory) (refusal : Refusal) → first_refusal (open_tests p sync loss starved) ≡ None
+    → (open_primary sync loss starved p).0 ≡ reply.Refused refusal → ⊥
 opening-done sync loss starved p refusal = go (first_refusal (open_tests p sync loss starved))
   where
-    go : (v : Option Refusal) → v ≡ None → (elim v as (λ _. Reply × PrimaryHistory) [ Some refusal ↦ (reply.Refused refusal, p) | None ↦ succeeding what.Nothing (opened p sync loss) ]).0 ≡ reply.Refused refusal → ⊥
+    go : (v : Option Refusal) → v ≡ None
+        → (elim v as (λ _. Reply × PrimaryHistory) [ Some refusal ↦ (reply.Refused refusal, p) | None ↦ succeeding what.Nothing (opened p sync loss) ]).0 ≡
+        reply.Refused refusal → ⊥
     go (Some first) none refused = cc
     go None none refused = cc
 
@@ -412,7 +464,10 @@ spared-open sync loss starved h = go (first_refusal (open_pair_tests h sync loss
   where
     go : (v : Option Refusal) → first_refusal (open_pair_tests h sync loss starved) ≡ v → IsSpared h (elim v as (λ _. Reply × PairHistory) [
       | Some refusal ↦ (reply.Refused refusal, h)
-      | None ↦ let primary = open_primary sync loss starved h.primary in (primary.0, record { primary = primary.1; secondary = (open_secondary 0 h.secondary).1 })
+      | None ↦ let primary = open_primary sync loss starved h.primary in (
+        primary.0,
+        record { primary = primary.1; secondary = (open_secondary 0 h.secondary).1 },
+      )
     ])
     go (Some first) is refusal refused = refl
     go None is refusal refused =
@@ -421,17 +476,27 @@ spared-open sync loss starved h = go (first_refusal (open_pair_tests h sync loss
 
 -- The two statements, event by event.
 refused-step : (event : Event) (starved : Bool) (h : PairHistory) (refusal : Refusal) → (step event starved h).0 ≡ reply.Refused refusal
-    → ((is_refused_by event refusal ≡ false) × ((step event starved h).1 ≡ h)) ⊎ ((is_refused_by event refusal ≡ true) × (is_closed_by event (step event starved h).1 ≡ true))
+    → ((is_refused_by event refusal ≡ false) × ((step event starved h).1 ≡ h))
+    ⊎ ((is_refused_by event refusal ≡ true) × (is_closed_by event (step event starved h).1 ≡ true))
 refused-step (OpenEvent sync loss) starved h refusal is = inl (refl, spared-open sync loss starved h refusal is)
 refused-step (SubmitEvent first contents) starved h refusal is = inl (refl, with-primary h _ (spared-submit first contents starved h.primary) refusal is)
 refused-step (LocalEvent number) starved h refusal is = inl (refl, with-primary h _ (spared-local number h.primary) refusal is)
 refused-step (LocalFaultEvent number kept) starved h refusal is = inl (refl, with-primary h _ (spared-fault number kept h.primary) refusal is)
 refused-step SendEvent starved h refusal is = inl (refl, with-primary h _ (spared-send (has_room h) starved h.primary) refusal is)
-refused-step ReceiveEvent starved h refusal is = elim (closes-receive starved h refusal is) [ inl same ↦ inl (same.0, ap (λ (s : SecondaryHistory). record h { secondary = s }) same.1) | inr closed ↦ inr closed ]
+refused-step ReceiveEvent starved h refusal is =
+    elim (closes-receive starved h refusal is) [
+      | inl same ↦ inl (same.0, ap (λ (s : SecondaryHistory). record h { secondary = s }) same.1)
+      | inr closed ↦ inr
+          closed
+    ]
 refused-step (PeerEvent place) starved h refusal is = inl (refl, with-secondary h _ (spared-peer place h.secondary) refusal is)
 refused-step (PeerFaultEvent place kept) starved h refusal is = inl (refl, with-secondary h _ (spared-peer-fault place kept h.secondary) refusal is)
 refused-step AckOutEvent starved h refusal is = inl (refl, with-secondary h _ (spared-push (answers_have_room h) starved h.secondary) refusal is)
-refused-step AckInEvent starved h refusal is = elim (closes-ack-in starved h refusal is) [ inl same ↦ inl (same.0, ap (λ (p : PrimaryHistory). record h { primary = p }) same.1) | inr closed ↦ inr closed ]
+refused-step AckInEvent starved h refusal is =
+    elim (closes-ack-in starved h refusal is) [
+      | inl same ↦ inl (same.0, ap (λ (p : PrimaryHistory). record h { primary = p }) same.1)
+      | inr closed ↦ inr closed
+    ]
 refused-step ResyncEvent starved h refusal is = inl (refl, with-primary h _ (spared-resync starved h.primary) refusal is)
 refused-step ResyncFaultEvent starved h refusal is = inl (refl, with-primary h _ (spared-resync-fault starved h.primary) refusal is)
 refused-step ClosePrimaryEvent starved h refusal is = inl (refl, with-primary h _ (spared-close h.primary) refusal is)

@@ -1,5 +1,6 @@
 -- An end that refuses a frame has all effects of a close: its step leaves what the close leaves once the frame counts as taken.
-use Rattle.std.proofs.Common.{◌+◌, ◌-◌, ◌⊎◌, drop, take, filter, arith, ℕ, zero, suc, ◌≡◌, Bool, true, false, not, ◌&&◌, ◌||◌, List, [], ◌∷◌, ◌++◌, length, Option, Some, None, Result, Ok, Err, refl, ap, inl, inr, sym, ◌∙◌, nat_le}
+use Rattle.std.proofs.Common.{◌+◌, ◌-◌, ◌⊎◌, drop, take, filter, arith, ℕ, zero, suc, ◌≡◌, Bool, true, false, not, ◌&&◌, ◌||◌, List, [], ◌∷◌, ◌++◌, length}
+use Rattle.std.proofs.Common.{Option, Some, None, Result, Ok, Err, refl, ap, inl, inr, sym, ◌∙◌, nat_le}
 use Rattle.std.specs.Prelude.{filter_map}
 use Rattle.std.proofs.Math.Seq.{take-append_seam}
 use Rattle.std.proofs.lemmas.List.{length-append}
@@ -17,7 +18,8 @@ use Rattle.blocks.specs.declared.outcome.What.{What}
 use Rattle.blocks.specs.declared.outcome.What.TheVariants as what
 use Rattle.blocks.specs.declared.outcome.Reply.{Reply}
 use Rattle.blocks.specs.declared.outcome.Reply.TheVariants as reply
-use Rattle.model.specs.Frames.{Packet, DataFrame, RsDataReplyFrame, BarrierFrame, ProtocolFrame, UuidsFrame, SizesFrame, SyncUuidFrame, RecvAckFrame, WriteAckFrame, RsWriteAckFrame, BarrierAckFrame, Received}
+use Rattle.model.specs.Frames.{Packet, DataFrame, RsDataReplyFrame, BarrierFrame, ProtocolFrame, UuidsFrame, SizesFrame, SyncUuidFrame, RecvAckFrame}
+use Rattle.model.specs.Frames.{WriteAckFrame, RsWriteAckFrame, BarrierAckFrame, Received}
 use Rattle.model.specs.Refusals.{Test, first_refusal, done_with}
 use Rattle.model.specs.Identifiers.{stands_in, decision}
 use Rattle.model.specs.Primary.{PrimaryHistory, Outward, outward, with_outward, no_outward, last_of, change_last}
@@ -25,7 +27,8 @@ use Rattle.model.specs.PrimarySteps.{follows, succeeding, closing, close_primary
 use Rattle.model.specs.Acknowledgements.{Taken, begun_with, meeting, taking_hello, taking_ack, taking, take_frame, ack_in}
 use Rattle.model.specs.Secondary.{SecondaryHistory, Inward, inward, with_inward, pending, no_inward}
 use Rattle.model.specs.SecondarySteps.{succeeding_secondary, Checked, checking, take_item, receive, close_secondary}
-use Rattle.laws.specs.Statements.{is_refused_frame, seen_after, with_refused, with_refused_too, RefusedFramesCloseThePrimary, RefusedFramesCloseTheSecondary, RefusedFramesLeaveTheItems}
+use Rattle.laws.specs.Statements.{is_refused_frame, seen_after, with_refused, with_refused_too, RefusedFramesCloseThePrimary, RefusedFramesCloseTheSecondary}
+use Rattle.laws.specs.Statements.{RefusedFramesLeaveTheItems}
 use Rattle.laws.proofs.Lists.Last.{change-twice, last-change}
 use Rattle.laws.proofs.Lists.Tests.{test-passed}
 use Rattle.laws.proofs.Primary.Moves.{with_frame, refusing}
@@ -40,7 +43,8 @@ IsLeft h peer (Ok done) = Unit {0}
 IsLeft h peer (Err error) = error.1 ≡ record h { peer = peer }
 
 -- a frame that is taken, or refused
-left-if : (h : PrimaryHistory) (peer : Option Tuple) (holds : Bool) (done : What × PrimaryHistory) (error : Refusal × PrimaryHistory) → error.1 ≡ record h { peer = peer } → IsLeft h peer (if holds then Ok done else Err error)
+left-if : (h : PrimaryHistory) (peer : Option Tuple) (holds : Bool) (done : What × PrimaryHistory) (error : Refusal × PrimaryHistory)
+    → error.1 ≡ record h { peer = peer } → IsLeft h peer (if holds then Ok done else Err error)
 left-if h peer true done error left = tt
 left-if h peer false done error left = left
 
@@ -124,7 +128,8 @@ fault-unseen (suc (suc n)) fault peer = refl
 taking-left : (frame : Received) (before h : PrimaryHistory) → IsLeft h (seen_by frame before h) (taking frame before h)
 taking-left (Err fault) before h = go (outward before).begun
   where
-    go : (begun : Bool) → h ≡ record h { peer = elim begun as (λ _. Option Tuple) [ true ↦ h.peer | false ↦ seen_after (length (outward before).taken) (Err fault) h.peer ] }
+    go : (begun : Bool) → h ≡ record h
+        { peer = elim begun as (λ _. Option Tuple) [ true ↦ h.peer | false ↦ seen_after (length (outward before).taken) (Err fault) h.peer ] }
     go true = refl
     go false = ap (λ (peer : Option Tuple). record h { peer = peer }) (sym (fault-unseen (length (outward before).taken) fault h.peer))
 taking-left (Ok packet) before h = go (outward before).begun
@@ -145,7 +150,11 @@ pub close-open : (h : PrimaryHistory) → (outward h).closed ≡ false → (clos
 close-open h standing = go (outward h).closed standing
   where
     go : (closed : Bool) → closed ≡ false
-        → (elim (first_refusal ((closed, NotConnected) ∷ [])) as (λ _. Reply × PrimaryHistory) [ Some refusal ↦ (reply.Refused refusal, h) | None ↦ let after = follows (closing h) in (reply.Closed (length after.completed), after.history) ]).1 ≡ (follows (closing h)).history
+        → (elim (first_refusal ((closed, NotConnected) ∷ [])) as (λ _. Reply × PrimaryHistory) [
+          | Some refusal ↦ (reply.Refused refusal, h)
+          | None ↦ let after =
+              follows (closing h) in (reply.Closed (length after.completed), after.history)
+        ]).1 ≡ (follows (closing h)).history
     go true standing = absurd (cc)
     go false standing = refl
 
@@ -154,7 +163,14 @@ close-open-too : (h : SecondaryHistory) → (inward h).closed ≡ false → (clo
 close-open-too h standing = go (inward h).closed standing
   where
     go : (closed : Bool) → closed ≡ false
-        → (elim (first_refusal ((closed, NotConnected) ∷ [])) as (λ _. Reply × SecondaryHistory) [ Some refusal ↦ (reply.Refused refusal, h) | None ↦ (reply.Ok (done_with what.Nothing), with_inward closed_end h) ]).1 ≡ with_inward closed_end h
+        → (elim (first_refusal ((closed, NotConnected) ∷ [])) as
+        (λ _. Reply × SecondaryHistory) [
+          | Some refusal ↦ (reply.Refused refusal, h)
+          | None ↦ (
+            reply.Ok (done_with what.Nothing),
+            with_inward closed_end h,
+          )
+        ]).1 ≡ with_inward closed_end h
     go true standing = absurd (cc)
     go false standing = refl
 
@@ -175,7 +191,8 @@ refused-open-too frame s standing = elim (last-change (refusing_too frame) (no_i
 -- The two statements.
 
 -- a frame that an open primary takes, and refuses
-frame-closes : (frame : Received) (p : PrimaryHistory) (refusal : Refusal) → (outward p).closed ≡ false → (take_frame frame p).0 ≡ reply.Refused refusal → (take_frame frame p).1 ≡ (close_primary (with_refused frame p)).1
+frame-closes : (frame : Received) (p : PrimaryHistory) (refusal : Refusal) → (outward p).closed ≡ false → (take_frame frame p).0 ≡ reply.Refused refusal
+    → (take_frame frame p).1 ≡ (close_primary (with_refused frame p)).1
 frame-closes frame p refusal standing = go (taking frame p (with_outward (with_frame frame) p)) (taking-left frame p (with_outward (with_frame frame) p))
   where
     -- what the step closes is the history with the frame taken and refused
@@ -185,14 +202,27 @@ frame-closes frame p refusal standing = go (taking frame p (with_outward (with_f
         ∙ ap (λ (cs : List Outward). record p { peer = seen_by frame p p; connections = cs }) (change-twice (with_frame frame) refusing p.connections)
 
     go : (v : Taken) → IsLeft (with_outward (with_frame frame) p) (seen_by frame p p) v
-        → (elim v as (λ _. Reply × PrimaryHistory) [ Ok done ↦ succeeding done.0 done.1 | Err error ↦ (reply.Refused error.0, (follows (closing (with_outward refusing error.1))).history) ]).0 ≡ reply.Refused refusal
-        → (elim v as (λ _. Reply × PrimaryHistory) [ Ok done ↦ succeeding done.0 done.1 | Err error ↦ (reply.Refused error.0, (follows (closing (with_outward refusing error.1))).history) ]).1 ≡ (close_primary (with_refused frame p)).1
+        → (elim v as (λ _. Reply × PrimaryHistory) [
+          | Ok done ↦ succeeding done.0 done.1
+          | Err error ↦ (
+            reply.Refused error.0,
+            (follows (closing (with_outward refusing error.1))).history,
+          )
+        ]).0 ≡ reply.Refused refusal
+        → (elim v as (λ _. Reply × PrimaryHistory) [
+          | Ok done ↦ succeeding done.0 done.1
+          | Err error ↦ (
+            reply.Refused error.0,
+            (follows (closing (with_outward refusing error.1))).history,
+          )
+        ]).1 ≡ (close_primary (with_refused frame p)).1
     go (Ok done) left refused = absurd (cc)
     go (Err error) left refused =
         ap (λ (h : PrimaryHistory). (follows (closing h)).history) (same error.1 left) ∙ sym (close-open (with_refused frame p) (refused-open frame p standing))
 
 -- one that an open secondary takes, and refuses
-frame-closes-too : (frame : Received) (s : SecondaryHistory) (refusal : Refusal) → (inward s).closed ≡ false → (take_item frame s).0 ≡ reply.Refused refusal → (take_item frame s).1 ≡ (close_secondary (with_refused_too frame s)).1
+frame-closes-too : (frame : Received) (s : SecondaryHistory) (refusal : Refusal) → (inward s).closed ≡ false → (take_item frame s).0 ≡ reply.Refused refusal
+    → (take_item frame s).1 ≡ (close_secondary (with_refused_too frame s)).1
 frame-closes-too frame s refusal standing = go (checking frame (inward s) (with_inward (framed frame) s))
   where
     -- both closes change the last end alike
@@ -200,10 +230,23 @@ frame-closes-too frame s refusal standing = go (checking frame (inward s) (with_
     same = change-twice (framed frame) refused_end s.connections ∙ sym (change-twice (refusing_too frame) closed_end s.connections)
 
     go : (v : Checked)
-        → (elim v as (λ _. Reply × SecondaryHistory) [ Ok done ↦ succeeding_secondary done.0 done.1 | Err error ↦ (reply.Refused error, with_inward refused_end (with_inward (framed frame) s)) ]).0 ≡ reply.Refused refusal
-        → (elim v as (λ _. Reply × SecondaryHistory) [ Ok done ↦ succeeding_secondary done.0 done.1 | Err error ↦ (reply.Refused error, with_inward refused_end (with_inward (framed frame) s)) ]).1 ≡ (close_secondary (with_refused_too frame s)).1
+        → (elim v as (λ _. Reply × SecondaryHistory) [
+          | Ok done ↦ succeeding_secondary done.0 done.1
+          | Err error ↦ (
+            reply.Refused error,
+            with_inward refused_end (with_inward (framed frame) s),
+          )
+        ]).0 ≡ reply.Refused refusal
+        → (elim v as (λ _. Reply × SecondaryHistory) [
+          | Ok done ↦ succeeding_secondary done.0 done.1
+          | Err error ↦ (
+            reply.Refused error,
+            with_inward refused_end (with_inward (framed frame) s),
+          )
+        ]).1 ≡ (close_secondary (with_refused_too frame s)).1
     go (Ok done) refused = absurd (cc)
-    go (Err error) refused = ap (λ (cs : List Inward). record s { connections = cs }) same ∙ sym (close-open-too (with_refused_too frame s) (refused-open-too frame s standing))
+    go (Err error) refused = ap (λ (cs : List Inward). record s { connections = cs }) same
+        ∙ sym (close-open-too (with_refused_too frame s) (refused-open-too frame s standing))
 
 -- A primary that refuses a frame has all effects of a close.
 pub refused_frames_close_the_primary : RefusedFramesCloseThePrimary
@@ -212,12 +255,15 @@ refused_frames_close_the_primary frame starved p refusal is other = go (first_re
     tests : List Test
     tests = ((outward p).closed, NotConnected) ∷ (not (outward p).begun && starved, NoMemory) ∷ (false, NothingThere) ∷ []
 
-    go : (v : Option Refusal) → first_refusal tests ≡ v → (elim v as (λ _. Reply × PrimaryHistory) [ Some refusal ↦ (reply.Refused refusal, p) | None ↦ take_frame frame p ]).0 ≡ reply.Refused refusal
-        → (elim v as (λ _. Reply × PrimaryHistory) [ Some refusal ↦ (reply.Refused refusal, p) | None ↦ take_frame frame p ]).1 ≡ (close_primary (with_refused frame p)).1
+    go : (v : Option Refusal) → first_refusal tests ≡ v
+        → (elim v as (λ _. Reply × PrimaryHistory) [ Some refusal ↦ (reply.Refused refusal, p) | None ↦ take_frame frame p ]).0 ≡ reply.Refused refusal
+        → (elim v as (λ _. Reply × PrimaryHistory) [ Some refusal ↦ (reply.Refused refusal, p) | None ↦ take_frame frame p ]).1 ≡
+        (close_primary (with_refused frame p)).1
     go (Some first) found refused =
         let same : first ≡ refusal = cc in
         absurd (both_ways (is_refused_frame refusal) (first-other tests refusal (refl, (refl, (refl, tt))) (found ∙ ap (λ (r : Refusal). Some r) same)) other)
-    go None found refused = frame-closes frame p refusal (test-passed (outward p).closed NotConnected ((not (outward p).begun && starved, NoMemory) ∷ (false, NothingThere) ∷ []) found).0 refused
+    go None found refused = frame-closes frame p refusal
+        (test-passed (outward p).closed NotConnected ((not (outward p).begun && starved, NoMemory) ∷ (false, NothingThere) ∷ []) found).0 refused
 
 -- A secondary that refuses a frame has all effects of a close.
 pub refused_frames_close_the_secondary : RefusedFramesCloseTheSecondary
@@ -229,11 +275,14 @@ refused_frames_close_the_secondary frame starved s refusal is other = go (first_
     tests : List Test
     tests = ((inward s).closed, NotConnected) ∷ later
 
-    go : (v : Option Refusal) → first_refusal tests ≡ v → (elim v as (λ _. Reply × SecondaryHistory) [ Some refusal ↦ (reply.Refused refusal, s) | None ↦ take_item frame s ]).0 ≡ reply.Refused refusal
-        → (elim v as (λ _. Reply × SecondaryHistory) [ Some refusal ↦ (reply.Refused refusal, s) | None ↦ take_item frame s ]).1 ≡ (close_secondary (with_refused_too frame s)).1
+    go : (v : Option Refusal) → first_refusal tests ≡ v
+        → (elim v as (λ _. Reply × SecondaryHistory) [ Some refusal ↦ (reply.Refused refusal, s) | None ↦ take_item frame s ]).0 ≡ reply.Refused refusal
+        → (elim v as (λ _. Reply × SecondaryHistory) [ Some refusal ↦ (reply.Refused refusal, s) | None ↦ take_item frame s ]).1 ≡
+        (close_secondary (with_refused_too frame s)).1
     go (Some first) found refused =
         let same : first ≡ refusal = cc in
-        absurd (both_ways (is_refused_frame refusal) (first-other tests refusal (refl, (refl, (refl, (refl, tt)))) (found ∙ ap (λ (r : Refusal). Some r) same)) other)
+        absurd (both_ways (is_refused_frame refusal) (first-other tests refusal (refl, (refl, (refl, (refl, tt)))) (found ∙ ap (λ (r : Refusal). Some r) same))
+        other)
     go None found refused = frame-closes-too frame s refusal (test-passed (inward s).closed NotConnected later found).0 refused
 
 -- Items.
@@ -247,37 +296,45 @@ others-count frame taken =
 
 -- a frame that is refused brings none
 items-stay : (frame : Received) (c : Inward) → c.refused ≡ false → items_taken (closed_end (refusing_too frame c)) ≡ items_taken c
-items-stay frame c unrefused = ap (λ (taken : List Received). filter_map received_item (drop 3 taken)) (others-count frame c.taken ∙ sym (ap (λ b. counting b c.taken) unrefused))
+items-stay frame c unrefused = ap (λ (taken : List Received). filter_map received_item (drop 3 taken)) (others-count frame c.taken
+    ∙ sym (ap (λ b. counting b c.taken) unrefused))
 
 -- a secondary that refuses a frame was open
-was-open : (frame : Received) (starved : Bool) (s : SecondaryHistory) (refusal : Refusal) → (receive (Some frame) starved s).0 ≡ reply.Refused refusal → is_refused_frame refusal ≡ true → (inward s).closed ≡ false
+was-open : (frame : Received) (starved : Bool) (s : SecondaryHistory) (refusal : Refusal) → (receive (Some frame) starved s).0 ≡ reply.Refused refusal
+    → is_refused_frame refusal ≡ true → (inward s).closed ≡ false
 was-open frame starved s refusal is other = go (inward s).closed is
   where
     later : List Test
     later = (nat_le s.settings.pending (length (pending (inward s))), PendingFull) ∷ (starved, NoMemory) ∷ (false, NothingThere) ∷ []
 
-    go : (closed : Bool) → (elim (first_refusal ((closed, NotConnected) ∷ later)) as (λ _. Reply × SecondaryHistory) [ Some refusal ↦ (reply.Refused refusal, s) | None ↦ take_item frame s ]).0 ≡ reply.Refused refusal → closed ≡ false
+    go : (closed : Bool) → (elim (first_refusal ((closed, NotConnected) ∷ later)) as
+        (λ _. Reply × SecondaryHistory) [ Some refusal ↦ (reply.Refused refusal, s) | None ↦ take_item frame s ]).0 ≡ reply.Refused refusal → closed ≡ false
     go true refused = let same : NotConnected ≡ refusal = cc in absurd (both_ways (is_refused_frame refusal) (ap is_refused_frame (sym same)) other)
     go false refused = refl
 
 -- nor was a primary closed that refuses one
-pub had-open : (frame : Received) (starved : Bool) (p : PrimaryHistory) (refusal : Refusal) → (ack_in (Some frame) starved p).0 ≡ reply.Refused refusal → is_refused_frame refusal ≡ true → (outward p).closed ≡ false
+pub had-open : (frame : Received) (starved : Bool) (p : PrimaryHistory) (refusal : Refusal) → (ack_in (Some frame) starved p).0 ≡ reply.Refused refusal
+    → is_refused_frame refusal ≡ true → (outward p).closed ≡ false
 had-open frame starved p refusal is other = go (outward p).closed is
   where
     later : List Test
     later = (not (outward p).begun && starved, NoMemory) ∷ (false, NothingThere) ∷ []
 
-    go : (closed : Bool) → (elim (first_refusal ((closed, NotConnected) ∷ later)) as (λ _. Reply × PrimaryHistory) [ Some refusal ↦ (reply.Refused refusal, p) | None ↦ take_frame frame p ]).0 ≡ reply.Refused refusal → closed ≡ false
+    go : (closed : Bool) → (elim (first_refusal ((closed, NotConnected) ∷ later)) as
+        (λ _. Reply × PrimaryHistory) [ Some refusal ↦ (reply.Refused refusal, p) | None ↦ take_frame frame p ]).0 ≡ reply.Refused refusal → closed ≡ false
     go true refused = let same : NotConnected ≡ refusal = cc in absurd (both_ways (is_refused_frame refusal) (ap is_refused_frame (sym same)) other)
     go false refused = refl
 
 -- its end after the step
-refused-end : (frame : Received) (s : SecondaryHistory) → (inward s).closed ≡ false → inward (close_secondary (with_refused_too frame s)).1 ≡ closed_end (refusing_too frame (inward s))
+refused-end : (frame : Received) (s : SecondaryHistory) → (inward s).closed ≡ false
+    → inward (close_secondary (with_refused_too frame s)).1 ≡ closed_end (refusing_too frame (inward s))
 refused-end frame s standing =
     ap inward (close-open-too (with_refused_too frame s) (refused-open-too frame s standing))
-    ∙ (ap (λ (cs : List Inward). last_of (no_inward s) cs) (change-twice (refusing_too frame) closed_end s.connections) ∙ last (last-change (λ (c : Inward). closed_end (refusing_too frame c)) (no_inward s) (no_inward s) s.connections))
+    ∙ (ap (λ (cs : List Inward). last_of (no_inward s) cs) (change-twice (refusing_too frame) closed_end s.connections)
+    ∙ last (last-change (λ (c : Inward). closed_end (refusing_too frame c)) (no_inward s) (no_inward s) s.connections))
   where
-    last : (s.connections ≡ []) ⊎ (last_of (no_inward s) (change_last (λ (c : Inward). closed_end (refusing_too frame c)) s.connections) ≡ closed_end (refusing_too frame (inward s)))
+    last : (s.connections ≡ []) ⊎ (last_of (no_inward s) (change_last (λ (c : Inward). closed_end (refusing_too frame c)) s.connections) ≡ closed_end
+        (refusing_too frame (inward s)))
         → last_of (no_inward s) (change_last (λ (c : Inward). closed_end (refusing_too frame c)) s.connections) ≡ closed_end (refusing_too frame (inward s))
     last (inl empty) = absurd (both_ways (inward s).closed standing (ap (λ (cs : List Inward). (last_of (no_inward s) cs).closed) empty))
     last (inr is) = is
@@ -287,5 +344,8 @@ pub refused_frames_leave_the_items : RefusedFramesLeaveTheItems
 refused_frames_leave_the_items frame starved s refusal unrefused is other =
     let end : inward (receive (Some frame) starved s).1 ≡ closed_end (refusing_too frame (inward s)) =
     ap inward (refused_frames_close_the_secondary frame starved s refusal is other) ∙ refused-end frame s (was-open frame starved s refusal is other) in
-    let items : items_taken (closed_end (refusing_too frame (inward s))) ≡ items_taken (inward s) = items-stay frame (inward s) unrefused in
-    (ap pending end ∙ ap (λ (l : List Item). filter (is_pending (inward s)) (placed l)) items, ap map_of end ∙ ap (λ (l : List Item). overlay (inward s).base (layers_of l (inward s).applied)) items)
+    let items : items_taken (closed_end (refusing_too frame (inward s))) ≡ items_taken (inward s) = items-stay frame (inward s) unrefused in (
+      ap pending end ∙ ap (λ (l : List Item). filter (is_pending (inward s)) (placed l)) items,
+      ap map_of end
+          ∙ ap (λ (l : List Item). overlay (inward s).base (layers_of l (inward s).applied)) items,
+    )

@@ -1,5 +1,6 @@
 -- A run of a pair is a run of each node by itself, and their frames are joined.
-use Rattle.std.proofs.Common.{ℕ, ◌≡◌, Bool, not, ◌&&◌, List, [], ◌∷◌, ◌++◌, length, Option, Some, None, slice_get, refl, sym, ◌∙◌, ap, subst, arith, zero, suc, inl, inr}
+use Rattle.std.proofs.Common.{ℕ, ◌≡◌, Bool, not, ◌&&◌, List, [], ◌∷◌, ◌++◌, length, Option, Some, None, slice_get, refl, sym, ◌∙◌, ap, subst, arith, zero, suc}
+use Rattle.std.proofs.Common.{inl, inr}
 use Rattle.std.specs.Prelude.{option_map, if◌then◌else◌}
 use Rattle.blocks.specs.declared.refusal.Refusal.{Refusal}
 use Rattle.blocks.specs.declared.refusal.Refusal.TheVariants.{BadRange, UnknownJob, NotDrained}
@@ -12,15 +13,21 @@ use Rattle.model.specs.Refusals.{Test, first_refusal}
 use Rattle.model.specs.Primary.{PrimaryHistory, Outward, no_outward, outward_at}
 use Rattle.model.specs.PrimarySteps.{open_tests, opened, open_primary, succeeding, tested, follows, is_unfinished, accepted_at, local_fault}
 use Rattle.model.specs.Secondary.{SecondaryHistory, Inward, no_inward, inward, with_inward, is_drained, items_taken, inward_at}
-use Rattle.model.specs.SecondarySteps.{answering, open_secondary_tests, opened_secondary, open_secondary, succeeding_secondary, tested_secondary, peer_tests, peer_fault}
-use Rattle.model.specs.LocalRuns.{PrimaryEvent, Opens, Submits, WritesLocally, FailsLocally, Sends, Takes, Resyncs, FailsResync, Closes, primary_after, primary_run, SecondaryEvent, OpensToo, Receives, Applies, FailsToApply, Acknowledges, ClosesToo, secondary_after, secondary_run}
+use Rattle.model.specs.SecondarySteps.{answering, open_secondary_tests, opened_secondary, open_secondary, succeeding_secondary, tested_secondary, peer_tests}
+use Rattle.model.specs.SecondarySteps.{peer_fault}
+use Rattle.model.specs.LocalRuns.{PrimaryEvent, Opens, Submits, WritesLocally, FailsLocally, Sends, Takes, Resyncs, FailsResync, Closes, primary_after}
+use Rattle.model.specs.LocalRuns.{primary_run, SecondaryEvent, OpensToo, Receives, Applies, FailsToApply, Acknowledges, ClosesToo, secondary_after}
+use Rattle.model.specs.LocalRuns.{secondary_run}
 use Rattle.model.specs.Headline.{IsJoined, pushed_by, pushed_back_by}
-use Rattle.model.specs.Pair.{Event, OpenEvent, SubmitEvent, LocalEvent, LocalFaultEvent, SendEvent, ReceiveEvent, PeerEvent, PeerFaultEvent, AckOutEvent, AckInEvent, ResyncEvent, ResyncFaultEvent, ClosePrimaryEvent, CloseSecondaryEvent, PairHistory, has_room, next_frame, answers_have_room, next_answer, keeps_too_many, local_fault_kept, peer_fault_kept, open_pair_tests, open_pair, step, run}
+use Rattle.model.specs.Pair.{Event, OpenEvent, SubmitEvent, LocalEvent, LocalFaultEvent, SendEvent, ReceiveEvent, PeerEvent, PeerFaultEvent, AckOutEvent}
+use Rattle.model.specs.Pair.{AckInEvent, ResyncEvent, ResyncFaultEvent, ClosePrimaryEvent, CloseSecondaryEvent, PairHistory, has_room, next_frame}
+use Rattle.model.specs.Pair.{answers_have_room, next_answer, keeps_too_many, local_fault_kept, peer_fault_kept, open_pair_tests, open_pair, step, run}
 use Rattle.laws.proofs.Primary.Moves.{keeps-after}
 use Rattle.laws.proofs.Primary.Homes.{HasHomes}
 use Rattle.laws.proofs.Primary.HomesMoves.{homes-kept, homes-released, homes-opening}
 use Rattle.laws.proofs.Pair.Links.{AreLinked}
-use Rattle.laws.proofs.Pair.Primary.{HasEnds, ends-following, ends-submit, ends-local, ends-fault, ends-send, ends-resync, ends-resync-fault, ends-close, ends-ack-in}
+use Rattle.laws.proofs.Pair.Primary.{HasEnds, ends-following, ends-submit, ends-local, ends-fault, ends-send, ends-resync, ends-resync-fault, ends-close}
+use Rattle.laws.proofs.Pair.Primary.{ends-ack-in}
 use Rattle.laws.proofs.Pair.Secondary.{HasEndsToo, ends-answering, ends-receive, ends-peer, ends-fault-too, ends-push, ends-close-too}
 use Rattle.laws.proofs.Lists.Pairs.{Pairs, pairs-length, pairs-get, pairs-append}
 use Rattle.laws.proofs.Lists.Tests.{test-passed}
@@ -51,36 +58,44 @@ leads-self : (h : PairHistory) → IsLinkedPair h → LeadsTo h h
 leads-self h linked = (record { here = []; there = []; primary = refl; secondary = refl }, linked)
 
 -- an event of the primary
-leads-primary : (h : PairHistory) (event : PrimaryEvent) → IsLinkedPair h → HasEnds h.primary.settings h.secondary.settings h.secondary.connections (primary_after event h.primary)
+leads-primary : (h : PairHistory) (event : PrimaryEvent) → IsLinkedPair h
+    → HasEnds h.primary.settings h.secondary.settings h.secondary.connections (primary_after event h.primary)
     → LeadsTo h (record h { primary = primary_after event h.primary })
 leads-primary h event linked ends = (
   record { here = event ∷ []; there = []; primary = refl; secondary = refl },
   record {
     homes = keeps-after HasHomes HasHomes homes-kept homes-released event h.primary linked.homes;
-    pairs = subst (λ (s : Settings). Pairs (AreLinked s h.secondary.settings) (primary_after event h.primary).connections h.secondary.connections) (sym ends.settings) ends.pairs;
+    pairs = subst (λ (s : Settings). Pairs (AreLinked s h.secondary.settings) (primary_after event h.primary).connections h.secondary.connections)
+        (sym ends.settings) ends.pairs;
     counted = linked.counted;
   },
 )
 
 -- an event of the secondary
-leads-secondary : (h : PairHistory) (event : SecondaryEvent) → IsSeen event → IsLinkedPair h → HasEndsToo h.primary.settings h.secondary.settings h.primary.connections (secondary_after event h.secondary)
+leads-secondary : (h : PairHistory) (event : SecondaryEvent) → IsSeen event → IsLinkedPair h
+    → HasEndsToo h.primary.settings h.secondary.settings h.primary.connections (secondary_after event h.secondary)
     → LeadsTo h (record h { secondary = secondary_after event h.secondary })
 leads-secondary h event seen linked ends = (
   record { here = []; there = event ∷ []; primary = refl; secondary = refl },
   record {
     homes = linked.homes;
-    pairs = subst (λ (s : Settings). Pairs (AreLinked h.primary.settings s) h.primary.connections (secondary_after event h.secondary).connections) (sym ends.settings) ends.pairs;
+    pairs = subst (λ (s : Settings). Pairs (AreLinked h.primary.settings s) h.primary.connections (secondary_after event h.secondary).connections)
+        (sym ends.settings) ends.pairs;
     counted = counted-after event seen h.secondary linked.counted;
   },
 )
 
 -- Both ends open.
 
-primary-passed : (h : PrimaryHistory) (tests : List Test) (done : Unit {0} → Reply × PrimaryHistory) → first_refusal tests ≡ None → tested h tests done ≡ done tt
-primary-passed h tests done none = ap (λ (v : Option Refusal). elim v as (λ _. Reply × PrimaryHistory) [ Some refusal ↦ (reply.Refused refusal, h) | None ↦ done tt ]) none
+primary-passed : (h : PrimaryHistory) (tests : List Test) (done : Unit {0} → Reply × PrimaryHistory) → first_refusal tests ≡ None
+    → tested h tests done ≡ done tt
+primary-passed h tests done none =
+    ap (λ (v : Option Refusal). elim v as (λ _. Reply × PrimaryHistory) [ Some refusal ↦ (reply.Refused refusal, h) | None ↦ done tt ]) none
 
-secondary-passed : (h : SecondaryHistory) (tests : List Test) (done : Unit {0} → Reply × SecondaryHistory) → first_refusal tests ≡ None → tested_secondary h tests done ≡ done tt
-secondary-passed h tests done none = ap (λ (v : Option Refusal). elim v as (λ _. Reply × SecondaryHistory) [ Some refusal ↦ (reply.Refused refusal, h) | None ↦ done tt ]) none
+secondary-passed : (h : SecondaryHistory) (tests : List Test) (done : Unit {0} → Reply × SecondaryHistory) → first_refusal tests ≡ None
+    → tested_secondary h tests done ≡ done tt
+secondary-passed h tests done none =
+    ap (λ (v : Option Refusal). elim v as (λ _. Reply × SecondaryHistory) [ Some refusal ↦ (reply.Refused refusal, h) | None ↦ done tt ]) none
 
 -- two new ends are linked
 linked-new : (here there : Settings) (c : Outward) (d : Inward) → c.pushed ≡ 0 → c.taken ≡ [] → d.pushed ≡ 0 → d.taken ≡ [] → AreLinked here there c d
@@ -92,43 +107,53 @@ linked-new here there c d sent taken answered taken_too = record {
 }
 
 opens-linked : (sync loss : ℕ) (h : PairHistory) → IsLinkedPair h
-    → Pairs (AreLinked h.primary.settings h.secondary.settings) (follows (opened h.primary sync loss)).history.connections (with_inward answering (opened_secondary 0 h.secondary)).connections
+    → Pairs (AreLinked h.primary.settings h.secondary.settings) (follows (opened h.primary sync loss)).history.connections
+    (with_inward answering (opened_secondary 0 h.secondary)).connections
     × ((follows (opened h.primary sync loss)).history.settings ≡ h.primary.settings)
 opens-linked sync loss h linked =
     let p : PrimaryHistory = h.primary in
     let s : SecondaryHistory = h.secondary in
     let both : HasEnds p.settings s.settings (opened_secondary 0 s).connections (opened p sync loss) = record {
       settings = refl;
-      pairs = pairs-append (AreLinked p.settings s.settings) p.connections s.connections _ _ linked.pairs (linked-new p.settings s.settings _ _ refl refl refl refl);
+      pairs = pairs-append (AreLinked p.settings s.settings) p.connections s.connections _ _ linked.pairs
+          (linked-new p.settings s.settings _ _ refl refl refl refl);
     } in
     let followed = ends-following p.settings s.settings (opened_secondary 0 s).connections (no_inward s) (opened p sync loss) both in
-    let answered = ends-answering p.settings s.settings (follows (opened p sync loss)).history.connections (no_outward p.tuple) (opened_secondary 0 s) (record { settings = refl; pairs = followed.pairs }) in
+    let answered = ends-answering p.settings s.settings (follows (opened p sync loss)).history.connections (no_outward p.tuple) (opened_secondary 0 s)
+    (record { settings = refl; pairs = followed.pairs }) in
     (answered.pairs, followed.settings)
 
 leads-open : (sync loss : ℕ) (starved : Bool) (h : PairHistory) → IsLinkedPair h → LeadsTo h (open_pair sync loss starved h).1
 leads-open sync loss starved h linked = go (first_refusal (open_pair_tests h sync loss starved)) refl
   where
-    both : first_refusal (open_pair_tests h sync loss starved) ≡ None → LeadsTo h (record { primary = (open_primary sync loss starved h.primary).1; secondary = (open_secondary 0 h.secondary).1 })
+    both : first_refusal (open_pair_tests h sync loss starved) ≡ None
+        → LeadsTo h (record { primary = (open_primary sync loss starved h.primary).1; secondary = (open_secondary 0 h.secondary).1 })
     both none =
         let tests = test-passed (not ((inward h.secondary).closed && is_drained h.secondary)) NotDrained (open_tests h.primary sync loss starved) none in
         let here : (open_primary sync loss starved h.primary).1 ≡ (follows (opened h.primary sync loss)).history =
-        ap (λ (r : Reply × PrimaryHistory). r.1) (primary-passed h.primary (open_tests h.primary sync loss starved) (λ _. succeeding what.Nothing (opened h.primary sync loss)) tests.1) in
+        ap (λ (r : Reply × PrimaryHistory). r.1)
+        (primary-passed h.primary (open_tests h.primary sync loss starved) (λ _. succeeding what.Nothing (opened h.primary sync loss)) tests.1) in
         let free : first_refusal (open_secondary_tests h.secondary) ≡ None = ap (λ b. if b then Some NotDrained else None) tests.0 in
         let there : (open_secondary 0 h.secondary).1 ≡ with_inward answering (opened_secondary 0 h.secondary) =
-        ap (λ (r : Reply × SecondaryHistory). r.1) (secondary-passed h.secondary (open_secondary_tests h.secondary) (λ _. succeeding_secondary what.Nothing (opened_secondary 0 h.secondary)) free) in
+        ap (λ (r : Reply × SecondaryHistory). r.1)
+        (secondary-passed h.secondary (open_secondary_tests h.secondary) (λ _. succeeding_secondary what.Nothing (opened_secondary 0 h.secondary)) free) in
         let linked_too = opens-linked sync loss h linked in (
           record { here = Opens sync loss starved ∷ []; there = OpensToo 0 ∷ []; primary = refl; secondary = refl },
           record {
             homes = keeps-after HasHomes HasHomes homes-kept homes-released (Opens sync loss starved) h.primary linked.homes;
             pairs =
-                rw (here, there) (subst (λ (s : Settings). Pairs (AreLinked s h.secondary.settings) (follows (opened h.primary sync loss)).history.connections (with_inward answering (opened_secondary 0 h.secondary)).connections) (sym linked_too.1) linked_too.0);
+                rw (here, there) (subst (λ (s : Settings). Pairs (AreLinked s h.secondary.settings) (follows (opened h.primary sync loss)).history.connections
+                (with_inward answering (opened_secondary 0 h.secondary)).connections) (sym linked_too.1) linked_too.0);
             counted = counted-after (OpensToo 0) refl h.secondary linked.counted;
           },
         )
 
     go : (v : Option Refusal) → first_refusal (open_pair_tests h sync loss starved) ≡ v → LeadsTo h (elim v as (λ _. Reply × PairHistory) [
       | Some refusal ↦ (reply.Refused refusal, h)
-      | None ↦ let primary = open_primary sync loss starved h.primary in (primary.0, record { primary = primary.1; secondary = (open_secondary 0 h.secondary).1 })
+      | None ↦ let primary = open_primary sync loss starved h.primary in (
+        primary.0,
+        record { primary = primary.1; secondary = (open_secondary 0 h.secondary).1 },
+      )
     ]).1
     go (Some refusal) none = leads-self h linked
     go None none = both none
@@ -137,22 +162,42 @@ leads-open sync loss starved h linked = go (first_refusal (open_pair_tests h syn
 
 leads-local-fault : (number kept : ℕ) (h : PairHistory) → IsLinkedPair h → LeadsTo h (record h { primary = (local_fault_kept number kept h.primary).1 })
 leads-local-fault number kept h linked =
-    go (first_refusal ((not (is_unfinished h.primary number), UnknownJob) ∷ (keeps_too_many kept (option_map (λ accepted. length accepted.write.contents) (accepted_at h.primary number)), BadRange) ∷ []))
+    go (first_refusal ((not (is_unfinished h.primary number), UnknownJob) ∷
+    (keeps_too_many kept (option_map (λ accepted. length accepted.write.contents) (accepted_at h.primary number)), BadRange) ∷ []))
   where
-    go : (v : Option Refusal) → LeadsTo h (record h { primary = (elim v as (λ _. Reply × PrimaryHistory) [ Some refusal ↦ (reply.Refused refusal, h.primary) | None ↦ local_fault number (below kept) h.primary ]).1 })
+    go : (v : Option Refusal) → LeadsTo h
+        (record h {
+          primary = (elim v as (λ _. Reply × PrimaryHistory) [
+            | Some refusal ↦ (reply.Refused refusal, h.primary)
+            | None ↦ local_fault number
+                (below kept) h.primary
+          ]).1;
+        })
     go (Some refusal) = leads-self h linked
     go None =
-        leads-primary h (FailsLocally number (below kept)) linked (ends-fault h.primary.settings h.secondary.settings h.secondary.connections (no_inward h.secondary) number (below kept) h.primary (record { settings = refl; pairs = linked.pairs }))
+        leads-primary h (FailsLocally number (below kept)) linked
+        (ends-fault h.primary.settings h.secondary.settings h.secondary.connections (no_inward h.secondary) number (below kept) h.primary
+        (record { settings = refl; pairs = linked.pairs }))
 
 leads-peer-fault : (place kept : ℕ) (h : PairHistory) → IsLinkedPair h → LeadsTo h (record h { secondary = (peer_fault_kept place kept h.secondary).1 })
 leads-peer-fault place kept h linked =
-    go (first_refusal (peer_tests h.secondary place ++ (keeps_too_many kept (option_map (λ item. length (contents_of item)) (slice_get (items_taken (inward h.secondary)) place)), BadRange) ∷ []))
+    go (first_refusal (peer_tests h.secondary place
+    ++ (keeps_too_many kept (option_map (λ item. length (contents_of item)) (slice_get (items_taken (inward h.secondary)) place)), BadRange) ∷ []))
   where
     go : (v : Option Refusal)
-        → LeadsTo h (record h { secondary = (elim v as (λ _. Reply × SecondaryHistory) [ Some refusal ↦ (reply.Refused refusal, h.secondary) | None ↦ peer_fault place (below kept) h.secondary ]).1 })
+        → LeadsTo h (record h {
+          secondary =
+              (elim v as (λ _. Reply × SecondaryHistory) [
+                | Some refusal ↦ (reply.Refused refusal, h.secondary)
+                | None ↦ peer_fault place
+                    (below kept) h.secondary
+              ]).1;
+        })
     go (Some refusal) = leads-self h linked
     go None =
-        leads-secondary h (FailsToApply place (below kept)) tt linked (ends-fault-too h.primary.settings h.secondary.settings h.primary.connections (no_outward h.primary.tuple) place (below kept) h.secondary (record { settings = refl; pairs = linked.pairs }))
+        leads-secondary h (FailsToApply place (below kept)) tt linked
+        (ends-fault-too h.primary.settings h.secondary.settings h.primary.connections (no_outward h.primary.tuple) place (below kept) h.secondary
+        (record { settings = refl; pairs = linked.pairs }))
 
 -- One event of the pair is at most one of each node.
 leads-step : (event : Event) (starved : Bool) (h : PairHistory) → IsLinkedPair h → LeadsTo h (step event starved h).1
@@ -167,22 +212,36 @@ leads-step event starved h linked = go event
     go : (event : Event) → LeadsTo h (step event starved h).1
     go (OpenEvent sync loss) = leads-open sync loss starved h linked
     go (SubmitEvent first contents) =
-        leads-primary h (Submits first contents starved) linked (ends-submit h.primary.settings h.secondary.settings h.secondary.connections (no_inward h.secondary) first contents starved h.primary here)
-    go (LocalEvent number) = leads-primary h (WritesLocally number) linked (ends-local h.primary.settings h.secondary.settings h.secondary.connections (no_inward h.secondary) number h.primary here)
+        leads-primary h (Submits first contents starved) linked
+        (ends-submit h.primary.settings h.secondary.settings h.secondary.connections (no_inward h.secondary) first contents starved h.primary here)
+    go (LocalEvent number) = leads-primary h (WritesLocally number) linked
+        (ends-local h.primary.settings h.secondary.settings h.secondary.connections (no_inward h.secondary) number h.primary here)
     go (LocalFaultEvent number kept) = leads-local-fault number kept h linked
-    go SendEvent = leads-primary h (Sends (has_room h) starved) linked (ends-send h.primary.settings h.secondary.settings h.secondary.connections (no_inward h.secondary) (has_room h) starved h.primary here)
+    go SendEvent = leads-primary h (Sends (has_room h) starved) linked
+        (ends-send h.primary.settings h.secondary.settings h.secondary.connections (no_inward h.secondary) (has_room h) starved h.primary here)
     go ReceiveEvent =
-        leads-secondary h (Receives (next_frame h) starved) tt linked (ends-receive h.primary.settings h.secondary.settings h.primary.connections (no_outward h.primary.tuple) (next_frame h) starved h.secondary there refl)
-    go (PeerEvent place) = leads-secondary h (Applies place) tt linked (ends-peer h.primary.settings h.secondary.settings h.primary.connections (no_outward h.primary.tuple) place h.secondary there)
+        leads-secondary h (Receives (next_frame h) starved) tt linked
+        (ends-receive h.primary.settings h.secondary.settings h.primary.connections (no_outward h.primary.tuple) (next_frame h) starved h.secondary there
+        refl)
+    go (PeerEvent place) = leads-secondary h (Applies place) tt linked
+        (ends-peer h.primary.settings h.secondary.settings h.primary.connections (no_outward h.primary.tuple) place h.secondary there)
     go (PeerFaultEvent place kept) = leads-peer-fault place kept h linked
     go AckOutEvent =
-        leads-secondary h (Acknowledges (answers_have_room h) starved) tt linked (ends-push h.primary.settings h.secondary.settings h.primary.connections (no_outward h.primary.tuple) (answers_have_room h) starved h.secondary there)
+        leads-secondary h (Acknowledges (answers_have_room h) starved) tt linked
+        (ends-push h.primary.settings h.secondary.settings h.primary.connections (no_outward h.primary.tuple) (answers_have_room h) starved h.secondary
+        there)
     go AckInEvent =
-        leads-primary h (Takes (next_answer h) starved) linked (ends-ack-in h.primary.settings h.secondary.settings h.secondary.connections (no_inward h.secondary) (next_answer h) starved h.primary linked.homes here refl)
-    go ResyncEvent = leads-primary h (Resyncs starved) linked (ends-resync h.primary.settings h.secondary.settings h.secondary.connections (no_inward h.secondary) starved h.primary here)
-    go ResyncFaultEvent = leads-primary h (FailsResync starved) linked (ends-resync-fault h.primary.settings h.secondary.settings h.secondary.connections (no_inward h.secondary) starved h.primary here)
-    go ClosePrimaryEvent = leads-primary h Closes linked (ends-close h.primary.settings h.secondary.settings h.secondary.connections (no_inward h.secondary) h.primary here)
-    go CloseSecondaryEvent = leads-secondary h ClosesToo tt linked (ends-close-too h.primary.settings h.secondary.settings h.primary.connections (no_outward h.primary.tuple) h.secondary there)
+        leads-primary h (Takes (next_answer h) starved) linked
+        (ends-ack-in h.primary.settings h.secondary.settings h.secondary.connections (no_inward h.secondary) (next_answer h) starved h.primary linked.homes
+        here refl)
+    go ResyncEvent = leads-primary h (Resyncs starved) linked
+        (ends-resync h.primary.settings h.secondary.settings h.secondary.connections (no_inward h.secondary) starved h.primary here)
+    go ResyncFaultEvent = leads-primary h (FailsResync starved) linked
+        (ends-resync-fault h.primary.settings h.secondary.settings h.secondary.connections (no_inward h.secondary) starved h.primary here)
+    go ClosePrimaryEvent = leads-primary h Closes linked
+        (ends-close h.primary.settings h.secondary.settings h.secondary.connections (no_inward h.secondary) h.primary here)
+    go CloseSecondaryEvent = leads-secondary h ClosesToo tt linked
+        (ends-close-too h.primary.settings h.secondary.settings h.primary.connections (no_outward h.primary.tuple) h.secondary there)
 
 -- Runs.
 
@@ -190,7 +249,8 @@ primary-run-append : (first second : List PrimaryEvent) (h : PrimaryHistory) →
 primary-run-append [] second h = refl
 primary-run-append (event ∷ first) second h = primary-run-append first second (primary_after event h)
 
-secondary-run-append : (first second : List SecondaryEvent) (h : SecondaryHistory) → secondary_run (first ++ second) h ≡ secondary_run second (secondary_run first h)
+secondary-run-append : (first second : List SecondaryEvent) (h : SecondaryHistory)
+    → secondary_run (first ++ second) h ≡ secondary_run second (secondary_run first h)
 secondary-run-append [] second h = refl
 secondary-run-append (event ∷ first) second h = secondary-run-append first second (secondary_after event h)
 
@@ -223,11 +283,15 @@ joined-pair h linked rise = record { out = out; back = back }
     same = pairs-length (AreLinked h.primary.settings h.secondary.settings) h.primary.connections h.secondary.connections linked.pairs
 
     -- the two ends of a number that was opened
-    together : (k : ℕ) (c : Outward) → slice_get h.primary.connections k ≡ Some c → (d : Inward) × (inward_at h.secondary (suc k) ≡ d) × AreLinked h.primary.settings h.secondary.settings c d
+    together : (k : ℕ) (c : Outward) → slice_get h.primary.connections k ≡ Some c
+        → (d : Inward) × (inward_at h.secondary (suc k) ≡ d) × AreLinked h.primary.settings h.secondary.settings c d
     together k c at =
         let within = slice_get_within p.connections k c at in
-        let size = same in let found = get-there s.connections k (omega arith) in
-        (found.0, subst (λ n. inward_at s n ≡ found.0) (linked.counted k found.0 found.1) (inward-there s rise k found.0 found.1), pairs-get (AreLinked p.settings s.settings) p.connections s.connections k c found.0 linked.pairs at found.1)
+        let size = same in let found = get-there s.connections k (omega arith) in (
+          found.0,
+          subst (λ n. inward_at s n ≡ found.0) (linked.counted k found.0 found.1) (inward-there s rise k found.0 found.1),
+          pairs-get (AreLinked p.settings s.settings) p.connections s.connections k c found.0 linked.pairs at found.1,
+        )
 
     out : (number : ℕ) → IsBeginning (inward_at h.secondary number).taken (pushed_by h.primary (outward_at h.primary number))
     out number = elim (inward-cases s number) [
@@ -239,7 +303,8 @@ joined-pair h linked rise = record { out = out; back = back }
           let other = get-there p.connections found.0 (omega arith) in
           let both = together found.0 other.0 other.1 in
           subst (λ n. IsBeginning (inward_at s n).taken (pushed_by p (outward_at p n))) (sym index)
-          (subst (λ (d : Inward). IsBeginning d.taken (pushed_by p (outward_at p (suc found.0)))) (sym both.1) (subst (λ (c : Outward). IsBeginning both.0.taken (pushed_by p c)) (sym (outward-there p found.0 other.0 other.1)) both.2.out))
+          (subst (λ (d : Inward). IsBeginning d.taken (pushed_by p (outward_at p (suc found.0)))) (sym both.1)
+          (subst (λ (c : Outward). IsBeginning both.0.taken (pushed_by p c)) (sym (outward-there p found.0 other.0 other.1)) both.2.out))
     ]
 
     back : (number : ℕ) → IsBeginning (outward_at h.primary number).taken (pushed_back_by h.secondary (inward_at h.secondary number))
@@ -248,7 +313,8 @@ joined-pair h linked rise = record { out = out; back = back }
       | inr none ↦ subst (λ (c : Outward). IsBeginning c.taken (pushed_back_by s (inward_at s (suc k)))) (sym none) (_, refl)
       | inl found ↦
           let both = together k found.0 found.1 in
-          subst (λ (c : Outward). IsBeginning c.taken (pushed_back_by s (inward_at s (suc k)))) (sym found.2) (subst (λ (d : Inward). IsBeginning found.0.taken (pushed_back_by s d)) (sym both.1) both.2.back)
+          subst (λ (c : Outward). IsBeginning c.taken (pushed_back_by s (inward_at s (suc k)))) (sym found.2)
+          (subst (λ (d : Inward). IsBeginning found.0.taken (pushed_back_by s d)) (sym both.1) both.2.back)
     ]
 
 -- Each node's part of a run of the pair is a run of that node by itself, and the frames of the two are joined: on each
@@ -264,5 +330,12 @@ pair_runs_are_joined o events =
     let opening : PairHistory = pair_at o in
     let all = leads-run events opening (record { homes = homes-opening o.settings o.local o.own o.marks; pairs = tt; counted = λ j d at. absurd (cc) }) in
     let rise = subst (λ (x : SecondaryHistory). NumbersRise x.connections) (sym all.0.secondary) (numbers-rise all.0.there (secondary_at o) refl) in
-    let h : PairHistory = (run events opening).1 in
-    (all.0.here, all.0.there, all.0.primary, all.0.secondary, joined-pair h all.1 rise, pairs-length (AreLinked h.primary.settings h.secondary.settings) h.primary.connections h.secondary.connections all.1.pairs, all.1.counted)
+    let h : PairHistory = (run events opening).1 in (
+      all.0.here,
+      all.0.there,
+      all.0.primary,
+      all.0.secondary,
+      joined-pair h all.1 rise,
+      pairs-length (AreLinked h.primary.settings h.secondary.settings) h.primary.connections h.secondary.connections all.1.pairs,
+      all.1.counted,
+    )

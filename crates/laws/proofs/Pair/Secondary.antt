@@ -8,9 +8,11 @@ use Rattle.model.specs.Stream.{Item, IsBeginning, below, contents_of}
 use Rattle.model.specs.Frames.{Packet, Received}
 use Rattle.model.specs.Primary.{Outward, last_of, change_last, frames_due}
 use Rattle.model.specs.Secondary.{Inward, SecondaryHistory, no_inward, inward, with_inward, items_taken, answers_due}
-use Rattle.model.specs.SecondarySteps.{answering, barrier_answer, barriers_to_answer, receive, peer, peer_fault, ack_out, close_secondary, offsets_at, applied_answer, applying, failing, adopting}
+use Rattle.model.specs.SecondarySteps.{answering, barrier_answer, barriers_to_answer, receive, peer, peer_fault, ack_out, close_secondary, offsets_at}
+use Rattle.model.specs.SecondarySteps.{applied_answer, applying, failing, adopting}
 use Rattle.laws.proofs.Lists.Beginnings.{begins-self}
-use Rattle.laws.proofs.Secondary.Moves.{framed, receipting, refused_end, pushed_one, closed_end, after-receive, after-peer, after-fault, after-push, after-close}
+use Rattle.laws.proofs.Secondary.Moves.{framed, receipting, refused_end, pushed_one, closed_end, after-receive, after-peer, after-fault, after-push}
+use Rattle.laws.proofs.Secondary.Moves.{after-close}
 use Rattle.laws.proofs.Pair.Links.{AreLinked, GoesOnToo, linked-on-too, linked-pushing-too, linked-taking-too}
 use Rattle.laws.proofs.Joining.Taking.{read}
 use Rattle.laws.proofs.Lists.Pairs.{Pairs, pairs-there}
@@ -34,7 +36,10 @@ goes-applying asked place d = go (slice_get (items_taken d) place)
   where
     go : (v : Option Item) → GoesOnToo d (elim v as (λ _. Inward) [
       | None ↦ d
-      | Some item ↦ record d { applied = d.applied ++ offsets_at place (below (length (contents_of item))); due = elim d.closed [ true ↦ d.due | false ↦ d.due ++ applied_answer asked place item ] }
+      | Some item ↦ record d {
+        applied = d.applied ++ offsets_at place (below (length (contents_of item)));
+        due = elim d.closed [ true ↦ d.due | false ↦ d.due ++ applied_answer asked place item ];
+      }
     ])
     go None = record { hello = refl; due = begins-self d.due; pushed = refl; taken = refl }
     go (Some item) = record {
@@ -49,16 +54,19 @@ goes-applying asked place d = go (slice_get (items_taken d) place)
 
 module _ (here there : Settings) (ends : List Outward) (none : Outward) where
   -- the last connection changes
-  ends-change : (h later : SecondaryHistory) (f : Inward → Inward) → HasEndsToo here there ends h → later.settings ≡ h.settings → later.connections ≡ change_last f h.connections
+  ends-change : (h later : SecondaryHistory) (f : Inward → Inward) → HasEndsToo here there ends h → later.settings ≡ h.settings
+      → later.connections ≡ change_last f h.connections
       → (AreLinked here there (last_of none ends) (inward h) → AreLinked here there (last_of none ends) (f (inward h))) → HasEndsToo here there ends later
   ends-change h later f e settings connections keeps = record {
     settings = settings ∙ e.settings;
     pairs = rw connections (pairs-there (AreLinked here there) f none (no_inward h) ends h.connections e.pairs keeps);
   }
 
-  ends-on : (h later : SecondaryHistory) (f : Inward → Inward) → HasEndsToo here there ends h → later.settings ≡ h.settings → later.connections ≡ change_last f h.connections
+  ends-on : (h later : SecondaryHistory) (f : Inward → Inward) → HasEndsToo here there ends h → later.settings ≡ h.settings
+      → later.connections ≡ change_last f h.connections
       → GoesOnToo (inward h) (f (inward h)) → HasEndsToo here there ends later
-  ends-on h later f e settings connections on = ends-change h later f e settings connections (linked-on-too here there (last_of none ends) (inward h) (f (inward h)) on)
+  ends-on h later f e settings connections on = ends-change h later f e settings connections
+      (linked-on-too here there (last_of none ends) (inward h) (f (inward h)) on)
 
   -- the answers that follow
   pub ends-answering : (h : SecondaryHistory) → HasEndsToo here there ends h → HasEndsToo here there ends (with_inward answering h)
@@ -66,25 +74,33 @@ module _ (here there : Settings) (ends : List Outward) (none : Outward) where
 
   -- the next frame that the other end pushed is taken, if there is one
   pub ends-receive : (frame : Option Received) (starved : Bool) (h : SecondaryHistory) → HasEndsToo here there ends h
-      → frame ≡ option_map read (slice_get (take (last_of none ends).pushed (frames_due here (last_of none ends))) (length (inward h).taken)) → HasEndsToo here there ends (receive frame starved h).1
+      → frame ≡ option_map read (slice_get (take (last_of none ends).pushed (frames_due here (last_of none ends))) (length (inward h).taken))
+      → HasEndsToo here there ends (receive frame starved h).1
   ends-receive frame starved h e next = after-receive (HasEndsToo here there ends) h frame starved e (λ one is standing.
       let at = slice_get-map read (take (last_of none ends).pushed (frames_due here (last_of none ends))) (length (inward h).taken) ∙ (sym next ∙ is) in
-      let taken : HasEndsToo here there ends (with_inward (framed one) h) = ends-change h (with_inward (framed one) h) (framed one) e refl refl (linked-taking-too here there (last_of none ends) (inward h) one at) in
+      let taken : HasEndsToo here there ends (with_inward (framed one) h) = ends-change h (with_inward (framed one) h) (framed one) e refl refl
+      (linked-taking-too here there (last_of none ends) (inward h) one at) in
       record {
         accepts = ends-answering (with_inward (framed one) h) taken;
         receipts =
-            λ write place was late. ends-answering _ (ends-on (with_inward (framed one) h) _ (receipting (length (items_taken (inward h))) write) taken refl refl (record { hello = refl; due = (_, refl); pushed = refl; taken = refl }));
-        adopts = λ item tuple consistent was late. ends-answering (adopting tuple consistent (with_inward (framed one) h)) (record { settings = taken.settings; pairs = taken.pairs });
-        refuses = ends-on (with_inward (framed one) h) _ refused_end taken refl refl (record { hello = refl; due = begins-self (inward (with_inward (framed one) h)).due; pushed = refl; taken = refl });
+            λ write place was late. ends-answering _
+            (ends-on (with_inward (framed one) h) _ (receipting (length (items_taken (inward h))) write) taken refl refl
+            (record { hello = refl; due = (_, refl); pushed = refl; taken = refl }));
+        adopts = λ item tuple consistent was late. ends-answering (adopting tuple consistent (with_inward (framed one) h))
+            (record { settings = taken.settings; pairs = taken.pairs });
+        refuses = ends-on (with_inward (framed one) h) _ refused_end taken refl refl
+            (record { hello = refl; due = begins-self (inward (with_inward (framed one) h)).due; pushed = refl; taken = refl });
       })
 
   -- an item is applied
   pub ends-peer : (place : ℕ) (h : SecondaryHistory) → HasEndsToo here there ends h → HasEndsToo here there ends (peer place h).1
   ends-peer place h e = after-peer (HasEndsToo here there ends) h place e (λ waiting first.
-      ends-answering (with_inward (applying h.settings.protocol place) h) (ends-on h _ (applying h.settings.protocol place) e refl refl (goes-applying h.settings.protocol place (inward h))))
+      ends-answering (with_inward (applying h.settings.protocol place) h)
+      (ends-on h _ (applying h.settings.protocol place) e refl refl (goes-applying h.settings.protocol place (inward h))))
 
   -- an item fails
-  pub ends-fault-too : (place : ℕ) (offsets : List ℕ) (h : SecondaryHistory) → HasEndsToo here there ends h → HasEndsToo here there ends (peer_fault place offsets h).1
+  pub ends-fault-too : (place : ℕ) (offsets : List ℕ) (h : SecondaryHistory) → HasEndsToo here there ends h
+      → HasEndsToo here there ends (peer_fault place offsets h).1
   ends-fault-too place offsets h e = after-fault (HasEndsToo here there ends) h place offsets e (λ waiting first.
       ends-on h _ (failing place offsets) e refl refl (record { hello = refl; due = begins-self (inward h).due; pushed = refl; taken = refl }))
 
@@ -92,7 +108,8 @@ module _ (here there : Settings) (ends : List Outward) (none : Outward) where
   pub ends-push : (room starved : Bool) (h : SecondaryHistory) → HasEndsToo here there ends h → HasEndsToo here there ends (ack_out room starved h).1
   ends-push room starved h e = after-push (HasEndsToo here there ends) h room starved e (λ standing due.
       ends-change h (with_inward pushed_one h) pushed_one e refl refl
-      (linked-pushing-too here there (last_of none ends) (inward h) (subst (λ (s : Settings). (inward h).pushed < length (answers_due s (inward h))) e.settings due)))
+      (linked-pushing-too here there (last_of none ends) (inward h)
+      (subst (λ (s : Settings). (inward h).pushed < length (answers_due s (inward h))) e.settings due)))
 
   -- the end closes
   pub ends-close-too : (h : SecondaryHistory) → HasEndsToo here there ends h → HasEndsToo here there ends (close_secondary h).1

@@ -1,5 +1,6 @@
 -- Changes of a primary's last connection, and what each keeps of it.
-use Rattle.std.proofs.Common.{ℕ, zero, suc, ◌≡◌, ◌≢◌, ◌-◌, inl, inr, true, false, not, List, [], ◌∷◌, ◌++◌, length, take, Some, slice_get, refl, sym, ◌∙◌, ap, arith, length-append}
+use Rattle.std.proofs.Common.{ℕ, zero, suc, ◌≡◌, ◌≢◌, ◌-◌, inl, inr, true, false, not, List, [], ◌∷◌, ◌++◌, length, take, Some, slice_get, refl, sym, ◌∙◌, ap}
+use Rattle.std.proofs.Common.{arith, length-append}
 use Rattle.std.specs.Prelude.{if◌then◌else◌}
 use Rattle.std.proofs.lemmas.Bool.{cases_Bool, both_ways, not-true, and_parts}
 use Rattle.std.proofs.lemmas.List.{append-nil}
@@ -25,15 +26,21 @@ pub accepted-all : (c : Outward) → c.refused ≡ false → accepted_frames c �
 accepted-all c h = ap (λ b. if b then take (length c.taken - 1) c.taken else c.taken) h
 
 -- an open end has refused no frame
-pub not-refused : (h : PrimaryHistory) → HasHomes h → (outward h).closed ≡ false → (k : ℕ) → slice_get h.connections k ≡ Some (outward h) → (outward h).refused ≡ false
-not-refused h homes standing k at = elim (cases_Bool (outward h).refused) [ inl was ↦ absurd (both_ways (outward h).closed standing (homes.refused k (outward h) at was)) | inr not_so ↦ not_so ]
+pub not-refused : (h : PrimaryHistory) → HasHomes h → (outward h).closed ≡ false → (k : ℕ) → slice_get h.connections k ≡ Some (outward h)
+    → (outward h).refused ≡ false
+not-refused h homes standing k at =
+    elim (cases_Bool (outward h).refused) [
+      | inl was ↦ absurd (both_ways (outward h).closed standing (homes.refused k (outward h) at was))
+      | inr not_so ↦ not_so
+    ]
 
 -- the frames accepted before a frame is taken begin those after it
 pub frames-taking : (c : Outward) (frame : Received) → c.refused ≡ false → IsBeginning (accepted_frames c) (accepted_frames (with_frame frame c))
 frames-taking c frame plain = (frame ∷ [], ap (λ (l : List Received). l ++ frame ∷ []) (accepted-all c plain) ∙ sym (accepted-all (with_frame frame c) plain))
 
 -- a frame that is refused is accepted by nobody
-pub frames-refusing : (c : Outward) (frame : Received) → c.refused ≡ false → accepted_frames (record c { taken = c.taken ++ frame ∷ []; refused = true; closed = true }) ≡ accepted_frames c
+pub frames-refusing : (c : Outward) (frame : Received) → c.refused ≡ false
+    → accepted_frames (record c { taken = c.taken ++ frame ∷ []; refused = true; closed = true }) ≡ accepted_frames c
 frames-refusing c frame plain =
     let size : length (c.taken ++ frame ∷ []) - 1 ≡ length c.taken = let long = length-append c.taken (frame ∷ []) in omega arith in
     ap (λ n. take n (c.taken ++ frame ∷ [])) size ∙ (take-append_seam c.taken (frame ∷ []) ∙ sym (accepted-all c plain))
@@ -51,7 +58,8 @@ keeps-self h homes k at = record {
 }
 
 -- so does one that pushes a frame
-pub keeps-pushing : (h : PrimaryHistory) → HasHomes h → (k : ℕ) → slice_get h.connections k ≡ Some (outward h) → KeepsConnection (outward h) (pushing (outward h))
+pub keeps-pushing : (h : PrimaryHistory) → HasHomes h → (k : ℕ) → slice_get h.connections k ≡ Some (outward h)
+    → KeepsConnection (outward h) (pushing (outward h))
 keeps-pushing h homes k at = record {
   more = [];
   stream = sym (append-nil (outward h).stream);
@@ -63,7 +71,8 @@ keeps-pushing h homes k at = record {
 }
 
 -- so does one that takes a frame
-pub keeps-taking : (h : PrimaryHistory) (frame : Received) → HasHomes h → (outward h).closed ≡ false → (k : ℕ) → slice_get h.connections k ≡ Some (outward h) → KeepsConnection (outward h) (with_frame frame (outward h))
+pub keeps-taking : (h : PrimaryHistory) (frame : Received) → HasHomes h → (outward h).closed ≡ false → (k : ℕ) → slice_get h.connections k ≡ Some (outward h)
+    → KeepsConnection (outward h) (with_frame frame (outward h))
 keeps-taking h frame homes standing k at = record {
   more = [];
   stream = sym (append-nil (outward h).stream);
@@ -90,7 +99,8 @@ keeps-refusing h frame homes standing k at =
     }
 
 -- so does one that closes
-pub keeps-closing : (h : PrimaryHistory) → HasHomes h → (k : ℕ) → slice_get h.connections k ≡ Some (outward h) → KeepsConnection (outward h) (record (outward h) { closed = true })
+pub keeps-closing : (h : PrimaryHistory) → HasHomes h → (k : ℕ) → slice_get h.connections k ≡ Some (outward h)
+    → KeepsConnection (outward h) (record (outward h) { closed = true })
 keeps-closing h homes k at = record {
   more = [];
   stream = sym (append-nil (outward h).stream);
@@ -102,7 +112,8 @@ keeps-closing h homes k at = record {
 }
 
 -- an item that is no write goes to the end of a stream that has begun
-pub keeps-appending : (h : PrimaryHistory) (item : Item) → ((write : Write) → item ≢ WriteItem write) → (outward h).begun ≡ true → HasHomes h → (k : ℕ) → slice_get h.connections k ≡ Some (outward h)
+pub keeps-appending : (h : PrimaryHistory) (item : Item) → ((write : Write) → item ≢ WriteItem write) → (outward h).begun ≡ true → HasHomes h → (k : ℕ)
+    → slice_get h.connections k ≡ Some (outward h)
     → KeepsConnection (outward h) (record (outward h) { stream = (outward h).stream ++ item ∷ [] })
 keeps-appending h item other begun homes k at = record {
   more = item ∷ [];

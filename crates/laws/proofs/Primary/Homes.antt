@@ -1,16 +1,19 @@
 -- Where the accepted writes stand, and what the journal of completions says: kept by every step of a primary.
-use Rattle.std.proofs.Common.{ℕ, suc, ◌≡◌, ◌-◌, ◌≤◌, ◌⊎◌, inl, inr, Bool, true, false, ◌||◌, List, [], ◌++◌, length, Some, slice_get, refl, sym, ◌∙◌, ap, subst, arith, Option, None, ◌==◌}
+use Rattle.std.proofs.Common.{ℕ, suc, ◌≡◌, ◌-◌, ◌≤◌, ◌⊎◌, inl, inr, Bool, true, false, ◌||◌, List, [], ◌++◌, length, Some, slice_get, refl, sym, ◌∙◌, ap, subst}
+use Rattle.std.proofs.Common.{arith, Option, None, ◌==◌}
 use Rattle.std.proofs.lemmas.Bool.{both_ways, ltb-true, lt-ltb}
 use Rattle.blocks.specs.declared.settings.Protocol.{Protocol}
 use Rattle.blocks.specs.declared.settings.Protocol.TheVariants as protocol
 use Rattle.model.specs.Contents.{Write}
 use Rattle.model.specs.Stream.{Item, WriteItem, IsBeginning, epoch_of}
 use Rattle.model.specs.Frames.{naming}
-use Rattle.model.specs.Primary.{Accepted, Linked, Completion, Outward, PrimaryHistory, no_outward, last_of, outward, change_last, accepted_frames, is_recv_ack, is_write_ack, is_answered_by, is_alone, is_confirmed, barrier_acknowledged, LocalOutcome}
+use Rattle.model.specs.Primary.{Accepted, Linked, Completion, Outward, PrimaryHistory, no_outward, last_of, outward, change_last, accepted_frames, is_recv_ack}
+use Rattle.model.specs.Primary.{is_write_ack, is_answered_by, is_alone, is_confirmed, barrier_acknowledged, LocalOutcome}
 use Rattle.laws.proofs.Lists.Beginnings.{begins-self, any-grows}
 use Rattle.laws.proofs.Lists.Last.{get-change, get-change-back, last-at}
 use Rattle.laws.proofs.Lists.Elements.{get-left, get-split}
 use Rattle.std.specs.Prelude.{if◌then◌else◌}
+use Rattle.blocks.specs.Positions.{StreamPosition}
 use Rattle.model.specs.PrimarySteps.{set_outcome}
 
 -- A later state of a connection: its stream, what was pushed and what was accepted have only grown.
@@ -28,7 +31,8 @@ abbrev pub AllGrow : List Outward → List Outward → Type 0
 AllGrow cs ds = (k : ℕ) (c : Outward) → slice_get cs k ≡ Some c → (d : Outward) × (slice_get ds k ≡ Some d) × Grows c d
 
 -- what was answered stays so
-pub answered-grows : (asked : Protocol) (c d : Outward) (place : ℕ) (item : Item) → Grows c d → is_answered_by asked c place item ≡ true → is_answered_by asked d place item ≡ true
+pub answered-grows : (asked : Protocol) (c d : Outward) (place : ℕ) (item : Item) → Grows c d → is_answered_by asked c place item ≡ true
+    → is_answered_by asked d place item ≡ true
 answered-grows protocol.A c d place item g h = let sent = ltb-true place (c.pushed - 3) h in let more = g.pushed in lt-ltb place (d.pushed - 3) (omega arith)
 answered-grows protocol.B c d place item g h = any-grows (is_recv_ack (naming place item)) (accepted_frames c) (accepted_frames d) g.frames h
 answered-grows protocol.C c d place item g h = any-grows (is_write_ack (naming place item)) (accepted_frames c) (accepted_frames d) g.frames h
@@ -38,7 +42,7 @@ pub record IsLinked (asked : Protocol) (connections : List Outward) (entry : Com
   pub connection : ℕ
   pub place : ℕ
   pub end : Outward
-  pub home : entry.home ≡ Some (connection, place)
+  pub home : entry.home ≡ Some (record { index = connection; place = place })
   pub there : slice_get connections connection ≡ Some end
   pub item : slice_get end.stream place ≡ Some (WriteItem entry.write)
   pub answered : is_answered_by asked end place (WriteItem entry.write) ≡ true
@@ -53,7 +57,8 @@ linked-grows asked cs ds entry grow l =
       end = more.0;
       home = l.home;
       there = more.1;
-      item = subst (λ (s : List Item). slice_get s l.place ≡ Some (WriteItem entry.write)) more.2.stream.1 (get-left l.end.stream more.2.stream.0 l.place (WriteItem entry.write) l.item);
+      item = subst (λ (s : List Item). slice_get s l.place ≡ Some (WriteItem entry.write)) more.2.stream.1
+          (get-left l.end.stream more.2.stream.0 l.place (WriteItem entry.write) l.item);
       answered = answered-grows asked l.end more.0 l.place (WriteItem entry.write) more.2 l.answered;
     }
 
@@ -61,10 +66,11 @@ linked-grows asked cs ds entry grow l =
 -- stream that has not begun is empty; an end that refused a frame is closed; the journal's linked entries are answered.
 pub record HasHomes (h : PrimaryHistory) : Type 0 where
   pub numbered : (i : ℕ) (accepted : Accepted) → slice_get h.writes i ≡ Some accepted → accepted.write.number ≡ suc i
-  pub housed : (i k place : ℕ) (accepted : Accepted) → slice_get h.writes i ≡ Some accepted → accepted.home ≡ Some (k, place)
+  pub housed : (i k place : ℕ) (accepted : Accepted) → slice_get h.writes i ≡ Some accepted → accepted.home ≡ Some (record { index = k; place = place })
       → (c : Outward) × (slice_get h.connections k ≡ Some c) × (slice_get c.stream place ≡ Some (WriteItem accepted.write))
   pub homed : (k place : ℕ) (c : Outward) (write : Write) → slice_get h.connections k ≡ Some c → slice_get c.stream place ≡ Some (WriteItem write)
-      → (i : ℕ) × (accepted : Accepted) × (slice_get h.writes i ≡ Some accepted) × (accepted.write ≡ write) × (accepted.home ≡ Some (k, place))
+      → (i : ℕ) × (accepted : Accepted) × (slice_get h.writes i ≡ Some accepted) × (accepted.write ≡ write)
+      × (accepted.home ≡ Some (record { index = k; place = place }))
   pub empty : (k : ℕ) (c : Outward) → slice_get h.connections k ≡ Some c → c.begun ≡ false → c.stream ≡ []
   pub refused : (k : ℕ) (c : Outward) → slice_get h.connections k ≡ Some c → c.refused ≡ true → c.closed ≡ true
   pub journal : (n : ℕ) (entry : Completion) → slice_get h.journal n ≡ Some entry → entry.kind ≡ Linked → IsLinked h.settings.protocol h.connections entry
@@ -101,15 +107,23 @@ keeps-grows : (c d : Outward) → KeepsConnection c d → Grows c d
 keeps-grows c d k = record { stream = (k.more, sym k.stream); pushed = k.pushed; frames = k.frames }
 
 -- A move that changes the last connection so, and no write but for its outcome.
-pub homes-change : (h later : PrimaryHistory) (f : Outward → Outward) → HasHomes h → later.settings ≡ h.settings → later.connections ≡ change_last f h.connections → SameWrites h.writes later.writes
+pub homes-change : (h later : PrimaryHistory) (f : Outward → Outward) → HasHomes h → later.settings ≡ h.settings
+    → later.connections ≡ change_last f h.connections → SameWrites h.writes later.writes
     → later.journal ≡ h.journal → ((k : ℕ) → slice_get h.connections k ≡ Some (outward h) → KeepsConnection (outward h) (f (outward h))) → HasHomes later
 homes-change h later f homes settings connections writes journal keeps =
     let none : Outward = no_outward h.tuple in
-    let grow : AllGrow h.connections later.connections = subst (AllGrow h.connections) (sym connections) (λ k c at. elim (get-change f none h.connections k c at) [
+    let grow : AllGrow h.connections later.connections = subst (AllGrow h.connections) (sym connections)
+    (λ k c at. elim (get-change f none h.connections k c at) [
       | inl same ↦ (c, same, grows-self c)
-      | inr changed ↦ (f c, changed.0, subst (λ (x : Outward). Grows x (f x)) (sym changed.1) (keeps-grows (outward h) (f (outward h)) (keeps k (at ∙ ap (λ (x : Outward). Some x) changed.1))))
+      | inr changed ↦ (
+        f c,
+        changed.0,
+        subst (λ (x : Outward). Grows x (f x)) (sym changed.1)
+            (keeps-grows (outward h) (f (outward h)) (keeps k (at ∙ ap (λ (x : Outward). Some x) changed.1))),
+      )
     ]) in
-    let back : (k : ℕ) (d : Outward) → slice_get later.connections k ≡ Some d → (slice_get h.connections k ≡ Some d) ⊎ ((d ≡ f (outward h)) × (slice_get h.connections k ≡ Some (outward h)))
+    let back : (k : ℕ) (d : Outward) → slice_get later.connections k ≡ Some d
+    → (slice_get h.connections k ≡ Some d) ⊎ ((d ≡ f (outward h)) × (slice_get h.connections k ≡ Some (outward h)))
     = λ k d at. elim (get-change-back f none h.connections k d (rw (← connections) at)) [ inl same ↦ inl same | inr changed ↦ inr (changed.0, changed.1) ] in
     record {
       numbered = λ i b at. let a = writes.1 i b at in ap (λ (w : Write). w.number) a.2 ∙ homes.numbered i a.0 a.1;
@@ -120,11 +134,13 @@ homes-change h later f homes settings connections writes journal keeps =
             new.0,
             new.1,
             subst (λ (w : Write). slice_get new.0.stream place ≡ Some (WriteItem w)) (sym a.2)
-                (subst (λ (s : List Item). slice_get s place ≡ Some (WriteItem a.0.write)) new.2.stream.1 (get-left old.0.stream new.2.stream.0 place (WriteItem a.0.write) old.2)),
+                (subst (λ (s : List Item). slice_get s place ≡ Some (WriteItem a.0.write)) new.2.stream.1
+                (get-left old.0.stream new.2.stream.0 place (WriteItem a.0.write) old.2)),
           );
       homed = λ k place d write at item.
           let find : (c : Outward) → slice_get h.connections k ≡ Some c → slice_get c.stream place ≡ Some (WriteItem write)
-          → (i : ℕ) × (accepted : Accepted) × (slice_get later.writes i ≡ Some accepted) × (accepted.write ≡ write) × (accepted.home ≡ Some (k, place))
+          → (i : ℕ) × (accepted : Accepted) × (slice_get later.writes i ≡ Some accepted) × (accepted.write ≡ write)
+          × (accepted.home ≡ Some (record { index = k; place = place }))
           = λ c there was. let a = homes.homed k place c write there was in let b = writes.0 a.0 a.1 a.2 in (a.0, b.0, b.1, b.2 ∙ a.3, b.3 ∙ a.4) in
           elim (back k d at) [
             | inl same ↦ find d same item
@@ -144,33 +160,47 @@ homes-change h later f homes settings connections writes journal keeps =
         | inl same ↦ homes.refused k d same was
         | inr changed ↦ rw changed.0 ((keeps k changed.1).refused (rw (← changed.0) was))
       ];
-      journal = λ n entry at linked. rw settings (linked-grows h.settings.protocol h.connections later.connections entry grow (homes.journal n entry (rw (← journal) at) linked));
+      journal = λ n entry at linked. rw settings
+          (linked-grows h.settings.protocol h.connections later.connections entry grow (homes.journal n entry (rw (← journal) at) linked));
     }
 
 -- a write with a home: whether it is alone, or confirmed, is seen on its connection
-pub alone-at : (h : PrimaryHistory) (a : Accepted) (home : ℕ × ℕ) (c : Outward) → a.home ≡ Some home → slice_get h.connections home.0 ≡ Some c → is_alone h a ≡ c.closed
+pub alone-at : (h : PrimaryHistory) (a : Accepted) (home : StreamPosition) (c : Outward) → a.home ≡ Some home → slice_get h.connections home.index ≡ Some c
+    → is_alone h a ≡ c.closed
 alone-at h a home c is at =
-    ap (λ (v : Option (ℕ × ℕ)). elim v as (λ _. Bool) [ None ↦ true | Some home ↦ elim (slice_get h.connections home.0) as (λ _. Bool) [ None ↦ true | Some c ↦ c.closed ] ]) is
+    ap (λ (v : Option StreamPosition). elim v as
+    (λ _. Bool) [ None ↦ true | Some home ↦ elim (slice_get h.connections home.index) as (λ _. Bool) [ None ↦ true | Some c ↦ c.closed ] ]) is
     ∙ ap (λ (v : Option Outward). elim v as (λ _. Bool) [ None ↦ true | Some c ↦ c.closed ]) at
 
 -- and whether it is confirmed
-pub confirmed-at : (h : PrimaryHistory) (a : Accepted) (home : ℕ × ℕ) (c : Outward) → a.home ≡ Some home → slice_get h.connections home.0 ≡ Some c → is_confirmed h a ≡ barrier_acknowledged c (epoch_of c.stream home.1)
+pub confirmed-at : (h : PrimaryHistory) (a : Accepted) (home : StreamPosition) (c : Outward) → a.home ≡ Some home → slice_get h.connections home.index ≡ Some c
+    → is_confirmed h a ≡ barrier_acknowledged c (epoch_of c.stream home.place)
 confirmed-at h a home c is at =
-    ap (λ (v : Option (ℕ × ℕ)). elim v as (λ _. Bool) [ None ↦ false | Some home ↦ elim (slice_get h.connections home.0) as (λ _. Bool) [ None ↦ false | Some c ↦ barrier_acknowledged c (epoch_of c.stream home.1) ] ]) is
-    ∙ ap (λ (v : Option Outward). elim v as (λ _. Bool) [ None ↦ false | Some c ↦ barrier_acknowledged c (epoch_of c.stream home.1) ]) at
+    ap (λ (v : Option StreamPosition). elim v as
+    (λ _. Bool) [
+      | None ↦ false
+      | Some home ↦ elim (slice_get h.connections home.index) as
+          (λ _. Bool) [ None ↦ false | Some c ↦ barrier_acknowledged c (epoch_of c.stream home.place) ]
+    ]) is
+    ∙ ap (λ (v : Option Outward). elim v as (λ _. Bool) [ None ↦ false | Some c ↦ barrier_acknowledged c (epoch_of c.stream home.place) ]) at
 
 -- a write without a home is alone
 pub alone-homeless : (h : PrimaryHistory) (a : Accepted) → a.home ≡ None → is_alone h a ≡ true
-alone-homeless h a is = ap (λ (v : Option (ℕ × ℕ)). elim v as (λ _. Bool) [ None ↦ true | Some home ↦ elim (slice_get h.connections home.0) as (λ _. Bool) [ None ↦ true | Some c ↦ c.closed ] ]) is
+alone-homeless h a is = ap (λ (v : Option StreamPosition). elim v as
+    (λ _. Bool) [ None ↦ true | Some home ↦ elim (slice_get h.connections home.index) as (λ _. Bool) [ None ↦ true | Some c ↦ c.closed ] ]) is
 
 -- a release wants one of the two
-pub told-at : (h : PrimaryHistory) (a : Accepted) (home : ℕ × ℕ) (c : Outward) → a.home ≡ Some home → slice_get h.connections home.0 ≡ Some c → (is_confirmed h a || is_alone h a) ≡ (barrier_acknowledged c (epoch_of c.stream home.1) || c.closed)
-told-at h a home c is at = ap (λ b. b || is_alone h a) (confirmed-at h a home c is at) ∙ ap (λ b. barrier_acknowledged c (epoch_of c.stream home.1) || b) (alone-at h a home c is at)
+pub told-at : (h : PrimaryHistory) (a : Accepted) (home : StreamPosition) (c : Outward) → a.home ≡ Some home → slice_get h.connections home.index ≡ Some c
+    → (is_confirmed h a || is_alone h a) ≡ (barrier_acknowledged c (epoch_of c.stream home.place) || c.closed)
+told-at h a home c is at = ap (λ b. b || is_alone h a) (confirmed-at h a home c is at)
+    ∙ ap (λ b. barrier_acknowledged c (epoch_of c.stream home.place) || b) (alone-at h a home c is at)
 
 -- the outcome of a write changes neither the write nor its home
 pub outcome-write : (number : ℕ) (outcome : LocalOutcome) (a : Accepted) → (set_outcome number outcome a).write ≡ a.write
-outcome-write number outcome a = elim (a.write.number == number) as (λ b. (if b then record a { outcome = outcome } else a).write ≡ a.write) [ true ↦ refl | false ↦ refl ]
+outcome-write number outcome a = elim (a.write.number == number) as (λ b. (if b then record a { outcome = outcome } else a).write ≡ a.write)
+    [ true ↦ refl | false ↦ refl ]
 
 -- nor its home
 pub outcome-home : (number : ℕ) (outcome : LocalOutcome) (a : Accepted) → (set_outcome number outcome a).home ≡ a.home
-outcome-home number outcome a = elim (a.write.number == number) as (λ b. (if b then record a { outcome = outcome } else a).home ≡ a.home) [ true ↦ refl | false ↦ refl ]
+outcome-home number outcome a = elim (a.write.number == number) as (λ b. (if b then record a { outcome = outcome } else a).home ≡ a.home)
+    [ true ↦ refl | false ↦ refl ]

@@ -1,5 +1,6 @@
 -- The journal has accepted writes: each entry is of one, as it was accepted.
-use Rattle.std.proofs.Common.{ℕ, zero, suc, ◌≡◌, inl, inr, Bool, true, false, ◌&&◌, ◌==◌, List, [], ◌∷◌, ◌++◌, length, map, Option, Some, None, slice_get, refl, sym, ◌∙◌, ap}
+use Rattle.std.proofs.Common.{ℕ, zero, suc, ◌≡◌, inl, inr, Bool, true, false, ◌&&◌, ◌==◌, List, [], ◌∷◌, ◌++◌, length, map, Option, Some, None, slice_get, refl}
+use Rattle.std.proofs.Common.{sym, ◌∙◌, ap}
 use Rattle.std.specs.Prelude.{if◌then◌else◌}
 use Rattle.blocks.specs.declared.settings.Settings.{Settings}
 use Rattle.blocks.specs.declared.tuple.Tuple.{Tuple}
@@ -8,8 +9,10 @@ use Rattle.blocks.specs.declared.outcome.Decision.TheVariants.{NoSync, BitmapSyn
 use Rattle.model.specs.Contents.{BlockMap}
 use Rattle.model.specs.Stream.{WriteItem, within}
 use Rattle.model.specs.Marks.{marking}
-use Rattle.model.specs.Primary.{LocalOutcome, Waiting, OnDisk, Failed, Accepted, Completion, PrimaryHistory, primary_opening, outward, last_index, stands, is_open, completes}
-use Rattle.model.specs.PrimarySteps.{newly_completed, completion_of, with_completions, submission, submitted, appending, set_outcome, with_outcome, accepted_at, faulted}
+use Rattle.model.specs.Primary.{LocalOutcome, Waiting, OnDisk, Failed, Accepted, Completion, PrimaryHistory, primary_opening, outward, last_index, stands}
+use Rattle.model.specs.Primary.{is_open, completes}
+use Rattle.model.specs.PrimarySteps.{newly_completed, completion_of, with_completions, submission, submitted, appending, set_outcome, with_outcome, accepted_at}
+use Rattle.model.specs.PrimarySteps.{faulted}
 use Rattle.model.specs.Acknowledgements.{begun_with}
 use Rattle.model.specs.LocalRuns.{PrimaryEvent, primary_run}
 use Rattle.laws.proofs.Primary.Moves.{IsKeptByMoves, kept-by-releases, following-from, keeps-run}
@@ -18,7 +21,8 @@ use Rattle.laws.proofs.Lists.Picks.{pick-filtered, pick-image}
 
 -- each entry of the journal is of an accepted write
 abbrev pub JournalIsAccepted : PrimaryHistory → Type 0
-JournalIsAccepted h = (n : ℕ) (entry : Completion) → slice_get h.journal n ≡ Some entry → (i : ℕ) × (a : Accepted) × (slice_get h.writes i ≡ Some a) × (entry.write ≡ a.write)
+JournalIsAccepted h = (n : ℕ) (entry : Completion) → slice_get h.journal n ≡ Some entry
+    → (i : ℕ) × (a : Accepted) × (slice_get h.writes i ≡ Some a) × (entry.write ≡ a.write)
 
 -- what is completed now is accepted
 completions : (h : PrimaryHistory) → JournalIsAccepted h → JournalIsAccepted (with_completions h)
@@ -32,12 +36,19 @@ completions h all n entry at = elim (get-split h.journal (map (completion_of h) 
 
 -- a write more, or an outcome that is put down, leaves those that are there
 more : (h : PrimaryHistory) (added : Accepted) → JournalIsAccepted h
-    → (n : ℕ) (entry : Completion) → slice_get h.journal n ≡ Some entry → (i : ℕ) × (a : Accepted) × (slice_get (h.writes ++ added ∷ []) i ≡ Some a) × (entry.write ≡ a.write)
+    → (n : ℕ) (entry : Completion) → slice_get h.journal n ≡ Some entry
+    → (i : ℕ) × (a : Accepted) × (slice_get (h.writes ++ added ∷ []) i ≡ Some a) × (entry.write ≡ a.write)
 more h added all n entry at = let was = all n entry at in (was.0, was.1, get-left h.writes (added ∷ []) was.0 was.1 was.2, was.3)
 
-get-outcome : (number : ℕ) (outcome : LocalOutcome) (writes : List Accepted) (i : ℕ) (a : Accepted) → slice_get writes i ≡ Some a → (b : Accepted) × (slice_get (map (set_outcome number outcome) writes) i ≡ Some b) × (a.write ≡ b.write)
+get-outcome : (number : ℕ) (outcome : LocalOutcome) (writes : List Accepted) (i : ℕ) (a : Accepted) → slice_get writes i ≡ Some a
+    → (b : Accepted) × (slice_get (map (set_outcome number outcome) writes) i ≡ Some b) × (a.write ≡ b.write)
 get-outcome number outcome [] i a at = absurd (cc)
-get-outcome number outcome (x ∷ writes) zero a at = let same : x ≡ a = cc in (set_outcome number outcome x, refl, ap (λ (y : Accepted). y.write) (sym same) ∙ go (x.write.number == number))
+get-outcome number outcome (x ∷ writes) zero a at = let same : x ≡ a = cc in (
+  set_outcome number outcome x,
+  refl,
+  ap (λ (y : Accepted). y.write) (sym same)
+      ∙ go (x.write.number == number),
+)
   where
     go : (b : Bool) → x.write ≡ (if b then record x { outcome = outcome } else x).write
     go true = refl
@@ -45,7 +56,8 @@ get-outcome number outcome (x ∷ writes) zero a at = let same : x ≡ a = cc in
 get-outcome number outcome (x ∷ writes) (suc i) a at = get-outcome number outcome writes i a at
 
 outcomes : (h : PrimaryHistory) (number : ℕ) (outcome : LocalOutcome) → JournalIsAccepted h
-    → (n : ℕ) (entry : Completion) → slice_get h.journal n ≡ Some entry → (i : ℕ) × (a : Accepted) × (slice_get (map (set_outcome number outcome) h.writes) i ≡ Some a) × (entry.write ≡ a.write)
+    → (n : ℕ) (entry : Completion) → slice_get h.journal n ≡ Some entry
+    → (i : ℕ) × (a : Accepted) × (slice_get (map (set_outcome number outcome) h.writes) i ≡ Some a) × (entry.write ≡ a.write)
 outcomes h number outcome all n entry at =
     let was = all n entry at in
     let now = get-outcome number outcome h.writes was.0 was.1 was.2 in
@@ -55,16 +67,42 @@ submits : (h : PrimaryHistory) (first : ℕ) (contents : List (List ℕ)) → Jo
 submits h first contents all = go (stands (outward h))
   where
     go : (b : Bool) → JournalIsAccepted (elim b as (λ _. PrimaryHistory) [
-      | true ↦ appending (WriteItem (submission h first contents)) (record h { writes = h.writes ++ record { write = submission h first contents; journal_length = length h.journal; home = Some (last_index h.connections, length (outward h).stream); outcome = Waiting } ∷ [] })
-      | false ↦ record h { writes = h.writes ++ record { write = submission h first contents; journal_length = length h.journal; home = None; outcome = Waiting } ∷ []; marks = marking (submission h first contents) h.marks }
+      | true ↦ appending (WriteItem (submission h first contents))
+          (record h {
+            writes = h.writes ++ record {
+              write = submission h first contents;
+              journal_length = length h.journal;
+              home = Some (record { index = last_index h.connections; place = length (outward h).stream });
+              outcome = Waiting;
+            } ∷ [];
+          })
+      | false ↦ record h {
+        writes = h.writes ++ record {
+          write = submission h first contents;
+          journal_length = length h.journal;
+          home = None;
+          outcome = Waiting;
+        } ∷ [];
+        marks = marking (submission h first contents) h.marks;
+      }
     ])
-    go true = more h (record { write = submission h first contents; journal_length = length h.journal; home = Some (last_index h.connections, length (outward h).stream); outcome = Waiting }) all
+    go true = more h (record {
+      write = submission h first contents;
+      journal_length = length h.journal;
+      home = Some (record { index = last_index h.connections; place = length (outward h).stream });
+      outcome = Waiting;
+    }) all
     go false = more h (record { write = submission h first contents; journal_length = length h.journal; home = None; outcome = Waiting }) all
 
 faults : (h : PrimaryHistory) (number : ℕ) (offsets : List ℕ) → JournalIsAccepted h → JournalIsAccepted (faulted number offsets h)
 faults h number offsets all = go (accepted_at h number)
   where
-    go : (v : Option Accepted) → JournalIsAccepted (elim v as (λ _. PrimaryHistory) [ None ↦ h | Some accepted ↦ with_outcome number (Failed (within (length accepted.write.contents) offsets)) (record h { marks = marking accepted.write h.marks }) ])
+    go : (v : Option Accepted) → JournalIsAccepted
+        (elim v as (λ _. PrimaryHistory) [
+          | None ↦ h
+          | Some accepted ↦ with_outcome number (Failed (within (length accepted.write.contents) offsets))
+              (record h { marks = marking accepted.write h.marks })
+        ])
     go None = all
     go (Some accepted) = outcomes h number (Failed (within (length accepted.write.contents) offsets)) all
 
@@ -76,7 +114,8 @@ begins h FullSync all = all
 -- Every move keeps it.
 journal-kept : IsKeptByMoves JournalIsAccepted JournalIsAccepted
 journal-kept = record {
-  following = following-from JournalIsAccepted JournalIsAccepted JournalIsAccepted completions (λ g over all. all) (λ g on all. all) (λ g over all. all) (λ g all. all);
+  following = following-from JournalIsAccepted JournalIsAccepted JournalIsAccepted completions (λ g over all. all) (λ g on all. all) (λ g over all. all)
+      (λ g all. all);
   opens = λ h sync loss closed words all. all;
   submits = λ h first contents may all. submits h first contents all;
   writes = λ h number waiting all. outcomes h number OnDisk all;
@@ -95,6 +134,8 @@ journal-kept = record {
 }
 
 -- Every run of a primary keeps it.
-pub journal-run : (settings : Settings) (disk : BlockMap) (tuple : Tuple) (marks : ℕ → Bool) (events : List PrimaryEvent) → JournalIsAccepted (primary_run events (primary_opening settings disk tuple marks))
+pub journal-run : (settings : Settings) (disk : BlockMap) (tuple : Tuple) (marks : ℕ → Bool) (events : List PrimaryEvent)
+    → JournalIsAccepted (primary_run events (primary_opening settings disk tuple marks))
 journal-run settings disk tuple marks events =
-    keeps-run JournalIsAccepted JournalIsAccepted journal-kept (kept-by-releases JournalIsAccepted JournalIsAccepted (λ h marks all. all)) events (primary_opening settings disk tuple marks) (λ n entry at. absurd (cc))
+    keeps-run JournalIsAccepted JournalIsAccepted journal-kept (kept-by-releases JournalIsAccepted JournalIsAccepted (λ h marks all. all)) events
+    (primary_opening settings disk tuple marks) (λ n entry at. absurd (cc))

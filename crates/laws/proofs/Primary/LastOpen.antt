@@ -1,7 +1,9 @@
 -- Of a primary's connections the last one alone may be open.
-use Rattle.std.proofs.Common.{ℕ, suc, ◌≡◌, ◌+◌, ◌-◌, ◌<◌, inl, inr, Bool, true, false, List, [], ◌∷◌, ◌++◌, length, Option, Some, None, slice_get, sym, ◌∙◌, ap, subst, arith, length-append, not, refl}
+use Rattle.std.proofs.Common.{ℕ, suc, ◌≡◌, ◌+◌, ◌-◌, ◌<◌, inl, inr, Bool, true, false, List, [], ◌∷◌, ◌++◌, length, Option, Some, None, slice_get, sym, ◌∙◌, ap}
+use Rattle.std.proofs.Common.{subst, arith, length-append, not, refl}
 use Rattle.std.proofs.lemmas.Bool.{both_ways, cases_lt, cases_Bool, and_from}
 use Rattle.std.proofs.lemmas.Option.{slice_get_within}
+use Rattle.blocks.specs.Positions.{StreamPosition}
 use Rattle.blocks.specs.declared.outcome.Decision.{Decision}
 use Rattle.blocks.specs.declared.outcome.Decision.TheVariants.{NoSync, BitmapSync, FullSync}
 use Rattle.model.specs.Stream.{WriteItem, within}
@@ -19,7 +21,8 @@ abbrev pub IsLastOpen : PrimaryHistory → Type 0
 IsLastOpen h = (k : ℕ) (c : Outward) → slice_get h.connections k ≡ Some c → suc k < length h.connections → c.closed ≡ true
 
 -- so one that is open is the last
-pub open-is-last : (h : PrimaryHistory) (k : ℕ) (c : Outward) → IsLastOpen h → slice_get h.connections k ≡ Some c → c.closed ≡ false → (k ≡ last_index h.connections) × (c ≡ outward h)
+pub open-is-last : (h : PrimaryHistory) (k : ℕ) (c : Outward) → IsLastOpen h → slice_get h.connections k ≡ Some c → c.closed ≡ false
+    → (k ≡ last_index h.connections) × (c ≡ outward h)
 open-is-last h k c all at unshut =
     let within = slice_get_within h.connections k c at in
     elim (cases_lt (suc k) (length h.connections)) [
@@ -28,27 +31,34 @@ open-is-last h k c all at unshut =
           let index : k ≡ last_index h.connections = omega arith in
           elim (last-at (no_outward h.tuple) h.connections) [
             | inl none ↦ absurd (let size : length h.connections ≡ 0 = ap length none in omega arith)
-            | inr ends ↦ (index, same-at h.connections (last_index h.connections) c (outward h) (subst (λ (n : ℕ). slice_get h.connections n ≡ Some c) index at) ends)
+            | inr ends ↦ (
+              index,
+              same-at h.connections (last_index h.connections) c (outward h) (subst (λ (n : ℕ). slice_get h.connections n ≡ Some c) index at)
+                  ends,
+            )
           ]
     ]
 
 -- no stream stands: each home is on a closed connection
-pub alone-at-rest : (h : PrimaryHistory) → HasHomes h → IsLastOpen h → stands (outward h) ≡ false → (i : ℕ) (w : Accepted) → slice_get h.writes i ≡ Some w → is_alone h w ≡ true
+pub alone-at-rest : (h : PrimaryHistory) → HasHomes h → IsLastOpen h → stands (outward h) ≡ false → (i : ℕ) (w : Accepted) → slice_get h.writes i ≡ Some w
+    → is_alone h w ≡ true
 alone-at-rest h homes closed resting i w at = go w.home refl
   where
-    go : (v : Option (ℕ × ℕ)) → w.home ≡ v → is_alone h w ≡ true
+    go : (v : Option StreamPosition) → w.home ≡ v → is_alone h w ≡ true
     go None is = alone-homeless h w is
     go (Some home) is =
-        let was = homes.housed i home.0 home.1 w at is in
+        let was = homes.housed i home.index home.place w at is in
         alone-at h w home was.0 is was.1 ∙ elim (cases_Bool was.0.closed) [
           | inl shut ↦ shut
           | inr unshut ↦ absurd (
-              let end : was.0 ≡ outward h = (open-is-last h home.0 was.0 closed was.1 unshut).1 in
+              let end : was.0 ≡ outward h = (open-is-last h home.index was.0 closed was.1 unshut).1 in
               let fresh : was.0.begun ≡ false = elim (cases_Bool was.0.begun) [
                 | inr new ↦ new
-                | inl begun ↦ absurd (both_ways (stands (outward h)) resting (subst (λ (c : Outward). stands c ≡ true) end (and_from (not was.0.closed) was.0.begun (subst (λ b. not b ≡ true) (sym unshut) refl) begun)))
+                | inl begun ↦ absurd (both_ways (stands (outward h)) resting
+                    (subst (λ (c : Outward). stands c ≡ true) end
+                    (and_from (not was.0.closed) was.0.begun (subst (λ b. not b ≡ true) (sym unshut) refl) begun)))
               ] in
-              let empty : was.0.stream ≡ [] = homes.empty home.0 was.0 was.1 fresh in
+              let empty : was.0.stream ≡ [] = homes.empty home.index was.0 was.1 fresh in
               let item = was.2 in
               cc (empty, item))
         ]
@@ -64,7 +74,17 @@ changes (x ∷ cs) f all k c at less =
 -- a new connection comes where the last one is closed
 opens : (h : PrimaryHistory) (sync loss : ℕ) → (outward h).closed ≡ true → IsLastOpen h → IsLastOpen (opened h sync loss)
 opens h sync loss closed all k c at less =
-    let new : Outward = record { sync = sync; loss = loss; hello = h.tuple; stream = []; pushed = 0; taken = []; refused = false; begun = false; closed = false } in
+    let new : Outward = record {
+      sync = sync;
+      loss = loss;
+      hello = h.tuple;
+      stream = [];
+      pushed = 0;
+      taken = [];
+      refused = false;
+      begun = false;
+      closed = false;
+    } in
     let size : length (h.connections ++ new ∷ []) ≡ length h.connections + 1 = length-append h.connections (new ∷ []) in
     elim (get-more h.connections new k c at) [
       | inr added ↦ absurd (let here = added.0 in omega arith)
@@ -87,8 +107,24 @@ submits : (h : PrimaryHistory) (first : ℕ) (contents : List (List ℕ)) → Is
 submits h first contents all = go (stands (outward h))
   where
     go : (b : Bool) → IsLastOpen (elim b as (λ _. PrimaryHistory) [
-      | true ↦ appending (WriteItem (submission h first contents)) (record h { writes = h.writes ++ record { write = submission h first contents; journal_length = length h.journal; home = Some (last_index h.connections, length (outward h).stream); outcome = Waiting } ∷ [] })
-      | false ↦ record h { writes = h.writes ++ record { write = submission h first contents; journal_length = length h.journal; home = None; outcome = Waiting } ∷ []; marks = marking (submission h first contents) h.marks }
+      | true ↦ appending (WriteItem (submission h first contents))
+          (record h {
+            writes = h.writes ++ record {
+              write = submission h first contents;
+              journal_length = length h.journal;
+              home = Some (record { index = last_index h.connections; place = length (outward h).stream });
+              outcome = Waiting;
+            } ∷ [];
+          })
+      | false ↦ record h {
+        writes = h.writes ++ record {
+          write = submission h first contents;
+          journal_length = length h.journal;
+          home = None;
+          outcome = Waiting;
+        } ∷ [];
+        marks = marking (submission h first contents) h.marks;
+      }
     ])
     go true = changes h.connections _ all
     go false = all
@@ -96,7 +132,12 @@ submits h first contents all = go (stands (outward h))
 faults : (h : PrimaryHistory) (number : ℕ) (offsets : List ℕ) → IsLastOpen h → IsLastOpen (faulted number offsets h)
 faults h number offsets all = go (accepted_at h number)
   where
-    go : (v : Option Accepted) → IsLastOpen (elim v as (λ _. PrimaryHistory) [ None ↦ h | Some accepted ↦ with_outcome number (Failed (within (length accepted.write.contents) offsets)) (record h { marks = marking accepted.write h.marks }) ])
+    go : (v : Option Accepted) → IsLastOpen
+        (elim v as (λ _. PrimaryHistory) [
+          | None ↦ h
+          | Some accepted ↦ with_outcome number (Failed (within (length accepted.write.contents) offsets))
+              (record h { marks = marking accepted.write h.marks })
+        ])
     go None = all
     go (Some accepted) = all
 
@@ -108,7 +149,8 @@ begins h FullSync all = changes h.connections _ all
 -- Every move keeps it.
 pub last-open-kept : IsKeptByMoves IsLastOpen IsLastOpen
 last-open-kept = record {
-  following = following-from IsLastOpen IsLastOpen IsLastOpen (λ h all. all) (λ g over all. changes g.connections _ all) (λ g on all. all) (λ g over all. changes g.connections _ all) (λ g all. all);
+  following = following-from IsLastOpen IsLastOpen IsLastOpen (λ h all. all) (λ g over all. changes g.connections _ all) (λ g on all. all)
+      (λ g over all. changes g.connections _ all) (λ g all. all);
   opens = λ h sync loss closed fresh all. opens h sync loss closed all;
   submits = λ h first contents may all. submits h first contents all;
   writes = λ h number waits all. all;

@@ -1,38 +1,40 @@
 -- Every move of a primary keeps its streams lawful, and after every step the last epoch of a stream that stands is open.
-use Rattle.std.proofs.Common.{ℕ, ◌≡◌, ◌<◌, inl, inr, Bool, true, false, cond, ◌&&◌, ◌||◌, List, [], ◌∷◌, ◌++◌, length, Option, Some, None, slice_get, Ok, refl, sym, ◌∙◌, ap, subst, arith, ◌==◌, nat_le, nat_lt, filter}
+use Rattle.std.proofs.Common.{ℕ, ◌≡◌, inl, inr, Bool, true, false, List, [], ◌∷◌, ◌++◌, length, Option, Some, None, slice_get, Ok, refl, sym, ◌∙◌, ap, subst}
+use Rattle.std.proofs.Common.{arith, nat_lt}
 use Rattle.std.specs.Prelude.{unwrap_or}
-use Rattle.std.specs.List.{list_any}
-use Rattle.std.proofs.lemmas.Bool.{both_ways, and_parts, and_right, or_from, leb-true, false_from_ne_true}
-use Rattle.std.proofs.lemmas.List.Folds.{list_any-append}
+use Rattle.std.proofs.lemmas.Bool.{both_ways, and_parts}
 use Rattle.blocks.specs.declared.settings.Settings.{Settings}
 use Rattle.blocks.specs.declared.tuple.Tuple.{Tuple}
 use Rattle.blocks.specs.declared.outcome.Decision.{Decision}
 use Rattle.blocks.specs.declared.outcome.Decision.TheVariants.{NoSync, BitmapSync, FullSync}
 use Rattle.blocks.specs.SettingsRange.{IsInRange}
 use Rattle.model.specs.Contents.{BlockMap}
-use Rattle.model.specs.Stream.{Item, WriteItem, ResyncItem, BarrierItem, SyncUuidItem, UuidsItem, is_write, last_epoch, items_of_epoch, epoch_size, IsLawful, within}
+use Rattle.model.specs.Stream.{Item, WriteItem, ResyncItem, BarrierItem, SyncUuidItem, UuidsItem, last_epoch, epoch_size, IsLawful, within}
 use Rattle.model.specs.Frames.{UuidsFrame}
 use Rattle.model.specs.Identifiers.{sync_end}
 use Rattle.model.specs.Marks.{Marks, marking}
-use Rattle.model.specs.Primary.{Waiting, Failed, Accepted, Outward, PrimaryHistory, primary_opening, no_outward, outward, last_of, last_index, change_last, with_outward, stands, in_resync, local_map, under_way, free_block}
-use Rattle.model.specs.PrimarySteps.{is_settled, epoch_is_over, appending, resync_is_over, ending_resync, follows, submission, submitted, with_outcome, faulted, accepted_at, opened}
+use Rattle.model.specs.Primary.{Waiting, Failed, Accepted, Outward, PrimaryHistory, primary_opening, no_outward, outward, last_of, last_index, change_last}
+use Rattle.model.specs.Primary.{with_outward, stands, in_resync, local_map, under_way, free_block}
+use Rattle.model.specs.PrimarySteps.{epoch_is_over, appending, resync_is_over, ending_resync, follows, submission, submitted, with_outcome, faulted}
+use Rattle.model.specs.PrimarySteps.{accepted_at, opened}
 use Rattle.model.specs.Acknowledgements.{begun_with}
 use Rattle.model.specs.LocalRuns.{PrimaryEvent, primary_run}
 use Rattle.laws.proofs.Lists.Last.{get-change-back, change-twice, last-change}
+use Rattle.laws.proofs.Rules.EpochEnds.{most_writes, TakesWrites, takes-writes, HasRoom, goes-on, over-standing, not-over, empty-on}
 use Rattle.laws.proofs.Streams.Places.{barriers-append}
 use Rattle.laws.proofs.Primary.Moves.{following-from, IsKeptByMoves, IsKeptByReleases, kept-by-releases, MaySubmit, keeps-run, with_frame, refusing, pushing}
 use Rattle.laws.proofs.Primary.Homes.{HasHomes}
 use Rattle.laws.proofs.Primary.HomesMoves.{homes-kept, homes-marks, homes-opening}
-use Rattle.laws.proofs.Primary.StaysClosed.{open-stands, over-stands}
-use Rattle.laws.proofs.Streams.Lawful.{MayFollow, lawful-append, lawful-empty, meets-none, epoch-items-grow, size-grow, barrier-empties}
-use Rattle.laws.proofs.Primary.LastEpoch.{end-open, write-follows, resync-follows}
+use Rattle.laws.proofs.Primary.StaysClosed.{open-stands}
+use Rattle.laws.proofs.Rules.ResyncEnds.{over-stands}
+use Rattle.laws.proofs.Streams.Lawful.{MayFollow, lawful-append, lawful-empty, meets-none, size-grow, barrier-empties}
+use Rattle.laws.proofs.Primary.LastEpoch.{unsettled-more, write-follows, resync-follows}
 use Rattle.laws.proofs.Lists.Elements.{get-more}
-use Rattle.laws.proofs.Lists.Picks.{any-none}
 
 -- all streams are lawful
 pub record HasLawfulStreams (settings : Settings) (h : PrimaryHistory) : Type 0 where
   pub setting : h.settings ≡ settings
-  pub lawful : (k : ℕ) (c : Outward) → slice_get h.connections k ≡ Some c → IsLawful settings.max_epoch c.stream
+  pub lawful : (k : ℕ) (c : Outward) → slice_get h.connections k ≡ Some c → IsLawful (most_writes settings) c.stream
 
 -- and the last epoch of a stream that stands is not over
 pub record IsLawfulBetween (settings : Settings) (h : PrimaryHistory) : Type 0 where
@@ -42,45 +44,39 @@ pub record IsLawfulBetween (settings : Settings) (h : PrimaryHistory) : Type 0 w
 -- What follows a step's effect.
 
 -- the last end after a change of it
-pub last-changed : (h : PrimaryHistory) (f : Outward → Outward) (other : Outward) → (outward h).closed ≡ false → last_of other (change_last f h.connections) ≡ f (outward h)
+pub last-changed : (h : PrimaryHistory) (f : Outward → Outward) (other : Outward) → (outward h).closed ≡ false
+    → last_of other (change_last f h.connections) ≡ f (outward h)
 last-changed h f other standing = elim (last-change f (no_outward h.tuple) other h.connections) [
   | inl none ↦ absurd (both_ways (outward h).closed standing (ap (λ (l : List Outward). (last_of (no_outward h.tuple) l).closed) none))
   | inr last ↦ last
 ]
 
--- whether the last epoch is over of a history with this for its last end
-abbrev is_over_at : PrimaryHistory → Outward → Bool
-is_over_at h c = stands c && (list_any (is_settled h c) (items_of_epoch c.stream (last_epoch c.stream)) || nat_le h.settings.max_epoch (epoch_size c.stream (last_epoch c.stream)))
-
--- an epoch that has room and nothing settled is not over
-not-over : (h : PrimaryHistory) (c : Outward) → list_any (is_settled h c) (items_of_epoch c.stream (last_epoch c.stream)) ≡ false
-    → epoch_size c.stream (last_epoch c.stream) < h.settings.max_epoch → is_over_at h c ≡ false
-not-over h c unsettled room = and_right (stands c) _ (or_from _ _ unsettled (false_from_ne_true _ (λ full.
-    let more = leb-true h.settings.max_epoch (epoch_size c.stream (last_epoch c.stream)) full in
-    omega arith)))
-
 -- The last connection changes, and its stream stays lawful.
-lawful-change : (settings : Settings) (h later : PrimaryHistory) (f : Outward → Outward) → later.settings ≡ h.settings → later.connections ≡ change_last f h.connections
-    → ((k : ℕ) → slice_get h.connections k ≡ Some (outward h) → IsLawful settings.max_epoch (outward h).stream → IsLawful settings.max_epoch (f (outward h)).stream)
+lawful-change : (settings : Settings) (h later : PrimaryHistory) (f : Outward → Outward) → later.settings ≡ h.settings
+    → later.connections ≡ change_last f h.connections
+    → ((k : ℕ) → slice_get h.connections k ≡ Some (outward h) → IsLawful (most_writes settings) (outward h).stream
+    → IsLawful (most_writes settings) (f (outward h)).stream)
     → HasLawfulStreams settings h → HasLawfulStreams settings later
 lawful-change settings h later f same connections keeps streams = record {
   setting = same ∙ streams.setting;
   lawful = λ k d at. elim (get-change-back f (no_outward h.tuple) h.connections k d (subst (λ (l : List Outward). slice_get l k ≡ Some d) connections at)) [
     | inl old ↦ streams.lawful k d old
-    | inr changed ↦ subst (λ (x : Outward). IsLawful settings.max_epoch x.stream) (sym changed.0) (keeps k changed.1 (streams.lawful k (outward h) changed.1))
+    | inr changed ↦ subst (λ (x : Outward). IsLawful (most_writes settings) x.stream) (sym changed.0)
+        (keeps k changed.1 (streams.lawful k (outward h) changed.1))
   ];
 }
 
 -- no connection changes
-lawful-same : (settings : Settings) (h later : PrimaryHistory) → later.settings ≡ h.settings → later.connections ≡ h.connections → HasLawfulStreams settings h → HasLawfulStreams settings later
+lawful-same : (settings : Settings) (h later : PrimaryHistory) → later.settings ≡ h.settings → later.connections ≡ h.connections → HasLawfulStreams settings h
+    → HasLawfulStreams settings later
 lawful-same settings h later same connections streams = record {
   setting = same ∙ streams.setting;
   lawful = λ k d at. streams.lawful k d (subst (λ (l : List Outward). slice_get l k ≡ Some d) connections at);
 }
 
 -- the last epoch's barrier may follow
-barrier-follows : (max_epoch : ℕ) (items : List Item) → MayFollow max_epoch items (BarrierItem (last_epoch items))
-barrier-follows max_epoch items = record {
+barrier-follows : (most : ℕ) (items : List Item) → MayFollow most items (BarrierItem (last_epoch items))
+barrier-follows most items = record {
   barrier = λ epoch is. let same : last_epoch items ≡ epoch = cc in sym same;
   rising = λ place a b at is. absurd (cc);
   apart = λ place item same at. meets-none item (BarrierItem (last_epoch items)) refl;
@@ -88,8 +84,8 @@ barrier-follows max_epoch items = record {
 }
 
 -- the end of a resync may follow every stream
-uuids-follow : (max_epoch : ℕ) (items : List Item) (tuple : Tuple) → MayFollow max_epoch items (UuidsItem tuple)
-uuids-follow max_epoch items tuple = record {
+uuids-follow : (most : ℕ) (items : List Item) (tuple : Tuple) → MayFollow most items (UuidsItem tuple)
+uuids-follow most items tuple = record {
   barrier = λ epoch is. absurd (cc);
   rising = λ place a b at is. absurd (cc);
   apart = λ place item same at. meets-none item (UuidsItem tuple) refl;
@@ -97,20 +93,20 @@ uuids-follow max_epoch items tuple = record {
 }
 
 -- behind a barrier the last epoch is open
-lawful-parts : (settings : Settings) → 0 < settings.max_epoch → (g : PrimaryHistory) → epoch_is_over g ≡ true → HasLawfulStreams settings g
+lawful-parts : (settings : Settings) → TakesWrites settings → (g : PrimaryHistory) → epoch_is_over g ≡ true → HasLawfulStreams settings g
     → IsLawfulBetween settings (appending (BarrierItem (last_epoch (outward g).stream)) g)
 lawful-parts settings bound g over streams =
     let c : Outward = outward g in
     let f : Outward → Outward = λ x. record x { stream = x.stream ++ BarrierItem (last_epoch c.stream) ∷ [] } in
     let later : PrimaryHistory = appending (BarrierItem (last_epoch c.stream)) g in
-    let standing = open-stands c (and_parts (stands c) _ over).0 in
+    let standing = open-stands c (over-standing g over) in
     let last : outward later ≡ f c = last-changed g f (no_outward g.tuple) standing in
     let empty = barrier-empties c.stream (last_epoch c.stream) in
-    let setting : g.settings.max_epoch ≡ settings.max_epoch = ap (λ (s : Settings). s.max_epoch) streams.setting in
-    let size : epoch_size (f c).stream (last_epoch (f c).stream) ≡ 0 = ap (λ (l : List (ℕ × Item)). length (filter (λ (entry : ℕ × Item). is_write entry.1) l)) empty in
     record {
-      streams = lawful-change settings g later f refl refl (λ k at lawful. lawful-append settings.max_epoch c.stream (BarrierItem (last_epoch c.stream)) lawful (barrier-follows settings.max_epoch c.stream)) streams;
-      on = ap (is_over_at later) last ∙ not-over later (f c) (ap (list_any (is_settled later (f c))) empty) (omega arith);
+      streams = lawful-change settings g later f refl refl
+          (λ k at lawful. lawful-append (most_writes settings) c.stream (BarrierItem (last_epoch c.stream)) lawful
+          (barrier-follows (most_writes settings) c.stream)) streams;
+      on = empty-on later (f c) last (subst TakesWrites (sym streams.setting) bound) empty;
     }
 
 -- the end of a resync leaves the last epoch open
@@ -122,57 +118,82 @@ lawful-ends settings g over between =
     let later : PrimaryHistory = ending_resync g in
     let stood = over-stands g over in
     let last : outward later ≡ f c = last-changed g f (no_outward later.tuple) (open-stands c stood) in
-    let going = end-open g stood between.on in
+    let going = goes-on g stood between.on in
     let grown = barriers-append c.stream (UuidsItem (sync_end g.tuple) ∷ []) in
     let same : last_epoch (c.stream ++ UuidsItem (sync_end g.tuple) ∷ []) ≡ last_epoch c.stream = omega arith in
-    let items : items_of_epoch (f c).stream (last_epoch (f c).stream) ≡ items_of_epoch c.stream (last_epoch c.stream) ++ cond (last_epoch c.stream == last_epoch c.stream) ((length c.stream, item) ∷ []) []
-    = ap (items_of_epoch (f c).stream) same ∙ epoch-items-grow c.stream item (last_epoch c.stream) in
     let size : epoch_size (f c).stream (last_epoch (f c).stream) ≡ epoch_size c.stream (last_epoch c.stream)
-    = ap (epoch_size (f c).stream) same ∙ elim (size-grow c.stream item (last_epoch c.stream)) [ inl kept ↦ kept | inr more ↦ absurd (let no = more.0 in cc) ] in
-    let room = going.room in
-    let none : (b : Bool) → list_any (is_settled later (f c)) (cond b ((length c.stream, item) ∷ []) []) ≡ false = λ b. elim b as (λ t. list_any (is_settled later (f c)) (cond t ((length c.stream, item) ∷ []) []) ≡ false) [
-      | true ↦ or_from _ _ (or_from _ _ (any-none _ g.writes (λ accepted. refl)) refl) refl
-      | false ↦ refl
-    ] in
-    let unsettled : list_any (is_settled later (f c)) (items_of_epoch (f c).stream (last_epoch (f c).stream)) ≡ false
-    = ap (list_any (is_settled later (f c))) items ∙ (list_any-append (is_settled later (f c)) (items_of_epoch c.stream (last_epoch c.stream)) _ ∙ or_from _ _ going.unsettled (none (last_epoch c.stream == last_epoch c.stream))) in
+    = ap (epoch_size (f c).stream) same
+    ∙ elim (size-grow c.stream item (last_epoch c.stream)) [ inl kept ↦ kept | inr more ↦ absurd (let no = more.0 in cc) ] in
     record {
-      streams = lawful-change settings g later f refl refl (λ k at lawful. lawful-append settings.max_epoch c.stream item lawful (uuids-follow settings.max_epoch c.stream (sync_end g.tuple))) between.streams;
-      on = ap (is_over_at later) last ∙ not-over later (f c) unsettled (omega arith);
+      streams = lawful-change settings g later f refl refl
+          (λ k at lawful. lawful-append (most_writes settings) c.stream item lawful (uuids-follow (most_writes settings) c.stream (sync_end g.tuple)))
+          between.streams;
+      on = not-over later (f c) last (record {
+        unsettled = unsettled-more g later c (f c) item refl refl going.unsettled (λ number was i a at same. was i a at same) (λ write is. absurd (cc))
+            (λ place block contents. refl) refl;
+        room = subst (HasRoom g.settings) (sym size) going.room;
+      });
     }
 
-lawful-following : (settings : Settings) → 0 < settings.max_epoch → (h : PrimaryHistory) → HasLawfulStreams settings h → IsLawfulBetween settings (follows h).history
-lawful-following settings bound = following-from (HasLawfulStreams settings) (IsLawfulBetween settings) (IsLawfulBetween settings) (λ h streams. lawful-same settings h _ refl refl streams)
+lawful-following : (settings : Settings) → TakesWrites settings → (h : PrimaryHistory) → HasLawfulStreams settings h
+    → IsLawfulBetween settings (follows h).history
+lawful-following settings bound = following-from (HasLawfulStreams settings) (IsLawfulBetween settings) (IsLawfulBetween settings)
+    (λ h streams. lawful-same settings h _ refl refl streams)
     (lawful-parts settings bound) (λ g on streams. record { streams = streams; on = on }) (lawful-ends settings) (λ g between. between)
 
 -- Effects.
 
-lawful-submits : (settings : Settings) (h : PrimaryHistory) (first : ℕ) (contents : List (List ℕ)) → MaySubmit h first contents → HasHomes h → IsLawfulBetween settings h
+lawful-submits : (settings : Settings) (h : PrimaryHistory) (first : ℕ) (contents : List (List ℕ)) → MaySubmit h first contents → HasHomes h
+    → IsLawfulBetween settings h
     → HasLawfulStreams settings (submitted h first contents)
 lawful-submits settings h first contents may homes between = go (stands (outward h)) refl
   where
     go : (b : Bool) → stands (outward h) ≡ b → HasLawfulStreams settings (elim b as (λ _. PrimaryHistory) [
-      | true ↦ appending (WriteItem (submission h first contents)) (record h { writes = h.writes ++ record { write = submission h first contents; journal_length = length h.journal; home = Some (last_index h.connections, length (outward h).stream); outcome = Waiting } ∷ [] })
-      | false ↦ record h { writes = h.writes ++ record { write = submission h first contents; journal_length = length h.journal; home = None; outcome = Waiting } ∷ []; marks = marking (submission h first contents) h.marks }
+      | true ↦ appending (WriteItem (submission h first contents))
+          (record h {
+            writes = h.writes ++ record {
+              write = submission h first contents;
+              journal_length = length h.journal;
+              home = Some (record { index = last_index h.connections; place = length (outward h).stream });
+              outcome = Waiting;
+            } ∷ [];
+          })
+      | false ↦ record h {
+        writes = h.writes ++ record {
+          write = submission h first contents;
+          journal_length = length h.journal;
+          home = None;
+          outcome = Waiting;
+        } ∷ [];
+        marks = marking (submission h first contents) h.marks;
+      }
     ])
     go true is = lawful-change settings h _ (λ c. record c { stream = c.stream ++ WriteItem (submission h first contents) ∷ [] }) refl refl
-        (λ k at lawful. lawful-append settings.max_epoch (outward h).stream (WriteItem (submission h first contents)) lawful
-        (subst (λ (s : Settings). MayFollow s.max_epoch (outward h).stream (WriteItem (submission h first contents))) between.streams.setting (write-follows h k first contents homes at is between.on may.free))) between.streams
+        (λ k at lawful. lawful-append (most_writes settings) (outward h).stream (WriteItem (submission h first contents)) lawful
+        (subst (λ (s : Settings). MayFollow (most_writes s) (outward h).stream (WriteItem (submission h first contents))) between.streams.setting
+        (write-follows h k first contents homes at is between.on may.free))) between.streams
     go false is = lawful-same settings h _ refl refl between.streams
 
-lawful-resyncs : (settings : Settings) (h : PrimaryHistory) (block : ℕ) → stands (outward h) ≡ true → nat_lt 0 (length (under_way (outward h))) ≡ false → free_block h ≡ Some block
+lawful-resyncs : (settings : Settings) (h : PrimaryHistory) (block : ℕ) → stands (outward h) ≡ true → nat_lt 0 (length (under_way (outward h))) ≡ false
+    → free_block h ≡ Some block
     → HasHomes h → IsLawfulBetween settings h
     → HasLawfulStreams settings (appending (ResyncItem block (unwrap_or (local_map h block) [])) h)
 lawful-resyncs settings h block standing alone free homes between =
     lawful-change settings h _ (λ c. record c { stream = c.stream ++ ResyncItem block (unwrap_or (local_map h block) []) ∷ [] }) refl refl
-    (λ k at lawful. lawful-append settings.max_epoch (outward h).stream (ResyncItem block (unwrap_or (local_map h block) [])) lawful
-    (subst (λ (s : Settings). MayFollow s.max_epoch (outward h).stream (ResyncItem block (unwrap_or (local_map h block) []))) between.streams.setting
+    (λ k at lawful. lawful-append (most_writes settings) (outward h).stream (ResyncItem block (unwrap_or (local_map h block) [])) lawful
+    (subst (λ (s : Settings). MayFollow (most_writes s) (outward h).stream (ResyncItem block (unwrap_or (local_map h block) []))) between.streams.setting
     (resync-follows h k block (unwrap_or (local_map h block) []) homes at standing between.on alone free))) between.streams
 
-lawful-faults : (settings : Settings) (h : PrimaryHistory) (number : ℕ) (offsets : List ℕ) → HasLawfulStreams settings h → HasLawfulStreams settings (faulted number offsets h)
+lawful-faults : (settings : Settings) (h : PrimaryHistory) (number : ℕ) (offsets : List ℕ) → HasLawfulStreams settings h
+    → HasLawfulStreams settings (faulted number offsets h)
 lawful-faults settings h number offsets streams = go (accepted_at h number)
   where
-    go : (v : Option Accepted) → HasLawfulStreams settings (elim v as (λ _. PrimaryHistory) [ None ↦ h | Some accepted ↦ with_outcome number (Failed (within (length accepted.write.contents) offsets)) (record h { marks = marking accepted.write h.marks }) ])
+    go : (v : Option Accepted) → HasLawfulStreams settings
+        (elim v as (λ _. PrimaryHistory) [
+          | None ↦ h
+          | Some accepted ↦ with_outcome number (Failed (within (length accepted.write.contents) offsets))
+              (record h { marks = marking accepted.write h.marks })
+        ])
     go None = streams
     go (Some accepted) = lawful-same settings h _ refl refl streams
 
@@ -184,13 +205,16 @@ lawful-begins settings h peer decided streams = go decided
     taken : PrimaryHistory
     taken = record (with_outward (with_frame (Ok (UuidsFrame peer))) h) { peer = Some peer }
 
-    twice : (later : PrimaryHistory) (g : Outward → Outward) → later.settings ≡ h.settings → later.connections ≡ change_last g (change_last (with_frame (Ok (UuidsFrame peer))) h.connections)
-        → (IsLawful settings.max_epoch (outward h).stream → IsLawful settings.max_epoch (g (with_frame (Ok (UuidsFrame peer)) (outward h))).stream) → HasLawfulStreams settings later
+    twice : (later : PrimaryHistory) (g : Outward → Outward) → later.settings ≡ h.settings
+        → later.connections ≡ change_last g (change_last (with_frame (Ok (UuidsFrame peer))) h.connections)
+        → (IsLawful (most_writes settings) (outward h).stream → IsLawful (most_writes settings) (g (with_frame (Ok (UuidsFrame peer)) (outward h))).stream)
+        → HasLawfulStreams settings later
     twice later g same connections keeps =
-        lawful-change settings h later (λ c. g (with_frame (Ok (UuidsFrame peer)) c)) same (connections ∙ change-twice (with_frame (Ok (UuidsFrame peer))) g h.connections) (λ k at lawful. keeps lawful) streams
+        lawful-change settings h later (λ c. g (with_frame (Ok (UuidsFrame peer)) c)) same (connections
+        ∙ change-twice (with_frame (Ok (UuidsFrame peer))) g h.connections) (λ k at lawful. keeps lawful) streams
 
-    start : (word : ℕ) → IsLawful settings.max_epoch (SyncUuidItem word ∷ [])
-    start word = lawful-append settings.max_epoch [] (SyncUuidItem word) (lawful-empty settings.max_epoch) (record {
+    start : (word : ℕ) → IsLawful (most_writes settings) (SyncUuidItem word ∷ [])
+    start word = lawful-append (most_writes settings) [] (SyncUuidItem word) (lawful-empty (most_writes settings)) (record {
       barrier = λ epoch is. absurd (cc);
       rising = λ place a b at is. absurd (cc);
       apart = λ place item same at. absurd (cc);
@@ -206,9 +230,19 @@ lawful-begins settings h peer decided streams = go decided
 lawful-opens : (settings : Settings) (h : PrimaryHistory) (sync loss : ℕ) → HasLawfulStreams settings h → HasLawfulStreams settings (opened h sync loss)
 lawful-opens settings h sync loss streams = record {
   setting = streams.setting;
-  lawful = λ k c at. elim (get-more h.connections (record { sync = sync; loss = loss; hello = h.tuple; stream = []; pushed = 0; taken = []; refused = false; begun = false; closed = false }) k c at) [
+  lawful = λ k c at. elim (get-more h.connections (record {
+    sync = sync;
+    loss = loss;
+    hello = h.tuple;
+    stream = [];
+    pushed = 0;
+    taken = [];
+    refused = false;
+    begun = false;
+    closed = false;
+  }) k c at) [
     | inl old ↦ streams.lawful k c old
-    | inr new ↦ subst (λ (x : Outward). IsLawful settings.max_epoch x.stream) (sym new.1) (lawful-empty settings.max_epoch)
+    | inr new ↦ subst (λ (x : Outward). IsLawful (most_writes settings) x.stream) (sym new.1) (lawful-empty (most_writes settings))
   ];
 }
 
@@ -220,7 +254,7 @@ Before settings h = HasHomes h × IsLawfulBetween settings h
 abbrev pub After : Settings → PrimaryHistory → Type 0
 After settings h = HasHomes h × HasLawfulStreams settings h
 
-pub lawful-kept : (settings : Settings) → 0 < settings.max_epoch → IsKeptByMoves (Before settings) (After settings)
+pub lawful-kept : (settings : Settings) → TakesWrites settings → IsKeptByMoves (Before settings) (After settings)
 lawful-kept settings bound = record {
   following = λ h p. (homes-kept.following h p.0, lawful-following settings bound h p.1);
   opens = λ h sync loss closed fresh p. (homes-kept.opens h sync loss closed fresh p.0, lawful-opens settings h sync loss p.1.streams);
@@ -228,19 +262,44 @@ lawful-kept settings bound = record {
   writes = λ h number waiting p. (homes-kept.writes h number waiting p.0, lawful-same settings h _ refl refl p.1.streams);
   faults = λ h number offsets waiting p. (homes-kept.faults h number offsets waiting p.0, lawful-faults settings h number offsets p.1.streams);
   sends = λ h standing due p. (homes-kept.sends h standing due p.0, lawful-change settings h _ pushing refl refl (λ k at lawful. lawful) p.1.streams);
-  greets = λ h frame standing new met p. (homes-kept.greets h frame standing new met p.0, lawful-change settings h _ (with_frame frame) refl refl (λ k at lawful. lawful) p.1.streams);
-  begins = λ h peer decided standing new late is fresh p. (homes-kept.begins h peer decided standing new late is fresh p.0, lawful-begins settings h peer decided p.1.streams);
-  receives = λ h ack standing begun may p. (homes-kept.receives h ack standing begun may p.0, lawful-change settings h _ (with_frame _) refl refl (λ k at lawful. lawful) p.1.streams);
-  applies = λ h ack standing begun may p. (homes-kept.applies h ack standing begun may p.0, lawful-change settings h _ (with_frame _) refl refl (λ k at lawful. lawful) p.1.streams);
-  clears = λ h ack standing begun may p. (homes-kept.clears h ack standing begun may p.0, lawful-change settings h _ (with_frame _) refl refl (λ k at lawful. lawful) p.1.streams);
-  confirms = λ h number size standing begun turn p. (homes-kept.confirms h number size standing begun turn p.0, lawful-change settings h _ (with_frame _) refl refl (λ k at lawful. lawful) p.1.streams);
+  greets = λ h frame standing new met p. (
+    homes-kept.greets h frame standing new met p.0,
+    lawful-change settings h _ (with_frame frame) refl refl (λ k at lawful. lawful) p.1.streams,
+  );
+  begins = λ h peer decided standing new late is fresh p. (
+    homes-kept.begins h peer decided standing new late is fresh p.0,
+    lawful-begins settings h peer decided p.1.streams,
+  );
+  receives = λ h ack standing begun may p. (
+    homes-kept.receives h ack standing begun may p.0,
+    lawful-change settings h _ (with_frame _) refl refl (λ k at lawful. lawful) p.1.streams,
+  );
+  applies = λ h ack standing begun may p. (
+    homes-kept.applies h ack standing begun may p.0,
+    lawful-change settings h _ (with_frame _) refl refl (λ k at lawful. lawful) p.1.streams,
+  );
+  clears = λ h ack standing begun may p. (
+    homes-kept.clears h ack standing begun may p.0,
+    lawful-change settings h _ (with_frame _) refl refl (λ k at lawful. lawful) p.1.streams,
+  );
+  confirms = λ h number size standing begun turn p. (
+    homes-kept.confirms h number size standing begun turn p.0,
+    lawful-change settings h _ (with_frame _) refl refl (λ k at lawful. lawful) p.1.streams,
+  );
   refuses = λ h frame peer standing p. (
     homes-kept.refuses h frame peer standing p.0,
     lawful-change settings h _ (λ c. record c { taken = c.taken ++ frame ∷ []; refused = true; closed = true }) refl
-        (ap (change_last (λ (c : Outward). record c { closed = true })) (change-twice (with_frame frame) refusing h.connections) ∙ change-twice (λ c. refusing (with_frame frame c)) (λ c. record c { closed = true }) h.connections) (λ k at lawful. lawful) p.1.streams,
+        (ap (change_last (λ (c : Outward). record c { closed = true })) (change-twice (with_frame frame) refusing h.connections)
+        ∙ change-twice (λ c. refusing (with_frame frame c)) (λ c. record c { closed = true }) h.connections) (λ k at lawful. lawful) p.1.streams,
   );
-  resyncs = λ h block runs alone is p. (homes-kept.resyncs h block runs alone is p.0, lawful-resyncs settings h block (and_parts (stands (outward h)) (in_resync (outward h).stream) runs).0 alone is p.0 p.1);
-  closes = λ h standing p. (homes-kept.closes h standing p.0, lawful-change settings h _ (λ c. record c { closed = true }) refl refl (λ k at lawful. lawful) p.1.streams);
+  resyncs = λ h block runs alone is p. (
+    homes-kept.resyncs h block runs alone is p.0,
+    lawful-resyncs settings h block (and_parts (stands (outward h)) (in_resync (outward h).stream) runs).0 alone is p.0 p.1,
+  );
+  closes = λ h standing p. (
+    homes-kept.closes h standing p.0,
+    lawful-change settings h _ (λ c. record c { closed = true }) refl refl (λ k at lawful. lawful) p.1.streams,
+  );
   receipts = λ h number p. (homes-kept.receipts h number p.0, record { streams = lawful-same settings h _ refl refl p.1.streams; on = p.1.on });
 }
 
@@ -251,16 +310,20 @@ lawful-marks settings h marks p = (homes-marks h marks p.0, lawful-same settings
 lawful-released : (settings : Settings) → IsKeptByReleases (Before settings) (After settings)
 lawful-released settings = kept-by-releases (Before settings) (After settings) (lawful-marks settings)
 
-pub lawful-opening : (settings : Settings) (disk : BlockMap) (tuple : Tuple) (marks : ℕ → Bool) → IsLawfulBetween settings (primary_opening settings disk tuple marks)
+pub lawful-opening : (settings : Settings) (disk : BlockMap) (tuple : Tuple) (marks : ℕ → Bool)
+    → IsLawfulBetween settings (primary_opening settings disk tuple marks)
 lawful-opening settings disk tuple marks = record { streams = record { setting = refl; lawful = λ k c at. absurd (cc) }; on = refl }
 
 -- what holds of a primary after every run from an opening: homes, and lawful streams
 pub primary-between : (settings : Settings) (disk : BlockMap) (tuple : Tuple) (marks : ℕ → Bool) (events : List PrimaryEvent) → IsInRange settings
-    → HasHomes (primary_run events (primary_opening settings disk tuple marks)) × IsLawfulBetween settings (primary_run events (primary_opening settings disk tuple marks))
+    → HasHomes (primary_run events (primary_opening settings disk tuple marks)) × IsLawfulBetween settings
+    (primary_run events (primary_opening settings disk tuple marks))
 primary-between settings disk tuple marks events range =
-    keeps-run (Before settings) (After settings) (lawful-kept settings range.max_epoch.0) (lawful-released settings) events (primary_opening settings disk tuple marks) (homes-opening settings disk tuple marks, lawful-opening settings disk tuple marks)
+    keeps-run (Before settings) (After settings) (lawful-kept settings (takes-writes settings range)) (lawful-released settings) events
+    (primary_opening settings disk tuple marks) (homes-opening settings disk tuple marks, lawful-opening settings disk tuple marks)
 
 -- Whatever frames a primary takes, each of its streams is lawful.
 pub primary_lawful : (settings : Settings) (disk : BlockMap) (tuple : Tuple) (marks : ℕ → Bool) (events : List PrimaryEvent) → IsInRange settings
-    → (k : ℕ) (c : Outward) → slice_get (primary_run events (primary_opening settings disk tuple marks)).connections k ≡ Some c → IsLawful settings.max_epoch c.stream
+    → (k : ℕ) (c : Outward) → slice_get (primary_run events (primary_opening settings disk tuple marks)).connections k ≡ Some c
+    → IsLawful (most_writes settings) c.stream
 primary_lawful settings disk tuple marks events range k c at = (primary-between settings disk tuple marks events range).1.streams.lawful k c at

@@ -1,5 +1,6 @@
 -- A stream begins only where the peer's device is of the primary's size: its SIZES frame was taken and accepted before.
-use Rattle.std.proofs.Common.{ℕ, ◌≡◌, ◌<◌, ◌⊎◌, inl, inr, Bool, true, false, List, [], ◌∷◌, ◌++◌, length, Option, Some, None, slice_get, Ok, refl, sym, ◌∙◌, ap, subst, arith, length-append, ◌-◌}
+use Rattle.std.proofs.Common.{ℕ, ◌≡◌, ◌<◌, ◌⊎◌, inl, inr, Bool, true, false, List, [], ◌∷◌, ◌++◌, length, Option, Some, None, slice_get, Ok, refl, sym, ◌∙◌, ap}
+use Rattle.std.proofs.Common.{subst, arith, length-append, ◌-◌}
 use Rattle.std.specs.Prelude.{unwrap_or}
 use Rattle.std.proofs.lemmas.Bool.{both_ways}
 use Rattle.blocks.specs.declared.settings.Settings.{Settings}
@@ -10,7 +11,8 @@ use Rattle.model.specs.Stream.{Item, WriteItem, ResyncItem, BarrierItem, SyncUui
 use Rattle.model.specs.Frames.{Received, SizesFrame, UuidsFrame, RsWriteAckFrame}
 use Rattle.model.specs.Identifiers.{sync_end}
 use Rattle.model.specs.Marks.{marking}
-use Rattle.model.specs.Primary.{Waiting, Failed, Accepted, Outward, PrimaryHistory, no_outward, outward, last_index, change_last, with_outward, stands, local_map, primary_opening}
+use Rattle.model.specs.Primary.{Waiting, Failed, Accepted, Outward, PrimaryHistory, no_outward, outward, last_index, change_last, with_outward, stands}
+use Rattle.model.specs.Primary.{local_map, primary_opening}
 use Rattle.model.specs.PrimarySteps.{appending, submission, submitted, with_outcome, faulted, accepted_at, closing}
 use Rattle.model.specs.Acknowledgements.{begun_with}
 use Rattle.model.specs.LocalRuns.{PrimaryEvent, primary_run}
@@ -65,15 +67,33 @@ module _ (settings : Settings) where
   met-still : (h later : PrimaryHistory) → Kept h → later.settings ≡ h.settings → later.connections ≡ h.connections → Kept later
   met-still h later all same connections = record { setting = same ∙ all.setting; ends = rw connections all.ends }
 
-  met-appending : (item : Item) (h later : PrimaryHistory) → Kept h → later.settings ≡ h.settings → later.connections ≡ change_last (λ c. record c { stream = c.stream ++ item ∷ [] }) h.connections → Kept later
-  met-appending item h later all same connections = met-change h later (λ c. record c { stream = c.stream ++ item ∷ [] }) all same connections (λ m. met-as settings (outward h) _ refl refl refl m)
+  met-appending : (item : Item) (h later : PrimaryHistory) → Kept h → later.settings ≡ h.settings
+      → later.connections ≡ change_last (λ c. record c { stream = c.stream ++ item ∷ [] }) h.connections → Kept later
+  met-appending item h later all same connections = met-change h later (λ c. record c { stream = c.stream ++ item ∷ [] }) all same connections
+      (λ m. met-as settings (outward h) _ refl refl refl m)
 
   met-submits : (h : PrimaryHistory) (first : ℕ) (contents : List (List ℕ)) → Kept h → Kept (submitted h first contents)
   met-submits h first contents all = go (stands (outward h))
     where
       go : (b : Bool) → Kept (elim b as (λ _. PrimaryHistory) [
-        | true ↦ appending (WriteItem (submission h first contents)) (record h { writes = h.writes ++ record { write = submission h first contents; journal_length = length h.journal; home = Some (last_index h.connections, length (outward h).stream); outcome = Waiting } ∷ [] })
-        | false ↦ record h { writes = h.writes ++ record { write = submission h first contents; journal_length = length h.journal; home = None; outcome = Waiting } ∷ []; marks = marking (submission h first contents) h.marks }
+        | true ↦ appending (WriteItem (submission h first contents))
+            (record h {
+              writes = h.writes ++ record {
+                write = submission h first contents;
+                journal_length = length h.journal;
+                home = Some (record { index = last_index h.connections; place = length (outward h).stream });
+                outcome = Waiting;
+              } ∷ [];
+            })
+        | false ↦ record h {
+          writes = h.writes ++ record {
+            write = submission h first contents;
+            journal_length = length h.journal;
+            home = None;
+            outcome = Waiting;
+          } ∷ [];
+          marks = marking (submission h first contents) h.marks;
+        }
       ])
       go true = met-appending (WriteItem (submission h first contents)) h _ all refl refl
       go false = met-still h _ all refl refl
@@ -81,12 +101,18 @@ module _ (settings : Settings) where
   met-faults : (h : PrimaryHistory) (number : ℕ) (offsets : List ℕ) → Kept h → Kept (faulted number offsets h)
   met-faults h number offsets all = go (accepted_at h number)
     where
-      go : (v : Option Accepted) → Kept (elim v as (λ _. PrimaryHistory) [ None ↦ h | Some accepted ↦ with_outcome number (Failed (within (length accepted.write.contents) offsets)) (record h { marks = marking accepted.write h.marks }) ])
+      go : (v : Option Accepted) → Kept
+          (elim v as (λ _. PrimaryHistory) [
+            | None ↦ h
+            | Some accepted ↦ with_outcome number (Failed (within (length accepted.write.contents) offsets))
+                (record h { marks = marking accepted.write h.marks })
+          ])
       go None = all
       go (Some accepted) = met-still h _ all refl refl
 
   met-taking : (h : PrimaryHistory) (frame : Received) → (outward h).begun ≡ true → Kept h → Kept (with_outward (with_frame frame) h)
-  met-taking h frame begun all = met-change h _ (with_frame frame) all refl refl (λ m. met-more settings (outward h) (with_frame frame (outward h)) frame refl begun m)
+  met-taking h frame begun all = met-change h _ (with_frame frame) all refl refl
+      (λ m. met-more settings (outward h) (with_frame frame (outward h)) frame refl begun m)
 
   met-greets : (h : PrimaryHistory) (frame : Received) → (outward h).begun ≡ false → IsGreeting h frame → Kept h → Kept (with_outward (with_frame frame) h)
   met-greets h frame new met all = met-change h _ (with_frame frame) all refl refl (λ m. record {
@@ -95,39 +121,47 @@ module _ (settings : Settings) where
       | inr second ↦
           let one : 1 ≡ length (outward h).taken = sym second.0 in
           let same : h.settings.blocks ≡ settings.blocks = ap (λ (s : Settings). s.blocks) all.setting in
-          let there : slice_get ((outward h).taken ++ frame ∷ []) 1 ≡ Some frame = subst (λ (n : ℕ). slice_get ((outward h).taken ++ frame ∷ []) n ≡ Some frame) (sym one) (get-end (outward h).taken frame) in
+          let there : slice_get ((outward h).taken ++ frame ∷ []) 1 ≡ Some frame = subst (λ (n : ℕ). slice_get ((outward h).taken ++ frame ∷ []) n ≡ Some frame)
+          (sym one) (get-end (outward h).taken frame) in
           there ∙ (ap (λ (f : Received). Some f) second.1 ∙ ap (λ (n : ℕ). Some (Ok (SizesFrame n))) same)
     ];
     late = λ begun. absurd (both_ways (outward h).begun new begun);
   })
 
-  met-begins : (h : PrimaryHistory) (peer : Tuple) (decided : Decision) → (outward h).closed ≡ false → (outward h).begun ≡ false → 1 < length (outward h).taken → ((outward h).refused ≡ false) → Kept h
+  met-begins : (h : PrimaryHistory) (peer : Tuple) (decided : Decision) → (outward h).closed ≡ false → (outward h).begun ≡ false → 1 < length (outward h).taken
+      → ((outward h).refused ≡ false) → Kept h
       → Kept (begun_with decided (record (with_outward (with_frame (Ok (UuidsFrame peer))) h) { peer = Some peer }))
   met-begins h peer decided standing new late plain all = go decided
     where
       frame : Received
       frame = Ok (UuidsFrame peer)
 
-      one : (later : PrimaryHistory) (g : Outward → Outward) → later.settings ≡ h.settings → later.connections ≡ change_last g (change_last (with_frame (Ok (UuidsFrame peer))) h.connections)
+      one : (later : PrimaryHistory) (g : Outward → Outward) → later.settings ≡ h.settings
+          → later.connections ≡ change_last g (change_last (with_frame (Ok (UuidsFrame peer))) h.connections)
           → (g (with_frame (Ok (UuidsFrame peer)) (outward h))).taken ≡ (outward h).taken ++ Ok (UuidsFrame peer) ∷ [] → Kept later
-      one later g same connections taken = met-change h later (λ c. g (with_frame (Ok (UuidsFrame peer)) c)) all same (connections ∙ change-twice (with_frame (Ok (UuidsFrame peer))) g h.connections) (λ m. record {
-        sized = λ either long. rw taken (get-left (outward h).taken (frame ∷ []) 1 (Ok (SizesFrame settings.blocks)) (m.sized (inr plain) late));
-        late = λ begun. rw taken (let size = length-append (outward h).taken (frame ∷ []) in omega arith);
-      })
+      one later g same connections taken = met-change h later (λ c. g (with_frame (Ok (UuidsFrame peer)) c)) all same (connections
+          ∙ change-twice (with_frame (Ok (UuidsFrame peer))) g h.connections) (λ m. record {
+            sized = λ either long. rw taken (get-left (outward h).taken (frame ∷ []) 1 (Ok (SizesFrame settings.blocks)) (m.sized (inr plain) late));
+            late = λ begun. rw taken (let size = length-append (outward h).taken (frame ∷ []) in omega arith);
+          })
 
       go : (v : Decision) → Kept (begun_with v (record (with_outward (with_frame (Ok (UuidsFrame peer))) h) { peer = Some peer }))
       go NoSync = one _ (λ c. record c { begun = true }) refl refl refl
-      go BitmapSync = one _ (λ c. record c { begun = true; stream = SyncUuidItem (outward (with_outward (with_frame (Ok (UuidsFrame peer))) h)).sync ∷ [] }) refl refl refl
-      go FullSync = one _ (λ c. record c { begun = true; stream = SyncUuidItem (outward (with_outward (with_frame (Ok (UuidsFrame peer))) h)).sync ∷ [] }) refl refl refl
+      go BitmapSync = one _ (λ c. record c { begun = true; stream = SyncUuidItem (outward (with_outward (with_frame (Ok (UuidsFrame peer))) h)).sync ∷ [] })
+          refl refl refl
+      go FullSync = one _ (λ c. record c { begun = true; stream = SyncUuidItem (outward (with_outward (with_frame (Ok (UuidsFrame peer))) h)).sync ∷ [] }) refl
+          refl refl
 
-  met-closing : (h later : PrimaryHistory) (frame : Received) → later.settings ≡ h.settings → later.connections ≡ change_last (λ c. record c { taken = c.taken ++ frame ∷ []; refused = true; closed = true }) h.connections → Kept h → Kept later
-  met-closing h later frame same connections all = met-change h later (λ c. record c { taken = c.taken ++ frame ∷ []; refused = true; closed = true }) all same connections (λ m. record {
-    sized = λ either long. elim either [
-      | inl begun ↦ get-left (outward h).taken (frame ∷ []) 1 (Ok (SizesFrame settings.blocks)) (m.sized (inl begun) (m.late begun))
-      | inr plain ↦ absurd (cc)
-    ];
-    late = λ begun. let long = m.late begun in let size = length-append (outward h).taken (frame ∷ []) in omega arith;
-  })
+  met-closing : (h later : PrimaryHistory) (frame : Received) → later.settings ≡ h.settings
+      → later.connections ≡ change_last (λ c. record c { taken = c.taken ++ frame ∷ []; refused = true; closed = true }) h.connections → Kept h → Kept later
+  met-closing h later frame same connections all = met-change h later (λ c. record c { taken = c.taken ++ frame ∷ []; refused = true; closed = true }) all same
+      connections (λ m. record {
+        sized = λ either long. elim either [
+          | inl begun ↦ get-left (outward h).taken (frame ∷ []) 1 (Ok (SizesFrame settings.blocks)) (m.sized (inl begun) (m.late begun))
+          | inr plain ↦ absurd (cc)
+        ];
+        late = λ begun. let long = m.late begun in let size = length-append (outward h).taken (frame ∷ []) in omega arith;
+      })
 
   -- homes and sizes, kept by every move
   abbrev Both : PrimaryHistory → Type 0
@@ -137,17 +171,24 @@ module _ (settings : Settings) where
   met-kept = record {
     following = λ h p. (
       homes-kept.following h p.0,
-      following-from Kept Kept Kept (λ h all. met-still h _ all refl refl) (λ g over all. met-appending (BarrierItem (last_epoch (outward g).stream)) g _ all refl refl) (λ g on all. all)
+      following-from Kept Kept Kept (λ h all. met-still h _ all refl refl)
+          (λ g over all. met-appending (BarrierItem (last_epoch (outward g).stream)) g _ all refl refl) (λ g on all. all)
           (λ g over all. met-appending (UuidsItem (sync_end g.tuple)) g _ all refl refl) (λ g all. all) h p.1,
     );
     opens = λ h sync loss closed fresh p. (
       homes-kept.opens h sync loss closed fresh p.0,
-      record { setting = p.1.setting; ends = each-append (HasMet settings) h.connections _ p.1.ends (record { sized = λ either long. absurd (omega arith); late = λ begun. absurd (cc) }) },
+      record {
+        setting = p.1.setting;
+        ends = each-append (HasMet settings) h.connections _ p.1.ends (record { sized = λ either long. absurd (omega arith); late = λ begun. absurd (cc) });
+      },
     );
     submits = λ h first contents may p. (homes-kept.submits h first contents may p.0, met-submits h first contents p.1);
     writes = λ h number waiting p. (homes-kept.writes h number waiting p.0, met-still h _ p.1 refl refl);
     faults = λ h number offsets waiting p. (homes-kept.faults h number offsets waiting p.0, met-faults h number offsets p.1);
-    sends = λ h standing due p. (homes-kept.sends h standing due p.0, met-change h _ pushing p.1 refl refl (λ m. met-as settings (outward h) _ refl refl refl m));
+    sends = λ h standing due p. (
+      homes-kept.sends h standing due p.0,
+      met-change h _ pushing p.1 refl refl (λ m. met-as settings (outward h) _ refl refl refl m),
+    );
     greets = λ h frame standing new met p. (homes-kept.greets h frame standing new met p.0, met-greets h frame new met p.1);
     begins = λ h peer decided standing new late is fresh p. (
       homes-kept.begins h peer decided standing new late is fresh p.0,
@@ -155,15 +196,25 @@ module _ (settings : Settings) where
     );
     receives = λ h ack standing begun may p. (homes-kept.receives h ack standing begun may p.0, met-taking h _ begun p.1);
     applies = λ h ack standing begun may p. (homes-kept.applies h ack standing begun may p.0, met-taking h _ begun p.1);
-    clears = λ h ack standing begun may p. (homes-kept.clears h ack standing begun may p.0, met-still (with_outward (with_frame (Ok (RsWriteAckFrame ack))) h) _ (met-taking h _ begun p.1) refl refl);
+    clears = λ h ack standing begun may p. (
+      homes-kept.clears h ack standing begun may p.0,
+      met-still (with_outward (with_frame (Ok (RsWriteAckFrame ack))) h) _ (met-taking h _ begun p.1) refl refl,
+    );
     confirms = λ h number size standing begun turn p. (homes-kept.confirms h number size standing begun turn p.0, met-taking h _ begun p.1);
     refuses = λ h frame peer standing p. (
       homes-kept.refuses h frame peer standing p.0,
       met-closing h _ frame refl
-          (ap (change_last (λ (c : Outward). record c { closed = true })) (change-twice (with_frame frame) refusing h.connections) ∙ change-twice (λ c. refusing (with_frame frame c)) (λ c. record c { closed = true }) h.connections) p.1,
+          (ap (change_last (λ (c : Outward). record c { closed = true })) (change-twice (with_frame frame) refusing h.connections)
+          ∙ change-twice (λ c. refusing (with_frame frame c)) (λ c. record c { closed = true }) h.connections) p.1,
     );
-    resyncs = λ h block runs alone is p. (homes-kept.resyncs h block runs alone is p.0, met-appending (ResyncItem block (unwrap_or (local_map h block) [])) h _ p.1 refl refl);
-    closes = λ h standing p. (homes-kept.closes h standing p.0, met-change h (closing h) (λ c. record c { closed = true }) p.1 refl refl (λ m. met-as settings (outward h) _ refl refl refl m));
+    resyncs = λ h block runs alone is p. (
+      homes-kept.resyncs h block runs alone is p.0,
+      met-appending (ResyncItem block (unwrap_or (local_map h block) [])) h _ p.1 refl refl,
+    );
+    closes = λ h standing p. (
+      homes-kept.closes h standing p.0,
+      met-change h (closing h) (λ c. record c { closed = true }) p.1 refl refl (λ m. met-as settings (outward h) _ refl refl refl m),
+    );
     receipts = λ h number p. (homes-kept.receipts h number p.0, met-still h _ p.1 refl refl);
   }
 
@@ -171,7 +222,8 @@ module _ (settings : Settings) where
   met-released = kept-by-releases Both Both (λ h marks p. (homes-marks h marks p.0, met-still h _ p.1 refl refl))
 
 -- In every run of a primary each end that has begun took the peer's size, which is its own.
-pub primary-met : (settings : Settings) (disk : BlockMap) (tuple : Tuple) (marks : ℕ → Bool) (events : List PrimaryEvent) → AllMet settings (primary_run events (primary_opening settings disk tuple marks))
+pub primary-met : (settings : Settings) (disk : BlockMap) (tuple : Tuple) (marks : ℕ → Bool) (events : List PrimaryEvent)
+    → AllMet settings (primary_run events (primary_opening settings disk tuple marks))
 primary-met settings disk tuple marks events =
     (keeps-run (Both settings) (Both settings) (met-kept settings) (met-released settings) events (primary_opening settings disk tuple marks)
     (homes-opening settings disk tuple marks, record { setting = refl; ends = tt })).1

@@ -1,9 +1,11 @@
 -- A primary's steps, taken apart: what has to be shown of a property so that every step keeps it.
-use Rattle.std.proofs.Common.{ℕ, zero, suc, ◌≡◌, ◌<◌, ◌⊎◌, inl, inr, Bool, true, false, cond, not, ◌&&◌, ◌||◌, List, [], ◌∷◌, ◌++◌, length, Option, Some, None, is_none, Result, Ok, Err, refl, sym, ◌∙◌, subst, ◌==◌, nat_lt, nat_le, ap, arith}
-use Rattle.std.specs.Prelude.{find, is_some, unwrap_or}
+use Rattle.std.proofs.Common.{ℕ, zero, suc, ◌≡◌, ◌<◌, ◌⊎◌, inl, inr, Bool, true, false, cond, not, ◌&&◌, ◌||◌, List, [], ◌∷◌, ◌++◌, length, Option, Some, None}
+use Rattle.std.proofs.Common.{is_none, Result, Ok, Err, refl, sym, ◌∙◌, subst, ◌==◌, nat_lt, nat_le, ap, arith}
+use Rattle.std.specs.Prelude.{is_some, unwrap_or}
 use Rattle.std.proofs.lemmas.Bool.{both_ways, not-true, not-false, or_parts, and_parts, leb-false, eqb-true}
 use Rattle.blocks.specs.declared.refusal.Refusal.{Refusal}
-use Rattle.blocks.specs.declared.refusal.Refusal.TheVariants.{BadRange, Conflict, LogFull, ActivityFull, JournalFull, StreamFull, NoMemory, LocalFault, NothingToDo, LinkFull, NotConnected, NothingThere, ReadFault, UnknownJob, BadBarrierAck, UnknownAck, UsedIdentifier, OtherProtocol, OtherSize, NotDrained}
+use Rattle.blocks.specs.declared.refusal.Refusal.TheVariants.{StreamFull, NoMemory, NothingToDo, LinkFull, NotConnected, NothingThere, ReadFault, UnknownJob}
+use Rattle.blocks.specs.declared.refusal.Refusal.TheVariants.{BadBarrierAck, UnknownAck, UsedIdentifier, OtherProtocol, OtherSize, NotDrained}
 use Rattle.blocks.specs.declared.outcome.Decision.{Decision}
 use Rattle.blocks.specs.declared.outcome.What.{What}
 use Rattle.blocks.specs.declared.outcome.What.TheVariants as what
@@ -14,14 +16,23 @@ use Rattle.blocks.specs.declared.settings.Protocol.TheVariants as protocol
 use Rattle.blocks.specs.declared.tuple.Tuple.{Tuple}
 use Rattle.model.specs.Contents.{is_range, extent_of}
 use Rattle.model.specs.Stream.{Item, ResyncItem, BarrierItem, is_write, last_epoch}
-use Rattle.model.specs.Frames.{Packet, DataFrame, RsDataReplyFrame, BarrierFrame, ProtocolFrame, UuidsFrame, SizesFrame, SyncUuidFrame, RecvAckFrame, WriteAckFrame, RsWriteAckFrame, BarrierAckFrame, Acknowledged, Received}
+use Rattle.model.specs.Frames.{Packet, DataFrame, RsDataReplyFrame, BarrierFrame, ProtocolFrame, UuidsFrame, SizesFrame, SyncUuidFrame, RecvAckFrame}
+use Rattle.model.specs.Frames.{WriteAckFrame, RsWriteAckFrame, BarrierAckFrame, Acknowledged, Received}
 use Rattle.model.specs.Identifiers.{are_fresh, decision, stands_in}
 use Rattle.model.specs.Refusals.{Test, first_refusal}
-use Rattle.model.specs.Primary.{OnDisk, Completion, PrimaryHistory, Outward, outward, no_outward, last_of, with_outward, stands, frames_due, unreleased, local_map, resync_runs, under_way, free_block, is_resync, was_received, was_written, was_resynced}
+use Rattle.model.specs.Primary.{OnDisk, PrimaryHistory, Outward, outward, no_outward, last_of, with_outward, stands, frames_due, local_map, resync_runs}
+use Rattle.model.specs.Primary.{under_way, free_block, is_resync, was_received, was_written, was_resynced}
 use Rattle.model.specs.Marks.{Marks, clearing, releasing}
-use Rattle.model.specs.PrimarySteps.{Followed, with_completions, epoch_is_over, resync_is_over, ending_resync, follows, appending, succeeding, tested, known_tuples, open_tests, opened, open_primary, conflict, activity_is_full, submission, submit_tests, submitted, submit, is_unfinished, with_outcome, local_done, faulted, local_fault, send_tests, sending, send, resync_tests, resync_next, resync_fault, closing, close_primary, take_completed_tests, receipted, take_completed}
-use Rattle.model.specs.Acknowledgements.{same_protocol, Taken, begun_with, meeting, taking_hello, names_sent, was_named, is_protocol, is_in_turn, taking_ack, taking, take_frame, ack_in}
-use Rattle.model.specs.LocalRuns.{PrimaryEvent, Opens, Submits, WritesLocally, FailsLocally, Sends, Takes, Resyncs, FailsResync, Closes, Receipts, primary_after, primary_run}
+use Rattle.model.specs.PrimarySteps.{Followed, with_completions, epoch_is_over, resync_is_over, ending_resync, follows, appending, succeeding, tested}
+use Rattle.model.specs.PrimarySteps.{known_tuples, open_tests, opened, open_primary, conflict, activity_is_full, submission, submit_tests, submitted, submit}
+use Rattle.model.specs.PrimarySteps.{is_unfinished, with_outcome, local_done, faulted, local_fault, send_tests, sending, send, resync_tests, resync_next}
+use Rattle.model.specs.PrimarySteps.{resync_fault, closing, close_primary, receipted, take_completed}
+use Rattle.model.specs.Acknowledgements.{same_protocol, Taken, begun_with, meeting, taking_hello, names_sent, was_named, is_protocol, is_in_turn, taking_ack}
+use Rattle.model.specs.Acknowledgements.{taking, take_frame, ack_in}
+use Rattle.model.specs.LocalRuns.{PrimaryEvent, Opens, Submits, WritesLocally, FailsLocally, Sends, Takes, Resyncs, FailsResync, Closes, Receipts}
+use Rattle.model.specs.LocalRuns.{primary_after, primary_run}
+use Rattle.laws.proofs.Rules.Receipts.{receipt-has}
+use Rattle.laws.proofs.Rules.Submissions.{accepted-by-tests}
 use Rattle.laws.proofs.Lists.Last.{last-change}
 use Rattle.laws.proofs.Lists.Tests.{test-passed}
 use Rattle.blocks.specs.declared.settings.Protocol.{Protocol}
@@ -64,34 +75,48 @@ pub record IsKeptByMoves (P Q : PrimaryHistory → Type 0) : Type 0 where
   pub submits : (h : PrimaryHistory) (first : ℕ) (contents : List (List ℕ)) → MaySubmit h first contents → P h → Q (submitted h first contents)
   pub writes : (h : PrimaryHistory) (number : ℕ) → is_unfinished h number ≡ true → P h → Q (with_outcome number OnDisk h)
   pub faults : (h : PrimaryHistory) (number : ℕ) (offsets : List ℕ) → is_unfinished h number ≡ true → P h → Q (faulted number offsets h)
-  pub sends : (h : PrimaryHistory) → (outward h).closed ≡ false → (outward h).pushed < length (frames_due h.settings (outward h)) → P h → Q (with_outward pushing h)
+  pub sends : (h : PrimaryHistory) → (outward h).closed ≡ false → (outward h).pushed < length (frames_due h.settings (outward h)) → P h
+      → Q (with_outward pushing h)
   -- the frames that are accepted, each on the history with the frame taken
-  pub greets : (h : PrimaryHistory) (frame : Received) → (outward h).closed ≡ false → (outward h).begun ≡ false → IsGreeting h frame → P h → Q (with_outward (with_frame frame) h)
-  pub begins : (h : PrimaryHistory) (peer : Tuple) (decided : Decision) → (outward h).closed ≡ false → (outward h).begun ≡ false → 1 < length (outward h).taken → decision h.tuple peer ≡ Ok decided → stands_in (outward h).loss peer ≡ false → P h
+  pub greets : (h : PrimaryHistory) (frame : Received) → (outward h).closed ≡ false → (outward h).begun ≡ false → IsGreeting h frame → P h
+      → Q (with_outward (with_frame frame) h)
+  pub begins : (h : PrimaryHistory) (peer : Tuple) (decided : Decision) → (outward h).closed ≡ false → (outward h).begun ≡ false → 1 < length (outward h).taken
+      → decision h.tuple peer ≡ Ok decided → stands_in (outward h).loss peer ≡ false → P h
       → Q (begun_with decided (record (with_outward (with_frame (Ok (UuidsFrame peer))) h) { peer = Some peer }))
-  pub receives : (h : PrimaryHistory) (ack : Acknowledged) → (outward h).closed ≡ false → (outward h).begun ≡ true → MayAcknowledge h is_write was_received ack → P h
+  pub receives : (h : PrimaryHistory) (ack : Acknowledged) → (outward h).closed ≡ false → (outward h).begun ≡ true → MayAcknowledge h is_write was_received ack
+      → P h
       → Q (with_outward (with_frame (Ok (RecvAckFrame ack))) h)
-  pub applies : (h : PrimaryHistory) (ack : Acknowledged) → (outward h).closed ≡ false → (outward h).begun ≡ true → MayAcknowledge h is_write was_written ack → P h
+  pub applies : (h : PrimaryHistory) (ack : Acknowledged) → (outward h).closed ≡ false → (outward h).begun ≡ true → MayAcknowledge h is_write was_written ack
+      → P h
       → Q (with_outward (with_frame (Ok (WriteAckFrame ack))) h)
-  pub clears : (h : PrimaryHistory) (ack : Acknowledged) → (outward h).closed ≡ false → (outward h).begun ≡ true → MayAcknowledge h is_resync was_resynced ack → P h
+  pub clears : (h : PrimaryHistory) (ack : Acknowledged) → (outward h).closed ≡ false → (outward h).begun ≡ true → MayAcknowledge h is_resync was_resynced ack
+      → P h
       → Q (record (with_outward (with_frame (Ok (RsWriteAckFrame ack))) h) { marks = clearing ack.first h.marks })
-  pub confirms : (h : PrimaryHistory) (number size : ℕ) → (outward h).closed ≡ false → (outward h).begun ≡ true → is_in_turn h number size ≡ true → P h → Q (with_outward (with_frame (Ok (BarrierAckFrame number size))) h)
+  pub confirms : (h : PrimaryHistory) (number size : ℕ) → (outward h).closed ≡ false → (outward h).begun ≡ true → is_in_turn h number size ≡ true → P h
+      → Q (with_outward (with_frame (Ok (BarrierAckFrame number size))) h)
   -- a protocol error: the frame is taken and refused, the peer's tuple may have been seen, and the end closes
-  pub refuses : (h : PrimaryHistory) (frame : Received) (peer : Option Tuple) → (outward h).closed ≡ false → P h → Q (closing (with_outward refusing (record (with_outward (with_frame frame) h) { peer = peer })))
-  pub resyncs : (h : PrimaryHistory) (block : ℕ) → resync_runs (outward h) ≡ true → nat_lt 0 (length (under_way (outward h))) ≡ false → free_block h ≡ Some block → P h
+  pub refuses : (h : PrimaryHistory) (frame : Received) (peer : Option Tuple) → (outward h).closed ≡ false → P h
+      → Q (closing (with_outward refusing (record (with_outward (with_frame frame) h) { peer = peer })))
+  pub resyncs : (h : PrimaryHistory) (block : ℕ) → resync_runs (outward h) ≡ true → nat_lt 0 (length (under_way (outward h))) ≡ false
+      → free_block h ≡ Some block → P h
       → Q (appending (ResyncItem block (unwrap_or (local_map h block) [])) h)
   pub closes : (h : PrimaryHistory) → (outward h).closed ≡ false → P h → Q (closing h)
   pub receipts : (h : PrimaryHistory) (number : ℕ) → P h → P (receipted number h)
 
 -- The two steps that may release a write: its effect stands, and then the marks are cleared of what it released.
 pub record IsKeptByReleases (P Q : PrimaryHistory → Type 0) : Type 0 where
-  pub writes : (h : PrimaryHistory) (number : ℕ) → is_unfinished h number ≡ true → P h → Q (with_outcome number OnDisk h) → Q (releasing h (with_outcome number OnDisk h))
-  pub confirms : (h : PrimaryHistory) (number size : ℕ) → (outward h).closed ≡ false → (outward h).begun ≡ true → is_in_turn h number size ≡ true → P h → Q (with_outward (with_frame (Ok (BarrierAckFrame number size))) h)
+  pub writes : (h : PrimaryHistory) (number : ℕ) → is_unfinished h number ≡ true → P h → Q (with_outcome number OnDisk h)
+      → Q (releasing h (with_outcome number OnDisk h))
+  pub confirms : (h : PrimaryHistory) (number size : ℕ) → (outward h).closed ≡ false → (outward h).begun ≡ true → is_in_turn h number size ≡ true → P h
+      → Q (with_outward (with_frame (Ok (BarrierAckFrame number size))) h)
       → Q (releasing h (with_outward (with_frame (Ok (BarrierAckFrame number size))) h))
 
 -- A property that no mark matters to is kept by them.
 pub kept-by-releases : (P Q : PrimaryHistory → Type 0) → ((h : PrimaryHistory) (marks : Marks) → Q h → Q (record h { marks = marks })) → IsKeptByReleases P Q
-kept-by-releases P Q same = record { writes = λ h number waiting p q. same (with_outcome number OnDisk h) _ q; confirms = λ h number size standing begun turn p q. same (with_outward (with_frame (Ok (BarrierAckFrame number size))) h) _ q }
+kept-by-releases P Q same = record {
+  writes = λ h number waiting p q. same (with_outcome number OnDisk h) _ q;
+  confirms = λ h number size standing begun turn p q. same (with_outward (with_frame (Ok (BarrierAckFrame number size))) h) _ q;
+}
 
 -- Two properties that are kept, together.
 pub both-kept : (P Q P' Q' : PrimaryHistory → Type 0) → IsKeptByMoves P Q → IsKeptByMoves P' Q' → IsKeptByMoves (λ h. P h × P' h) (λ h. Q h × Q' h)
@@ -103,7 +128,10 @@ both-kept P Q P' Q' one two = record {
   faults = λ h number offsets waiting p. (one.faults h number offsets waiting p.0, two.faults h number offsets waiting p.1);
   sends = λ h standing due p. (one.sends h standing due p.0, two.sends h standing due p.1);
   greets = λ h frame standing new met p. (one.greets h frame standing new met p.0, two.greets h frame standing new met p.1);
-  begins = λ h peer decided standing new late is fresh p. (one.begins h peer decided standing new late is fresh p.0, two.begins h peer decided standing new late is fresh p.1);
+  begins = λ h peer decided standing new late is fresh p. (
+    one.begins h peer decided standing new late is fresh p.0,
+    two.begins h peer decided standing new late is fresh p.1,
+  );
   receives = λ h ack standing begun may p. (one.receives h ack standing begun may p.0, two.receives h ack standing begun may p.1);
   applies = λ h ack standing begun may p. (one.applies h ack standing begun may p.0, two.applies h ack standing begun may p.1);
   clears = λ h ack standing begun may p. (one.clears h ack standing begun may p.0, two.clears h ack standing begun may p.1);
@@ -117,10 +145,12 @@ both-kept P Q P' Q' one two = record {
 -- Tests.
 
 -- a step that its tests refuse leaves the history
-pub tested-keeps : (P : PrimaryHistory → Type 0) (h : PrimaryHistory) (tests : List Test) (done : Unit {0} → Reply × PrimaryHistory) → P h → (first_refusal tests ≡ None → P (done tt).1) → P (tested h tests done).1
+pub tested-keeps : (P : PrimaryHistory → Type 0) (h : PrimaryHistory) (tests : List Test) (done : Unit {0} → Reply × PrimaryHistory) → P h
+    → (first_refusal tests ≡ None → P (done tt).1) → P (tested h tests done).1
 tested-keeps P h tests done same new = go (first_refusal tests) refl
   where
-    go : (v : Option Refusal) → first_refusal tests ≡ v → P (elim v as (λ _. Reply × PrimaryHistory) [ Some refusal ↦ (reply.Refused refusal, h) | None ↦ done tt ]).1
+    go : (v : Option Refusal) → first_refusal tests ≡ v
+        → P (elim v as (λ _. Reply × PrimaryHistory) [ Some refusal ↦ (reply.Refused refusal, h) | None ↦ done tt ]).1
     go (Some refusal) is = same
     go None is = new is
 
@@ -132,86 +162,92 @@ after_barrier g = elim (epoch_is_over g) [ true ↦ appending (BarrierItem (last
 abbrev pub after_resync : PrimaryHistory → PrimaryHistory
 after_resync g = elim (resync_is_over g) [ true ↦ ending_resync g | false ↦ g ]
 
-history-of : (b : Bool) (x y : Followed) → (elim b as (λ _. Followed) [ true ↦ x | false ↦ y ]).history ≡ elim b as (λ _. PrimaryHistory) [ true ↦ x.history | false ↦ y.history ]
+history-of : (b : Bool) (x y : Followed)
+    → (elim b as (λ _. Followed) [ true ↦ x | false ↦ y ]).history ≡ elim b as (λ _. PrimaryHistory) [ true ↦ x.history | false ↦ y.history ]
 history-of true x y = refl
 history-of false x y = refl
 
 pub follows-history : (h : PrimaryHistory) → (follows h).history ≡ after_resync (after_barrier (with_completions h))
 follows-history h = history-of (resync_is_over (after_barrier (with_completions h))) _ _
 
-by-case : (P : PrimaryHistory → Type 0) (b : Bool) (x y : PrimaryHistory) → (b ≡ true → P x) → (b ≡ false → P y) → P (elim b as (λ _. PrimaryHistory) [ true ↦ x | false ↦ y ])
+by-case : (P : PrimaryHistory → Type 0) (b : Bool) (x y : PrimaryHistory) → (b ≡ true → P x) → (b ≡ false → P y)
+    → P (elim b as (λ _. PrimaryHistory) [ true ↦ x | false ↦ y ])
 by-case P true x y one two = one refl
 by-case P false x y one two = two refl
 
 -- A property that the parts of what follows keep, from the effect to the end of the step.
 pub following-from : (Q R P : PrimaryHistory → Type 0) → ((h : PrimaryHistory) → Q h → Q (with_completions h))
     → ((g : PrimaryHistory) → epoch_is_over g ≡ true → Q g → R (appending (BarrierItem (last_epoch (outward g).stream)) g))
-    → ((g : PrimaryHistory) → epoch_is_over g ≡ false → Q g → R g) → ((g : PrimaryHistory) → resync_is_over g ≡ true → R g → P (ending_resync g)) → ((g : PrimaryHistory) → R g → P g)
+    → ((g : PrimaryHistory) → epoch_is_over g ≡ false → Q g → R g) → ((g : PrimaryHistory) → resync_is_over g ≡ true → R g → P (ending_resync g))
+    → ((g : PrimaryHistory) → R g → P g)
     → (h : PrimaryHistory) → Q h → P (follows h).history
 following-from Q R P completes parts goes_on ends stays h q =
     let done : PrimaryHistory = with_completions h in
-    let parted : R (after_barrier done) = by-case R (epoch_is_over done) (appending (BarrierItem (last_epoch (outward done).stream)) done) done (λ over. parts done over (completes h q)) (λ on. goes_on done on (completes h q)) in
-    subst P (sym (follows-history h)) (by-case P (resync_is_over (after_barrier done)) (ending_resync (after_barrier done)) (after_barrier done) (λ over. ends (after_barrier done) over parted) (λ on. stays (after_barrier done) parted))
+    let parted : R (after_barrier done) = by-case R (epoch_is_over done) (appending (BarrierItem (last_epoch (outward done).stream)) done) done
+    (λ over. parts done over (completes h q)) (λ on. goes_on done on (completes h q)) in
+    subst P (sym (follows-history h)) (by-case P (resync_is_over (after_barrier done)) (ending_resync (after_barrier done)) (after_barrier done)
+    (λ over. ends (after_barrier done) over parted) (λ on. stays (after_barrier done) parted))
 
 -- What comes of a taken frame: it is accepted, with `Q` then, or refused, and only the peer's tuple may have changed.
 abbrev Fine : (PrimaryHistory → Type 0) → PrimaryHistory → Taken → Type 0
 Fine Q taken (Ok done) = Q done.1
 Fine Q taken (Err error) = (peer : Option Tuple) × (error.1 ≡ record taken { peer = peer })
 
-fine-if : (Q : PrimaryHistory → Type 0) (taken done : PrimaryHistory) (good : Bool) (name : What) (refusal : Refusal) → (good ≡ true → Q done) → Fine Q taken (cond good (Ok (name, done)) (Err (refusal, taken)))
+fine-if : (Q : PrimaryHistory → Type 0) (taken done : PrimaryHistory) (good : Bool) (name : What) (refusal : Refusal) → (good ≡ true → Q done)
+    → Fine Q taken (cond good (Ok (name, done)) (Err (refusal, taken)))
 fine-if Q taken done true name refusal q = q refl
 fine-if Q taken done false name refusal q = (taken.peer, refl)
 
 module _ (P Q : PrimaryHistory → Type 0) (K : IsKeptByMoves P Q) (R : IsKeptByReleases P Q) where
   keeps-open : (sync loss : ℕ) (starved : Bool) (h : PrimaryHistory) → P h → P (open_primary sync loss starved h).1
   keeps-open sync loss starved h p = tested-keeps P h (open_tests h sync loss starved) (λ _. succeeding what.Nothing (opened h sync loss)) p (λ none.
-      let first = test-passed (not (outward h).closed) NotDrained ((not (are_fresh sync loss (known_tuples h)), UsedIdentifier) ∷ (nat_le 4294967295 (length h.connections), StreamFull) ∷ (starved, NoMemory) ∷ []) none in
-      let second = test-passed (not (are_fresh sync loss (known_tuples h))) UsedIdentifier ((nat_le 4294967295 (length h.connections), StreamFull) ∷ (starved, NoMemory) ∷ []) first.1 in
-      K.following (opened h sync loss) (K.opens h sync loss (not-false (outward h).closed first.0) (not-false (are_fresh sync loss (known_tuples h)) second.0) p))
+      let first = test-passed (not (outward h).closed) NotDrained
+      ((not (are_fresh sync loss (known_tuples h)), UsedIdentifier) ∷ (nat_le 4294967295 (length h.connections), StreamFull) ∷ (starved, NoMemory) ∷ [])
+      none in
+      let second = test-passed (not (are_fresh sync loss (known_tuples h))) UsedIdentifier
+      ((nat_le 4294967295 (length h.connections), StreamFull) ∷ (starved, NoMemory) ∷ []) first.1 in
+      K.following (opened h sync loss)
+      (K.opens h sync loss (not-false (outward h).closed first.0) (not-false (are_fresh sync loss (known_tuples h)) second.0) p))
 
   keeps-submit : (first : ℕ) (contents : List (List ℕ)) (starved : Bool) (h : PrimaryHistory) → P h → P (submit first contents starved h).1
   keeps-submit first contents starved h p =
-      let met : Option ℕ = conflict h (submission h first contents) in
-      let t8 : List Test = (starved, NoMemory) ∷ [] in
-      let t7 : List Test = (stands (outward h) && nat_le 4294967288 (length (outward h).stream), StreamFull) ∷ t8 in
-      let t6 : List Test = (activity_is_full h (extent_of first), ActivityFull) ∷ t7 in
-      let t5 : List Test = (is_some met, Conflict (unwrap_or met 0)) ∷ t6 in
-      let t4 : List Test = (nat_le h.settings.backlog (length (unreleased h)), LogFull) ∷ t5 in
-      let t3 : List Test = (nat_le 1048576 (length h.writes), JournalFull) ∷ t4 in
-      let t2 : List Test = (not (stands (outward h)) && (h.tuple.bitmap == 0), NotConnected) ∷ t3 in
       tested-keeps P h (submit_tests h first contents starved) (λ _. succeeding (what.Write (suc (length h.writes))) (submitted h first contents)) p (λ none.
-      let one = test-passed (not (is_range h.settings first (length contents))) BadRange t2 none in
-      let two = test-passed (not (stands (outward h)) && (h.tuple.bitmap == 0)) NotConnected t3 one.1 in
-      let three = test-passed (nat_le 1048576 (length h.writes)) JournalFull t4 two.1 in
-      let four = test-passed (nat_le h.settings.backlog (length (unreleased h))) LogFull t5 three.1 in
-      let five = test-passed (is_some met) (Conflict (unwrap_or met 0)) t6 four.1 in
-      let six = test-passed (activity_is_full h (extent_of first)) ActivityFull t7 five.1 in
-      K.following (submitted h first contents) (K.submits h first contents (record { range = not-false (is_range h.settings first (length contents)) one.0; free = five.0; active = six.0; connected = two.0 }) p))
+      let may = accepted-by-tests h first contents starved none in
+      K.following (submitted h first contents)
+      (K.submits h first contents (record { range = may.range; free = may.free; active = may.active; connected = may.connected }) p))
 
   keeps-local : (number : ℕ) (h : PrimaryHistory) → P h → P (local_done number h).1
-  keeps-local number h p = tested-keeps P h ((not (is_unfinished h number), UnknownJob) ∷ []) (λ _. succeeding what.Nothing (releasing h (with_outcome number OnDisk h))) p (λ none.
+  keeps-local number h p = tested-keeps P h ((not (is_unfinished h number), UnknownJob) ∷ [])
+      (λ _. succeeding what.Nothing (releasing h (with_outcome number OnDisk h))) p (λ none.
       let waiting : is_unfinished h number ≡ true = not-false (is_unfinished h number) (test-passed (not (is_unfinished h number)) UnknownJob [] none).0 in
       K.following (releasing h (with_outcome number OnDisk h)) (R.writes h number waiting p (K.writes h number waiting p)))
 
   keeps-fault : (number : ℕ) (offsets : List ℕ) (h : PrimaryHistory) → P h → P (local_fault number offsets h).1
-  keeps-fault number offsets h p = tested-keeps P h ((not (is_unfinished h number), UnknownJob) ∷ []) (λ _. succeeding what.Nothing (faulted number offsets h)) p (λ none.
+  keeps-fault number offsets h p = tested-keeps P h ((not (is_unfinished h number), UnknownJob) ∷ []) (λ _. succeeding what.Nothing (faulted number offsets h))
+      p (λ none.
       let one = test-passed (not (is_unfinished h number)) UnknownJob [] none in
       K.following (faulted number offsets h) (K.faults h number offsets (not-false (is_unfinished h number) one.0) p))
 
   keeps-send : (room starved : Bool) (h : PrimaryHistory) → P h → P (send room starved h).1
   keeps-send room starved h p = tested-keeps P h (send_tests h room starved) (λ _. succeeding (sending h) (with_outward pushing h)) p (λ none.
-      let one = test-passed (outward h).closed NotConnected ((nat_le (length (frames_due h.settings (outward h))) (outward h).pushed, NothingThere) ∷ (starved, NoMemory) ∷ (not room, LinkFull) ∷ []) none in
-      let two = test-passed (nat_le (length (frames_due h.settings (outward h))) (outward h).pushed) NothingThere ((starved, NoMemory) ∷ (not room, LinkFull) ∷ []) one.1 in
+      let one = test-passed (outward h).closed NotConnected ((nat_le (length (frames_due h.settings (outward h))) (outward h).pushed, NothingThere) ∷ (
+        starved,
+        NoMemory,
+      ) ∷ (not room, LinkFull) ∷ []) none in
+      let two = test-passed (nat_le (length (frames_due h.settings (outward h))) (outward h).pushed) NothingThere
+      ((starved, NoMemory) ∷ (not room, LinkFull) ∷ []) one.1 in
       K.following (with_outward pushing h) (K.sends h one.0 (leb-false (length (frames_due h.settings (outward h))) (outward h).pushed two.0) p))
 
   keeps-close : (h : PrimaryHistory) → P h → P (close_primary h).1
-  keeps-close h p = tested-keeps P h (((outward h).closed, NotConnected) ∷ []) (λ _. let after = follows (closing h) in (reply.Closed (length after.completed), after.history)) p (λ none.
+  keeps-close h p = tested-keeps P h (((outward h).closed, NotConnected) ∷ [])
+      (λ _. let after = follows (closing h) in (reply.Closed (length after.completed), after.history)) p (λ none.
       K.following (closing h) (K.closes h (test-passed (outward h).closed NotConnected [] none).0 p))
 
   keeps-resync : (starved : Bool) (h : PrimaryHistory) → P h → P (resync_next starved h).1
   keeps-resync starved h p = tested-keeps P h (resync_tests h starved) (λ _. elim (free_block h) as (λ _. Reply × PrimaryHistory) [
     | None ↦ (reply.Refused NothingToDo, h)
-    | Some block ↦ succeeding (what.Block (record { 0 = block }) (length (outward h).stream)) (appending (ResyncItem block (unwrap_or (local_map h block) [])) h)
+    | Some block ↦ succeeding (what.Block (record { 0 = block }) (length (outward h).stream))
+        (appending (ResyncItem block (unwrap_or (local_map h block) [])) h)
   ]) p (λ none.
       let c : Outward = outward h in
       let rest : List Test = (nat_le 4294967288 (length c.stream), StreamFull) ∷ (starved, NoMemory) ∷ [] in
@@ -223,10 +259,12 @@ module _ (P Q : PrimaryHistory → Type 0) (K : IsKeptByMoves P Q) (R : IsKeptBy
       let more = or_parts (nat_lt 0 (length (under_way c))) idle parts.1 in
       go (free_block h) refl (not-false (resync_runs c) parts.0) more.0)
     where
-      go : (v : Option ℕ) → free_block h ≡ v → resync_runs (outward h) ≡ true → nat_lt 0 (length (under_way (outward h))) ≡ false → P (elim v as (λ _. Reply × PrimaryHistory) [
-        | None ↦ (reply.Refused NothingToDo, h)
-        | Some block ↦ succeeding (what.Block (record { 0 = block }) (length (outward h).stream)) (appending (ResyncItem block (unwrap_or (local_map h block) [])) h)
-      ]).1
+      go : (v : Option ℕ) → free_block h ≡ v → resync_runs (outward h) ≡ true → nat_lt 0 (length (under_way (outward h))) ≡ false
+          → P (elim v as (λ _. Reply × PrimaryHistory) [
+            | None ↦ (reply.Refused NothingToDo, h)
+            | Some block ↦ succeeding (what.Block (record { 0 = block }) (length (outward h).stream))
+                (appending (ResyncItem block (unwrap_or (local_map h block) [])) h)
+          ]).1
       go None is runs alone = p
       go (Some block) is runs alone = K.following (appending (ResyncItem block (unwrap_or (local_map h block) [])) h) (K.resyncs h block runs alone is p)
 
@@ -247,13 +285,19 @@ module _ (P Q : PrimaryHistory → Type 0) (K : IsKeptByMoves P Q) (R : IsKeptBy
       fresh-words : (stands_in (outward taken).sync peer || stands_in (outward taken).loss peer) ≡ false → stands_in (outward h).loss peer ≡ false
       fresh-words used = elim (last-change (with_frame (Ok (UuidsFrame peer))) (no_outward h.tuple) (no_outward h.tuple) h.connections) [
         | inl none ↦ absurd (both_ways (outward h).closed standing (ap (λ (l : List Outward). (last_of (no_outward h.tuple) l).closed) none))
-        | inr last ↦ ap (λ (c : Outward). stands_in c.loss peer) (sym last) ∙ (or_parts (stands_in (outward taken).sync peer) (stands_in (outward taken).loss peer) used).1
+        | inr last ↦ ap (λ (c : Outward). stands_in c.loss peer) (sym last)
+            ∙ (or_parts (stands_in (outward taken).sync peer) (stands_in (outward taken).loss peer) used).1
       ]
 
-      go : (used : Bool) (v : Result Decision Refusal) → (stands_in (outward taken).sync peer || stands_in (outward taken).loss peer) ≡ used → decision h.tuple peer ≡ v → Fine Q (with_outward (with_frame (Ok (UuidsFrame peer))) h) (elim used as (λ _. Taken) [
-        | true ↦ Err (UsedIdentifier, record (with_outward (with_frame (Ok (UuidsFrame peer))) h) { peer = Some peer })
-        | false ↦ elim v as (λ _. Taken) [ Err refusal ↦ Err (refusal, record (with_outward (with_frame (Ok (UuidsFrame peer))) h) { peer = Some peer }) | Ok decided ↦ Ok (what.Decided decided, begun_with decided (record (with_outward (with_frame (Ok (UuidsFrame peer))) h) { peer = Some peer })) ]
-      ])
+      go : (used : Bool) (v : Result Decision Refusal) → (stands_in (outward taken).sync peer || stands_in (outward taken).loss peer) ≡ used
+          → decision h.tuple peer ≡ v → Fine Q (with_outward (with_frame (Ok (UuidsFrame peer))) h) (elim used as (λ _. Taken) [
+            | true ↦ Err (UsedIdentifier, record (with_outward (with_frame (Ok (UuidsFrame peer))) h) { peer = Some peer })
+            | false ↦ elim v as (λ _. Taken) [
+              | Err refusal ↦ Err (refusal, record (with_outward (with_frame (Ok (UuidsFrame peer))) h) { peer = Some peer })
+              | Ok
+                  decided ↦ Ok (what.Decided decided, begun_with decided (record (with_outward (with_frame (Ok (UuidsFrame peer))) h) { peer = Some peer }))
+            ]
+          ])
       go true v used is = (Some peer, refl)
       go false (Err refusal) used is = (Some peer, refl)
       go false (Ok decided) used is = K.begins h peer decided standing new late is (fresh-words used) p
@@ -264,7 +308,9 @@ module _ (P Q : PrimaryHistory → Type 0) (K : IsKeptByMoves P Q) (R : IsKeptBy
   keeps-hello h standing new p zero (RsDataReplyFrame block contents at) is = (h.peer, refl)
   keeps-hello h standing new p zero (BarrierFrame number) is = (h.peer, refl)
   keeps-hello h standing new p zero (ProtocolFrame asked) is =
-      fine-if Q (with_outward (with_frame (Ok (ProtocolFrame asked))) h) (with_outward (with_frame (Ok (ProtocolFrame asked))) h) (same_protocol asked h.settings.protocol) (what.Frame command.Protocol None) OtherProtocol (λ same. K.greets h (Ok (ProtocolFrame asked)) standing new (inl (is, (asked, refl, same))) p)
+      fine-if Q (with_outward (with_frame (Ok (ProtocolFrame asked))) h) (with_outward (with_frame (Ok (ProtocolFrame asked))) h)
+      (same_protocol asked h.settings.protocol) (what.Frame command.Protocol None) OtherProtocol
+      (λ same. K.greets h (Ok (ProtocolFrame asked)) standing new (inl (is, (asked, refl, same))) p)
   keeps-hello h standing new p zero (UuidsFrame tuple) is = (h.peer, refl)
   keeps-hello h standing new p zero (SizesFrame blocks) is = (h.peer, refl)
   keeps-hello h standing new p zero (SyncUuidFrame word) is = (h.peer, refl)
@@ -278,7 +324,9 @@ module _ (P Q : PrimaryHistory → Type 0) (K : IsKeptByMoves P Q) (R : IsKeptBy
   keeps-hello h standing new p (suc zero) (ProtocolFrame asked) is = (h.peer, refl)
   keeps-hello h standing new p (suc zero) (UuidsFrame tuple) is = (h.peer, refl)
   keeps-hello h standing new p (suc zero) (SizesFrame blocks) is =
-      fine-if Q (with_outward (with_frame (Ok (SizesFrame blocks))) h) (with_outward (with_frame (Ok (SizesFrame blocks))) h) (blocks == h.settings.blocks) (what.Frame command.Sizes None) OtherSize (λ same. K.greets h (Ok (SizesFrame blocks)) standing new (inr (is, ap (λ (b : ℕ). Ok (SizesFrame b)) (eqb-true blocks h.settings.blocks same))) p)
+      fine-if Q (with_outward (with_frame (Ok (SizesFrame blocks))) h) (with_outward (with_frame (Ok (SizesFrame blocks))) h) (blocks == h.settings.blocks)
+      (what.Frame command.Sizes None) OtherSize
+      (λ same. K.greets h (Ok (SizesFrame blocks)) standing new (inr (is, ap (λ (b : ℕ). Ok (SizesFrame b)) (eqb-true blocks h.settings.blocks same))) p)
   keeps-hello h standing new p (suc zero) (SyncUuidFrame word) is = (h.peer, refl)
   keeps-hello h standing new p (suc zero) (RecvAckFrame ack) is = (h.peer, refl)
   keeps-hello h standing new p (suc zero) (WriteAckFrame ack) is = (h.peer, refl)
@@ -308,26 +356,38 @@ module _ (P Q : PrimaryHistory → Type 0) (K : IsKeptByMoves P Q) (R : IsKeptBy
   keeps-ack h standing begun p (RecvAckFrame ack) =
       let names : Bool = is_protocol protocol.B h && names_sent is_write ack (outward h) in
       let again : Bool = was_named was_received ack (outward h) in
-      fine-if Q (with_outward (with_frame (Ok (RecvAckFrame ack))) h) (with_outward (with_frame (Ok (RecvAckFrame ack))) h) (names && not again) (what.Frame command.RecvAck None) UnknownAck (λ good.
+      fine-if Q (with_outward (with_frame (Ok (RecvAckFrame ack))) h) (with_outward (with_frame (Ok (RecvAckFrame ack))) h) (names && not again)
+      (what.Frame command.RecvAck None) UnknownAck (λ good.
       let parts = and_parts names (not again) good in
-      K.receives h ack standing begun (record { names = (and_parts (is_protocol protocol.B h) (names_sent is_write ack (outward h)) parts.0).1; first = not-true again parts.1 }) p)
+      K.receives h ack standing begun (record {
+        names = (and_parts (is_protocol protocol.B h) (names_sent is_write ack (outward h)) parts.0).1;
+        first = not-true again parts.1;
+      }) p)
   keeps-ack h standing begun p (WriteAckFrame ack) =
       let names : Bool = is_protocol protocol.C h && names_sent is_write ack (outward h) in
       let again : Bool = was_named was_written ack (outward h) in
-      fine-if Q (with_outward (with_frame (Ok (WriteAckFrame ack))) h) (with_outward (with_frame (Ok (WriteAckFrame ack))) h) (names && not again) (what.Frame command.WriteAck None) UnknownAck (λ good.
+      fine-if Q (with_outward (with_frame (Ok (WriteAckFrame ack))) h) (with_outward (with_frame (Ok (WriteAckFrame ack))) h) (names && not again)
+      (what.Frame command.WriteAck None) UnknownAck (λ good.
       let parts = and_parts names (not again) good in
-      K.applies h ack standing begun (record { names = (and_parts (is_protocol protocol.C h) (names_sent is_write ack (outward h)) parts.0).1; first = not-true again parts.1 }) p)
+      K.applies h ack standing begun (record {
+        names = (and_parts (is_protocol protocol.C h) (names_sent is_write ack (outward h)) parts.0).1;
+        first = not-true again parts.1;
+      }) p)
   keeps-ack h standing begun p (RsWriteAckFrame ack) =
       let names : Bool = names_sent is_resync ack (outward h) in
       let again : Bool = was_named was_resynced ack (outward h) in
-      fine-if Q (with_outward (with_frame (Ok (RsWriteAckFrame ack))) h) (record (with_outward (with_frame (Ok (RsWriteAckFrame ack))) h) { marks = clearing ack.first h.marks }) (names && not again) (what.Frame command.RsWriteAck None) UnknownAck (λ good.
+      fine-if Q (with_outward (with_frame (Ok (RsWriteAckFrame ack))) h)
+      (record (with_outward (with_frame (Ok (RsWriteAckFrame ack))) h) { marks = clearing ack.first h.marks }) (names && not again)
+      (what.Frame command.RsWriteAck None) UnknownAck (λ good.
       let parts = and_parts names (not again) good in
       K.clears h ack standing begun (record { names = parts.0; first = not-true again parts.1 }) p)
   keeps-ack h standing begun p (BarrierAckFrame number size) =
       let taken : PrimaryHistory = with_outward (with_frame (Ok (BarrierAckFrame number size))) h in
-      fine-if Q taken (releasing h taken) (is_in_turn h number size) (what.Frame command.BarrierAck None) BadBarrierAck (λ good. R.confirms h number size standing begun good p (K.confirms h number size standing begun good p))
+      fine-if Q taken (releasing h taken) (is_in_turn h number size) (what.Frame command.BarrierAck None) BadBarrierAck
+      (λ good. R.confirms h number size standing begun good p (K.confirms h number size standing begun good p))
 
-  keeps-taking : (h : PrimaryHistory) → (outward h).closed ≡ false → P h → (frame : Received) → Fine Q (with_outward (with_frame frame) h) (taking frame h (with_outward (with_frame frame) h))
+  keeps-taking : (h : PrimaryHistory) → (outward h).closed ≡ false → P h → (frame : Received)
+      → Fine Q (with_outward (with_frame frame) h) (taking frame h (with_outward (with_frame frame) h))
   keeps-taking h standing p (Err fault) = (h.peer, refl)
   keeps-taking h standing p (Ok packet) = go (outward h).begun refl
     where
@@ -346,28 +406,23 @@ module _ (P Q : PrimaryHistory → Type 0) (K : IsKeptByMoves P Q) (R : IsKeptBy
         | Err error ↦ (reply.Refused error.0, (follows (closing (with_outward refusing error.1))).history)
       ]).1
       go (Ok done) fine = K.following done.1 fine
-      go (Err error) fine = subst (λ (e : PrimaryHistory). P (follows (closing (with_outward refusing e))).history) (sym fine.1) (K.following _ (K.refuses h frame fine.0 standing p))
+      go (Err error) fine = subst (λ (e : PrimaryHistory). P (follows (closing (with_outward refusing e))).history) (sym fine.1)
+          (K.following _ (K.refuses h frame fine.0 standing p))
 
   keeps-ack-in : (frame : Option Received) (starved : Bool) (h : PrimaryHistory) → P h → P (ack_in frame starved h).1
   keeps-ack-in frame starved h p =
       let rest : List Test = (not (outward h).begun && starved, NoMemory) ∷ (is_none frame, NothingThere) ∷ [] in
-      tested-keeps P h (((outward h).closed, NotConnected) ∷ rest) (λ _. elim frame as (λ _. Reply × PrimaryHistory) [ None ↦ (reply.Refused NothingThere, h) | Some taken ↦ take_frame taken h ]) p
+      tested-keeps P h (((outward h).closed, NotConnected) ∷ rest)
+      (λ _. elim frame as (λ _. Reply × PrimaryHistory) [ None ↦ (reply.Refused NothingThere, h) | Some taken ↦ take_frame taken h ]) p
       (λ none. go frame (test-passed (outward h).closed NotConnected rest none).0)
     where
-      go : (v : Option Received) → (outward h).closed ≡ false → P (elim v as (λ _. Reply × PrimaryHistory) [ None ↦ (reply.Refused NothingThere, h) | Some taken ↦ take_frame taken h ]).1
+      go : (v : Option Received) → (outward h).closed ≡ false
+          → P (elim v as (λ _. Reply × PrimaryHistory) [ None ↦ (reply.Refused NothingThere, h) | Some taken ↦ take_frame taken h ]).1
       go None standing = p
       go (Some taken) standing = keeps-frame h standing p taken
 
   keeps-receipt : (number : ℕ) (h : PrimaryHistory) → P h → P (take_completed number h).1
-  keeps-receipt number h p = go (first_refusal (take_completed_tests h number)) (find (λ entry. entry.write.number == number) h.journal)
-    where
-      go : (v : Option Refusal) (entry : Option Completion) → P (elim v as (λ _. Result Completion Refusal × PrimaryHistory) [
-        | Some refusal ↦ (Err refusal, h)
-        | None ↦ elim entry as (λ _. Result Completion Refusal × PrimaryHistory) [ None ↦ (Err LocalFault, receipted number h) | Some entry ↦ (Ok entry, receipted number h) ]
-      ]).1
-      go (Some refusal) entry = p
-      go None None = K.receipts h number p
-      go None (Some entry) = K.receipts h number p
+  keeps-receipt number h p = receipt-has (λ r. P r.1) number h (λ refusal. p) (K.receipts h number p) (λ entry. K.receipts h number p)
 
   -- every step keeps it, and so does every run
   pub keeps-after : (event : PrimaryEvent) (h : PrimaryHistory) → P h → P (primary_after event h)

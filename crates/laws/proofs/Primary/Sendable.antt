@@ -1,10 +1,11 @@
 -- Whatever frames a primary takes, its streams can be sent, and an open end has taken three frames once its stream has begun.
-use Rattle.std.proofs.Common.{ℕ, zero, suc, ◌≡◌, ◌+◌, ◌-◌, ◌≤◌, ◌<◌, Bool, true, false, cond, not, ◌&&◌, ◌||◌, List, [], ◌∷◌, ◌++◌, length, Option, Some, None, is_none, Result, Ok, Err, refl, sym, ◌∙◌, ap, subst, arith, ◌==◌, nat_lt, nat_le, length-append}
-use Rattle.std.specs.Prelude.{find, is_some, unwrap_or}
-use Rattle.std.specs.List.{list_any}
+use Rattle.std.proofs.Common.{ℕ, zero, suc, ◌≡◌, ◌+◌, ◌-◌, ◌≤◌, ◌<◌, Bool, true, false, cond, not, ◌&&◌, ◌||◌, List, [], ◌∷◌, ◌++◌, length, Option, Some, None}
+use Rattle.std.proofs.Common.{is_none, Result, Ok, Err, refl, sym, ◌∙◌, ap, subst, arith, nat_lt, nat_le, length-append}
+use Rattle.std.specs.Prelude.{unwrap_or}
 use Rattle.std.proofs.lemmas.Bool.{both_ways, and_parts, or_parts, not-false, leb-false, ltb-true, le-leb, eq-eqb, and_from}
 use Rattle.blocks.specs.declared.refusal.Refusal.{Refusal}
-use Rattle.blocks.specs.declared.refusal.Refusal.TheVariants.{BadRange, Conflict, LogFull, ActivityFull, JournalFull, StreamFull, NoMemory, LocalFault, NothingToDo, NotConnected, NothingThere, ReadFault, UnknownJob, UsedIdentifier, NotDrained}
+use Rattle.blocks.specs.declared.refusal.Refusal.TheVariants.{StreamFull, NoMemory, NothingToDo, NotConnected, NothingThere, ReadFault, UnknownJob}
+use Rattle.blocks.specs.declared.refusal.Refusal.TheVariants.{UsedIdentifier, NotDrained}
 use Rattle.blocks.specs.declared.outcome.Decision.{Decision}
 use Rattle.blocks.specs.declared.outcome.Decision.TheVariants.{NoSync, BitmapSync, FullSync}
 use Rattle.blocks.specs.declared.outcome.What.{What}
@@ -14,23 +15,31 @@ use Rattle.blocks.specs.declared.outcome.Reply.TheVariants as reply
 use Rattle.blocks.specs.declared.settings.Settings.{Settings}
 use Rattle.blocks.specs.declared.tuple.Tuple.{Tuple}
 use Rattle.model.specs.Contents.{BlockMap, is_range, extent_of}
-use Rattle.model.specs.Stream.{Item, WriteItem, ResyncItem, SyncUuidItem, below, within}
+use Rattle.model.specs.Stream.{Item, WriteItem, ResyncItem, SyncUuidItem, within, last_epoch, items_of_epoch}
 use Rattle.model.specs.Frames.{Packet, ProtocolFrame, UuidsFrame, SizesFrame, RecvAckFrame, WriteAckFrame, RsWriteAckFrame, BarrierAckFrame, Received}
 use Rattle.model.specs.Identifiers.{are_fresh, decision, stands_in, sync_end}
 use Rattle.model.specs.Marks.{marking, releasing}
-use Rattle.model.specs.Refusals.{Test, first_refusal}
-use Rattle.model.specs.Primary.{Accepted, Waiting, OnDisk, Failed, Completion, Outward, PrimaryHistory, primary_opening, no_outward, outward, last_index, change_last, with_outward, stands, unreleased, open_writes, local_map, in_resync, resync_runs, under_way, marked_blocks, free_block}
-use Rattle.model.specs.Contents.{covers}
-use Rattle.model.specs.PrimarySteps.{follows, appending, succeeding, resync_is_over, known_tuples, open_tests, opened, open_primary, conflict, activity_is_full, submission, submit_tests, submitted, submit, is_unfinished, with_outcome, local_done, accepted_at, faulted, local_fault, send_tests, sending, send, resync_tests, resync_next, resync_fault, closing, close_primary, take_completed_tests, receipted, take_completed}
+use Rattle.model.specs.Refusals.{Test}
+use Rattle.model.specs.Primary.{Accepted, Waiting, OnDisk, Failed, Outward, PrimaryHistory, primary_opening, no_outward, outward, last_index, change_last}
+use Rattle.model.specs.Primary.{with_outward, stands, local_map, in_resync, resync_runs, under_way, free_block}
+use Rattle.model.specs.PrimarySteps.{follows, appending, succeeding, epoch_is_over, known_tuples, open_tests, opened, open_primary, submission, submit_tests}
+use Rattle.model.specs.PrimarySteps.{submitted, submit, is_unfinished, with_outcome, local_done, accepted_at, faulted, local_fault, send_tests, sending, send}
+use Rattle.model.specs.PrimarySteps.{resync_tests, resync_next, resync_fault, closing, close_primary, take_completed}
 use Rattle.model.specs.Acknowledgements.{Taken, begun_with, meeting, taking_hello, taking_ack, taking, take_frame, ack_in}
-use Rattle.model.specs.LocalRuns.{PrimaryEvent, Opens, Submits, WritesLocally, FailsLocally, Sends, Takes, Resyncs, FailsResync, Closes, Receipts, primary_after, primary_run}
+use Rattle.model.specs.LocalRuns.{PrimaryEvent, Opens, Submits, WritesLocally, FailsLocally, Sends, Takes, Resyncs, FailsResync, Closes, Receipts}
+use Rattle.model.specs.LocalRuns.{primary_after, primary_run}
+use Rattle.laws.proofs.Rules.Receipts.{receipt-has}
+use Rattle.laws.proofs.Rules.FreeBlocks.{free-found}
+use Rattle.laws.proofs.Rules.ResyncEnds.{over-runs}
+use Rattle.laws.proofs.Rules.Submissions.{accepted-by-tests}
+use Rattle.laws.proofs.Rules.EpochEnds.{TakesWrites, over-work}
 use Rattle.laws.proofs.Lists.Each.{Each, each-append, each-change}
 use Rattle.laws.proofs.Lists.Last.{change-twice}
-use Rattle.laws.proofs.Lists.Picks.{pick-found, pick-filtered, pick-below}
+use Rattle.laws.proofs.Lists.Picks.{any-pick}
 use Rattle.laws.proofs.Lists.Tests.{test-passed}
 use Rattle.laws.proofs.Primary.Moves.{with_frame, refusing, pushing, tested-keeps, following-from}
 use Rattle.laws.proofs.Primary.LawfulMoves.{last-changed}
-use Rattle.laws.proofs.Streams.Sendable.{IsSendable, sendable-work, sendable-barrier, sendable-end, sendable-empty, sendable-start, over-busy}
+use Rattle.laws.proofs.Streams.Sendable.{IsSendable, is_work, is_busy, sendable-work, sendable-barrier, sendable-end, sendable-empty, sendable-start}
 
 -- A connection whose stream can be sent and whose sync word is not zero; while it is open, its stream begins with the third
 -- frame that it takes.
@@ -45,9 +54,16 @@ pub record HasFitEnds (settings : Settings) (h : PrimaryHistory) : Type 0 where
   pub setting : h.settings ≡ settings
   pub ends : Each (IsFitEnd settings) h.connections
 
+-- An epoch that is over had a write or a block.
+pub over-busy : (settings : Settings) → TakesWrites settings → (h : PrimaryHistory) → h.settings ≡ settings → epoch_is_over h ≡ true
+    → is_busy (outward h).stream ≡ true
+over-busy settings bound h same over =
+    let found = over-work h (subst TakesWrites (sym same) bound) over in
+    any-pick is_work (items_of_epoch (outward h).stream (last_epoch (outward h).stream)) found.0 found.1 found.2 found.3
+
 -- Changes of the last connection.
 
-module _ (settings : Settings) (bound : 0 < settings.max_epoch) where
+module _ (settings : Settings) (bound : TakesWrites settings) where
   fit-change : (h later : PrimaryHistory) (f : Outward → Outward) → later.settings ≡ h.settings → later.connections ≡ change_last f h.connections
       → (IsFitEnd settings (outward h) → IsFitEnd settings (f (outward h))) → HasFitEnds settings h → HasFitEnds settings later
   fit-change h later f same connections keeps a = record {
@@ -59,26 +75,23 @@ module _ (settings : Settings) (bound : 0 < settings.max_epoch) where
   fit-same h later same connections a = record { setting = same ∙ a.setting; ends = subst (Each (IsFitEnd settings)) (sym connections) a.ends }
 
   -- an item goes to the end of the last stream
-  fit-appending : (item : Item) (h later : PrimaryHistory) → later.settings ≡ h.settings → later.connections ≡ change_last (λ c. record c { stream = c.stream ++ item ∷ [] }) h.connections
+  fit-appending : (item : Item) (h later : PrimaryHistory) → later.settings ≡ h.settings
+      → later.connections ≡ change_last (λ c. record c { stream = c.stream ++ item ∷ [] }) h.connections
       → (IsSendable settings (outward h).stream → IsSendable settings ((outward h).stream ++ item ∷ [])) → HasFitEnds settings h → HasFitEnds settings later
-  fit-appending item h later same connections keeps = fit-change h later _ same connections (λ e. record { stream = keeps e.stream; fresh = e.fresh; early = e.early; late = e.late })
-
-  over-runs : (g : PrimaryHistory) → resync_is_over g ≡ true → in_resync (outward g).stream ≡ true
-  over-runs g over = go (resync_runs (outward g)) refl over
-    where
-      go : (b : Bool) → resync_runs (outward g) ≡ b → elim b as (λ _. Bool) [ false ↦ false | true ↦ (length (marked_blocks g) == 0) && (length (under_way (outward g)) == 0) ] ≡ true → in_resync (outward g).stream ≡ true
-      go false eq over = absurd (cc)
-      go true eq over = (and_parts (stands (outward g)) (in_resync (outward g).stream) eq).1
+  fit-appending item h later same connections keeps = fit-change h later _ same connections
+      (λ e. record { stream = keeps e.stream; fresh = e.fresh; early = e.early; late = e.late })
 
   fit-following : (h : PrimaryHistory) → HasFitEnds settings h → HasFitEnds settings (follows h).history
   fit-following = following-from (HasFitEnds settings) (HasFitEnds settings) (HasFitEnds settings) (λ h a. fit-same h _ refl refl a)
-      (λ g over a. fit-appending _ g _ refl refl (λ s. sendable-barrier settings (outward g).stream s (over-busy settings bound g a.setting over)) a) (λ g on a. a)
+      (λ g over a. fit-appending _ g _ refl refl (λ s. sendable-barrier settings (outward g).stream s (over-busy settings bound g a.setting over)) a)
+      (λ g on a. a)
       (λ g over a. fit-appending _ g _ refl refl (λ s. sendable-end settings (outward g).stream (sync_end g.tuple) s (over-runs g over)) a) (λ g a. a)
 
   -- Steps.
 
   fit-open : (sync loss : ℕ) (starved : Bool) (h : PrimaryHistory) → HasFitEnds settings h → HasFitEnds settings (open_primary sync loss starved h).1
-  fit-open sync loss starved h a = tested-keeps (HasFitEnds settings) h (open_tests h sync loss starved) (λ _. succeeding what.Nothing (opened h sync loss)) a (λ none.
+  fit-open sync loss starved h a = tested-keeps (HasFitEnds settings) h (open_tests h sync loss starved) (λ _. succeeding what.Nothing (opened h sync loss)) a
+      (λ none.
       let t3 : List Test = (nat_le 4294967295 (length h.connections), StreamFull) ∷ (starved, NoMemory) ∷ [] in
       let t2 : List Test = (not (are_fresh sync loss (known_tuples h)), UsedIdentifier) ∷ t3 in
       let one = test-passed (not (outward h).closed) NotDrained t2 none in
@@ -88,72 +101,80 @@ module _ (settings : Settings) (bound : 0 < settings.max_epoch) where
       let word = ltb-true 0 sync (and_parts (nat_lt 0 sync) _ sync_word).0 in
       fit-following (opened h sync loss) (record {
         setting = a.setting;
-        ends = each-append (IsFitEnd settings) h.connections _ a.ends (record { stream = sendable-empty settings; fresh = word; early = λ standing new. omega arith; late = λ begun. absurd (cc) });
+        ends = each-append (IsFitEnd settings) h.connections _ a.ends
+            (record { stream = sendable-empty settings; fresh = word; early = λ standing new. omega arith; late = λ begun. absurd (cc) });
       }))
 
-  fit-submitted : (h : PrimaryHistory) (first : ℕ) (contents : List (List ℕ)) → is_range h.settings first (length contents) ≡ true → (stands (outward h) ≡ true → length (outward h).stream < 4294967288)
+  fit-submitted : (h : PrimaryHistory) (first : ℕ) (contents : List (List ℕ)) → is_range h.settings first (length contents) ≡ true
+      → (stands (outward h) ≡ true → length (outward h).stream < 4294967288)
       → HasFitEnds settings h → HasFitEnds settings (submitted h first contents)
   fit-submitted h first contents range few a = go (stands (outward h)) refl
     where
       go : (b : Bool) → stands (outward h) ≡ b → HasFitEnds settings (elim b as (λ _. PrimaryHistory) [
-        | true ↦ appending (WriteItem (submission h first contents)) (record h { writes = h.writes ++ record { write = submission h first contents; journal_length = length h.journal; home = Some (last_index h.connections, length (outward h).stream); outcome = Waiting } ∷ [] })
-        | false ↦ record h { writes = h.writes ++ record { write = submission h first contents; journal_length = length h.journal; home = None; outcome = Waiting } ∷ []; marks = marking (submission h first contents) h.marks }
+        | true ↦ appending (WriteItem (submission h first contents))
+            (record h {
+              writes = h.writes ++ record {
+                write = submission h first contents;
+                journal_length = length h.journal;
+                home = Some (record { index = last_index h.connections; place = length (outward h).stream });
+                outcome = Waiting;
+              } ∷ [];
+            })
+        | false ↦ record h {
+          writes = h.writes ++ record {
+            write = submission h first contents;
+            journal_length = length h.journal;
+            home = None;
+            outcome = Waiting;
+          } ∷ [];
+          marks = marking (submission h first contents) h.marks;
+        }
       ])
-      go true is = fit-appending (WriteItem (submission h first contents)) h _ refl refl (λ s. sendable-work settings (outward h).stream (WriteItem (submission h first contents)) s
+      go true is = fit-appending (WriteItem (submission h first contents)) h _ refl refl
+          (λ s. sendable-work settings (outward h).stream (WriteItem (submission h first contents)) s
           (subst (λ (x : Settings). is_range x first (length contents) ≡ true) a.setting range) refl (few is)) a
       go false is = fit-same h _ refl refl a
 
-  fit-submit : (first : ℕ) (contents : List (List ℕ)) (starved : Bool) (h : PrimaryHistory) → HasFitEnds settings h → HasFitEnds settings (submit first contents starved h).1
+  fit-submit : (first : ℕ) (contents : List (List ℕ)) (starved : Bool) (h : PrimaryHistory) → HasFitEnds settings h
+      → HasFitEnds settings (submit first contents starved h).1
   fit-submit first contents starved h a =
-      let met : Option ℕ = conflict h (submission h first contents) in
-      let full : Bool = nat_le 4294967288 (length (outward h).stream) in
-      let t8 : List Test = (starved, NoMemory) ∷ [] in
-      let t7 : List Test = (stands (outward h) && full, StreamFull) ∷ t8 in
-      let t6 : List Test = (activity_is_full h (extent_of first), ActivityFull) ∷ t7 in
-      let t5 : List Test = (is_some met, Conflict (unwrap_or met 0)) ∷ t6 in
-      let t4 : List Test = (nat_le h.settings.backlog (length (unreleased h)), LogFull) ∷ t5 in
-      let t3 : List Test = (nat_le 1048576 (length h.writes), JournalFull) ∷ t4 in
-      let t2 : List Test = (not (stands (outward h)) && (h.tuple.bitmap == 0), NotConnected) ∷ t3 in
-      tested-keeps (HasFitEnds settings) h (submit_tests h first contents starved) (λ _. succeeding (what.Write (suc (length h.writes))) (submitted h first contents)) a (λ none.
-      let one = test-passed (not (is_range h.settings first (length contents))) BadRange t2 none in
-      let two = test-passed (not (stands (outward h)) && (h.tuple.bitmap == 0)) NotConnected t3 one.1 in
-      let three = test-passed (nat_le 1048576 (length h.writes)) JournalFull t4 two.1 in
-      let four = test-passed (nat_le h.settings.backlog (length (unreleased h))) LogFull t5 three.1 in
-      let five = test-passed (is_some met) (Conflict (unwrap_or met 0)) t6 four.1 in
-      let six = test-passed (activity_is_full h (extent_of first)) ActivityFull t7 five.1 in
-      let seven = test-passed (stands (outward h) && full) StreamFull t8 six.1 in
-      fit-following (submitted h first contents) (fit-submitted h first contents (not-false (is_range h.settings first (length contents)) one.0)
-      (λ standing. leb-false 4294967288 (length (outward h).stream) (subst (λ b. (b && full) ≡ false) standing seven.0)) a))
+      tested-keeps (HasFitEnds settings) h (submit_tests h first contents starved)
+      (λ _. succeeding (what.Write (suc (length h.writes))) (submitted h first contents)) a (λ none.
+      let may = accepted-by-tests h first contents starved none in
+      fit-following (submitted h first contents) (fit-submitted h first contents may.range may.places a))
 
   fit-local : (number : ℕ) (h : PrimaryHistory) → HasFitEnds settings h → HasFitEnds settings (local_done number h).1
-  fit-local number h a = tested-keeps (HasFitEnds settings) h ((not (is_unfinished h number), UnknownJob) ∷ []) (λ _. succeeding what.Nothing (releasing h (with_outcome number OnDisk h))) a (λ none.
+  fit-local number h a = tested-keeps (HasFitEnds settings) h ((not (is_unfinished h number), UnknownJob) ∷ [])
+      (λ _. succeeding what.Nothing (releasing h (with_outcome number OnDisk h))) a (λ none.
       fit-following (releasing h (with_outcome number OnDisk h)) (fit-same h _ refl refl a))
 
   fit-fault : (number : ℕ) (offsets : List ℕ) (h : PrimaryHistory) → HasFitEnds settings h → HasFitEnds settings (local_fault number offsets h).1
-  fit-fault number offsets h a = tested-keeps (HasFitEnds settings) h ((not (is_unfinished h number), UnknownJob) ∷ []) (λ _. succeeding what.Nothing (faulted number offsets h)) a (λ none.
+  fit-fault number offsets h a = tested-keeps (HasFitEnds settings) h ((not (is_unfinished h number), UnknownJob) ∷ [])
+      (λ _. succeeding what.Nothing (faulted number offsets h)) a (λ none.
       fit-following (faulted number offsets h) (go (accepted_at h number)))
     where
-      go : (v : Option Accepted) → HasFitEnds settings (elim v as (λ _. PrimaryHistory) [ None ↦ h | Some accepted ↦ with_outcome number (Failed (within (length accepted.write.contents) offsets)) (record h { marks = marking accepted.write h.marks }) ])
+      go : (v : Option Accepted) → HasFitEnds settings
+          (elim v as (λ _. PrimaryHistory) [
+            | None ↦ h
+            | Some accepted ↦ with_outcome number (Failed (within (length accepted.write.contents) offsets))
+                (record h { marks = marking accepted.write h.marks })
+          ])
       go None = a
       go (Some accepted) = fit-same h _ refl refl a
 
   fit-send : (room starved : Bool) (h : PrimaryHistory) → HasFitEnds settings h → HasFitEnds settings (send room starved h).1
   fit-send room starved h a = tested-keeps (HasFitEnds settings) h (send_tests h room starved) (λ _. succeeding (sending h) (with_outward pushing h)) a (λ none.
-      fit-following (with_outward pushing h) (fit-change h _ pushing refl refl (λ e. record { stream = e.stream; fresh = e.fresh; early = e.early; late = e.late }) a))
+      fit-following (with_outward pushing h)
+      (fit-change h _ pushing refl refl (λ e. record { stream = e.stream; fresh = e.fresh; early = e.early; late = e.late }) a))
 
   fit-closing : (h : PrimaryHistory) → HasFitEnds settings h → HasFitEnds settings (closing h)
-  fit-closing h a = fit-change h _ (λ c. record c { closed = true }) refl refl (λ e. record { stream = e.stream; fresh = e.fresh; early = λ standing. absurd (cc); late = e.late }) a
+  fit-closing h a = fit-change h _ (λ c. record c { closed = true }) refl refl
+      (λ e. record { stream = e.stream; fresh = e.fresh; early = λ standing. absurd (cc); late = e.late }) a
 
   fit-close : (h : PrimaryHistory) → HasFitEnds settings h → HasFitEnds settings (close_primary h).1
-  fit-close h a = tested-keeps (HasFitEnds settings) h (((outward h).closed, NotConnected) ∷ []) (λ _. let after = follows (closing h) in (reply.Closed (length after.completed), after.history)) a (λ none.
+  fit-close h a = tested-keeps (HasFitEnds settings) h (((outward h).closed, NotConnected) ∷ [])
+      (λ _. let after = follows (closing h) in (reply.Closed (length after.completed), after.history)) a (λ none.
       fit-following (closing h) (fit-closing h a))
-
-  -- a free block is one of the device
-  free-below : (h : PrimaryHistory) (block : ℕ) → free_block h ≡ Some block → block < h.settings.blocks
-  free-below h block is =
-      let found = pick-found (λ (b : ℕ). not (list_any (λ (accepted : Accepted). covers accepted.write b) (open_writes h))) (marked_blocks h) block is in
-      let there = pick-filtered h.marks (below h.settings.blocks) found.0 block found.1 in
-      pick-below h.settings.blocks there.0 block there.1
 
   one-block : (blocks block : ℕ) (s : Settings) → s.blocks ≡ blocks → block < blocks → is_range s block 1 ≡ true
   one-block blocks block s same less =
@@ -164,7 +185,8 @@ module _ (settings : Settings) (bound : 0 < settings.max_epoch) where
   fit-resync : (starved : Bool) (h : PrimaryHistory) → HasFitEnds settings h → HasFitEnds settings (resync_next starved h).1
   fit-resync starved h a = tested-keeps (HasFitEnds settings) h (resync_tests h starved) (λ _. elim (free_block h) as (λ _. Reply × PrimaryHistory) [
     | None ↦ (reply.Refused NothingToDo, h)
-    | Some block ↦ succeeding (what.Block (record { 0 = block }) (length (outward h).stream)) (appending (ResyncItem block (unwrap_or (local_map h block) [])) h)
+    | Some block ↦ succeeding (what.Block (record { 0 = block }) (length (outward h).stream))
+        (appending (ResyncItem block (unwrap_or (local_map h block) [])) h)
   ]) a (λ none.
       let c : Outward = outward h in
       let t4 : List Test = (starved, NoMemory) ∷ [] in
@@ -178,14 +200,18 @@ module _ (settings : Settings) (bound : 0 < settings.max_epoch) where
       let parts = or_parts (not (resync_runs c)) (nat_lt 0 (length (under_way c)) || idle) two.0 in
       go (free_block h) refl (not-false (resync_runs c) parts.0) (leb-false 4294967288 (length c.stream) three.0))
     where
-      go : (v : Option ℕ) → free_block h ≡ v → resync_runs (outward h) ≡ true → length (outward h).stream < 4294967288 → HasFitEnds settings (elim v as (λ _. Reply × PrimaryHistory) [
-        | None ↦ (reply.Refused NothingToDo, h)
-        | Some block ↦ succeeding (what.Block (record { 0 = block }) (length (outward h).stream)) (appending (ResyncItem block (unwrap_or (local_map h block) [])) h)
-      ]).1
+      go : (v : Option ℕ) → free_block h ≡ v → resync_runs (outward h) ≡ true → length (outward h).stream < 4294967288
+          → HasFitEnds settings (elim v as (λ _. Reply × PrimaryHistory) [
+            | None ↦ (reply.Refused NothingToDo, h)
+            | Some block ↦ succeeding (what.Block (record { 0 = block }) (length (outward h).stream))
+                (appending (ResyncItem block (unwrap_or (local_map h block) [])) h)
+          ]).1
       go None is runs few = a
       go (Some block) is runs few = fit-following (appending (ResyncItem block (unwrap_or (local_map h block) [])) h) (fit-appending _ h _ refl refl (λ s.
-          sendable-work settings (outward h).stream (ResyncItem block (unwrap_or (local_map h block) [])) s
-          (one-block h.settings.blocks block settings (ap (λ (x : Settings). x.blocks) (sym a.setting)) (free-below h block is), (and_parts (stands (outward h)) (in_resync (outward h).stream) runs).1) refl few) a)
+          sendable-work settings (outward h).stream (ResyncItem block (unwrap_or (local_map h block) [])) s (
+            one-block h.settings.blocks block settings (ap (λ (x : Settings). x.blocks) (sym a.setting)) (free-found h block is).within,
+            (and_parts (stands (outward h)) (in_resync (outward h).stream) runs).1,
+          ) refl few) a)
 
   fit-resync-fault : (starved : Bool) (h : PrimaryHistory) → HasFitEnds settings h → HasFitEnds settings (resync_fault starved h).1
   fit-resync-fault starved h a = tested-keeps (HasFitEnds settings) h (resync_tests h starved) (λ _. (reply.Refused ReadFault, h)) a (λ none. a)
@@ -197,14 +223,16 @@ module _ (settings : Settings) (bound : 0 < settings.max_epoch) where
   FitTaken taken (Ok done) = HasFitEnds settings done.1
   FitTaken taken (Err error) = (error.1.settings ≡ taken.settings) × (error.1.connections ≡ taken.connections)
 
-  fit-if : (taken done : PrimaryHistory) (good : Bool) (name : What) (refusal : Refusal) → HasFitEnds settings done → FitTaken taken (cond good (Ok (name, done)) (Err (refusal, taken)))
+  fit-if : (taken done : PrimaryHistory) (good : Bool) (name : What) (refusal : Refusal) → HasFitEnds settings done
+      → FitTaken taken (cond good (Ok (name, done)) (Err (refusal, taken)))
   fit-if taken done true name refusal a = a
   fit-if taken done false name refusal a = (refl, refl)
 
   longer : (c : Outward) (frame : Received) → length (c.taken ++ frame ∷ []) ≡ length c.taken + 1
   longer c frame = length-append c.taken (frame ∷ [])
 
-  fit-begins : (h : PrimaryHistory) (frame : Received) (peer : Tuple) (decided : Decision) → (outward h).closed ≡ false → 1 < length (outward h).taken → HasFitEnds settings h
+  fit-begins : (h : PrimaryHistory) (frame : Received) (peer : Tuple) (decided : Decision) → (outward h).closed ≡ false → 1 < length (outward h).taken
+      → HasFitEnds settings h
       → HasFitEnds settings (begun_with decided (record (with_outward (with_frame frame) h) { peer = Some peer }))
   fit-begins h frame peer decided standing third a = go decided
     where
@@ -215,7 +243,9 @@ module _ (settings : Settings) (bound : 0 < settings.max_epoch) where
       sync = ap (λ (c : Outward). c.sync) (last-changed h (with_frame frame) (no_outward h.tuple) standing)
 
       starts : (later : PrimaryHistory) → later.settings ≡ h.settings
-          → later.connections ≡ change_last (λ c. record c { begun = true; stream = SyncUuidItem (outward (record (with_outward (with_frame frame) h) { peer = Some peer })).sync ∷ [] }) (change_last (with_frame frame) h.connections)
+          → later.connections ≡ change_last
+          (λ c. record c { begun = true; stream = SyncUuidItem (outward (record (with_outward (with_frame frame) h) { peer = Some peer })).sync ∷ [] })
+          (change_last (with_frame frame) h.connections)
           → HasFitEnds settings later
       starts later same connections = fit-change h later _ same (connections ∙ change-twice (with_frame frame) _ h.connections) (λ e. record {
         stream = sendable-start settings _ (let fresh = e.fresh in let is = sync in omega arith);
@@ -243,14 +273,19 @@ module _ (settings : Settings) (bound : 0 < settings.max_epoch) where
 
       go : (used : Bool) (v : Result Decision Refusal) → FitTaken (with_outward (with_frame frame) h) (elim used as (λ _. Taken) [
         | true ↦ Err (UsedIdentifier, record (with_outward (with_frame frame) h) { peer = Some peer })
-        | false ↦ elim v as (λ _. Taken) [ Err refusal ↦ Err (refusal, record (with_outward (with_frame frame) h) { peer = Some peer }) | Ok decided ↦ Ok (what.Decided decided, begun_with decided (record (with_outward (with_frame frame) h) { peer = Some peer })) ]
+        | false ↦ elim v as (λ _. Taken) [
+          | Err refusal ↦ Err (refusal, record (with_outward (with_frame frame) h) { peer = Some peer })
+          | Ok decided ↦ Ok
+              (what.Decided decided, begun_with decided (record (with_outward (with_frame frame) h) { peer = Some peer }))
+        ]
       ])
       go true v = (refl, refl)
       go false (Err refusal) = (refl, refl)
       go false (Ok decided) = fit-begins h frame peer decided standing third a
 
   -- a frame of the hello before the last one
-  fit-greets : (h : PrimaryHistory) (frame : Received) → (outward h).begun ≡ false → length (outward h).taken < 2 → HasFitEnds settings h → HasFitEnds settings (with_outward (with_frame frame) h)
+  fit-greets : (h : PrimaryHistory) (frame : Received) → (outward h).begun ≡ false → length (outward h).taken < 2 → HasFitEnds settings h
+      → HasFitEnds settings (with_outward (with_frame frame) h)
   fit-greets h frame new few = fit-change h _ (with_frame frame) refl refl (λ e. record {
     stream = e.stream;
     fresh = e.fresh;
@@ -258,7 +293,8 @@ module _ (settings : Settings) (bound : 0 < settings.max_epoch) where
     late = λ begun. absurd (both_ways (outward h).begun new begun);
   })
 
-  fit-hello : (h : PrimaryHistory) (n : ℕ) (packet : Packet) → n ≡ length (outward h).taken → (outward h).closed ≡ false → (outward h).begun ≡ false → HasFitEnds settings h
+  fit-hello : (h : PrimaryHistory) (n : ℕ) (packet : Packet) → n ≡ length (outward h).taken → (outward h).closed ≡ false → (outward h).begun ≡ false
+      → HasFitEnds settings h
       → FitTaken (with_outward (with_frame (Ok packet)) h) (taking_hello n packet (with_outward (with_frame (Ok packet)) h))
   fit-hello h zero (ProtocolFrame asked) is standing new a = fit-if _ _ _ _ _ (fit-greets h (Ok (ProtocolFrame asked)) new (omega arith) a)
   fit-hello h (suc zero) (SizesFrame blocks) is standing new a = fit-if _ _ _ _ _ (fit-greets h (Ok (SizesFrame blocks)) new (omega arith) a)
@@ -266,7 +302,8 @@ module _ (settings : Settings) (bound : 0 < settings.max_epoch) where
   fit-hello h n packet is standing new a = (refl, refl)
 
   -- a frame after the hello
-  fit-takes : (h : PrimaryHistory) (frame : Received) → (outward h).begun ≡ true → HasFitEnds settings h → HasFitEnds settings (with_outward (with_frame frame) h)
+  fit-takes : (h : PrimaryHistory) (frame : Received) → (outward h).begun ≡ true → HasFitEnds settings h
+      → HasFitEnds settings (with_outward (with_frame frame) h)
   fit-takes h frame old = fit-change h _ (with_frame frame) refl refl (λ e. record {
     stream = e.stream;
     fresh = e.fresh;
@@ -274,14 +311,19 @@ module _ (settings : Settings) (bound : 0 < settings.max_epoch) where
     late = λ begun. let long = longer (outward h) frame in let was = e.late old in omega arith;
   })
 
-  fit-ack : (h : PrimaryHistory) (packet : Packet) → (outward h).begun ≡ true → HasFitEnds settings h → FitTaken (with_outward (with_frame (Ok packet)) h) (taking_ack packet h (with_outward (with_frame (Ok packet)) h))
+  fit-ack : (h : PrimaryHistory) (packet : Packet) → (outward h).begun ≡ true → HasFitEnds settings h
+      → FitTaken (with_outward (with_frame (Ok packet)) h) (taking_ack packet h (with_outward (with_frame (Ok packet)) h))
   fit-ack h (RecvAckFrame ack) old a = fit-if _ _ _ _ _ (fit-takes h (Ok (RecvAckFrame ack)) old a)
   fit-ack h (WriteAckFrame ack) old a = fit-if _ _ _ _ _ (fit-takes h (Ok (WriteAckFrame ack)) old a)
-  fit-ack h (RsWriteAckFrame ack) old a = fit-if _ _ _ _ _ (fit-same (with_outward (with_frame (Ok (RsWriteAckFrame ack))) h) _ refl refl (fit-takes h (Ok (RsWriteAckFrame ack)) old a))
-  fit-ack h (BarrierAckFrame number size) old a = fit-if _ _ _ _ _ (fit-same (with_outward (with_frame (Ok (BarrierAckFrame number size))) h) _ refl refl (fit-takes h (Ok (BarrierAckFrame number size)) old a))
+  fit-ack h (RsWriteAckFrame ack) old a =
+      fit-if _ _ _ _ _ (fit-same (with_outward (with_frame (Ok (RsWriteAckFrame ack))) h) _ refl refl (fit-takes h (Ok (RsWriteAckFrame ack)) old a))
+  fit-ack h (BarrierAckFrame number size) old a =
+      fit-if _ _ _ _ _ (fit-same (with_outward (with_frame (Ok (BarrierAckFrame number size))) h) _ refl refl
+      (fit-takes h (Ok (BarrierAckFrame number size)) old a))
   fit-ack h packet old a = (refl, refl)
 
-  fit-taking : (h : PrimaryHistory) (frame : Received) → (outward h).closed ≡ false → HasFitEnds settings h → FitTaken (with_outward (with_frame frame) h) (taking frame h (with_outward (with_frame frame) h))
+  fit-taking : (h : PrimaryHistory) (frame : Received) → (outward h).closed ≡ false → HasFitEnds settings h
+      → FitTaken (with_outward (with_frame frame) h) (taking frame h (with_outward (with_frame frame) h))
   fit-taking h (Err fault) standing a = (refl, refl)
   fit-taking h (Ok packet) standing a = go (outward h).begun refl
     where
@@ -293,12 +335,20 @@ module _ (settings : Settings) (bound : 0 < settings.max_epoch) where
       go false is = fit-hello h (length (outward h).taken) packet refl standing is a
 
   -- a refused frame closes the end
-  fit-refuses : (h : PrimaryHistory) (frame : Received) (e : PrimaryHistory) → e.settings ≡ h.settings → e.connections ≡ change_last (with_frame frame) h.connections → HasFitEnds settings h
+  fit-refuses : (h : PrimaryHistory) (frame : Received) (e : PrimaryHistory) → e.settings ≡ h.settings
+      → e.connections ≡ change_last (with_frame frame) h.connections → HasFitEnds settings h
       → HasFitEnds settings (closing (with_outward refusing e))
   fit-refuses h frame e same connections a = fit-change h _ (λ c. record c { taken = c.taken ++ frame ∷ []; refused = true; closed = true }) same
       (ap (λ (l : List Outward). change_last (λ (c : Outward). record c { closed = true }) (change_last refusing l)) connections
-      ∙ (ap (change_last (λ (c : Outward). record c { closed = true })) (change-twice (with_frame frame) refusing h.connections) ∙ change-twice (λ c. refusing (with_frame frame c)) (λ c. record c { closed = true }) h.connections))
-      (λ f. record { stream = f.stream; fresh = f.fresh; early = λ standing. absurd (cc); late = λ begun. let long = longer (outward h) frame in let was = f.late begun in omega arith }) a
+      ∙ (ap (change_last (λ (c : Outward). record c { closed = true })) (change-twice (with_frame frame) refusing h.connections)
+      ∙ change-twice (λ c. refusing (with_frame frame c)) (λ c. record c { closed = true }) h.connections))
+      (λ f. record {
+        stream = f.stream;
+        fresh = f.fresh;
+        early = λ standing. absurd (cc);
+        late = λ begun. let long = longer (outward h) frame in let was =
+            f.late begun in omega arith;
+      }) a
 
   fit-frame : (h : PrimaryHistory) (frame : Received) → (outward h).closed ≡ false → HasFitEnds settings h → HasFitEnds settings (take_frame frame h).1
   fit-frame h frame standing a = go (taking frame h (with_outward (with_frame frame) h)) (fit-taking h frame standing a)
@@ -313,23 +363,17 @@ module _ (settings : Settings) (bound : 0 < settings.max_epoch) where
   fit-ack-in : (frame : Option Received) (starved : Bool) (h : PrimaryHistory) → HasFitEnds settings h → HasFitEnds settings (ack_in frame starved h).1
   fit-ack-in frame starved h a =
       let rest : List Test = (not (outward h).begun && starved, NoMemory) ∷ (is_none frame, NothingThere) ∷ [] in
-      tested-keeps (HasFitEnds settings) h (((outward h).closed, NotConnected) ∷ rest) (λ _. elim frame as (λ _. Reply × PrimaryHistory) [ None ↦ (reply.Refused NothingThere, h) | Some taken ↦ take_frame taken h ]) a
+      tested-keeps (HasFitEnds settings) h (((outward h).closed, NotConnected) ∷ rest)
+      (λ _. elim frame as (λ _. Reply × PrimaryHistory) [ None ↦ (reply.Refused NothingThere, h) | Some taken ↦ take_frame taken h ]) a
       (λ none. go frame (test-passed (outward h).closed NotConnected rest none).0)
     where
-      go : (v : Option Received) → (outward h).closed ≡ false → HasFitEnds settings (elim v as (λ _. Reply × PrimaryHistory) [ None ↦ (reply.Refused NothingThere, h) | Some taken ↦ take_frame taken h ]).1
+      go : (v : Option Received) → (outward h).closed ≡ false
+          → HasFitEnds settings (elim v as (λ _. Reply × PrimaryHistory) [ None ↦ (reply.Refused NothingThere, h) | Some taken ↦ take_frame taken h ]).1
       go None standing = a
       go (Some taken) standing = fit-frame h taken standing a
 
   fit-receipt : (number : ℕ) (h : PrimaryHistory) → HasFitEnds settings h → HasFitEnds settings (take_completed number h).1
-  fit-receipt number h a = go (first_refusal (take_completed_tests h number)) (find (λ entry. entry.write.number == number) h.journal)
-    where
-      go : (v : Option Refusal) (entry : Option Completion) → HasFitEnds settings (elim v as (λ _. Result Completion Refusal × PrimaryHistory) [
-        | Some refusal ↦ (Err refusal, h)
-        | None ↦ elim entry as (λ _. Result Completion Refusal × PrimaryHistory) [ None ↦ (Err LocalFault, receipted number h) | Some entry ↦ (Ok entry, receipted number h) ]
-      ]).1
-      go (Some refusal) entry = a
-      go None None = fit-same h _ refl refl a
-      go None (Some entry) = fit-same h _ refl refl a
+  fit-receipt number h a = receipt-has (λ r. HasFitEnds settings r.1) number h (λ refusal. a) (fit-same h _ refl refl a) (λ entry. fit-same h _ refl refl a)
 
   fit-after : (event : PrimaryEvent) (h : PrimaryHistory) → HasFitEnds settings h → HasFitEnds settings (primary_after event h)
   fit-after (Opens sync loss starved) h a = fit-open sync loss starved h a
@@ -348,6 +392,7 @@ module _ (settings : Settings) (bound : 0 < settings.max_epoch) where
   fit-run (event ∷ events) h a = fit-run events (primary_after event h) (fit-after event h a)
 
 -- Whatever frames a primary takes, its streams can be sent.
-pub primary_fit : (settings : Settings) (disk : BlockMap) (tuple : Tuple) (marks : ℕ → Bool) (events : List PrimaryEvent) → 0 < settings.max_epoch
+pub primary_fit : (settings : Settings) (disk : BlockMap) (tuple : Tuple) (marks : ℕ → Bool) (events : List PrimaryEvent) → TakesWrites settings
     → HasFitEnds settings (primary_run events (primary_opening settings disk tuple marks))
-primary_fit settings disk tuple marks events bound = fit-run settings bound events (primary_opening settings disk tuple marks) (record { setting = refl; ends = tt })
+primary_fit settings disk tuple marks events bound = fit-run settings bound events (primary_opening settings disk tuple marks)
+    (record { setting = refl; ends = tt })

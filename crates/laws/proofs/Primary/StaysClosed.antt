@@ -1,17 +1,21 @@
 -- A closed end of the primary stays as it is, whatever the run and wherever it began.
-use Rattle.std.proofs.Common.{ℕ, ◌≡◌, inl, inr, Bool, true, false, not, ◌&&◌, List, ◌∷◌, [], length, Option, Some, None, slice_get, Ok, refl, sym, ◌∙◌, ap, subst, ◌==◌, ◌++◌}
+use Rattle.std.proofs.Common.{ℕ, ◌≡◌, inl, inr, Bool, true, false, not, List, ◌∷◌, [], length, Option, Some, None, slice_get, Ok, refl, sym, ◌∙◌, ap}
+use Rattle.std.proofs.Common.{subst, ◌++◌}
 use Rattle.std.proofs.lemmas.Bool.{both_ways, not-true, and_parts}
 use Rattle.blocks.specs.declared.tuple.Tuple.{Tuple}
 use Rattle.blocks.specs.declared.outcome.Decision.{Decision}
 use Rattle.blocks.specs.declared.outcome.Decision.TheVariants.{NoSync, BitmapSync, FullSync}
 use Rattle.model.specs.Stream.{WriteItem, SyncUuidItem, within}
 use Rattle.model.specs.Frames.{UuidsFrame}
-use Rattle.model.specs.Primary.{Waiting, Failed, Accepted, Outward, PrimaryHistory, no_outward, outward, change_last, last_index, with_outward, stands, resync_runs, in_resync, marked_blocks, under_way}
+use Rattle.model.specs.Primary.{Waiting, Failed, Accepted, Outward, PrimaryHistory, no_outward, outward, change_last, last_index, with_outward, stands}
+use Rattle.model.specs.Primary.{in_resync}
 use Rattle.model.specs.Marks.{marking}
-use Rattle.model.specs.PrimarySteps.{resync_is_over, submission, submitted, appending, with_outcome, faulted, accepted_at}
+use Rattle.model.specs.PrimarySteps.{submission, submitted, appending, with_outcome, faulted, accepted_at}
 use Rattle.model.specs.Acknowledgements.{begun_with}
 use Rattle.model.specs.LocalRuns.{PrimaryEvent, primary_run}
 use Rattle.model.specs.Headline.{StaysClosed}
+use Rattle.laws.proofs.Rules.ResyncEnds.{over-stands}
+use Rattle.laws.proofs.Rules.EpochEnds.{over-standing}
 use Rattle.laws.proofs.Lists.Last.{get-change, change-twice}
 use Rattle.laws.proofs.Primary.Moves.{following-from, IsKeptByMoves, IsKeptByReleases, kept-by-releases, keeps-run, with_frame, refusing, pushing}
 use Rattle.laws.proofs.Lists.Elements.{get-left}
@@ -20,41 +24,58 @@ use Rattle.laws.proofs.Lists.Elements.{get-left}
 pub open-stands : (c : Outward) → stands c ≡ true → c.closed ≡ false
 open-stands c standing = not-true c.closed (and_parts (not c.closed) c.begun standing).0
 
--- a resync that is over ran on a stream that stands
-pub over-stands : (g : PrimaryHistory) → resync_is_over g ≡ true → stands (outward g) ≡ true
-over-stands g over = go (resync_runs (outward g)) refl over
-  where
-    go : (b : Bool) → resync_runs (outward g) ≡ b → elim b as (λ _. Bool) [ false ↦ false | true ↦ (length (marked_blocks g) == 0) && (length (under_way (outward g)) == 0) ] ≡ true → stands (outward g) ≡ true
-    go false eq over = absurd (cc)
-    go true eq over = (and_parts (stands (outward g)) (in_resync (outward g).stream) eq).0
-
 -- only an open last end changes
-stays-change : (p h later : PrimaryHistory) (f : Outward → Outward) → later.connections ≡ change_last f h.connections → (outward h).closed ≡ false → StaysClosed p h → StaysClosed p later
+stays-change : (p h later : PrimaryHistory) (f : Outward → Outward) → later.connections ≡ change_last f h.connections → (outward h).closed ≡ false
+    → StaysClosed p h → StaysClosed p later
 stays-change p h later f connections standing stays = record {
-  same = λ k c at closed. subst (λ (l : List Outward). slice_get l k ≡ Some c) (sym connections) (elim (get-change f (no_outward h.tuple) h.connections k c (stays.same k c at closed)) [
-    | inl same ↦ same
-    | inr changed ↦ absurd (both_ways (outward h).closed standing (subst (λ (x : Outward). x.closed ≡ true) changed.1 closed))
-  ]);
+  same = λ k c at closed. subst (λ (l : List Outward). slice_get l k ≡ Some c) (sym connections)
+      (elim (get-change f (no_outward h.tuple) h.connections k c (stays.same k c at closed)) [
+        | inl same ↦ same
+        | inr changed ↦ absurd (both_ways (outward h).closed standing (subst (λ (x : Outward). x.closed ≡ true) changed.1 closed))
+      ]);
 }
 
 -- no connection changes
 stays-same : (p h later : PrimaryHistory) → later.connections ≡ h.connections → StaysClosed p h → StaysClosed p later
-stays-same p h later connections stays = record { same = λ k c at closed. subst (λ (l : List Outward). slice_get l k ≡ Some c) (sym connections) (stays.same k c at closed) }
+stays-same p h later connections stays =
+    record { same = λ k c at closed. subst (λ (l : List Outward). slice_get l k ≡ Some c) (sym connections) (stays.same k c at closed) }
 
 stays-submits : (p h : PrimaryHistory) (first : ℕ) (contents : List (List ℕ)) → StaysClosed p h → StaysClosed p (submitted h first contents)
 stays-submits p h first contents stays = go (stands (outward h)) refl
   where
     go : (b : Bool) → stands (outward h) ≡ b → StaysClosed p (elim b as (λ _. PrimaryHistory) [
-      | true ↦ appending (WriteItem (submission h first contents)) (record h { writes = h.writes ++ record { write = submission h first contents; journal_length = length h.journal; home = Some (last_index h.connections, length (outward h).stream); outcome = Waiting } ∷ [] })
-      | false ↦ record h { writes = h.writes ++ record { write = submission h first contents; journal_length = length h.journal; home = None; outcome = Waiting } ∷ []; marks = marking (submission h first contents) h.marks }
+      | true ↦ appending (WriteItem (submission h first contents))
+          (record h {
+            writes = h.writes ++ record {
+              write = submission h first contents;
+              journal_length = length h.journal;
+              home = Some (record { index = last_index h.connections; place = length (outward h).stream });
+              outcome = Waiting;
+            } ∷ [];
+          })
+      | false ↦ record h {
+        writes = h.writes ++ record {
+          write = submission h first contents;
+          journal_length = length h.journal;
+          home = None;
+          outcome = Waiting;
+        } ∷ [];
+        marks = marking (submission h first contents) h.marks;
+      }
     ])
-    go true is = stays-change p h _ (λ c. record c { stream = c.stream ++ WriteItem (submission h first contents) ∷ [] }) refl (open-stands (outward h) is) stays
+    go true is = stays-change p h _ (λ c. record c { stream = c.stream ++ WriteItem (submission h first contents) ∷ [] }) refl
+        (open-stands (outward h) is) stays
     go false is = stays-same p h _ refl stays
 
 stays-faults : (p h : PrimaryHistory) (number : ℕ) (offsets : List ℕ) → StaysClosed p h → StaysClosed p (faulted number offsets h)
 stays-faults p h number offsets stays = go (accepted_at h number)
   where
-    go : (v : Option Accepted) → StaysClosed p (elim v as (λ _. PrimaryHistory) [ None ↦ h | Some accepted ↦ with_outcome number (Failed (within (length accepted.write.contents) offsets)) (record h { marks = marking accepted.write h.marks }) ])
+    go : (v : Option Accepted) → StaysClosed p
+        (elim v as (λ _. PrimaryHistory) [
+          | None ↦ h
+          | Some accepted ↦ with_outcome number (Failed (within (length accepted.write.contents) offsets))
+              (record h { marks = marking accepted.write h.marks })
+        ])
     go None = stays
     go (Some accepted) = stays-same p h _ refl stays
 
@@ -65,8 +86,10 @@ stays-begins p h peer decided standing stays = go decided
     taken : PrimaryHistory
     taken = record (with_outward (with_frame (Ok (UuidsFrame peer))) h) { peer = Some peer }
 
-    twice : (later : PrimaryHistory) (g : Outward → Outward) → later.connections ≡ change_last g (change_last (with_frame (Ok (UuidsFrame peer))) h.connections) → StaysClosed p later
-    twice later g connections = stays-change p h later (λ c. g (with_frame (Ok (UuidsFrame peer)) c)) (connections ∙ change-twice (with_frame (Ok (UuidsFrame peer))) g h.connections) standing stays
+    twice : (later : PrimaryHistory) (g : Outward → Outward) → later.connections ≡ change_last g (change_last (with_frame (Ok (UuidsFrame peer))) h.connections)
+        → StaysClosed p later
+    twice later g connections = stays-change p h later (λ c. g (with_frame (Ok (UuidsFrame peer)) c)) (connections
+        ∙ change-twice (with_frame (Ok (UuidsFrame peer))) g h.connections) standing stays
 
     go : (v : Decision) → StaysClosed p (begun_with v (record (with_outward (with_frame (Ok (UuidsFrame peer))) h) { peer = Some peer }))
     go NoSync = twice _ (λ c. record c { begun = true }) refl
@@ -76,7 +99,7 @@ stays-begins p h peer decided standing stays = go decided
 stays-kept : (p : PrimaryHistory) → IsKeptByMoves (StaysClosed p) (StaysClosed p)
 stays-kept p = record {
   following = following-from (StaysClosed p) (StaysClosed p) (StaysClosed p) (λ h stays. stays-same p h _ refl stays)
-      (λ g over stays. stays-change p g _ _ refl (open-stands (outward g) (and_parts (stands (outward g)) _ over).0) stays) (λ g on stays. stays)
+      (λ g over stays. stays-change p g _ _ refl (open-stands (outward g) (over-standing g over)) stays) (λ g on stays. stays)
       (λ g over stays. stays-change p g _ _ refl (open-stands (outward g) (over-stands g over)) stays) (λ g stays. stays);
   opens = λ h sync loss closed fresh stays. record { same = λ k c at was. get-left h.connections _ k c (stays.same k c at was) };
   submits = λ h first contents may stays. stays-submits p h first contents stays;
@@ -90,8 +113,10 @@ stays-kept p = record {
   clears = λ h ack standing begun may stays. stays-change p h _ (with_frame _) refl standing stays;
   confirms = λ h number size standing begun turn stays. stays-change p h _ (with_frame _) refl standing stays;
   refuses = λ h frame peer standing stays. stays-change p h _ (λ c. record c { taken = c.taken ++ frame ∷ []; refused = true; closed = true })
-      (ap (change_last (λ (c : Outward). record c { closed = true })) (change-twice (with_frame frame) refusing h.connections) ∙ change-twice (λ c. refusing (with_frame frame c)) (λ c. record c { closed = true }) h.connections) standing stays;
-  resyncs = λ h block runs alone is stays. stays-change p h _ _ refl (open-stands (outward h) (and_parts (stands (outward h)) (in_resync (outward h).stream) runs).0) stays;
+      (ap (change_last (λ (c : Outward). record c { closed = true })) (change-twice (with_frame frame) refusing h.connections)
+      ∙ change-twice (λ c. refusing (with_frame frame c)) (λ c. record c { closed = true }) h.connections) standing stays;
+  resyncs = λ h block runs alone is stays. stays-change p h _ _ refl
+      (open-stands (outward h) (and_parts (stands (outward h)) (in_resync (outward h).stream) runs).0) stays;
   closes = λ h standing stays. stays-change p h _ (λ c. record c { closed = true }) refl standing stays;
   receipts = λ h number stays. stays-same p h _ refl stays;
 }

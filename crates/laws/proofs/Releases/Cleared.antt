@@ -1,27 +1,31 @@
 -- Of two writes that share a block the earlier one is released first. So a block that a release clears was written last by a write
 -- that is on the local disk, and whose epoch on the standing stream is acknowledged.
-use Rattle.std.proofs.Common.{ℕ, suc, ◌≡◌, ◌<◌, ◌≤◌, inl, inr, Bool, true, false, not, ◌&&◌, ◌||◌, List, ◌++◌, length, take, Option, Some, None, slice_get, Ok, refl, sym, ◌∙◌, ap, subst, arith, ◌==◌, nat_lt, drop}
-use Rattle.std.specs.List.{list_any}
-use Rattle.std.proofs.lemmas.Bool.{cases_Bool, both_ways, and_parts, and_from, not_from_false, not-true, or_right, or_left, or_cases, eqb-true, lt-ltb}
+use Rattle.std.proofs.Common.{ℕ, suc, ◌≡◌, ◌<◌, ◌≤◌, inl, inr, true, false, not, ◌||◌, List, ◌++◌, length, take, Option, Some, None, slice_get, Ok, refl, sym}
+use Rattle.std.proofs.Common.{◌∙◌, ap, subst, arith, ◌==◌, drop}
+use Rattle.std.proofs.lemmas.Bool.{cases_Bool, both_ways, and_parts, and_from, not_from_false, not-true, or_right, or_left, or_cases, eqb-true}
 use Rattle.std.proofs.lemmas.List.{take-append-drop}
 use Rattle.std.proofs.lemmas.Option.{slice_get_within}
+use Rattle.blocks.specs.Positions.{StreamPosition}
 use Rattle.blocks.specs.declared.settings.Settings.{Settings}
-use Rattle.model.specs.Contents.{Write, covers, overlap}
-use Rattle.model.specs.Stream.{Item, WriteItem, barriers_in, epoch_of}
+use Rattle.model.specs.Contents.{Write, covers}
+use Rattle.model.specs.Stream.{items_meet, Item, WriteItem, barriers_in, epoch_of}
 use Rattle.model.specs.Frames.{BarrierAckFrame}
-use Rattle.model.specs.Marks.{is_releasing, is_under_later, is_cleared}
-use Rattle.model.specs.Primary.{OnDisk, Accepted, Outward, PrimaryHistory, no_outward, outward, last_index, with_outward, stands, barrier_acknowledged, is_on_disk, is_waiting, is_alone, is_confirmed, is_released, unreleased}
+use Rattle.model.specs.Marks.{is_cleared}
+use Rattle.model.specs.Primary.{OnDisk, Accepted, Outward, PrimaryHistory, no_outward, outward, last_index, with_outward, stands, barrier_acknowledged}
+use Rattle.model.specs.Primary.{is_on_disk, is_waiting, is_alone, is_confirmed, is_released, unreleased}
 use Rattle.model.specs.PrimarySteps.{set_outcome, with_outcome}
+use Rattle.laws.proofs.Rules.ReleaseClears.{Clears, cleared-by}
 use Rattle.laws.proofs.Lists.Elements.{same-at}
 use Rattle.laws.proofs.Lists.Last.{get-change}
-use Rattle.laws.proofs.Lists.Picks.{pick-any, pick-filtered, pick-image, any-filtered}
+use Rattle.laws.proofs.Lists.Picks.{pick-any, pick-filtered, pick-image, filtered-pick}
 use Rattle.laws.proofs.Streams.Places.{barriers-append, epoch-front}
 use Rattle.laws.proofs.Primary.Moves.{with_frame}
 use Rattle.laws.proofs.Primary.Homes.{alone-homeless, told-at, HasHomes, open-at, alone-at, confirmed-at}
 use Rattle.laws.proofs.Primary.Ends.{not-refused}
 use Rattle.laws.proofs.Primary.LastOpen.{open-is-last, IsLastOpen}
 use Rattle.laws.proofs.Releases.InOrder.{IsInOrder, said-taking}
-use Rattle.laws.proofs.Releases.InOrderMoves.{Ordered, meeting}
+use Rattle.laws.proofs.Rules.Conflicts.{meeting}
+use Rattle.laws.proofs.Releases.InOrderMoves.{Ordered}
 use Rattle.laws.proofs.Primary.Writes.{KeepsWrites, keeps-writes, keeps-outcome}
 use Rattle.laws.proofs.Tracked.Outcomes.{outcome-cases}
 
@@ -35,10 +39,12 @@ epoch-rises items place later less within =
     omega arith
 
 -- Of two writes that share a block, where the later one is released the earlier one is.
-pub released-in-order : (settings : Settings) (h : PrimaryHistory) → Ordered settings h → (i j block : ℕ) (a b : Accepted) → i < j → slice_get h.writes i ≡ Some a → slice_get h.writes j ≡ Some b → covers a.write block ≡ true → covers b.write block ≡ true
+pub released-in-order : (settings : Settings) (h : PrimaryHistory) → Ordered settings h → (i j block : ℕ) (a b : Accepted) → i < j
+    → slice_get h.writes i ≡ Some a → slice_get h.writes j ≡ Some b → covers a.write block ≡ true → covers b.write block ≡ true
     → is_released h b ≡ true → is_released h a ≡ true
 released-in-order settings h p i j block a b less ata atb cova covb released =
-    and_from (not (is_waiting a.outcome)) (is_confirmed h a || is_alone h a) (not_from_false (is_waiting a.outcome) (order.settled_first i j block a b less ata atb cova covb)) (by-home a.home refl)
+    and_from (not (is_waiting a.outcome)) (is_confirmed h a || is_alone h a)
+    (not_from_false (is_waiting a.outcome) (order.settled_first i j block a b less ata atb cova covb)) (by-home a.home refl)
   where
     order : IsInOrder h
     order = p.1.1.1
@@ -49,30 +55,38 @@ released-in-order settings h p i j block a b less ata atb cova covb released =
     said : (is_confirmed h b || is_alone h b) ≡ true
     said = (and_parts (not (is_waiting b.outcome)) (is_confirmed h b || is_alone h b) released).1
 
-    by-other : (home : ℕ × ℕ) → a.home ≡ Some home → (v : Option (ℕ × ℕ)) → b.home ≡ v → (is_confirmed h a || is_alone h a) ≡ true
+    by-other : (home : StreamPosition) → a.home ≡ Some home → (v : Option StreamPosition) → b.home ≡ v → (is_confirmed h a || is_alone h a) ≡ true
     by-other home ha None hb =
-        let was = homes.housed i home.0 home.1 a ata ha in
+        let was = homes.housed i home.index home.place a ata ha in
         or_right (is_confirmed h a) (is_alone h a) (alone-at h a home was.0 ha was.1 ∙ order.alone_later i j a b home was.0 less ata atb ha hb was.1)
     by-other home ha (Some other) hb =
-        let was = homes.housed i home.0 home.1 a ata ha in
-        let its = homes.housed j other.0 other.1 b atb hb in
+        let was = homes.housed i home.index home.place a ata ha in
+        let its = homes.housed j other.index other.place b atb hb in
         elim (order.rise i j a b home other less ata atb ha hb) [
           | inl early ↦
-              let within = slice_get_within h.connections other.0 its.0 its.1 in
-              or_right (is_confirmed h a) (is_alone h a) (alone-at h a home was.0 ha was.1 ∙ p.1.0 home.0 was.0 was.1 (omega arith))
+              let within = slice_get_within h.connections other.index its.0 its.1 in
+              or_right (is_confirmed h a) (is_alone h a) (alone-at h a home was.0 ha was.1 ∙ p.1.0 home.index was.0 was.1 (omega arith))
           | inr here ↦
-              let end : its.0 ≡ was.0 = same-at h.connections home.0 its.0 was.0 (subst (λ (n : ℕ). slice_get h.connections n ≡ Some its.0) (sym here.0) its.1) was.1 in
+              let end : its.0 ≡ was.0 =
+              same-at h.connections home.index its.0 was.0 (subst (λ (n : ℕ). slice_get h.connections n ≡ Some its.0) (sym here.0) its.1)
+              was.1 in
               elim (or_cases (is_confirmed h b) (is_alone h b) said) [
-                | inr alone ↦ or_right (is_confirmed h a) (is_alone h a) (alone-at h a home was.0 ha was.1 ∙ (ap (λ (c : Outward). c.closed) (sym end) ∙ (sym (alone-at h b other its.0 hb its.1) ∙ alone)))
+                | inr alone ↦ or_right (is_confirmed h a) (is_alone h a) (alone-at h a home was.0 ha was.1
+                    ∙ (ap (λ (c : Outward). c.closed) (sym end) ∙ (sym (alone-at h b other its.0 hb its.1) ∙ alone)))
                 | inl confirmed ↦
-                    let acknowledged : barrier_acknowledged was.0 (epoch_of was.0.stream other.1) ≡ true = subst (λ (c : Outward). barrier_acknowledged c (epoch_of c.stream other.1) ≡ true) end (sym (confirmed-at h b other its.0 hb its.1) ∙ confirmed) in
-                    let inside = slice_get_within was.0.stream other.1 (WriteItem b.write) (subst (λ (c : Outward). slice_get c.stream other.1 ≡ Some (WriteItem b.write)) end its.2) in
-                    let rising = epoch-rises was.0.stream home.1 other.1 here.1 (omega arith) in
-                    or_left (is_confirmed h a) (is_alone h a) (confirmed-at h a home was.0 ha was.1 ∙ order.acknowledged home.0 was.0 was.1 (epoch_of was.0.stream home.1) (epoch_of was.0.stream other.1) (omega arith) rising acknowledged)
+                    let acknowledged : barrier_acknowledged was.0 (epoch_of was.0.stream other.place) ≡ true =
+                    subst (λ (c : Outward). barrier_acknowledged c (epoch_of c.stream other.place) ≡ true) end (sym (confirmed-at h b other its.0 hb its.1)
+                    ∙ confirmed) in
+                    let inside = slice_get_within was.0.stream other.place (WriteItem b.write)
+                    (subst (λ (c : Outward). slice_get c.stream other.place ≡ Some (WriteItem b.write)) end its.2) in
+                    let rising = epoch-rises was.0.stream home.place other.place here.1 (omega arith) in
+                    or_left (is_confirmed h a) (is_alone h a) (confirmed-at h a home was.0 ha was.1
+                    ∙ order.acknowledged home.index was.0 was.1 (epoch_of was.0.stream home.place) (epoch_of was.0.stream other.place)
+                    (omega arith) rising acknowledged)
               ]
         ]
 
-    by-home : (v : Option (ℕ × ℕ)) → a.home ≡ v → (is_confirmed h a || is_alone h a) ≡ true
+    by-home : (v : Option StreamPosition) → a.home ≡ v → (is_confirmed h a || is_alone h a) ≡ true
     by-home None is = or_right (is_confirmed h a) (is_alone h a) (alone-homeless h a is)
     by-home (Some home) is = by-other home is b.home refl
 
@@ -108,19 +122,29 @@ done-releases h number homes = record {
         let was = pick-image (set_outcome number OnDisk) h.writes i a new.at in
         elim (outcome-cases number OnDisk was.0) [
           | inl changed ↦ sym (homes.numbered i was.0 was.1) ∙ changed.0
-          | inr same ↦ absurd (both_ways (is_released h was.0) (new.before was.0 was.1) (subst (λ (x : Accepted). is_released later x ≡ true) (sym was.2 ∙ same) new.now))
+          | inr same ↦ absurd (both_ways (is_released h was.0) (new.before was.0 was.1) (subst (λ (x : Accepted). is_released later x ≡ true) (sym was.2
+              ∙ same) new.now))
         ]
 
 -- The peer acknowledges an epoch: what it releases is in that epoch.
-pub confirmed-releases : (settings : Settings) (h : PrimaryHistory) (number size : ℕ) → (outward h).closed ≡ false → Ordered settings h → IsRelease h (with_outward (with_frame (Ok (BarrierAckFrame number size))) h)
+pub confirmed-releases : (settings : Settings) (h : PrimaryHistory) (number size : ℕ) → (outward h).closed ≡ false → Ordered settings h
+    → IsRelease h (with_outward (with_frame (Ok (BarrierAckFrame number size))) h)
 confirmed-releases settings h number size standing p = record {
   writes = keeps-writes h.writes;
   apart = λ i j block a b less newa newb cova covb.
       let one = placed i a newa in
       let two = placed j b newb in
-      let after : one.0 < two.0 = elim (order.rise i j a b (last_index h.connections, one.0) (last_index h.connections, two.0) less newa.at newb.at one.1 two.1) [ inl early ↦ absurd (omega arith) | inr here ↦ here.1 ] in
+      let after : one.0 < two.0 =
+      elim (order.rise i j a b (record { index = last_index h.connections; place = one.0 }) (record {
+        index = last_index h.connections;
+        place =
+            two.0;
+      }) less newa.at newb.at one.1 two.1)
+      [ inl early ↦ absurd (omega arith) | inr here ↦ here.1 ] in
       let lawful = p.1.1.0.1.streams.lawful (last_index h.connections) (outward h) (open-at h standing) in
-      both_ways (overlap a.write b.write) (lawful.apart one.0 two.0 (WriteItem a.write) (WriteItem b.write) after (sym one.3 ∙ two.3) one.2 two.2) (meeting a.write b.write block cova covb);
+      both_ways (items_meet (WriteItem a.write) (WriteItem b.write))
+      (lawful.apart one.0 two.0 (WriteItem a.write) (WriteItem b.write) after (sym one.3 ∙ two.3) one.2 two.2)
+      (meeting a.write b.write block cova covb);
 }
   where
     order : IsInOrder h
@@ -134,7 +158,9 @@ confirmed-releases settings h number size standing p = record {
 
     -- its home is on the last connection, in that epoch
     placed : (i : ℕ) (a : Accepted) → IsNew h (with_outward (with_frame (Ok (BarrierAckFrame number size))) h) i a
-        → (place : ℕ) × (a.home ≡ Some (last_index h.connections, place)) × (slice_get (outward h).stream place ≡ Some (WriteItem a.write)) × (number ≡ epoch_of (outward h).stream place)
+        → (place : ℕ) × (a.home ≡ Some (record { index = last_index h.connections; place = place }))
+        × (slice_get (outward h).stream place ≡ Some (WriteItem a.write))
+        × (number ≡ epoch_of (outward h).stream place)
     placed i a new = by-home a.home refl
       where
         parts : (not (is_waiting a.outcome) ≡ true) × ((is_confirmed later a || is_alone later a) ≡ true)
@@ -144,29 +170,35 @@ confirmed-releases settings h number size standing p = record {
         not-so : (is_confirmed h a || is_alone h a) ≡ true → ⊥
         not-so said = both_ways (is_released h a) (new.before a new.at) (and_from (not (is_waiting a.outcome)) (is_confirmed h a || is_alone h a) parts.0 said)
 
-        by-home : (v : Option (ℕ × ℕ)) → a.home ≡ v → (place : ℕ) × (a.home ≡ Some (last_index h.connections, place)) × (slice_get (outward h).stream place ≡ Some (WriteItem a.write)) × (number ≡ epoch_of (outward h).stream place)
+        by-home : (v : Option StreamPosition) → a.home ≡ v
+            → (place : ℕ) × (a.home ≡ Some (record { index = last_index h.connections; place = place }))
+            × (slice_get (outward h).stream place ≡ Some (WriteItem a.write))
+            × (number ≡ epoch_of (outward h).stream place)
         by-home None is = absurd (not-so (or_right (is_confirmed h a) (is_alone h a) (alone-homeless h a is)))
         by-home (Some home) is =
-            let was = homes.housed i home.0 home.1 a new.at is in
-            let epoch : ℕ = epoch_of was.0.stream home.1 in
+            let was = homes.housed i home.index home.place a new.at is in
+            let epoch : ℕ = epoch_of was.0.stream home.place in
             let before : (is_confirmed h a || is_alone h a) ≡ (barrier_acknowledged was.0 epoch || was.0.closed) = told-at h a home was.0 is was.1 in
-            elim (get-change (with_frame (Ok (BarrierAckFrame number size))) (no_outward h.tuple) h.connections home.0 was.0 was.1) [
+            elim (get-change (with_frame (Ok (BarrierAckFrame number size))) (no_outward h.tuple) h.connections home.index was.0 was.1) [
               | inl same ↦ absurd (not-so (before ∙ (sym (told-at later a home was.0 is same) ∙ parts.1)))
               | inr changed ↦
-                  let plain : was.0.refused ≡ false = subst (λ (c : Outward). c.refused ≡ false) (sym changed.1) (not-refused h homes standing (last_index h.connections) (open-at h standing)) in
-                  let said : (barrier_acknowledged (with_frame (Ok (BarrierAckFrame number size)) was.0) epoch || was.0.closed) ≡ true = sym (told-at later a home (with_frame (Ok (BarrierAckFrame number size)) was.0) is changed.0) ∙ parts.1 in
-                  let index : home.0 ≡ last_index h.connections = let end = changed.2 in omega arith in
+                  let plain : was.0.refused ≡ false = subst (λ (c : Outward). c.refused ≡ false) (sym changed.1)
+                  (not-refused h homes standing (last_index h.connections) (open-at h standing)) in
+                  let said : (barrier_acknowledged (with_frame (Ok (BarrierAckFrame number size)) was.0) epoch || was.0.closed) ≡ true =
+                  sym (told-at later a home (with_frame (Ok (BarrierAckFrame number size)) was.0) is changed.0) ∙ parts.1 in
+                  let index : home.index ≡ last_index h.connections = let end = changed.2 in omega arith in
                   elim (or_cases (barrier_acknowledged (with_frame (Ok (BarrierAckFrame number size)) was.0) epoch) was.0.closed said) [
                     | inr shut ↦ absurd (not-so (before ∙ or_right (barrier_acknowledged was.0 epoch) was.0.closed shut))
-                    | inl acknowledged ↦ elim (or_cases (barrier_acknowledged was.0 epoch) (number == epoch) (sym (said-taking was.0 (Ok (BarrierAckFrame number size)) epoch plain) ∙ acknowledged)) [
-                      | inl old ↦ absurd (not-so (before ∙ or_left (barrier_acknowledged was.0 epoch) was.0.closed old))
-                      | inr now ↦ (
-                        home.1,
-                        is ∙ ap (λ (n : ℕ). Some (n, home.1)) index,
-                        subst (λ (c : Outward). slice_get c.stream home.1 ≡ Some (WriteItem a.write)) changed.1 was.2,
-                        subst (λ (c : Outward). number ≡ epoch_of c.stream home.1) changed.1 (eqb-true number epoch now),
-                      )
-                    ]
+                    | inl acknowledged ↦ elim (or_cases (barrier_acknowledged was.0 epoch) (number == epoch)
+                        (sym (said-taking was.0 (Ok (BarrierAckFrame number size)) epoch plain) ∙ acknowledged)) [
+                          | inl old ↦ absurd (not-so (before ∙ or_left (barrier_acknowledged was.0 epoch) was.0.closed old))
+                          | inr now ↦ (
+                            home.place,
+                            is ∙ ap (λ (n : ℕ). let at : StreamPosition = record { index = n; place = home.place } in Some at) index,
+                            subst (λ (c : Outward). slice_get c.stream home.place ≡ Some (WriteItem a.write)) changed.1 was.2,
+                            subst (λ (c : Outward). number ≡ epoch_of c.stream home.place) changed.1 (eqb-true number epoch now),
+                          )
+                        ]
                   ]
             ]
 
@@ -180,7 +212,7 @@ pub record IsCleared (h : PrimaryHistory) (block : ℕ) : Type 0 where
   pub at : slice_get h.writes index ≡ Some accepted
   pub covered : covers accepted.write block ≡ true
   pub done : is_on_disk accepted.outcome ≡ true
-  pub home : accepted.home ≡ Some (last_index h.connections, place)
+  pub home : accepted.home ≡ Some (record { index = last_index h.connections; place = place })
   pub connected : slice_get h.connections (last_index h.connections) ≡ Some (outward h)
   pub standing : stands (outward h) ≡ true
   pub there : slice_get (outward h).stream place ≡ Some (WriteItem accepted.write)
@@ -190,31 +222,40 @@ pub record IsCleared (h : PrimaryHistory) (block : ℕ) : Type 0 where
 -- the home of a write that is released while its connection stands
 record IsAtHome (h : PrimaryHistory) (a : Accepted) : Type 0 where
   place : ℕ
-  home : a.home ≡ Some (last_index h.connections, place)
+  home : a.home ≡ Some (record { index = last_index h.connections; place = place })
   connected : slice_get h.connections (last_index h.connections) ≡ Some (outward h)
   standing : stands (outward h) ≡ true
   there : slice_get (outward h).stream place ≡ Some (WriteItem a.write)
   confirmed : barrier_acknowledged (outward h) (epoch_of (outward h).stream place) ≡ true
 
-at-home : (h : PrimaryHistory) (i : ℕ) (a : Accepted) → HasHomes h → IsLastOpen h → slice_get h.writes i ≡ Some a → is_released h a ≡ true → is_alone h a ≡ false → IsAtHome h a
+at-home : (h : PrimaryHistory) (i : ℕ) (a : Accepted) → HasHomes h → IsLastOpen h → slice_get h.writes i ≡ Some a → is_released h a ≡ true
+    → is_alone h a ≡ false → IsAtHome h a
 at-home h i a homes last at released connected = by-home a.home refl
   where
     confirmed : is_confirmed h a ≡ true
-    confirmed = elim (or_cases (is_confirmed h a) (is_alone h a) (and_parts (not (is_waiting a.outcome)) (is_confirmed h a || is_alone h a) released).1) [ inl is ↦ is | inr alone ↦ absurd (both_ways (is_alone h a) connected alone) ]
+    confirmed = elim (or_cases (is_confirmed h a) (is_alone h a) (and_parts (not (is_waiting a.outcome)) (is_confirmed h a || is_alone h a) released).1)
+        [ inl is ↦ is | inr alone ↦ absurd (both_ways (is_alone h a) connected alone) ]
 
-    by-home : (v : Option (ℕ × ℕ)) → a.home ≡ v → IsAtHome h a
+    by-home : (v : Option StreamPosition) → a.home ≡ v → IsAtHome h a
     by-home None is = absurd (both_ways (is_alone h a) connected (alone-homeless h a is))
     by-home (Some home) is =
-        let was = homes.housed i home.0 home.1 a at is in
-        let ends = open-is-last h home.0 was.0 last was.1 (sym (alone-at h a home was.0 is was.1) ∙ connected) in
-        let begun : was.0.begun ≡ true = elim (cases_Bool was.0.begun) [ inl so ↦ so | inr fresh ↦ absurd (let empty = homes.empty home.0 was.0 was.1 fresh in let item = was.2 in cc (empty, item)) ] in
+        let was = homes.housed i home.index home.place a at is in
+        let ends = open-is-last h home.index was.0 last was.1 (sym (alone-at h a home was.0 is was.1) ∙ connected) in
+        let begun : was.0.begun ≡ true =
+        elim (cases_Bool was.0.begun) [
+          | inl so ↦ so
+          | inr fresh ↦ absurd (let empty = homes.empty home.index was.0 was.1 fresh in let item =
+              was.2 in cc (empty, item))
+        ] in
         record {
-          place = home.1;
-          home = is ∙ ap (λ (n : ℕ). Some (n, home.1)) ends.0;
+          place = home.place;
+          home = is ∙ ap (λ (n : ℕ). let at : StreamPosition = record { index = n; place = home.place } in Some at) ends.0;
           connected = subst (λ (n : ℕ). slice_get h.connections n ≡ Some (outward h)) ends.0 (was.1 ∙ ap (λ (c : Outward). Some c) ends.1);
-          standing = subst (λ (c : Outward). stands c ≡ true) ends.1 (and_from (not was.0.closed) was.0.begun (not_from_false was.0.closed (sym (alone-at h a home was.0 is was.1) ∙ connected)) begun);
-          there = subst (λ (c : Outward). slice_get c.stream home.1 ≡ Some (WriteItem a.write)) ends.1 was.2;
-          confirmed = subst (λ (c : Outward). barrier_acknowledged c (epoch_of c.stream home.1) ≡ true) ends.1 (sym (confirmed-at h a home was.0 is was.1) ∙ confirmed);
+          standing = subst (λ (c : Outward). stands c ≡ true) ends.1
+              (and_from (not was.0.closed) was.0.begun (not_from_false was.0.closed (sym (alone-at h a home was.0 is was.1) ∙ connected)) begun);
+          there = subst (λ (c : Outward). slice_get c.stream home.place ≡ Some (WriteItem a.write)) ends.1 was.2;
+          confirmed = subst (λ (c : Outward). barrier_acknowledged c (epoch_of c.stream home.place) ≡ true) ends.1 (sym (confirmed-at h a home was.0 is was.1)
+              ∙ confirmed);
         }
 
 -- the write that clears a block is released by the step
@@ -223,49 +264,35 @@ pub record IsClearing (h later : PrimaryHistory) (block : ℕ) : Type 0 where
   pub new : IsNew h later cleared.index cleared.accepted
 
 -- What such a step clears is so.
-pub release-clearing : (settings : Settings) (h later : PrimaryHistory) (block : ℕ) → Ordered settings h → HasHomes later → IsLastOpen later → IsRelease h later → is_cleared h later block ≡ true → IsClearing h later block
+pub release-clearing : (settings : Settings) (h later : PrimaryHistory) (block : ℕ) → Ordered settings h → HasHomes later → IsLastOpen later → IsRelease h later
+    → is_cleared h later block ≡ true → IsClearing h later block
 release-clearing settings h later block p homes shut release cleared = record {
   cleared = so;
   new = new;
 }
   where
-    clears : Accepted → Bool
-    clears x = (is_releasing h later x && covers x.write block) && not (is_under_later later x.write.number block)
-
-    found : (n : ℕ) × (x : Accepted) × (slice_get later.writes n ≡ Some x) × (clears x ≡ true)
-    found = pick-any clears later.writes cleared
+    by : Clears h later block
+    by = cleared-by h later block cleared
 
     i : ℕ
-    i = found.0
+    i = by.index
 
     a : Accepted
-    a = found.1
+    a = by.accepted
 
     at : slice_get later.writes i ≡ Some a
-    at = found.2
-
-    outer : ((is_releasing h later a && covers a.write block) ≡ true) × (not (is_under_later later a.write.number block) ≡ true)
-    outer = and_parts (is_releasing h later a && covers a.write block) (not (is_under_later later a.write.number block)) found.3
+    at = by.at
 
     covered : covers a.write block ≡ true
-    covered = (and_parts (is_releasing h later a) (covers a.write block) outer.0).1
-
-    was_there : Accepted → Bool
-    was_there was = was.write.number == a.write.number
-
-    -- it was unreleased, and is released; it is on the local disk, with its connection
-    parts : ((list_any was_there (unreleased h) ≡ true) × (is_released later a ≡ true)) × ((is_on_disk a.outcome ≡ true) × (not (is_alone later a) ≡ true))
-    parts =
-        let both = and_parts (list_any was_there (unreleased h) && is_released later a) (is_on_disk a.outcome && not (is_alone later a)) (and_parts (is_releasing h later a) (covers a.write block) outer.0).0 in
-        (and_parts (list_any was_there (unreleased h)) (is_released later a) both.0, and_parts (is_on_disk a.outcome) (not (is_alone later a)) both.1)
+    covered = by.covered
 
     home : IsAtHome later a
-    home = at-home later i a homes shut at parts.0.1 (not-true (is_alone later a) parts.1.1)
+    home = at-home later i a homes shut at by.released by.linked
 
     -- the write as it was before
     before : (w : Accepted) × (slice_get h.writes i ≡ Some w) × (is_released h w ≡ false) × (a.write ≡ w.write)
     before =
-        let some = pick-any was_there (unreleased h) parts.0.0 in
+        let some = pick-any (λ (was : Accepted). was.write.number == a.write.number) (unreleased h) by.was in
         let stood = pick-filtered (λ (x : Accepted). not (is_released h x)) h.writes some.0 some.1 some.2 in
         let number : some.1.write.number ≡ a.write.number = eqb-true some.1.write.number a.write.number some.3 in
         let one = p.1.1.0.0.numbered stood.0 some.1 stood.1 in
@@ -276,7 +303,11 @@ release-clearing settings h later block p homes shut release cleared = record {
         (some.1, there, not-true (is_released h some.1) stood.2, back.2 ∙ ap (λ (x : Accepted). x.write) (same-at h.writes i back.0 some.1 back.1 there))
 
     new : IsNew h later i a
-    new = record { at = at; now = parts.0.1; before = λ w atw. subst (λ (x : Accepted). is_released h x ≡ false) (same-at h.writes i before.0 w before.1 atw) before.2 }
+    new = record {
+      at = at;
+      now = by.released;
+      before = λ w atw. subst (λ (x : Accepted). is_released h x ≡ false) (same-at h.writes i before.0 w before.1 atw) before.2;
+    }
 
     -- a later write that has the block is released by the step too
     newer : (j : ℕ) (b : Accepted) → i < j → slice_get later.writes j ≡ Some b → covers b.write block ≡ true → IsNew h later j b
@@ -287,17 +318,17 @@ release-clearing settings h later block p homes shut release cleared = record {
         | inr held ↦ absurd (
             let one = homes.numbered i a at in
             let two = homes.numbered j b atb in
-            let under : list_any (λ (x : Accepted). nat_lt a.write.number x.write.number && covers x.write block) (unreleased later) ≡ true =
-            any-filtered (λ (x : Accepted). nat_lt a.write.number x.write.number && covers x.write block) (λ (x : Accepted). not (is_released later x)) later.writes j b atb (not_from_false (is_released later b) held)
-            (and_from (nat_lt a.write.number b.write.number) (covers b.write block) (lt-ltb a.write.number b.write.number (omega arith)) its) in
-            both_ways (is_under_later later a.write.number block) (not-true (is_under_later later a.write.number block) outer.1) under)
+            let held_so = filtered-pick (λ (x : Accepted). not (is_released later x)) later.writes j b atb (not_from_false (is_released later b) held) in
+            both_ways (covers b.write block) (by.last held_so.0 b held_so.1 (omega arith)) its)
       ];
       before = λ x atx. elim (cases_Bool (is_released h x)) [
         | inr so ↦ so
         | inl was ↦ absurd (
             let back = release.writes.back j b atb in
             let same : b.write ≡ x.write = back.2 ∙ ap (λ (y : Accepted). y.write) (same-at h.writes j back.0 x back.1 atx) in
-            both_ways (is_released h before.0) before.2 (released-in-order settings h p i j block before.0 x after before.1 atx (subst (λ (w : Write). covers w block ≡ true) before.3 covered) (subst (λ (w : Write). covers w block ≡ true) same its) was))
+            both_ways (is_released h before.0) before.2
+            (released-in-order settings h p i j block before.0 x after before.1 atx (subst (λ (w : Write). covers w block ≡ true) before.3 covered)
+            (subst (λ (w : Write). covers w block ≡ true) same its) was))
       ];
     }
 
@@ -308,14 +339,16 @@ release-clearing settings h later block p homes shut release cleared = record {
       place = home.place;
       at = at;
       covered = covered;
-      done = parts.1.0;
+      done = by.done;
       home = home.home;
       connected = home.connected;
       standing = home.standing;
       there = home.there;
       confirmed = home.confirmed;
-      last = λ j b after atb. elim (cases_Bool (covers b.write block)) [ inr apart ↦ apart | inl its ↦ absurd (release.apart i j block a b after new (newer j b after atb its) covered its) ];
+      last = λ j b after atb. elim (cases_Bool (covers b.write block))
+          [ inr apart ↦ apart | inl its ↦ absurd (release.apart i j block a b after new (newer j b after atb its) covered its) ];
     }
 
-pub release-clears : (settings : Settings) (h later : PrimaryHistory) (block : ℕ) → Ordered settings h → HasHomes later → IsLastOpen later → IsRelease h later → is_cleared h later block ≡ true → IsCleared later block
+pub release-clears : (settings : Settings) (h later : PrimaryHistory) (block : ℕ) → Ordered settings h → HasHomes later → IsLastOpen later → IsRelease h later
+    → is_cleared h later block ≡ true → IsCleared later block
 release-clears settings h later block p homes shut release cleared = (release-clearing settings h later block p homes shut release cleared).cleared

@@ -1,13 +1,16 @@
 -- The order in which the writes of a primary stand: by their homes, by what the local disk has done, and by what the peer has
 -- acknowledged. Kept by every step, for any frames.
-use Rattle.std.proofs.Common.{ℕ, ◌≡◌, ◌<◌, ◌≤◌, ◌⊎◌, inl, inr, Bool, true, false, ◌||◌, List, [], ◌∷◌, ◌++◌, length, Some, None, slice_get, Ok, refl, sym, ◌∙◌, ap, subst, arith, ◌==◌, nat_lt}
+use Rattle.std.proofs.Common.{ℕ, ◌≡◌, ◌<◌, ◌≤◌, ◌⊎◌, inl, inr, Bool, true, false, ◌||◌, List, [], ◌∷◌, ◌++◌, length, Some, None, slice_get, Ok, refl, sym, ◌∙◌}
+use Rattle.std.proofs.Common.{ap, subst, arith, ◌==◌, nat_lt}
 use Rattle.std.specs.List.{list_any}
 use Rattle.std.proofs.lemmas.Bool.{cases_Bool, both_ways, eqb-true, eq-eqb, ltb-true, lt-ltb}
 use Rattle.std.proofs.lemmas.List.Folds.{list_any-append}
 use Rattle.std.proofs.lemmas.Option.{slice_get_within}
+use Rattle.blocks.specs.Positions.{StreamPosition}
 use Rattle.model.specs.Contents.{Write, covers}
 use Rattle.model.specs.Frames.{BarrierAckFrame, Received}
-use Rattle.model.specs.Primary.{Accepted, Outward, PrimaryHistory, outward, no_outward, change_last, accepted_frames, is_barrier_ack, barrier_acknowledged, is_waiting}
+use Rattle.model.specs.Primary.{Accepted, Outward, PrimaryHistory, outward, no_outward, change_last, accepted_frames, is_barrier_ack, barrier_acknowledged}
+use Rattle.model.specs.Primary.{is_waiting}
 use Rattle.laws.specs.Reflections.{IsLater}
 use Rattle.laws.proofs.Lists.Elements.{get-more}
 use Rattle.laws.proofs.Lists.Last.{get-change-back}
@@ -22,10 +25,14 @@ AreInTurn c = (e f : ℕ) → 0 < e → e ≤ f → barrier_acknowledged c f ≡
 -- Of two writes that share a block the local disk has done or failed the earlier one; homes rise; where a later write has no
 -- home, the connection of an earlier one's home is closed; and epochs are acknowledged in turn.
 pub record IsInOrder (h : PrimaryHistory) : Type 0 where
-  pub settled_first : (i j block : ℕ) (a b : Accepted) → i < j → slice_get h.writes i ≡ Some a → slice_get h.writes j ≡ Some b → covers a.write block ≡ true → covers b.write block ≡ true → is_waiting a.outcome ≡ false
-  pub rise : (i j : ℕ) (a b : Accepted) (home other : ℕ × ℕ) → i < j → slice_get h.writes i ≡ Some a → slice_get h.writes j ≡ Some b → a.home ≡ Some home → b.home ≡ Some other → IsLater home.0 home.1 other.0 other.1
-  pub alone_later : (i j : ℕ) (a b : Accepted) (home : ℕ × ℕ) (c : Outward) → i < j → slice_get h.writes i ≡ Some a → slice_get h.writes j ≡ Some b → a.home ≡ Some home → b.home ≡ None
-      → slice_get h.connections home.0 ≡ Some c → c.closed ≡ true
+  pub settled_first : (i j block : ℕ) (a b : Accepted) → i < j → slice_get h.writes i ≡ Some a → slice_get h.writes j ≡ Some b → covers a.write block ≡ true
+      → covers b.write block ≡ true → is_waiting a.outcome ≡ false
+  pub rise : (i j : ℕ) (a b : Accepted) (home other : StreamPosition) → i < j → slice_get h.writes i ≡ Some a → slice_get h.writes j ≡ Some b
+      → a.home ≡ Some home
+      → b.home ≡ Some other → IsLater home.index home.place other.index other.place
+  pub alone_later : (i j : ℕ) (a b : Accepted) (home : StreamPosition) (c : Outward) → i < j → slice_get h.writes i ≡ Some a → slice_get h.writes j ≡ Some b
+      → a.home ≡ Some home → b.home ≡ None
+      → slice_get h.connections home.index ≡ Some c → c.closed ≡ true
   pub acknowledged : (k : ℕ) (c : Outward) → slice_get h.connections k ≡ Some c → AreInTurn c
 
 -- What a change of the last connection has to keep.
@@ -34,27 +41,32 @@ pub record KeepsTurn (c d : Outward) : Type 0 where
   pub turn : AreInTurn c → AreInTurn d
 
 -- an end of a changed list: the same, or the changed last
-changed-end : (h later : PrimaryHistory) (f : Outward → Outward) → later.connections ≡ change_last f h.connections → (k : ℕ) (d : Outward) → slice_get later.connections k ≡ Some d
+changed-end : (h later : PrimaryHistory) (f : Outward → Outward) → later.connections ≡ change_last f h.connections → (k : ℕ) (d : Outward)
+    → slice_get later.connections k ≡ Some d
     → (slice_get h.connections k ≡ Some d) ⊎ ((d ≡ f (outward h)) × (slice_get h.connections k ≡ Some (outward h)))
-changed-end h later f connections k d at = elim (get-change-back f (no_outward h.tuple) h.connections k d (subst (λ (l : List Outward). slice_get l k ≡ Some d) connections at)) [
-  | inl same ↦ inl same
-  | inr changed ↦ inr (changed.0, changed.1)
-]
+changed-end h later f connections k d at =
+    elim (get-change-back f (no_outward h.tuple) h.connections k d (subst (λ (l : List Outward). slice_get l k ≡ Some d) connections at)) [
+      | inl same ↦ inl same
+      | inr changed ↦ inr (changed.0, changed.1)
+    ]
 
 -- epochs stay acknowledged in turn
-turn-change : (h later : PrimaryHistory) (f : Outward → Outward) → IsInOrder h → later.connections ≡ change_last f h.connections → KeepsTurn (outward h) (f (outward h)) → (k : ℕ) (d : Outward) → slice_get later.connections k ≡ Some d → AreInTurn d
+turn-change : (h later : PrimaryHistory) (f : Outward → Outward) → IsInOrder h → later.connections ≡ change_last f h.connections
+    → KeepsTurn (outward h) (f (outward h)) → (k : ℕ) (d : Outward) → slice_get later.connections k ≡ Some d → AreInTurn d
 turn-change h later f order connections keeps k d at = elim (changed-end h later f connections k d at) [
   | inl same ↦ order.acknowledged k d same
   | inr changed ↦ subst AreInTurn (sym changed.0) (keeps.turn (order.acknowledged k (outward h) changed.1))
 ]
 
 -- the last connection changes, and the writes stay
-pub order-change : (h later : PrimaryHistory) (f : Outward → Outward) → IsInOrder h → later.connections ≡ change_last f h.connections → KeepsWrites h.writes later.writes → KeepsTurn (outward h) (f (outward h)) → IsInOrder later
+pub order-change : (h later : PrimaryHistory) (f : Outward → Outward) → IsInOrder h → later.connections ≡ change_last f h.connections
+    → KeepsWrites h.writes later.writes → KeepsTurn (outward h) (f (outward h)) → IsInOrder later
 order-change h later f order connections writes keeps = record {
   settled_first = λ i j block a b less ata atb cova covb.
       let x = writes.back i a ata in
       let y = writes.back j b atb in
-      let was = order.settled_first i j block x.0 y.0 less x.1 y.1 (subst (λ (w : Write). covers w block ≡ true) x.2 cova) (subst (λ (w : Write). covers w block ≡ true) y.2 covb) in
+      let was = order.settled_first i j block x.0 y.0 less x.1 y.1 (subst (λ (w : Write). covers w block ≡ true) x.2 cova)
+      (subst (λ (w : Write). covers w block ≡ true) y.2 covb) in
       elim (cases_Bool (is_waiting a.outcome)) [ inl waits ↦ absurd (both_ways (is_waiting x.0.outcome) was (x.4 waits)) | inr done ↦ done ];
   rise = λ i j a b home other less ata atb ha hb.
       let x = writes.back i a ata in
@@ -63,9 +75,10 @@ order-change h later f order connections writes keeps = record {
   alone_later = λ i j a b home d less ata atb ha hb at.
       let x = writes.back i a ata in
       let y = writes.back j b atb in
-      elim (changed-end h later f connections home.0 d at) [
+      elim (changed-end h later f connections home.index d at) [
         | inl same ↦ order.alone_later i j x.0 y.0 home d less x.1 y.1 (sym x.3 ∙ ha) (sym y.3 ∙ hb) same
-        | inr changed ↦ subst (λ (e : Outward). e.closed ≡ true) (sym changed.0) (keeps.closed (order.alone_later i j x.0 y.0 home (outward h) less x.1 y.1 (sym x.3 ∙ ha) (sym y.3 ∙ hb) changed.1))
+        | inr changed ↦ subst (λ (e : Outward). e.closed ≡ true) (sym changed.0)
+            (keeps.closed (order.alone_later i j x.0 y.0 home (outward h) less x.1 y.1 (sym x.3 ∙ ha) (sym y.3 ∙ hb) changed.1))
       ];
   acknowledged = turn-change h later f order connections keeps;
 }
@@ -76,7 +89,8 @@ order-same h later order connections writes = record {
   settled_first = λ i j block a b less ata atb cova covb.
       let x = writes.back i a ata in
       let y = writes.back j b atb in
-      let was = order.settled_first i j block x.0 y.0 less x.1 y.1 (subst (λ (w : Write). covers w block ≡ true) x.2 cova) (subst (λ (w : Write). covers w block ≡ true) y.2 covb) in
+      let was = order.settled_first i j block x.0 y.0 less x.1 y.1 (subst (λ (w : Write). covers w block ≡ true) x.2 cova)
+      (subst (λ (w : Write). covers w block ≡ true) y.2 covb) in
       elim (cases_Bool (is_waiting a.outcome)) [ inl waits ↦ absurd (both_ways (is_waiting x.0.outcome) was (x.4 waits)) | inr done ↦ done ];
   rise = λ i j a b home other less ata atb ha hb.
       let x = writes.back i a ata in
@@ -85,18 +99,23 @@ order-same h later order connections writes = record {
   alone_later = λ i j a b home d less ata atb ha hb at.
       let x = writes.back i a ata in
       let y = writes.back j b atb in
-      order.alone_later i j x.0 y.0 home d less x.1 y.1 (sym x.3 ∙ ha) (sym y.3 ∙ hb) (subst (λ (l : List Outward). slice_get l home.0 ≡ Some d) connections at);
+      order.alone_later i j x.0 y.0 home d less x.1 y.1 (sym x.3 ∙ ha) (sym y.3
+      ∙ hb) (subst (λ (l : List Outward). slice_get l home.index ≡ Some d) connections at);
   acknowledged = λ k d at. order.acknowledged k d (subst (λ (l : List Outward). slice_get l k ≡ Some d) connections at);
 }
 
 -- What a new write has to be beside those before it.
 pub record MayCome (h later : PrimaryHistory) (new : Accepted) : Type 0 where
-  pub settled : (i block : ℕ) (a : Accepted) → slice_get h.writes i ≡ Some a → covers a.write block ≡ true → covers new.write block ≡ true → is_waiting a.outcome ≡ false
-  pub later_home : (i : ℕ) (a : Accepted) (home other : ℕ × ℕ) → slice_get h.writes i ≡ Some a → a.home ≡ Some home → new.home ≡ Some other → IsLater home.0 home.1 other.0 other.1
-  pub closed : (i : ℕ) (a : Accepted) (home : ℕ × ℕ) (c : Outward) → slice_get h.writes i ≡ Some a → a.home ≡ Some home → new.home ≡ None → slice_get later.connections home.0 ≡ Some c → c.closed ≡ true
+  pub settled : (i block : ℕ) (a : Accepted) → slice_get h.writes i ≡ Some a → covers a.write block ≡ true → covers new.write block ≡ true
+      → is_waiting a.outcome ≡ false
+  pub later_home : (i : ℕ) (a : Accepted) (home other : StreamPosition) → slice_get h.writes i ≡ Some a → a.home ≡ Some home → new.home ≡ Some other
+      → IsLater home.index home.place other.index other.place
+  pub closed : (i : ℕ) (a : Accepted) (home : StreamPosition) (c : Outward) → slice_get h.writes i ≡ Some a → a.home ≡ Some home → new.home ≡ None
+      → slice_get later.connections home.index ≡ Some c → c.closed ≡ true
 
 -- a write is accepted
-pub order-added : (h later : PrimaryHistory) (f : Outward → Outward) (new : Accepted) → IsInOrder h → later.connections ≡ change_last f h.connections → later.writes ≡ h.writes ++ new ∷ [] → KeepsTurn (outward h) (f (outward h)) → MayCome h later new
+pub order-added : (h later : PrimaryHistory) (f : Outward → Outward) (new : Accepted) → IsInOrder h → later.connections ≡ change_last f h.connections
+    → later.writes ≡ h.writes ++ new ∷ [] → KeepsTurn (outward h) (f (outward h)) → MayCome h later new
     → IsInOrder later
 order-added h later f new order connections writes keeps may = record {
   settled_first = λ i j block a b less ata atb cova covb. elim (there j b atb) [
@@ -121,9 +140,10 @@ order-added h later f new order connections writes keeps may = record {
   ];
   alone_later = λ i j a b home d less ata atb ha hb at. elim (there j b atb) [
     | inl oldb ↦ elim (there i a ata) [
-      | inl olda ↦ elim (changed-end h later f connections home.0 d at) [
+      | inl olda ↦ elim (changed-end h later f connections home.index d at) [
         | inl same ↦ order.alone_later i j a b home d less olda oldb ha hb same
-        | inr changed ↦ subst (λ (e : Outward). e.closed ≡ true) (sym changed.0) (keeps.closed (order.alone_later i j a b home (outward h) less olda oldb ha hb changed.1))
+        | inr changed ↦ subst (λ (e : Outward). e.closed ≡ true) (sym changed.0)
+            (keeps.closed (order.alone_later i j a b home (outward h) less olda oldb ha hb changed.1))
       ]
       | inr newa ↦ absurd (let within = slice_get_within h.writes j b oldb in let here = newa.0 in omega arith)
     ]
@@ -151,19 +171,25 @@ or-none true = refl
 or-none false = refl
 
 -- what is acknowledged once a frame is taken
-pub said-taking : (c : Outward) (frame : Received) (n : ℕ) → c.refused ≡ false → barrier_acknowledged (with_frame frame c) n ≡ (barrier_acknowledged c n || is_barrier_ack n frame)
+pub said-taking : (c : Outward) (frame : Received) (n : ℕ) → c.refused ≡ false
+    → barrier_acknowledged (with_frame frame c) n ≡ (barrier_acknowledged c n || is_barrier_ack n frame)
 said-taking c frame n plain =
     ap (list_any (is_barrier_ack n)) (accepted-all (with_frame frame c) plain)
-    ∙ (list_any-append (is_barrier_ack n) c.taken (frame ∷ []) ∙ (ap (λ b. list_any (is_barrier_ack n) c.taken || b) (or-none (is_barrier_ack n frame)) ∙ ap (λ (l : List Received). list_any (is_barrier_ack n) l || is_barrier_ack n frame) (sym (accepted-all c plain))))
+    ∙ (list_any-append (is_barrier_ack n) c.taken (frame ∷ [])
+    ∙ (ap (λ b. list_any (is_barrier_ack n) c.taken || b) (or-none (is_barrier_ack n frame))
+    ∙ ap (λ (l : List Received). list_any (is_barrier_ack n) l || is_barrier_ack n frame) (sym (accepted-all c plain))))
 
 -- a frame that acknowledges no epoch
-pub turn-other : (c : Outward) (frame : Received) → c.refused ≡ false → ((n : ℕ) → is_barrier_ack n frame ≡ false) → AreInTurn c → AreInTurn (with_frame frame c)
+pub turn-other : (c : Outward) (frame : Received) → c.refused ≡ false → ((n : ℕ) → is_barrier_ack n frame ≡ false) → AreInTurn c
+    → AreInTurn (with_frame frame c)
 turn-other c frame plain other turn e f low less said =
-    let no_more : (n : ℕ) → barrier_acknowledged (with_frame frame c) n ≡ barrier_acknowledged c n = λ n. said-taking c frame n plain ∙ (ap (λ b. barrier_acknowledged c n || b) (other n) ∙ or-none (barrier_acknowledged c n)) in
+    let no_more : (n : ℕ) → barrier_acknowledged (with_frame frame c) n ≡ barrier_acknowledged c n = λ n. said-taking c frame n plain
+    ∙ (ap (λ b. barrier_acknowledged c n || b) (other n) ∙ or-none (barrier_acknowledged c n)) in
     no_more e ∙ turn e f low less (sym (no_more f) ∙ said)
 
 -- the acknowledgement of the first epoch that was not acknowledged
-pub turn-next : (c : Outward) (number size : ℕ) → c.refused ≡ false → ((e : ℕ) → 0 < e → e < number → barrier_acknowledged c e ≡ true) → AreInTurn c → AreInTurn (with_frame (Ok (BarrierAckFrame number size)) c)
+pub turn-next : (c : Outward) (number size : ℕ) → c.refused ≡ false → ((e : ℕ) → 0 < e → e < number → barrier_acknowledged c e ≡ true) → AreInTurn c
+    → AreInTurn (with_frame (Ok (BarrierAckFrame number size)) c)
 turn-next c number size plain before turn e f low less said =
     let all : (barrier_acknowledged c f || (number == f)) ≡ true = sym (said-taking c (Ok (BarrierAckFrame number size)) f plain) ∙ said in
     said-taking c (Ok (BarrierAckFrame number size)) e plain ∙ elim (cases_Bool (barrier_acknowledged c f)) [
@@ -174,6 +200,7 @@ turn-next c number size plain before turn e f low less said =
             | inl early ↦ ap (λ b. b || (number == e)) (before e low (ltb-true e number early))
             | inr late ↦
                 let same : number ≡ e = (let high : e < number → ⊥ = λ small. both_ways (nat_lt e number) late (lt-ltb e number small) in omega arith) in
-                ap (λ b. barrier_acknowledged c e || b) (eq-eqb number e same) ∙ elim (barrier_acknowledged c e) as (λ b. (b || true) ≡ true) [ true ↦ refl | false ↦ refl ]
+                ap (λ b. barrier_acknowledged c e || b) (eq-eqb number e same)
+                ∙ elim (barrier_acknowledged c e) as (λ b. (b || true) ≡ true) [ true ↦ refl | false ↦ refl ]
           ]
     ]

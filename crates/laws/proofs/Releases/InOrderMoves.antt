@@ -1,25 +1,31 @@
 -- Every move of a primary keeps the order in which its writes stand.
-use Rattle.std.proofs.Common.{ℕ, zero, suc, ◌≡◌, ◌-◌, ◌+◌, ◌<◌, inl, inr, Bool, true, false, cond, ◌&&◌, List, [], ◌∷◌, ◌++◌, length, take, map, filter, Option, Some, None, slice_get, Ok, refl, sym, ◌∙◌, ap, subst, arith, ◌==◌, nat_lt, nat_le}
-use Rattle.std.specs.Prelude.{if◌then◌else◌, is_some, find, unwrap_or}
-use Rattle.std.specs.List.{list_any, list_all}
-use Rattle.std.proofs.lemmas.Bool.{cases_Bool, cases_lt, and_parts, and_from, eqb-true, ltb-true, leb-true, lt-ltb, not-false}
+use Rattle.std.proofs.Common.{ℕ, ◌≡◌, ◌-◌, ◌<◌, inl, inr, Bool, true, false, List, [], ◌∷◌, ◌++◌, length, take, Option}
+use Rattle.std.proofs.Common.{Some, None, slice_get, Ok, refl, sym, ◌∙◌, ap, subst, arith}
+use Rattle.std.specs.Prelude.{is_some, unwrap_or}
+use Rattle.std.proofs.lemmas.Bool.{cases_Bool, cases_lt}
 use Rattle.std.proofs.lemmas.Option.{slice_get_within}
+use Rattle.blocks.specs.Positions.{StreamPosition}
 use Rattle.blocks.specs.declared.settings.Settings.{Settings}
 use Rattle.blocks.specs.declared.tuple.Tuple.{Tuple}
 use Rattle.blocks.specs.declared.outcome.Decision.{Decision}
 use Rattle.blocks.specs.declared.outcome.Decision.TheVariants.{NoSync, BitmapSync, FullSync}
-use Rattle.model.specs.Contents.{Write, covers, overlap}
-use Rattle.model.specs.Stream.{Item, WriteItem, ResyncItem, BarrierItem, SyncUuidItem, UuidsItem, IsLawful, epoch_of, last_epoch, within, epoch_size, items_of_epoch}
+use Rattle.model.specs.Contents.{Write, covers}
+use Rattle.model.specs.Stream.{Item, WriteItem, ResyncItem, BarrierItem, SyncUuidItem, UuidsItem, IsLawful, epoch_of, last_epoch, within}
 use Rattle.model.specs.Frames.{BarrierAckFrame, UuidsFrame, Received, RecvAckFrame, WriteAckFrame, RsWriteAckFrame}
 use Rattle.model.specs.Marks.{marking}
-use Rattle.model.specs.Primary.{Waiting, OnDisk, Failed, Accepted, Outward, PrimaryHistory, outward, last_index, with_outward, stands, change_last, items_sent, barrier_acknowledged, is_waiting, is_open, open_writes, under_way, accepted_frames, is_barrier_ack, local_map}
-use Rattle.model.specs.PrimarySteps.{conflict, submission, submitted, opened, appending, with_outcome, accepted_at, faulted, with_completions, ending_resync, follows, closing}
-use Rattle.model.specs.Acknowledgements.{begun_with, is_unacknowledged, oldest_barrier, is_barrier_of, is_acknowledged, is_in_turn}
+use Rattle.model.specs.Primary.{Waiting, OnDisk, Failed, Accepted, Outward, PrimaryHistory, outward, last_index, with_outward, stands, change_last}
+use Rattle.model.specs.Primary.{barrier_acknowledged, is_waiting, is_open, accepted_frames, is_barrier_ack, local_map}
+use Rattle.model.specs.PrimarySteps.{conflict, submission, submitted, opened, appending, with_outcome, accepted_at, faulted, with_completions, ending_resync}
+use Rattle.model.specs.PrimarySteps.{follows, closing}
+use Rattle.model.specs.Acknowledgements.{begun_with, is_in_turn}
+use Rattle.laws.proofs.Rules.AckTurns.{turn-has}
+use Rattle.laws.proofs.Rules.Conflicts.{open-apart}
+use Rattle.laws.proofs.Rules.EpochEnds.{TakesWrites, most_writes}
 use Rattle.laws.specs.Reflections.{IsLater}
 use Rattle.laws.proofs.Lists.Elements.{get-more, same-at}
-use Rattle.laws.proofs.Lists.Fronts.{get-front, front-get}
+use Rattle.laws.proofs.Lists.Fronts.{get-front}
 use Rattle.laws.proofs.Lists.Last.{change-none, change-twice}
-use Rattle.laws.proofs.Lists.Picks.{filtered-pick, none-first}
+use Rattle.laws.proofs.Lists.Picks.{filtered-pick}
 use Rattle.laws.proofs.Streams.Barriers.{barrier-of}
 use Rattle.laws.proofs.Streams.Places.{epoch-front}
 use Rattle.laws.proofs.Primary.Homes.{HasHomes, open-at, alone-at}
@@ -46,81 +52,88 @@ turn-same c d closed turn = record { closed = closed; turn = turn }
 
 -- Submissions.
 
--- two ranges that have a block in common meet
-pub meeting : (a b : Write) (block : ℕ) → covers a block ≡ true → covers b block ≡ true → overlap a b ≡ true
-meeting a b block cova covb =
-    let pa = and_parts (nat_le a.first block) (nat_lt block (a.first + length a.contents)) cova in
-    let pb = and_parts (nat_le b.first block) (nat_lt block (b.first + length b.contents)) covb in
-    let la = leb-true a.first block pa.0 in
-    let ha = ltb-true block (a.first + length a.contents) pa.1 in
-    let lb = leb-true b.first block pb.0 in
-    let hb = ltb-true block (b.first + length b.contents) pb.1 in
-    and_from _ _ (and_from _ _ (lt-ltb a.first (b.first + length b.contents) (omega arith)) (lt-ltb b.first (a.first + length a.contents) (omega arith)))
-    (and_from _ _ (lt-ltb 0 (length a.contents) (omega arith)) (lt-ltb 0 (length b.contents) (omega arith)))
-
--- no open write overlaps a write without conflict
-no-overlap : (h : PrimaryHistory) (write : Write) → is_some (conflict h write) ≡ false → (m : ℕ) (a : Accepted) → slice_get (open_writes h) m ≡ Some a → overlap a.write write ≡ true → ⊥
-no-overlap h write free m a at meets =
-    go (list_any (λ entry. elim entry.1 as (λ _. Bool) [ ResyncItem block contents ↦ covers write block | _ ↦ false ]) (elim (stands (outward h)) as (λ _. List (ℕ × Item)) [ true ↦ under_way (outward h) | false ↦ [] ])) free
-  where
-    go : (b : Bool) → is_some (if b then Some 0 else slice_get (map (λ (x : Accepted). x.write.number) (filter (λ (x : Accepted). overlap x.write write) (open_writes h))) 0) ≡ false → ⊥
-    go true none = cc
-    go false none =
-        let found = filtered-pick (λ (x : Accepted). overlap x.write write) (open_writes h) m a at meets in
-        none-first (λ (x : Accepted). x.write.number) (filter (λ (x : Accepted). overlap x.write write) (open_writes h)) found.0 a none found.1
-
--- so none that shares a block with it waits
-settled-before : (h : PrimaryHistory) (write : Write) → IsKnown h → is_some (conflict h write) ≡ false → (i block : ℕ) (a : Accepted) → slice_get h.writes i ≡ Some a → covers a.write block ≡ true → covers write block ≡ true → is_waiting a.outcome ≡ false
+-- no open write shares a block with a write without conflict, so none that shares one waits
+settled-before : (h : PrimaryHistory) (write : Write) → IsKnown h → is_some (conflict h write) ≡ false → (i block : ℕ) (a : Accepted)
+    → slice_get h.writes i ≡ Some a → covers a.write block ≡ true → covers write block ≡ true → is_waiting a.outcome ≡ false
 settled-before h write known free i block a at cova covb = elim (cases_Bool (is_waiting a.outcome)) [
   | inr done ↦ done
   | inl waits ↦ absurd (
       let found = filtered-pick (is_open h) h.writes i a at (waits-open h known i a at waits) in
-      no-overlap h write free found.0 a found.1 (meeting a.write write block cova covb))
+      open-apart h write free found.0 a found.1 block cova covb)
 ]
 
 -- a write's home comes before the end of the standing stream
-home-before : (h : PrimaryHistory) → HasHomes h → (outward h).closed ≡ false → (i : ℕ) (a : Accepted) (home : ℕ × ℕ) → slice_get h.writes i ≡ Some a → a.home ≡ Some home → IsLater home.0 home.1 (last_index h.connections) (length (outward h).stream)
+home-before : (h : PrimaryHistory) → HasHomes h → (outward h).closed ≡ false → (i : ℕ) (a : Accepted) (home : StreamPosition) → slice_get h.writes i ≡ Some a
+    → a.home ≡ Some home → IsLater home.index home.place (last_index h.connections) (length (outward h).stream)
 home-before h homes standing i a home at is =
-    let was = homes.housed i home.0 home.1 a at is in
-    let within = slice_get_within h.connections home.0 was.0 was.1 in
-    elim (cases_lt home.0 (length h.connections - 1)) [
+    let was = homes.housed i home.index home.place a at is in
+    let within = slice_get_within h.connections home.index was.0 was.1 in
+    elim (cases_lt home.index (length h.connections - 1)) [
       | inl early ↦ inl early
       | inr last ↦
-          let index : home.0 ≡ length h.connections - 1 = omega arith in
-          let end : was.0 ≡ outward h = same-at h.connections (length h.connections - 1) was.0 (outward h) (subst (λ (n : ℕ). slice_get h.connections n ≡ Some was.0) index was.1) (open-at h standing) in
-          let inside = slice_get_within was.0.stream home.1 (WriteItem a.write) was.2 in
-          inr (index, subst (λ (c : Outward). home.1 < length c.stream) end inside)
+          let index : home.index ≡ length h.connections - 1 = omega arith in
+          let end : was.0 ≡ outward h = same-at h.connections (length h.connections - 1) was.0 (outward h)
+          (subst (λ (n : ℕ). slice_get h.connections n ≡ Some was.0) index was.1) (open-at h standing) in
+          let inside = slice_get_within was.0.stream home.place (WriteItem a.write) was.2 in
+          inr (index, subst (λ (c : Outward). home.place < length c.stream) end inside)
     ]
 
-order-submits : (h : PrimaryHistory) (first : ℕ) (contents : List (List ℕ)) → MaySubmit h first contents → HasHomes h → IsKnown h → IsLastOpen h → IsInOrder h → IsInOrder (submitted h first contents)
+order-submits : (h : PrimaryHistory) (first : ℕ) (contents : List (List ℕ)) → MaySubmit h first contents → HasHomes h → IsKnown h → IsLastOpen h → IsInOrder h
+    → IsInOrder (submitted h first contents)
 order-submits h first contents may homes known last order = go (stands (outward h)) refl
   where
     go : (b : Bool) → stands (outward h) ≡ b → IsInOrder (elim b as (λ _. PrimaryHistory) [
-      | true ↦ appending (WriteItem (submission h first contents)) (record h { writes = h.writes ++ record { write = submission h first contents; journal_length = length h.journal; home = Some (last_index h.connections, length (outward h).stream); outcome = Waiting } ∷ [] })
-      | false ↦ record h { writes = h.writes ++ record { write = submission h first contents; journal_length = length h.journal; home = None; outcome = Waiting } ∷ []; marks = marking (submission h first contents) h.marks }
+      | true ↦ appending (WriteItem (submission h first contents))
+          (record h {
+            writes = h.writes ++ record {
+              write = submission h first contents;
+              journal_length = length h.journal;
+              home = Some (record { index = last_index h.connections; place = length (outward h).stream });
+              outcome = Waiting;
+            } ∷ [];
+          })
+      | false ↦ record h {
+        writes = h.writes ++ record {
+          write = submission h first contents;
+          journal_length = length h.journal;
+          home = None;
+          outcome = Waiting;
+        } ∷ [];
+        marks = marking (submission h first contents) h.marks;
+      }
     ])
-    go true is = order-added h _ (λ c. record c { stream = c.stream ++ WriteItem (submission h first contents) ∷ [] }) _ order refl refl (turn-same (outward h) (record (outward h) { stream = (outward h).stream ++ WriteItem (submission h first contents) ∷ [] }) (λ c. c) (λ turn. turn-frames (outward h) (record (outward h) { stream = (outward h).stream ++ WriteItem (submission h first contents) ∷ [] }) refl turn)) (record {
-      settled = λ i block a at cova covb. settled-before h (submission h first contents) known may.free i block a at cova covb;
-      later_home = λ i a home other at ha hb.
-          let here : ℕ × ℕ = (last_index h.connections, length (outward h).stream) in
-          let same : Some here ≡ Some other = hb in
-          let equal : here ≡ other = cc in
-          subst (λ (x : ℕ × ℕ). IsLater home.0 home.1 x.0 x.1) equal (home-before h homes (stands-parts (outward h) is).0 i a home at ha);
-      closed = λ i a home c at ha hb there. absurd (cc);
-    })
+    go true is = order-added h _ (λ c. record c { stream = c.stream ++ WriteItem (submission h first contents) ∷ [] }) _ order refl refl
+        (turn-same (outward h) (record (outward h) { stream = (outward h).stream ++ WriteItem (submission h first contents) ∷ [] }) (λ c. c)
+        (λ turn. turn-frames (outward h) (record (outward h) { stream = (outward h).stream ++ WriteItem (submission h first contents) ∷ [] }) refl turn))
+        (record {
+          settled = λ i block a at cova covb. settled-before h (submission h first contents) known may.free i block a at cova covb;
+          later_home = λ i a home other at ha hb.
+              let here : StreamPosition = record { index = last_index h.connections; place = length (outward h).stream } in
+              let same : Some here ≡ Some other = hb in
+              let equal : here ≡ other = cc in
+              subst (λ (x : StreamPosition). IsLater home.index home.place x.index x.place) equal
+              (home-before h homes (stands-parts (outward h) is).0 i a home at ha);
+          closed = λ i a home c at ha hb there. absurd (cc);
+        })
     go false is = order-added h _ (λ c. c) _ order (sym (change-none h.connections)) refl (turn-same (outward h) (outward h) (λ c. c) (λ turn. turn)) (record {
       settled = λ i block a at cova covb. settled-before h (submission h first contents) known may.free i block a at cova covb;
       later_home = λ i a home other at ha hb. absurd (cc);
       closed = λ i a home c at ha hb there. closed-end i a home c at ha there;
     })
       where
-        closed-end : (i : ℕ) (a : Accepted) (home : ℕ × ℕ) (c : Outward) → slice_get h.writes i ≡ Some a → a.home ≡ Some home → slice_get h.connections home.0 ≡ Some c → c.closed ≡ true
+        closed-end : (i : ℕ) (a : Accepted) (home : StreamPosition) (c : Outward) → slice_get h.writes i ≡ Some a → a.home ≡ Some home
+            → slice_get h.connections home.index ≡ Some c → c.closed ≡ true
         closed-end i a home c at ha there = sym (alone-at h a home c ha there) ∙ alone-at-rest h homes last is i a at
 
 order-faults : (h : PrimaryHistory) (number : ℕ) (offsets : List ℕ) → IsInOrder h → IsInOrder (faulted number offsets h)
 order-faults h number offsets order = go (accepted_at h number)
   where
-    go : (v : Option Accepted) → IsInOrder (elim v as (λ _. PrimaryHistory) [ None ↦ h | Some accepted ↦ with_outcome number (Failed (within (length accepted.write.contents) offsets)) (record h { marks = marking accepted.write h.marks }) ])
+    go : (v : Option Accepted) → IsInOrder
+        (elim v as (λ _. PrimaryHistory) [
+          | None ↦ h
+          | Some accepted ↦ with_outcome number (Failed (within (length accepted.write.contents) offsets))
+              (record h { marks = marking accepted.write h.marks })
+        ])
     go None = order
     go (Some accepted) = order-same h _ order refl (keeps-outcome number (Failed (within (length accepted.write.contents) offsets)) h.writes refl)
 
@@ -129,11 +142,11 @@ order-opens : (h : PrimaryHistory) (sync loss : ℕ) → HasHomes h → IsInOrde
 order-opens h sync loss homes order = record {
   settled_first = order.settled_first;
   rise = order.rise;
-  alone_later = λ i j a b home c less ata atb ha hb at. elim (get-more h.connections new home.0 c at) [
+  alone_later = λ i j a b home c less ata atb ha hb at. elim (get-more h.connections new home.index c at) [
     | inl old ↦ order.alone_later i j a b home c less ata atb ha hb old
     | inr added ↦ absurd (
-        let was = homes.housed i home.0 home.1 a ata ha in
-        let within = slice_get_within h.connections home.0 was.0 was.1 in
+        let was = homes.housed i home.index home.place a ata ha in
+        let within = slice_get_within h.connections home.index was.0 was.1 in
         let here = added.0 in
         omega arith)
   ];
@@ -146,70 +159,51 @@ order-opens h sync loss homes order = record {
     new : Outward
     new = record { sync = sync; loss = loss; hello = h.tuple; stream = []; pushed = 0; taken = []; refused = false; begun = false; closed = false }
 
-order-begins : (h : PrimaryHistory) (peer : Tuple) (decided : Decision) → HasHomes h → (outward h).closed ≡ false → IsInOrder h → IsInOrder (begun_with decided (record (with_outward (with_frame (Ok (UuidsFrame peer))) h) { peer = Some peer }))
+order-begins : (h : PrimaryHistory) (peer : Tuple) (decided : Decision) → HasHomes h → (outward h).closed ≡ false → IsInOrder h
+    → IsInOrder (begun_with decided (record (with_outward (with_frame (Ok (UuidsFrame peer))) h) { peer = Some peer }))
 order-begins h peer decided homes standing order = go decided
   where
     plain : (outward h).refused ≡ false
     plain = not-refused h homes standing (length h.connections - 1) (open-at h standing)
 
-    twice : (later : PrimaryHistory) (g : Outward → Outward) → later.connections ≡ change_last g (change_last (with_frame (Ok (UuidsFrame peer))) h.connections) → later.writes ≡ h.writes → ((c : Outward) → (g c).closed ≡ c.closed) → ((c : Outward) → accepted_frames (g c) ≡ accepted_frames c)
+    twice : (later : PrimaryHistory) (g : Outward → Outward) → later.connections ≡ change_last g (change_last (with_frame (Ok (UuidsFrame peer))) h.connections)
+        → later.writes ≡ h.writes → ((c : Outward) → (g c).closed ≡ c.closed) → ((c : Outward) → accepted_frames (g c) ≡ accepted_frames c)
         → IsInOrder later
     twice later g connections writes closed frames =
-        order-change h later (λ c. g (with_frame (Ok (UuidsFrame peer)) c)) order (connections ∙ change-twice (with_frame (Ok (UuidsFrame peer))) g h.connections) (subst (KeepsWrites h.writes) (sym writes) (keeps-writes h.writes)) (record {
+        order-change h later (λ c. g (with_frame (Ok (UuidsFrame peer)) c)) order (connections
+        ∙ change-twice (with_frame (Ok (UuidsFrame peer))) g h.connections) (subst (KeepsWrites h.writes) (sym writes) (keeps-writes h.writes)) (record {
           closed = λ shut. closed (with_frame (Ok (UuidsFrame peer)) (outward h)) ∙ shut;
-          turn = λ turn. turn-frames (with_frame (Ok (UuidsFrame peer)) (outward h)) (g (with_frame (Ok (UuidsFrame peer)) (outward h))) (frames (with_frame (Ok (UuidsFrame peer)) (outward h))) (turn-other (outward h) (Ok (UuidsFrame peer)) plain (λ n. refl) turn);
+          turn = λ turn. turn-frames (with_frame (Ok (UuidsFrame peer)) (outward h)) (g (with_frame (Ok (UuidsFrame peer)) (outward h)))
+              (frames (with_frame (Ok (UuidsFrame peer)) (outward h))) (turn-other (outward h) (Ok (UuidsFrame peer)) plain (λ n. refl) turn);
         })
 
     go : (v : Decision) → IsInOrder (begun_with v (record (with_outward (with_frame (Ok (UuidsFrame peer))) h) { peer = Some peer }))
     go NoSync = twice _ (λ c. record c { begun = true }) refl refl (λ c. refl) (λ c. refl)
-    go BitmapSync = twice _ (λ c. record c { begun = true; stream = SyncUuidItem (outward (with_outward (with_frame (Ok (UuidsFrame peer))) h)).sync ∷ [] }) refl refl (λ c. refl) (λ c. refl)
-    go FullSync = twice _ (λ c. record c { begun = true; stream = SyncUuidItem (outward (with_outward (with_frame (Ok (UuidsFrame peer))) h)).sync ∷ [] }) refl refl (λ c. refl) (λ c. refl)
+    go BitmapSync = twice _ (λ c. record c { begun = true; stream = SyncUuidItem (outward (with_outward (with_frame (Ok (UuidsFrame peer))) h)).sync ∷ [] })
+        refl refl (λ c. refl) (λ c. refl)
+    go FullSync = twice _ (λ c. record c { begun = true; stream = SyncUuidItem (outward (with_outward (with_frame (Ok (UuidsFrame peer))) h)).sync ∷ [] }) refl
+        refl (λ c. refl) (λ c. refl)
 
 -- Acknowledgements of epochs.
 
--- what a search finds stands there, and nothing before it passes
-found-first : {X : Type 0} (p : X → Bool) (xs : List X) (x : X) → find p xs ≡ Some x → (n : ℕ) × (slice_get xs n ≡ Some x) × ((j : ℕ) (y : X) → j < n → slice_get xs j ≡ Some y → p y ≡ false)
-found-first p [] x is = absurd (cc)
-found-first p (z ∷ xs) x is = elim (cases_Bool (p z)) [
-  | inl passes ↦
-      let found : Some z ≡ Some x = ap (λ b. cond b (Some z) (find p xs)) (sym passes) ∙ is in
-      (0, found, λ j y less at. absurd (omega arith))
-  | inr fails ↦
-      let rest = found-first p xs x (ap (λ b. cond b (Some z) (find p xs)) (sym fails) ∙ is) in
-      (suc rest.0, rest.1, λ j y less at. before z xs rest.0 fails rest.2 j y less at)
-]
-  where
-    before : (z : _) (xs : List _) (n : ℕ) → p z ≡ false → ((j : ℕ) (y : _) → j < n → slice_get xs j ≡ Some y → p y ≡ false) → (j : ℕ) (y : _) → j < suc n → slice_get (z ∷ xs) j ≡ Some y → p y ≡ false
-    before z xs n fails rest zero y less at = let same : z ≡ y = cc in ap p (sym same) ∙ fails
-    before z xs n fails rest (suc j) y less at = rest j y (omega arith) at
-
--- in a lawful stream each epoch before that of the oldest barrier is acknowledged
-pub earlier-said : (max_epoch : ℕ) (c : Outward) (number : ℕ) → IsLawful max_epoch c.stream → is_barrier_of number (oldest_barrier c) ≡ true → (e : ℕ) → 0 < e → e < number → barrier_acknowledged c e ≡ true
-earlier-said max_epoch c number lawful is e low less = go (oldest_barrier c) refl is
-  where
-    go : (v : Option Item) → oldest_barrier c ≡ v → is_barrier_of number v ≡ true → barrier_acknowledged c e ≡ true
-    go None found is = absurd (cc)
-    go (Some (WriteItem write)) found is = absurd (cc)
-    go (Some (ResyncItem block contents)) found is = absurd (cc)
-    go (Some (SyncUuidItem word)) found is = absurd (cc)
-    go (Some (UuidsItem tuple)) found is = absurd (cc)
-    go (Some (BarrierItem epoch)) found is =
-        let same : number ≡ epoch = eqb-true number epoch is in
-        let first = found-first (is_unacknowledged c) (take (items_sent c) c.stream) (BarrierItem epoch) found in
-        let there = get-front (items_sent c) c.stream first.0 (BarrierItem epoch) first.1 in
-        let within = slice_get_within c.stream first.0 (BarrierItem epoch) there.1 in
-        let numbered : epoch ≡ epoch_of c.stream first.0 = lawful.barriers first.0 epoch there.1 in
-        let early = barrier-of (take first.0 c.stream) e low (omega arith) in
-        let place = get-front first.0 c.stream early.0 (BarrierItem early.1) early.2 in
-        let its : early.1 ≡ epoch_of c.stream early.0 = lawful.barriers early.0 early.1 place.1 in
-        let number_is : early.1 ≡ e = its ∙ (sym (epoch-front c.stream first.0 early.0 place.0 (omega arith)) ∙ early.3) in
-        let said = first.2 early.0 (BarrierItem early.1) place.0 (front-get (items_sent c) c.stream early.0 (BarrierItem early.1) (let a = place.0 in let b = there.0 in omega arith) place.1) in
-        subst (λ (n : ℕ). barrier_acknowledged c n ≡ true) number_is (not-false (barrier_acknowledged c early.1) said)
+-- in a lawful stream each epoch before that of a barrier is acknowledged, where each barrier before it is
+pub earlier-said : (most : ℕ) (c : Outward) (number place : ℕ) → IsLawful most c.stream → slice_get c.stream place ≡ Some (BarrierItem number)
+    → ((j epoch : ℕ) → j < place → slice_get c.stream j ≡ Some (BarrierItem epoch) → barrier_acknowledged c epoch ≡ true) → (e : ℕ) → 0 < e → e < number
+    → barrier_acknowledged c e ≡ true
+earlier-said most c number place lawful at before e low less =
+    let within = slice_get_within c.stream place (BarrierItem number) at in
+    let numbered : number ≡ epoch_of c.stream place = lawful.barriers place number at in
+    let early = barrier-of (take place c.stream) e low (omega arith) in
+    let there = get-front place c.stream early.0 (BarrierItem early.1) early.2 in
+    let its : early.1 ≡ epoch_of c.stream early.0 = lawful.barriers early.0 early.1 there.1 in
+    let number_is : early.1 ≡ e = its ∙ (sym (epoch-front c.stream place early.0 there.0 (omega arith)) ∙ early.3) in
+    subst (λ (n : ℕ). barrier_acknowledged c n ≡ true) number_is (before early.0 early.1 there.0 there.1)
 
 -- Every move keeps the order.
 
 -- the end that takes a frame which acknowledges no epoch
-order-takes : (h later : PrimaryHistory) (frame : Received) → later.connections ≡ change_last (with_frame frame) h.connections → later.writes ≡ h.writes → HasHomes h → (outward h).closed ≡ false → ((n : ℕ) → is_barrier_ack n frame ≡ false) → IsInOrder h → IsInOrder later
+order-takes : (h later : PrimaryHistory) (frame : Received) → later.connections ≡ change_last (with_frame frame) h.connections → later.writes ≡ h.writes
+    → HasHomes h → (outward h).closed ≡ false → ((n : ℕ) → is_barrier_ack n frame ≡ false) → IsInOrder h → IsInOrder later
 order-takes h later frame connections writes homes standing other order =
     order-change h later (with_frame frame) order connections (subst (KeepsWrites h.writes) (sym writes) (keeps-writes h.writes)) (record {
       closed = λ shut. shut;
@@ -222,9 +216,11 @@ greeting-other h frame (inl first) n = ap (is_barrier_ack n) first.1.1
 greeting-other h frame (inr second) n = ap (is_barrier_ack n) second.1
 
 -- an item goes to the end of the stream, or nothing but what no order speaks of
-order-appends : (h later : PrimaryHistory) (item : Item) → later.connections ≡ change_last (λ c. record c { stream = c.stream ++ item ∷ [] }) h.connections → later.writes ≡ h.writes → IsInOrder h → IsInOrder later
+order-appends : (h later : PrimaryHistory) (item : Item) → later.connections ≡ change_last (λ c. record c { stream = c.stream ++ item ∷ [] }) h.connections
+    → later.writes ≡ h.writes → IsInOrder h → IsInOrder later
 order-appends h later item connections writes order =
-    order-change h later (λ c. record c { stream = c.stream ++ item ∷ [] }) order connections (subst (KeepsWrites h.writes) (sym writes) (keeps-writes h.writes)) (record {
+    order-change h later (λ c. record c { stream = c.stream ++ item ∷ [] }) order connections
+    (subst (KeepsWrites h.writes) (sym writes) (keeps-writes h.writes)) (record {
       closed = λ shut. shut;
       turn = turn-frames (outward h) (record (outward h) { stream = (outward h).stream ++ item ∷ [] }) refl;
     })
@@ -234,10 +230,19 @@ order-following = following-from IsInOrder IsInOrder IsInOrder (λ h order. orde
     (λ g over order. order-appends g _ (BarrierItem (last_epoch (outward g).stream)) refl refl order) (λ g on order. order)
     (λ g over order. order-appends g (ending_resync g) (UuidsItem (sync_end g.tuple)) refl refl order) (λ g order. order)
 
-pub in-order-kept : (settings : Settings) → 0 < settings.max_epoch → IsKeptByMoves (Ordered settings) (OrderedAfter settings)
+pub in-order-kept : (settings : Settings) → TakesWrites settings → IsKeptByMoves (Ordered settings) (OrderedAfter settings)
 in-order-kept settings bound = record {
-  following = λ h p. (known-kept.following h p.0, (last-open-kept.following h p.1.0, ((lawful-kept settings bound).following h p.1.1.0, order-following h p.1.1.1)));
-  opens = λ h sync loss closed fresh p. (known-kept.opens h sync loss closed fresh p.0, (last-open-kept.opens h sync loss closed fresh p.1.0, ((lawful-kept settings bound).opens h sync loss closed fresh p.1.1.0, order-opens h sync loss p.1.1.0.0 p.1.1.1)));
+  following = λ h p. (
+    known-kept.following h p.0,
+    (last-open-kept.following h p.1.0, ((lawful-kept settings bound).following h p.1.1.0, order-following h p.1.1.1)),
+  );
+  opens = λ h sync loss closed fresh p. (
+    known-kept.opens h sync loss closed fresh p.0,
+    (
+      last-open-kept.opens h sync loss closed fresh p.1.0,
+      ((lawful-kept settings bound).opens h sync loss closed fresh p.1.1.0, order-opens h sync loss p.1.1.0.0 p.1.1.1),
+    ),
+  );
   submits = λ h first contents may p. (
     known-kept.submits h first contents may p.0,
     (
@@ -274,7 +279,8 @@ in-order-kept settings bound = record {
       last-open-kept.sends h standing due p.1.0,
       (
         (lawful-kept settings bound).sends h standing due p.1.1.0,
-        order-change h (with_outward pushing h) pushing p.1.1.1 refl (keeps-writes h.writes) (record { closed = λ shut. shut; turn = turn-frames (outward h) (pushing (outward h)) refl }),
+        order-change h (with_outward pushing h) pushing p.1.1.1 refl (keeps-writes h.writes)
+            (record { closed = λ shut. shut; turn = turn-frames (outward h) (pushing (outward h)) refl }),
       ),
     ),
   );
@@ -345,8 +351,13 @@ in-order-kept settings bound = record {
       (
         (lawful-kept settings bound).refuses h frame peer standing p.1.1.0,
         order-change h _ (λ c. record c { taken = c.taken ++ frame ∷ []; refused = true; closed = true }) p.1.1.1
-            (ap (change_last (λ (c : Outward). record c { closed = true })) (change-twice (with_frame frame) refusing h.connections) ∙ change-twice (λ c. refusing (with_frame frame c)) (λ c. record c { closed = true }) h.connections) (keeps-writes h.writes)
-            (record { closed = λ shut. refl; turn = turn-frames (outward h) (record (outward h) { taken = (outward h).taken ++ frame ∷ []; refused = true; closed = true }) (frames-refusing (outward h) frame (not-refused h p.1.1.0.0 standing (length h.connections - 1) (open-at h standing))) }),
+            (ap (change_last (λ (c : Outward). record c { closed = true })) (change-twice (with_frame frame) refusing h.connections)
+            ∙ change-twice (λ c. refusing (with_frame frame c)) (λ c. record c { closed = true }) h.connections) (keeps-writes h.writes)
+            (record {
+              closed = λ shut. refl;
+              turn = turn-frames (outward h) (record (outward h) { taken = (outward h).taken ++ frame ∷ []; refused = true; closed = true })
+                  (frames-refusing (outward h) frame (not-refused h p.1.1.0.0 standing (length h.connections - 1) (open-at h standing)));
+            }),
       ),
     ),
   );
@@ -366,20 +377,26 @@ in-order-kept settings bound = record {
       last-open-kept.closes h standing p.1.0,
       (
         (lawful-kept settings bound).closes h standing p.1.1.0,
-        order-change h (closing h) (λ c. record c { closed = true }) p.1.1.1 refl (keeps-writes h.writes) (record { closed = λ shut. refl; turn = turn-frames (outward h) (record (outward h) { closed = true }) refl }),
+        order-change h (closing h) (λ c. record c { closed = true }) p.1.1.1 refl (keeps-writes h.writes)
+            (record { closed = λ shut. refl; turn = turn-frames (outward h) (record (outward h) { closed = true }) refl }),
       ),
     ),
   );
-  receipts = λ h number p. (known-kept.receipts h number p.0, (last-open-kept.receipts h number p.1.0, ((lawful-kept settings bound).receipts h number p.1.1.0, order-same h _ p.1.1.1 refl (keeps-writes h.writes))));
+  receipts = λ h number p. (
+    known-kept.receipts h number p.0,
+    (last-open-kept.receipts h number p.1.0, ((lawful-kept settings bound).receipts h number p.1.1.0, order-same h _ p.1.1.1 refl (keeps-writes h.writes))),
+  );
 }
   where
-    order-confirms : (h : PrimaryHistory) (number size : ℕ) → (outward h).closed ≡ false → is_in_turn h number size ≡ true → Ordered settings h → IsInOrder (with_outward (with_frame (Ok (BarrierAckFrame number size))) h)
+    order-confirms : (h : PrimaryHistory) (number size : ℕ) → (outward h).closed ≡ false → is_in_turn h number size ≡ true → Ordered settings h
+        → IsInOrder (with_outward (with_frame (Ok (BarrierAckFrame number size))) h)
     order-confirms h number size standing turn p =
         let k = length h.connections - 1 in
         let there = open-at h standing in
-        let parts = and_parts (is_barrier_of number (oldest_barrier (outward h)) && (size == epoch_size (outward h).stream number)) (list_all (is_acknowledged h.settings.protocol (outward h)) (items_of_epoch (outward h).stream number)) turn in
-        let first = (and_parts (is_barrier_of number (oldest_barrier (outward h))) (size == epoch_size (outward h).stream number) parts.0).0 in
-        order-change h (with_outward (with_frame (Ok (BarrierAckFrame number size))) h) (with_frame (Ok (BarrierAckFrame number size))) p.1.1.1 refl (keeps-writes h.writes) (record {
+        let its = turn-has h number size turn in
+        order-change h (with_outward (with_frame (Ok (BarrierAckFrame number size))) h) (with_frame (Ok (BarrierAckFrame number size))) p.1.1.1 refl
+        (keeps-writes h.writes) (record {
           closed = λ shut. shut;
-          turn = turn-next (outward h) number size (not-refused h p.1.1.0.0 standing k there) (earlier-said settings.max_epoch (outward h) number (p.1.1.0.1.streams.lawful k (outward h) there) first);
+          turn = turn-next (outward h) number size (not-refused h p.1.1.0.0 standing k there)
+              (earlier-said (most_writes settings) (outward h) number its.place (p.1.1.0.1.streams.lawful k (outward h) there) its.there its.before);
         })

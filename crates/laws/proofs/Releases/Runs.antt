@@ -4,6 +4,7 @@ use Rattle.std.proofs.Common.{ℕ, ◌≡◌, ◌<◌, ◌≤◌, inl, inr, Bool
 use Rattle.std.specs.Prelude.{is_some}
 use Rattle.std.proofs.lemmas.Bool.{both_ways, and_cases, cases_lt, not-false}
 use Rattle.std.proofs.lemmas.Option.{slice_get_within}
+use Rattle.blocks.specs.Positions.{StreamPosition}
 use Rattle.blocks.specs.declared.settings.Settings.{Settings}
 use Rattle.blocks.specs.declared.tuple.Tuple.{Tuple}
 use Rattle.blocks.specs.SettingsRange.{IsInRange}
@@ -13,6 +14,7 @@ use Rattle.model.specs.LocalRuns.{PrimaryEvent, primary_run}
 use Rattle.model.specs.Marks.{is_cleared, releasing}
 use Rattle.model.specs.Primary.{OnDisk, Accepted, PrimaryHistory, primary_opening, outward, last_index}
 use Rattle.model.specs.PrimarySteps.{with_outcome}
+use Rattle.laws.proofs.Rules.EpochEnds.{takes-writes}
 use Rattle.laws.specs.Reflections.{touches, content_at}
 use Rattle.laws.proofs.Lists.Elements.{same-at}
 use Rattle.laws.proofs.Blocks.Latest.{Touch, latest, content_of, sent_map, settling_map}
@@ -38,19 +40,28 @@ module _ (h : PrimaryHistory) (block : ℕ) (t : IsTracked h) (order : IsInOrder
       elim (cases_lt c.index its.0) [
         | inl later ↦ subst (λ (w : Write). covers w block ≡ false) its.3 (c.last its.0 its.1 later its.2)
         | inr not_later ↦ elim (cases_lt its.0 c.index) [
-          | inl earlier ↦ absurd (elim (order.rise its.0 c.index its.1 c.accepted (last_index h.connections, next) (last_index h.connections, c.place) earlier its.2 c.at its.4 c.home) [ inl before ↦ omega arith | inr here ↦ let less = here.1 in omega arith ])
+          | inl earlier ↦ absurd (elim (order.rise its.0 c.index its.1 c.accepted (record { index = last_index h.connections; place = next })
+              (record { index = last_index h.connections; place = c.place }) earlier its.2 c.at its.4 c.home) [
+                | inl before ↦ omega arith
+                | inr here ↦ let less =
+                    here.1 in omega arith
+              ])
           | inr not_earlier ↦ absurd (
               let index : its.0 ≡ c.index = omega arith in
-              let one : its.1 ≡ c.accepted = same-at h.writes c.index its.1 c.accepted (subst (λ (n : ℕ). slice_get h.writes n ≡ Some its.1) index its.2) c.at in
-              let home : Some (last_index h.connections, next) ≡ Some (last_index h.connections, c.place) = sym its.4 ∙ (ap (λ (a : Accepted). a.home) one ∙ c.home) in
-              let same : (last_index h.connections, next) ≡ (last_index h.connections, c.place) = cc in
-              let place : next ≡ c.place = ap (λ (p : ℕ × ℕ). p.1) same in
+              let one : its.1 ≡ c.accepted = same-at h.writes c.index its.1 c.accepted (subst (λ (n : ℕ). slice_get h.writes n ≡ Some its.1) index its.2)
+              c.at in
+              let here : StreamPosition = record { index = last_index h.connections; place = next } in
+              let there : StreamPosition = record { index = last_index h.connections; place = c.place } in
+              let home : Some here ≡ Some there = sym its.4 ∙ (ap (λ (a : Accepted). a.home) one ∙ c.home) in
+              let same : here ≡ there = cc in
+              let place : next ≡ c.place = ap (λ (p : StreamPosition). p.place) same in
               omega arith)
         ]
       ]
 
   -- what a block of a resync has that stands behind it
-  copied-behind : (next other : ℕ) (contents : List ℕ) → c.place ≤ next → slice_get (outward h).stream next ≡ Some (ResyncItem other contents) → touches (ResyncItem other contents) block ≡ true → content_at (ResyncItem other contents) block ≡ settling_map h block
+  copied-behind : (next other : ℕ) (contents : List ℕ) → c.place ≤ next → slice_get (outward h).stream next ≡ Some (ResyncItem other contents)
+      → touches (ResyncItem other contents) block ≡ true → content_at (ResyncItem other contents) block ≡ settling_map h block
   copied-behind next other contents from at touched =
       let ends = between-parts other 1 block touched in
       let low = ends.0 in
@@ -64,12 +75,14 @@ module _ (h : PrimaryHistory) (block : ℕ) (t : IsTracked h) (order : IsInOrder
       ap (λ (n : ℕ). content_at (ResyncItem n contents) block) is ∙ (copy-content block contents ∙ sym (t.copied next block contents copy).0)
 
   -- what is sent on the block from there on has what the local disk comes to hold
-  pub sent-since : (next : ℕ) (item : Item) → c.place ≤ next → slice_get (outward h).stream next ≡ Some item → touches item block ≡ true → content_at item block ≡ settling_map h block
+  pub sent-since : (next : ℕ) (item : Item) → c.place ≤ next → slice_get (outward h).stream next ≡ Some item → touches item block ≡ true
+      → content_at item block ≡ settling_map h block
   sent-since next (WriteItem write) from at touched = elim (cases_lt c.place next) [
     | inl after ↦ absurd (both_ways (covers write block) (behind next write after at) touched)
     | inr here ↦
         let place : next ≡ c.place = omega arith in
-        let one : WriteItem write ≡ WriteItem c.accepted.write = same-at (outward h).stream c.place (WriteItem write) (WriteItem c.accepted.write) (subst (λ (n : ℕ). slice_get (outward h).stream n ≡ Some (WriteItem write)) place at) c.there in
+        let one : WriteItem write ≡ WriteItem c.accepted.write = same-at (outward h).stream c.place (WriteItem write) (WriteItem c.accepted.write)
+        (subst (λ (n : ℕ). slice_get (outward h).stream n ≡ Some (WriteItem write)) place at) c.there in
         ap (λ (i : Item). content_at i block) one ∙ sym (settling-last h c.index block c.accepted c.at c.covered c.done c.last)
   ]
   sent-since next (ResyncItem other contents) from at touched = copied-behind next other contents from at touched
@@ -78,14 +91,18 @@ module _ (h : PrimaryHistory) (block : ℕ) (t : IsTracked h) (order : IsInOrder
   sent-since next (UuidsItem tuple) from at touched = absurd (both_ways (touches (UuidsItem tuple) block) (touches-nothing 0 block) touched)
 
   -- the last item on the block stands on that stream, there or behind it
-  pub latest-since : (touch : Touch) → latest h.connections block ≡ Some touch → (last_index h.connections ≡ touch.connection) × ((c.place ≤ touch.place) × ((slice_get (outward h).stream touch.place ≡ Some touch.item) × (touches touch.item block ≡ true)))
+  pub latest-since : (touch : Touch) → latest h.connections block ≡ Some touch
+      → (last_index h.connections ≡ touch.connection)
+      × ((c.place ≤ touch.place) × ((slice_get (outward h).stream touch.place ≡ Some touch.item) × (touches touch.item block ≡ true)))
   latest-since touch is =
       let there = latest-at h.connections block touch is in
       let within = slice_get_within h.connections touch.connection there.0 there.1 in
-      elim (latest-last h.connections block touch is (last_index h.connections) c.place (outward h) (WriteItem c.accepted.write) c.connected c.there c.covered) [
+      elim (latest-last h.connections block touch is (last_index h.connections) c.place (outward h)
+      (WriteItem c.accepted.write) c.connected c.there c.covered) [
         | inl past ↦ absurd (omega arith)
         | inr here ↦
-            let end = same-at h.connections (last_index h.connections) there.0 (outward h) (subst (λ (n : ℕ). slice_get h.connections n ≡ Some there.0) (sym here.0) there.1) c.connected in
+            let end = same-at h.connections (last_index h.connections) there.0 (outward h)
+            (subst (λ (n : ℕ). slice_get h.connections n ≡ Some there.0) (sym here.0) there.1) c.connected in
             (here.0, (here.1, (subst (λ e. slice_get e.stream touch.place ≡ Some touch.item) end there.2, there.3)))
       ]
 
@@ -96,7 +113,8 @@ module _ (h : PrimaryHistory) (block : ℕ) (t : IsTracked h) (order : IsInOrder
       ap (content_of (h.opening_map block) block) some.1 ∙ sent-since some.0.place some.0.item last.1.0 last.1.1.0 last.1.1.1
 
 -- Marks are cleared of blocks that are cleared so.
-pub tracked-released : (h later : PrimaryHistory) → ((block : ℕ) → is_cleared h later block ≡ true → IsCleared later block) → IsInOrder later → IsTracked later → IsTracked (releasing h later)
+pub tracked-released : (h later : PrimaryHistory) → ((block : ℕ) → is_cleared h later block ≡ true → IsCleared later block) → IsInOrder later → IsTracked later
+    → IsTracked (releasing h later)
 tracked-released h later clears order t = record {
   homes = homes-marks later _ t.homes;
   sized = t.sized;
@@ -112,9 +130,13 @@ tracked-released h later clears order t = record {
 }
 
 -- A step that releases writes keeps what is known of the blocks, and the order.
-pub ordered-release : (settings : Settings) (h later : PrimaryHistory) → IsRelease h later → Ordered settings h → OrderedAfter settings later → OrderedAfter settings (releasing h later)
+pub ordered-release : (settings : Settings) (h later : PrimaryHistory) → IsRelease h later → Ordered settings h → OrderedAfter settings later
+    → OrderedAfter settings (releasing h later)
 ordered-release settings h later release p q = (
-  record { tracked = tracked-released h later (λ block cleared. release-clears settings h later block p q.1.1.0.0 q.1.0 release cleared) q.1.1.1 q.0.tracked; numbers = q.0.numbers },
+  record {
+    tracked = tracked-released h later (λ block cleared. release-clears settings h later block p q.1.1.0.0 q.1.0 release cleared) q.1.1.1 q.0.tracked;
+    numbers = q.0.numbers;
+  },
   (q.1.0, (lawful-marks settings later _ q.1.1.0, order-same later (releasing h later) q.1.1.1 refl (keeps-writes later.writes))),
 )
 
@@ -125,7 +147,8 @@ ordered-released settings = record {
 }
 
 -- At the opening nothing is written, or sent.
-pub ordered-opening : (settings : Settings) (disk : BlockMap) (tuple : Tuple) (marks : ℕ → Bool) → ((block : ℕ) → block < settings.blocks → is_some (disk block) ≡ true) → Ordered settings (primary_opening settings disk tuple marks)
+pub ordered-opening : (settings : Settings) (disk : BlockMap) (tuple : Tuple) (marks : ℕ → Bool)
+    → ((block : ℕ) → block < settings.blocks → is_some (disk block) ≡ true) → Ordered settings (primary_opening settings disk tuple marks)
 ordered-opening settings disk tuple marks sized = (
   known-opening settings disk tuple marks sized,
   (
@@ -143,7 +166,9 @@ ordered-opening settings disk tuple marks sized = (
 )
 
 -- Every run of a primary keeps them.
-pub ordered-run : (settings : Settings) (disk : BlockMap) (tuple : Tuple) (marks : ℕ → Bool) (events : List PrimaryEvent) → IsInRange settings → ((block : ℕ) → block < settings.blocks → is_some (disk block) ≡ true)
+pub ordered-run : (settings : Settings) (disk : BlockMap) (tuple : Tuple) (marks : ℕ → Bool) (events : List PrimaryEvent) → IsInRange settings
+    → ((block : ℕ) → block < settings.blocks → is_some (disk block) ≡ true)
     → Ordered settings (primary_run events (primary_opening settings disk tuple marks))
 ordered-run settings disk tuple marks events range sized =
-    keeps-run (Ordered settings) (OrderedAfter settings) (in-order-kept settings range.max_epoch.0) (ordered-released settings) events (primary_opening settings disk tuple marks) (ordered-opening settings disk tuple marks sized)
+    keeps-run (Ordered settings) (OrderedAfter settings) (in-order-kept settings (takes-writes settings range)) (ordered-released settings) events
+    (primary_opening settings disk tuple marks) (ordered-opening settings disk tuple marks sized)

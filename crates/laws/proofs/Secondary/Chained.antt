@@ -15,18 +15,21 @@ disk_after disk [] = disk
 disk_after disk (d ∷ ds) = disk_after (map_of d) ds
 
 -- a connection that opens on that disk
-pub chained-append : (disk : BlockMap) (ds : List Inward) (d : Inward) → AreChained disk ds → ((block : ℕ) → d.base block ≡ disk_after disk ds block) → AreChained disk (ds ++ d ∷ [])
+pub chained-append : (disk : BlockMap) (ds : List Inward) (d : Inward) → AreChained disk ds → ((block : ℕ) → d.base block ≡ disk_after disk ds block)
+    → AreChained disk (ds ++ d ∷ [])
 chained-append disk [] d all new = (new, tt)
 chained-append disk (e ∷ es) d all new = (all.0, chained-append (map_of e) es d all.1 new)
 
 -- a change of the last connection that leaves its opening disk
-pub chained-change : (f : Inward → Inward) → ((d : Inward) (block : ℕ) → (f d).base block ≡ d.base block) → (disk : BlockMap) (ds : List Inward) → AreChained disk ds → AreChained disk (change_last f ds)
+pub chained-change : (f : Inward → Inward) → ((d : Inward) (block : ℕ) → (f d).base block ≡ d.base block) → (disk : BlockMap) (ds : List Inward)
+    → AreChained disk ds → AreChained disk (change_last f ds)
 chained-change f same disk [] all = tt
 chained-change f same disk (d ∷ []) all = (λ block. same d block ∙ all.0 block, tt)
 chained-change f same disk (d ∷ e ∷ ds) all = (all.0, chained-change f same (map_of d) (e ∷ ds) all.1)
 
 -- a connection opens on what the one before it left
-pub chained-next : (disk : BlockMap) (ds : List Inward) (k : ℕ) (d e : Inward) → AreChained disk ds → slice_get ds k ≡ Some d → slice_get ds (suc k) ≡ Some e → (block : ℕ) → e.base block ≡ map_of d block
+pub chained-next : (disk : BlockMap) (ds : List Inward) (k : ℕ) (d e : Inward) → AreChained disk ds → slice_get ds k ≡ Some d → slice_get ds (suc k) ≡ Some e
+    → (block : ℕ) → e.base block ≡ map_of d block
 chained-next disk [] k d e all at next block = absurd (cc)
 chained-next disk (x ∷ []) k d e all at next block = absurd (cc)
 chained-next disk (x ∷ y ∷ ds) zero d e all at next block =

@@ -1,5 +1,6 @@
 -- A secondary opens only when it is drained: on a connection before the last one nothing is pending.
-use Rattle.std.proofs.Common.{ℕ, suc, ◌≡◌, ◌+◌, ◌-◌, ◌<◌, inl, inr, true, false, not, ◌&&◌, List, [], ◌∷◌, ◌++◌, length, Some, slice_get, sym, ◌∙◌, ap, subst, arith, length-append}
+use Rattle.std.proofs.Common.{ℕ, suc, ◌≡◌, ◌+◌, ◌-◌, ◌<◌, inl, inr, true, false, not, ◌&&◌, List, [], ◌∷◌, ◌++◌, length, Some, slice_get, sym, ◌∙◌, ap, subst}
+use Rattle.std.proofs.Common.{arith, length-append}
 use Rattle.std.proofs.lemmas.Bool.{cases_lt, and_parts, not-false, eqb-true}
 use Rattle.std.proofs.lemmas.Option.{slice_get_within}
 use Rattle.blocks.specs.declared.refusal.Refusal.TheVariants.{NotDrained}
@@ -33,7 +34,18 @@ changes (x ∷ ds) f all k d at less =
 -- a new connection comes where nothing is pending on the last one
 opens : (unseen : ℕ) (h : SecondaryHistory) → is_drained h ≡ true → IsDrainedBefore h → IsDrainedBefore (opened_secondary unseen h)
 opens unseen h drained all k d at less =
-    let new : Inward = record { number = next_number unseen h; base = secondary_map h; hello = h.tuple; taken = []; refused = false; applied = []; gone = []; due = []; pushed = 0; closed = false } in
+    let new : Inward = record {
+      number = next_number unseen h;
+      base = secondary_map h;
+      hello = h.tuple;
+      taken = [];
+      refused = false;
+      applied = [];
+      gone = [];
+      due = [];
+      pushed = 0;
+      closed = false;
+    } in
     let size : length (h.connections ++ new ∷ []) ≡ length h.connections + 1 = length-append h.connections (new ∷ []) in
     elim (get-more h.connections new k d at) [
       | inr added ↦ absurd (let here = added.0 in omega arith)
@@ -53,7 +65,8 @@ opens unseen h drained all k d at less =
     ]
 
 drained-open : (unseen : ℕ) (h : SecondaryHistory) → IsDrainedBefore h → IsDrainedBefore (open_secondary unseen h).1
-drained-open unseen h all = tested-keeps IsDrainedBefore h (open_secondary_tests h) (λ _. succeeding_secondary what.Nothing (opened_secondary unseen h)) all (λ passed.
+drained-open unseen h all = tested-keeps IsDrainedBefore h (open_secondary_tests h) (λ _. succeeding_secondary what.Nothing (opened_secondary unseen h)) all
+    (λ passed.
     let one = test-passed (not ((inward h).closed && is_drained h)) NotDrained [] passed in
     let free = and_parts (inward h).closed (is_drained h) (not-false ((inward h).closed && is_drained h) one.0) in
     changes (opened_secondary unseen h).connections answering (opens unseen h free.1 all))
@@ -66,8 +79,10 @@ drained-after (Receives frame starved) h all = after-receive IsDrainedBefore h f
   adopts = λ item tuple consistent brings late. changes _ answering (changes h.connections (framed taken) all);
   refuses = changes _ refused_end (changes h.connections (framed taken) all);
 })
-drained-after (Applies place) h all = after-peer IsDrainedBefore h place all (λ waiting none. changes _ answering (changes h.connections (applying h.settings.protocol place) all))
-drained-after (FailsToApply place offsets) h all = after-fault IsDrainedBefore h place offsets all (λ waiting none. changes h.connections (failing place offsets) all)
+drained-after (Applies place) h all = after-peer IsDrainedBefore h place all
+    (λ waiting none. changes _ answering (changes h.connections (applying h.settings.protocol place) all))
+drained-after (FailsToApply place offsets) h all = after-fault IsDrainedBefore h place offsets all
+    (λ waiting none. changes h.connections (failing place offsets) all)
 drained-after (Acknowledges room starved) h all = after-push IsDrainedBefore h room starved all (λ standing due. changes h.connections pushed_one all)
 drained-after ClosesToo h all = after-close IsDrainedBefore h all (λ standing. changes h.connections closed_end all)
 

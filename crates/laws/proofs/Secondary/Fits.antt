@@ -1,6 +1,7 @@
 -- What has to be true of an acknowledgement that is due, by those that became due before it: it names what was taken or is
 -- applied, nothing is acknowledged twice, and barriers come in their turn.
-use Rattle.std.proofs.Common.{ℕ, ◌≡◌, ◌≤◌, ◌<◌, inl, inr, Bool, true, false, List, [], ◌∷◌, ◌++◌, length, Some, slice_get, Ok, refl, sym, ◌∙◌, ap, arith, append_assoc}
+use Rattle.std.proofs.Common.{ℕ, ◌≡◌, ◌≤◌, ◌<◌, inl, inr, Bool, true, false, List, [], ◌∷◌, ◌++◌, length, Some, slice_get, Ok, refl, sym, ◌∙◌, ap, arith}
+use Rattle.std.proofs.Common.{append_assoc}
 use Rattle.std.specs.List.{list_any}
 use Rattle.std.proofs.lemmas.Bool.{and_from, or_left, eq-eqb, cases_lt}
 use Rattle.std.proofs.lemmas.List.Folds.{list_any-append}
@@ -8,7 +9,8 @@ use Rattle.std.proofs.lemmas.List.{append-nil}
 use Rattle.blocks.specs.declared.settings.Protocol.{Protocol}
 use Rattle.blocks.specs.declared.settings.Protocol.TheVariants as protocol
 use Rattle.model.specs.Contents.{Write}
-use Rattle.model.specs.Stream.{Item, WriteItem, ResyncItem, BarrierItem, SyncUuidItem, UuidsItem, Part, is_whole, has_blocks, barriers_in, epoch_of, last_epoch, epoch_size}
+use Rattle.model.specs.Stream.{Item, WriteItem, ResyncItem, BarrierItem, SyncUuidItem, UuidsItem, Part, is_whole, has_blocks, barriers_in, epoch_of, last_epoch}
+use Rattle.model.specs.Stream.{epoch_size}
 use Rattle.model.specs.Frames.{Packet, RecvAckFrame, WriteAckFrame, RsWriteAckFrame, BarrierAckFrame, Acknowledged, Received, naming}
 use Rattle.model.specs.Primary.{same_naming, is_recv_ack, is_write_ack, is_rs_write_ack, is_barrier_ack}
 use Rattle.laws.proofs.Lists.Elements.{get-left}
@@ -65,7 +67,8 @@ pub record FitsBarrier (asked : Protocol) (items : List Item) (front : List Pack
   pub counts : size ≡ epoch_size items number
   pub earlier : (epoch : ℕ) → 0 < epoch → epoch < number → is_said (is_barrier_ack epoch) front ≡ true
   pub first : is_said (is_barrier_ack number) front ≡ false
-  pub answered : (place : ℕ) (item : Item) → slice_get items place ≡ Some item → epoch_of items place ≤ number → has_blocks item ≡ true → is_answered_to asked front place item ≡ true
+  pub answered : (place : ℕ) (item : Item) → slice_get items place ≡ Some item → epoch_of items place ≤ number → has_blocks item ≡ true
+      → is_answered_to asked front place item ≡ true
 
 -- what is due, by what was due before it; no other packet is
 abbrev pub Fits : Protocol → List Item → Part → List Packet → Packet → Type 0
@@ -85,7 +88,8 @@ size-stays items (x ∷ more) epoch upto =
     ∙ elim (size-grow items x epoch) [ inl same ↦ same | inr grew ↦ absurd (let last : last_epoch items ≡ epoch = grew.1 in omega arith) ])
 
 -- a fitting acknowledgement stays so as more is taken and applied
-pub fits-grow : (asked : Protocol) (items more : List Item) (part further : Part) (front : List Packet) (packet : Packet) → Fits asked items part front packet → Fits asked (items ++ more) (part ++ further) front packet
+pub fits-grow : (asked : Protocol) (items more : List Item) (part further : Part) (front : List Packet) (packet : Packet) → Fits asked items part front packet
+    → Fits asked (items ++ more) (part ++ further) front packet
 fits-grow asked items more part further front (RecvAckFrame ack) f =
     record { protocol = f.protocol; write = f.write; there = get-left items more ack.place (WriteItem f.write) f.there; names = f.names; first = f.first }
 fits-grow asked items more part further front (WriteAckFrame ack) f = record {
@@ -111,7 +115,8 @@ fits-grow asked items more part further front (BarrierAckFrame number size) f = 
   earlier = f.earlier;
   first = f.first;
   answered = λ place item at early blocks. elim (cases_lt place (length items)) [
-    | inl within ↦ f.answered place item (sym (get-grows items more place within) ∙ at) (let same = epoch-grows items more place (omega arith) in omega arith) blocks
+    | inl within ↦ f.answered place item (sym (get-grows items more place within)
+        ∙ at) (let same = epoch-grows items more place (omega arith) in omega arith) blocks
     | inr behind ↦ absurd (let late = epoch-behind items more place behind in let upto = f.upto in omega arith)
   ];
 }
@@ -122,7 +127,8 @@ pub said-grows : (test : Received → Bool) (packets more : List Packet) → is_
 said-grows test packets more h = list_any-append (λ packet. test (Ok packet)) packets more ∙ or_left (is_said test packets) (is_said test more) h
 
 -- so is what the protocol asks
-pub answered-grows : (asked : Protocol) (packets more : List Packet) (place : ℕ) (item : Item) → is_answered_to asked packets place item ≡ true → is_answered_to asked (packets ++ more) place item ≡ true
+pub answered-grows : (asked : Protocol) (packets more : List Packet) (place : ℕ) (item : Item) → is_answered_to asked packets place item ≡ true
+    → is_answered_to asked (packets ++ more) place item ≡ true
 answered-grows protocol.A packets more place (WriteItem write) h = refl
 answered-grows protocol.B packets more place (WriteItem write) h = said-grows (is_recv_ack (naming place (WriteItem write))) packets more h
 answered-grows protocol.C packets more place (WriteItem write) h = said-grows (is_write_ack (naming place (WriteItem write))) packets more h
@@ -133,4 +139,5 @@ answered-grows asked packets more place (UuidsItem tuple) h = refl
 
 -- what names an item names it as itself
 pub same-self : (ack : Acknowledged) → same_naming ack ack ≡ true
-same-self ack = and_from _ _ (and_from _ _ (eq-eqb ack.first ack.first refl) (eq-eqb ack.number ack.number refl)) (and_from _ _ (eq-eqb ack.count ack.count refl) (eq-eqb ack.place ack.place refl))
+same-self ack = and_from _ _ (and_from _ _ (eq-eqb ack.first ack.first refl) (eq-eqb ack.number ack.number refl))
+    (and_from _ _ (eq-eqb ack.count ack.count refl) (eq-eqb ack.place ack.place refl))

@@ -1,21 +1,23 @@
 -- A secondary's connection as it has to be, over all that happens to it: sound, and closed once a frame of it was refused.
-use Rattle.std.proofs.Common.{ℕ, ◌≡◌, ◌-◌, inl, inr, true, false, List, [], ◌∷◌, ◌++◌, length, take, drop, map, Option, Some, None, slice_get, refl, sym, ◌∙◌, ap, arith, subst, ◌<◌, nat_lt}
+use Rattle.std.proofs.Common.{ℕ, ◌≡◌, ◌-◌, inl, inr, true, false, List, [], ◌∷◌, ◌++◌, length, take, drop, map, Option, Some, None, slice_get, refl, sym, ◌∙◌}
+use Rattle.std.proofs.Common.{ap, arith, subst, ◌<◌}
 use Rattle.std.specs.Prelude.{filter_map, if◌then◌else◌}
-use Rattle.std.proofs.lemmas.Bool.{cases_Bool, both_ways, ltb-true}
+use Rattle.std.proofs.lemmas.Bool.{cases_Bool, both_ways}
 use Rattle.std.proofs.lemmas.List.{length-append}
 use Rattle.std.proofs.lemmas.List.Elements.{filter_map-append}
 use Rattle.std.proofs.Math.Seq.{take-append_seam}
 use Rattle.blocks.specs.declared.settings.Protocol.{Protocol}
 use Rattle.blocks.specs.declared.tuple.Tuple.{Tuple}
 use Rattle.model.specs.Contents.{BlockMap}
-use Rattle.model.specs.Stream.{Item, below, contents_of, within}
+use Rattle.model.specs.Stream.{Item, below, contents_of}
 use Rattle.model.specs.Frames.{Packet, Received}
 use Rattle.model.specs.Secondary.{Inward, items_taken, accepted_of, received_item}
-use Rattle.model.specs.SecondarySteps.{answering, barrier_answer, barriers_to_answer, is_pending_at, has_earlier, offsets_at, applied_answer, applying, failing, blocks_at}
+use Rattle.model.specs.SecondarySteps.{answering, barrier_answer, barriers_to_answer, is_pending_at, has_earlier, offsets_at, applied_answer, applying, failing}
+use Rattle.laws.proofs.Rules.DiskFaults.{reached, fault-applied, reached-inside}
 use Rattle.laws.proofs.Secondary.Sound.{IsSound, starting, sound-taking, sound-same, sound-applying, dropped, Started}
 use Rattle.laws.proofs.Lists.Beginnings.{begins-drop}
 use Rattle.laws.proofs.Lists.Elements.{same-at}
-use Rattle.laws.proofs.Lists.Picks.{pick-below, pick-filtered}
+use Rattle.laws.proofs.Lists.Picks.{pick-below}
 
 -- A connection as it has to be: sound, and closed once a frame of it was refused.
 pub record IsGood (d : Inward) : Type 0 where
@@ -28,18 +30,32 @@ good-due d due good = record { sound = sound-same d (record d { due = due }) goo
 
 -- an end that answers barriers stays good
 pub good-answering : (d : Inward) → IsGood d → IsGood (answering d)
-good-answering d good = elim d.closed as (λ b. IsGood (elim b as (λ _. Inward) [ true ↦ d | false ↦ record d { due = d.due ++ map (barrier_answer d) (barriers_to_answer d) } ])) [
-  | true ↦ good
-  | false ↦ good-due d (d.due ++ map (barrier_answer d) (barriers_to_answer d)) good
-]
+good-answering d good = elim d.closed as
+    (λ b. IsGood (elim b as (λ _. Inward) [ true ↦ d | false ↦ record d { due = d.due ++ map (barrier_answer d) (barriers_to_answer d) } ])) [
+      | true ↦ good
+      | false ↦ good-due d (d.due ++ map (barrier_answer d) (barriers_to_answer d)) good
+    ]
 
 -- and its opening disk stays
 pub base-answering : (d : Inward) (block : ℕ) → (answering d).base block ≡ d.base block
 base-answering d block =
-    elim d.closed as (λ b. (elim b as (λ _. Inward) [ true ↦ d | false ↦ record d { due = d.due ++ map (barrier_answer d) (barriers_to_answer d) } ]).base block ≡ d.base block) [ true ↦ refl | false ↦ refl ]
+    elim d.closed as (λ b. (elim b as (λ _. Inward) [ true ↦ d | false ↦ record d { due = d.due ++ map (barrier_answer d) (barriers_to_answer d) } ]).base
+    block ≡ d.base block) [ true ↦ refl | false ↦ refl ]
 
 -- a new connection is good
-pub good-new : (number : ℕ) (disk : BlockMap) (hello : Tuple) → IsGood (record { number = number; base = disk; hello = hello; taken = []; refused = false; applied = []; gone = []; due = []; pushed = 0; closed = false })
+pub good-new : (number : ℕ) (disk : BlockMap) (hello : Tuple)
+    → IsGood (record {
+      number = number;
+      base = disk;
+      hello = hello;
+      taken = [];
+      refused = false;
+      applied = [];
+      gone = [];
+      due = [];
+      pushed = 0;
+      closed = false;
+    })
 good-new number disk hello = record {
   sound = record {
     epoch = 0;
@@ -54,7 +70,8 @@ good-new number disk hello = record {
 }
 
 -- a frame more only adds to the items taken
-pub taking-more : (frame : Received) (d : Inward) → d.refused ≡ false → (more : List Item) × (items_taken (record d { taken = d.taken ++ frame ∷ [] }) ≡ items_taken d ++ more)
+pub taking-more : (frame : Received) (d : Inward) → d.refused ≡ false
+    → (more : List Item) × (items_taken (record d { taken = d.taken ++ frame ∷ [] }) ≡ items_taken d ++ more)
 taking-more frame d accepted =
     let split = begins-drop 3 d.taken (d.taken ++ frame ∷ []) (frame ∷ [], refl) in
     let old : accepted_of d ≡ drop 3 d.taken = ap (λ b. drop 3 (if b then take (length d.taken - 1) d.taken else d.taken)) accepted in
@@ -68,28 +85,40 @@ taking-more frame d accepted =
 -- an open end that takes a frame stays good
 pub good-taking : (frame : Received) (d : Inward) → d.closed ≡ false → IsGood d → IsGood (record d { taken = d.taken ++ frame ∷ [] })
 good-taking frame d standing good =
-    let accepted : d.refused ≡ false = elim (cases_Bool d.refused) [ inl was ↦ absurd (both_ways d.closed standing (good.refused was)) | inr not_so ↦ not_so ] in
+    let accepted : d.refused ≡ false =
+    elim (cases_Bool d.refused) [ inl was ↦ absurd (both_ways d.closed standing (good.refused was)) | inr not_so ↦ not_so ] in
     let more = taking-more frame d accepted in
-    record { sound = sound-taking d (record d { taken = d.taken ++ frame ∷ [] }) more.0 good.sound standing more.1 refl refl; refused = λ h. absurd (both_ways d.refused accepted h) }
+    record {
+      sound = sound-taking d (record d { taken = d.taken ++ frame ∷ [] }) more.0 good.sound standing more.1 refl refl;
+      refused = λ h. absurd (both_ways d.refused accepted h);
+    }
 
 -- a frame that is refused brings nothing
-pub items-refusing : (frame : Received) (d : Inward) → d.refused ≡ false → items_taken (record d { taken = d.taken ++ frame ∷ []; refused = true; closed = true }) ≡ items_taken d
+pub items-refusing : (frame : Received) (d : Inward) → d.refused ≡ false
+    → items_taken (record d { taken = d.taken ++ frame ∷ []; refused = true; closed = true }) ≡ items_taken d
 items-refusing frame d accepted =
     let old : accepted_of d ≡ drop 3 d.taken = ap (λ b. drop 3 (if b then take (length d.taken - 1) d.taken else d.taken)) accepted in
     let size : length (d.taken ++ frame ∷ []) - 1 ≡ length d.taken = let long = length-append d.taken (frame ∷ []) in omega arith in
-    let whole : take (length (d.taken ++ frame ∷ []) - 1) (d.taken ++ frame ∷ []) ≡ d.taken = ap (λ n. take n (d.taken ++ frame ∷ [])) size ∙ take-append_seam d.taken (frame ∷ []) in
+    let whole : take (length (d.taken ++ frame ∷ []) - 1) (d.taken ++ frame ∷ []) ≡ d.taken = ap (λ n. take n (d.taken ++ frame ∷ [])) size
+    ∙ take-append_seam d.taken (frame ∷ []) in
     ap (λ (l : List Received). filter_map received_item (drop 3 l)) whole ∙ ap (filter_map received_item) (sym old)
 
 -- an open end that refuses a frame closes, and stays good
-pub good-refusing : (frame : Received) (d : Inward) → d.closed ≡ false → IsGood d → IsGood (record d { taken = d.taken ++ frame ∷ []; refused = true; closed = true })
+pub good-refusing : (frame : Received) (d : Inward) → d.closed ≡ false → IsGood d
+    → IsGood (record d { taken = d.taken ++ frame ∷ []; refused = true; closed = true })
 good-refusing frame d standing good =
-    let accepted : d.refused ≡ false = elim (cases_Bool d.refused) [ inl was ↦ absurd (both_ways d.closed standing (good.refused was)) | inr not_so ↦ not_so ] in
+    let accepted : d.refused ≡ false =
+    elim (cases_Bool d.refused) [ inl was ↦ absurd (both_ways d.closed standing (good.refused was)) | inr not_so ↦ not_so ] in
     let old : accepted_of d ≡ drop 3 d.taken = ap (λ b. drop 3 (if b then take (length d.taken - 1) d.taken else d.taken)) accepted in
     let size : length (d.taken ++ frame ∷ []) - 1 ≡ length d.taken = let long = length-append d.taken (frame ∷ []) in omega arith in
-    let whole : take (length (d.taken ++ frame ∷ []) - 1) (d.taken ++ frame ∷ []) ≡ d.taken = ap (λ n. take n (d.taken ++ frame ∷ [])) size ∙ take-append_seam d.taken (frame ∷ []) in
+    let whole : take (length (d.taken ++ frame ∷ []) - 1) (d.taken ++ frame ∷ []) ≡ d.taken = ap (λ n. take n (d.taken ++ frame ∷ [])) size
+    ∙ take-append_seam d.taken (frame ∷ []) in
     let items : items_taken (record d { taken = d.taken ++ frame ∷ []; refused = true; closed = true }) ≡ items_taken d =
     ap (λ (l : List Received). filter_map received_item (drop 3 l)) whole ∙ ap (filter_map received_item) (sym old) in
-    record { sound = sound-same d (record d { taken = d.taken ++ frame ∷ []; refused = true; closed = true }) good.sound items refl refl (λ c. refl); refused = λ h. refl }
+    record {
+      sound = sound-same d (record d { taken = d.taken ++ frame ∷ []; refused = true; closed = true }) good.sound items refl refl (λ c. refl);
+      refused = λ h. refl;
+    }
 
 -- an item that is applied leaves the opening disk
 pub base-applying : (asked : Protocol) (place : ℕ) (d : Inward) (block : ℕ) → (applying asked place d).base block ≡ d.base block
@@ -97,13 +126,17 @@ base-applying asked place d block = go (slice_get (items_taken d) place)
   where
     go : (v : Option Item) → (elim v as (λ _. Inward) [
       | None ↦ d
-      | Some item ↦ record d { applied = d.applied ++ offsets_at place (below (length (contents_of item))); due = elim d.closed [ true ↦ d.due | false ↦ d.due ++ applied_answer asked place item ] }
+      | Some item ↦ record d {
+        applied = d.applied ++ offsets_at place (below (length (contents_of item)));
+        due = elim d.closed [ true ↦ d.due | false ↦ d.due ++ applied_answer asked place item ];
+      }
     ]).base block ≡ d.base block
     go None = refl
     go (Some item) = refl
 
 -- a pending item is applied whose epoch has its turn
-pub good-applying : (asked : Protocol) (place : ℕ) (d : Inward) → is_pending_at d place ≡ true → has_earlier d place ≡ false → IsGood d → IsGood (applying asked place d)
+pub good-applying : (asked : Protocol) (place : ℕ) (d : Inward) → is_pending_at d place ≡ true → has_earlier d place ≡ false → IsGood d
+    → IsGood (applying asked place d)
 good-applying asked place d waiting none good = go (slice_get (items_taken d) place) refl
   where
     start : Started d place good.sound
@@ -111,27 +144,27 @@ good-applying asked place d waiting none good = go (slice_get (items_taken d) pl
 
     go : (v : Option Item) → slice_get (items_taken d) place ≡ v → IsGood (elim v as (λ _. Inward) [
       | None ↦ d
-      | Some item ↦ record d { applied = d.applied ++ offsets_at place (below (length (contents_of item))); due = elim d.closed [ true ↦ d.due | false ↦ d.due ++ applied_answer asked place item ] }
+      | Some item ↦ record d {
+        applied = d.applied ++ offsets_at place (below (length (contents_of item)));
+        due = elim d.closed [ true ↦ d.due | false ↦ d.due ++ applied_answer asked place item ];
+      }
     ])
     go None is = good
     go (Some item) is = record {
       sound = sound-applying d _ place (below (length (contents_of item))) good.sound start
-          (λ n offset at. subst (λ (i : Item). offset < length (contents_of i)) (same-at (items_taken d) place item start.item is start.there) (pick-below (length (contents_of item)) n offset at)) refl refl (inl (refl, refl));
+          (λ n offset at. subst (λ (i : Item). offset < length (contents_of i)) (same-at (items_taken d) place item start.item is start.there)
+          (pick-below (length (contents_of item)) n offset at)) refl refl (inl (refl, refl));
       refused = good.refused;
     }
 
 -- the disk fails at such an item, and the end closes
-pub good-failing : (place : ℕ) (offsets : List ℕ) (d : Inward) → is_pending_at d place ≡ true → has_earlier d place ≡ false → IsGood d → IsGood (failing place offsets d)
+pub good-failing : (place : ℕ) (offsets : List ℕ) (d : Inward) → is_pending_at d place ≡ true → has_earlier d place ≡ false → IsGood d
+    → IsGood (failing place offsets d)
 good-failing place offsets d waiting none good = record {
-  sound = sound-applying d (failing place offsets d) place (within (blocks_at (items_taken d) place) offsets) good.sound start few refl refl (inr (refl, dropped d place offsets));
+  sound = sound-applying d (failing place offsets d) place (reached place offsets d) good.sound start (reached-inside place offsets d start.item start.there)
+      refl (fault-applied place offsets d) (inr (refl, dropped d place offsets));
   refused = λ h. refl;
 }
   where
     start : Started d place good.sound
     start = starting d place good.sound waiting none
-
-    few : (n offset : ℕ) → slice_get (within (blocks_at (items_taken d) place) offsets) n ≡ Some offset → offset < length (contents_of start.item)
-    few n offset at =
-        let small : nat_lt offset (blocks_at (items_taken d) place) ≡ true = (pick-filtered (λ (o : ℕ). nat_lt o (blocks_at (items_taken d) place)) offsets n offset at).2 in
-        let size : blocks_at (items_taken d) place ≡ length (contents_of start.item) = ap (λ (v : Option Item). elim v as (λ _. ℕ) [ None ↦ 0 | Some item ↦ length (contents_of item) ]) start.there in
-        subst (λ (m : ℕ). offset < m) size (ltb-true offset (blocks_at (items_taken d) place) small)

@@ -1,5 +1,6 @@
 -- A secondary's steps, taken apart: what has to be shown of a property so that it holds after a step.
-use Rattle.std.proofs.Common.{ℕ, zero, suc, ◌≡◌, ◌<◌, Bool, true, false, cond, not, ◌&&◌, List, [], ◌∷◌, ◌++◌, length, Option, Some, None, is_none, Ok, Err, refl, sym, ap, ◌⊎◌, inl, inr, nat_lt, nat_le}
+use Rattle.std.proofs.Common.{ℕ, zero, suc, ◌≡◌, ◌<◌, Bool, true, false, cond, not, ◌&&◌, List, [], ◌∷◌, ◌++◌, length, Option, Some, None, is_none, Ok, Err}
+use Rattle.std.proofs.Common.{refl, sym, ap, ◌⊎◌, inl, inr, nat_lt, nat_le}
 use Rattle.std.proofs.lemmas.Bool.{both_ways, not-false, and_parts, leb-false}
 use Rattle.blocks.specs.declared.refusal.Refusal.{Refusal}
 use Rattle.blocks.specs.declared.refusal.Refusal.TheVariants.{NothingThere, NotConnected, PendingFull, NoMemory, LinkFull, UnknownJob, EpochOpen, NotDrained}
@@ -13,10 +14,13 @@ use Rattle.blocks.specs.declared.tuple.Tuple.{Tuple}
 use Rattle.model.specs.Contents.{Write}
 use Rattle.model.specs.Stream.{Item, WriteItem, ResyncItem, BarrierItem, SyncUuidItem, UuidsItem}
 use Rattle.model.specs.Primary.{is_sync_start, is_sync_end, is_resync}
-use Rattle.model.specs.Frames.{Packet, DataFrame, RsDataReplyFrame, BarrierFrame, ProtocolFrame, UuidsFrame, SizesFrame, SyncUuidFrame, RecvAckFrame, Received, naming}
+use Rattle.model.specs.Frames.{Packet, DataFrame, RsDataReplyFrame, BarrierFrame, ProtocolFrame, UuidsFrame, SizesFrame, SyncUuidFrame, RecvAckFrame, Received}
+use Rattle.model.specs.Frames.{naming}
 use Rattle.model.specs.Refusals.{Test, done_with}
 use Rattle.model.specs.Secondary.{Inward, SecondaryHistory, inward, with_inward, items_taken, received_item, is_drained, pending, answers_due, is_in_resync}
-use Rattle.model.specs.SecondarySteps.{answering, succeeding_secondary, open_secondary_tests, opened_secondary, open_secondary, Checked, checking_hello, checking_item, checking, adopting, receiving, take_item, receive, peer_tests, is_apart, is_pending_at, has_earlier, applying, peer, failing, peer_fault, ack_out_tests, answering_with, ack_out, close_secondary}
+use Rattle.model.specs.SecondarySteps.{answering, succeeding_secondary, open_secondary_tests, opened_secondary, open_secondary, Checked, checking_hello}
+use Rattle.model.specs.SecondarySteps.{checking_item, checking, adopting, receiving, take_item, receive, peer_tests, is_apart, is_pending_at, has_earlier}
+use Rattle.model.specs.SecondarySteps.{applying, peer, failing, peer_fault, ack_out_tests, answering_with, ack_out, close_secondary}
 use Rattle.model.specs.LocalRuns.{SecondaryEvent, OpensToo, Receives, Applies, FailsToApply, Acknowledges, ClosesToo, secondary_after}
 use Rattle.laws.proofs.Secondary.Runs.{tested-keeps}
 use Rattle.laws.proofs.Lists.Tests.{test-passed}
@@ -56,15 +60,18 @@ pub record AfterFrame (R : SecondaryHistory → Type 0) (h : SecondaryHistory) (
 abbrev pub IsPlain : SecondaryHistory → Received → Type 0
 IsPlain h frame =
     (nat_lt (length (inward h).taken) 3 ≡ true)
-    ⊎ ((nat_lt (length (inward h).taken) 3 ≡ false) × ((item : Item) → received_item frame ≡ Some item → (is_sync_start item ≡ false) × ((is_sync_end item ≡ false) × (is_resync item ≡ true → is_in_resync (inward h) ≡ true))))
+    ⊎ ((nat_lt (length (inward h).taken) 3 ≡ false) × ((item : Item) → received_item frame ≡ Some item
+    → (is_sync_start item ≡ false) × ((is_sync_end item ≡ false) × (is_resync item ≡ true → is_in_resync (inward h) ≡ true))))
 
 -- The same in more detail: what kind of frame it is, and which tuple is adopted with which item.
 pub record AfterKind (R : SecondaryHistory → Type 0) (h : SecondaryHistory) (frame : Received) : Type 0 where
   pub accepts : IsPlain h frame → R (with_inward answering (with_inward (framed frame) h))
   pub receipts : (write : Write) (at : ℕ) → frame ≡ Ok (DataFrame write at) → nat_lt (length (inward h).taken) 3 ≡ false
       → R (with_inward answering (with_inward (receipting (length (items_taken (inward h))) write) (with_inward (framed frame) h)))
-  pub starts : (word : ℕ) → frame ≡ Ok (SyncUuidFrame word) → nat_lt (length (inward h).taken) 3 ≡ false → R (with_inward answering (adopting (record h.tuple { current = word }) false (with_inward (framed frame) h)))
-  pub ends : (tuple : Tuple) → frame ≡ Ok (UuidsFrame tuple) → nat_lt (length (inward h).taken) 3 ≡ false → R (with_inward answering (adopting tuple true (with_inward (framed frame) h)))
+  pub starts : (word : ℕ) → frame ≡ Ok (SyncUuidFrame word) → nat_lt (length (inward h).taken) 3 ≡ false
+      → R (with_inward answering (adopting (record h.tuple { current = word }) false (with_inward (framed frame) h)))
+  pub ends : (tuple : Tuple) → frame ≡ Ok (UuidsFrame tuple) → nat_lt (length (inward h).taken) 3 ≡ false
+      → R (with_inward answering (adopting tuple true (with_inward (framed frame) h)))
   pub refuses : R (with_inward refused_end (with_inward (framed frame) h))
 
 -- what holds whatever the kind
@@ -82,22 +89,31 @@ abbrev Judged : (SecondaryHistory → Type 0) → Checked → Type 0
 Judged R (Ok done) = R (with_inward answering done.1)
 Judged R (Err refusal) = Unit {0}
 
-judged-if : (R : SecondaryHistory → Type 0) (good : Bool) (done : What) (h : SecondaryHistory) (refusal : Refusal) → (good ≡ true → R (with_inward answering h)) → Judged R (cond good (Ok (done, h)) (Err refusal))
+judged-if : (R : SecondaryHistory → Type 0) (good : Bool) (done : What) (h : SecondaryHistory) (refusal : Refusal) → (good ≡ true → R (with_inward answering h))
+    → Judged R (cond good (Ok (done, h)) (Err refusal))
 judged-if R true done h refusal r = r refl
 judged-if R false done h refusal r = tt
 
-judged-hello : (R : SecondaryHistory → Type 0) (n : ℕ) (packet : Packet) (h : SecondaryHistory) → R (with_inward answering h) → Judged R (checking_hello n packet h)
+judged-hello : (R : SecondaryHistory → Type 0) (n : ℕ) (packet : Packet) (h : SecondaryHistory) → R (with_inward answering h)
+    → Judged R (checking_hello n packet h)
 judged-hello R zero (ProtocolFrame asked) h r = judged-if R _ _ h _ (λ good. r)
 judged-hello R (suc zero) (SizesFrame blocks) h r = judged-if R _ _ h _ (λ good. r)
 judged-hello R (suc (suc n)) (UuidsFrame tuple) h r = r
 judged-hello R n packet h r = tt
 
-judged-write : (R : SecondaryHistory → Type 0) (h : SecondaryHistory) (write : Write) (at : ℕ) → nat_lt (length (inward h).taken) 3 ≡ false → AfterKind R h (Ok (DataFrame write at))
+judged-write : (R : SecondaryHistory → Type 0) (h : SecondaryHistory) (write : Write) (at : ℕ) → nat_lt (length (inward h).taken) 3 ≡ false
+    → AfterKind R h (Ok (DataFrame write at))
     → R (with_inward answering (receiving (length (items_taken (inward h))) (WriteItem write) (with_inward (framed (Ok (DataFrame write at))) h)))
 judged-write R h write at late after = go h.settings.protocol
   where
     plain : IsPlain h (Ok (DataFrame write at))
-    plain = inr (late, λ item is. let same : WriteItem write ≡ item = cc in (ap is_sync_start (sym same), (ap is_sync_end (sym same), λ block. absurd (both_ways (is_resync item) (ap is_resync (sym same)) block))))
+    plain = inr (
+      late,
+      λ item is. let same : WriteItem write ≡ item = cc in (
+        ap is_sync_start (sym same),
+        (ap is_sync_end (sym same), λ block. absurd (both_ways (is_resync item) (ap is_resync (sym same)) block)),
+      ),
+    )
 
     go : (asked : Protocol) → R (with_inward answering (elim asked as (λ _. SecondaryHistory) [
       | protocol.A ↦ with_inward (framed (Ok (DataFrame write at))) h
@@ -114,8 +130,14 @@ judged-item R h (DataFrame write at) late after = judged-if R _ _ _ _ (λ good. 
 judged-item R h (RsDataReplyFrame block contents at) late after = judged-if R _ _ _ _ (λ good. after.accepts (inr (
   late,
   λ item is.
-      let same : ResyncItem block contents ≡ item = cc in
-      (ap is_sync_start (sym same), (ap is_sync_end (sym same), λ resync. (and_parts (is_in_resync (inward h)) _ (and_parts _ (is_in_resync (inward h) && is_apart (ResyncItem block contents) (items_taken (inward h))) good).1).0)),
+      let same : ResyncItem block contents ≡ item = cc in (
+        ap is_sync_start (sym same),
+        (
+          ap is_sync_end (sym same),
+          λ resync. (and_parts (is_in_resync (inward h)) _
+              (and_parts _ (is_in_resync (inward h) && is_apart (ResyncItem block contents) (items_taken (inward h))) good).1).0,
+        ),
+      ),
 )))
 judged-item R h (BarrierFrame number) late after = judged-if R _ _ _ _ (λ good. after.accepts (inr (
   late,
@@ -127,7 +149,8 @@ judged-item R h (UuidsFrame tuple) late after = judged-if R _ _ _ _ (λ good. af
 judged-item R h (SyncUuidFrame word) late after = judged-if R _ _ _ _ (λ good. after.starts word refl late)
 judged-item R h packet late after = tt
 
-judged : (R : SecondaryHistory → Type 0) (h : SecondaryHistory) (frame : Received) → AfterKind R h frame → Judged R (checking frame (inward h) (with_inward (framed frame) h))
+judged : (R : SecondaryHistory → Type 0) (h : SecondaryHistory) (frame : Received) → AfterKind R h frame
+    → Judged R (checking frame (inward h) (with_inward (framed frame) h))
 judged R h (Err fault) after = tt
 judged R h (Ok packet) after = go (nat_lt (length (inward h).taken) 3) refl
   where
@@ -156,13 +179,15 @@ after-take R h frame after = after-kind R h frame (of-kind R h frame after)
 -- After a step that takes the next frame, if there is one.
 pub receive-kind : (R : SecondaryHistory → Type 0) (h : SecondaryHistory) (frame : Option Received) (starved : Bool) → R h
     → ((taken : Received) → frame ≡ Some taken → (inward h).closed ≡ false → AfterKind R h taken) → R (receive frame starved h).1
-receive-kind R h frame starved same takes = tested-keeps R h (((inward h).closed, NotConnected) ∷ rest) (λ _. elim frame as (λ _. Reply × SecondaryHistory) [ None ↦ (reply.Refused NothingThere, h) | Some taken ↦ take_item taken h ])
+receive-kind R h frame starved same takes = tested-keeps R h (((inward h).closed, NotConnected) ∷ rest)
+    (λ _. elim frame as (λ _. Reply × SecondaryHistory) [ None ↦ (reply.Refused NothingThere, h) | Some taken ↦ take_item taken h ])
     same (λ passed. go frame refl (test-passed (inward h).closed NotConnected rest passed).0)
   where
     rest : List Test
     rest = (nat_le h.settings.pending (length (pending (inward h))), PendingFull) ∷ (starved, NoMemory) ∷ (is_none frame, NothingThere) ∷ []
 
-    go : (v : Option Received) → frame ≡ v → (inward h).closed ≡ false → R (elim v as (λ _. Reply × SecondaryHistory) [ None ↦ (reply.Refused NothingThere, h) | Some taken ↦ take_item taken h ]).1
+    go : (v : Option Received) → frame ≡ v → (inward h).closed ≡ false
+        → R (elim v as (λ _. Reply × SecondaryHistory) [ None ↦ (reply.Refused NothingThere, h) | Some taken ↦ take_item taken h ]).1
     go None is standing = same
     go (Some taken) is standing = after-kind R h taken (takes taken is standing)
 
@@ -172,23 +197,29 @@ pub after-receive : (R : SecondaryHistory → Type 0) (h : SecondaryHistory) (fr
 after-receive R h frame starved same takes = receive-kind R h frame starved same (λ taken is standing. of-kind R h taken (takes taken is standing))
 
 -- After an opening.
-pub after-open : (R : SecondaryHistory → Type 0) (unseen : ℕ) (h : SecondaryHistory) → R h → ((inward h).closed ≡ true → R (with_inward answering (opened_secondary unseen h))) → R (open_secondary unseen h).1
-after-open R unseen h same opens = tested-keeps R h (open_secondary_tests h) (λ _. succeeding_secondary what.Nothing (opened_secondary unseen h)) same (λ passed.
+pub after-open : (R : SecondaryHistory → Type 0) (unseen : ℕ) (h : SecondaryHistory) → R h
+    → ((inward h).closed ≡ true → R (with_inward answering (opened_secondary unseen h))) → R (open_secondary unseen h).1
+after-open R unseen h same opens = tested-keeps R h (open_secondary_tests h) (λ _. succeeding_secondary what.Nothing (opened_secondary unseen h)) same
+    (λ passed.
     let one = test-passed (not ((inward h).closed && is_drained h)) NotDrained [] passed in
     opens (and_parts (inward h).closed (is_drained h) (not-false ((inward h).closed && is_drained h) one.0)).0)
 
 -- After an item was applied.
 pub after-peer : (R : SecondaryHistory → Type 0) (h : SecondaryHistory) (place : ℕ) → R h
-    → (is_pending_at (inward h) place ≡ true → has_earlier (inward h) place ≡ false → R (with_inward answering (with_inward (applying h.settings.protocol place) h))) → R (peer place h).1
-after-peer R h place same applies = tested-keeps R h (peer_tests h place) (λ _. succeeding_secondary what.Nothing (with_inward (applying h.settings.protocol place) h)) same (λ passed.
+    → (is_pending_at (inward h) place ≡ true → has_earlier (inward h) place ≡ false
+    → R (with_inward answering (with_inward (applying h.settings.protocol place) h))) → R (peer place h).1
+after-peer R h place same applies = tested-keeps R h (peer_tests h place)
+    (λ _. succeeding_secondary what.Nothing (with_inward (applying h.settings.protocol place) h)) same (λ passed.
     let one = test-passed (not (is_pending_at (inward h) place)) UnknownJob ((has_earlier (inward h) place, EpochOpen) ∷ []) passed in
     let two = test-passed (has_earlier (inward h) place) EpochOpen [] one.1 in
     applies (not-false (is_pending_at (inward h) place) one.0) two.0)
 
 -- After an item failed.
 pub after-fault : (R : SecondaryHistory → Type 0) (h : SecondaryHistory) (place : ℕ) (offsets : List ℕ) → R h
-    → (is_pending_at (inward h) place ≡ true → has_earlier (inward h) place ≡ false → R (with_inward (failing place offsets) h)) → R (peer_fault place offsets h).1
-after-fault R h place offsets same fails = tested-keeps R h (peer_tests h place) (λ _. (reply.Ok (done_with what.Nothing), with_inward (failing place offsets) h)) same (λ passed.
+    → (is_pending_at (inward h) place ≡ true → has_earlier (inward h) place ≡ false → R (with_inward (failing place offsets) h))
+    → R (peer_fault place offsets h).1
+after-fault R h place offsets same fails = tested-keeps R h (peer_tests h place)
+    (λ _. (reply.Ok (done_with what.Nothing), with_inward (failing place offsets) h)) same (λ passed.
     let one = test-passed (not (is_pending_at (inward h) place)) UnknownJob ((has_earlier (inward h) place, EpochOpen) ∷ []) passed in
     let two = test-passed (has_earlier (inward h) place) EpochOpen [] one.1 in
     fails (not-false (is_pending_at (inward h) place) one.0) two.0)
@@ -196,7 +227,8 @@ after-fault R h place offsets same fails = tested-keeps R h (peer_tests h place)
 -- After an acknowledgement was pushed: one was due.
 pub after-push : (R : SecondaryHistory → Type 0) (h : SecondaryHistory) (room starved : Bool) → R h
     → ((inward h).closed ≡ false → (inward h).pushed < length (answers_due h.settings (inward h)) → R (with_inward pushed_one h)) → R (ack_out room starved h).1
-after-push R h room starved same pushes = tested-keeps R h (ack_out_tests h room starved) (λ _. (reply.Ok (done_with (answering_with h)), with_inward pushed_one h)) same (λ passed.
+after-push R h room starved same pushes = tested-keeps R h (ack_out_tests h room starved)
+    (λ _. (reply.Ok (done_with (answering_with h)), with_inward pushed_one h)) same (λ passed.
     let rest : List Test = (starved, NoMemory) ∷ (not room, LinkFull) ∷ [] in
     let none : Bool = nat_le (length (answers_due h.settings (inward h))) (inward h).pushed in
     let one = test-passed (inward h).closed NotConnected ((none, NothingThere) ∷ rest) passed in
@@ -204,8 +236,10 @@ after-push R h room starved same pushes = tested-keeps R h (ack_out_tests h room
     pushes one.0 (leb-false (length (answers_due h.settings (inward h))) (inward h).pushed two.0))
 
 -- After a close.
-pub after-close : (R : SecondaryHistory → Type 0) (h : SecondaryHistory) → R h → ((inward h).closed ≡ false → R (with_inward closed_end h)) → R (close_secondary h).1
-after-close R h same closes = tested-keeps R h (((inward h).closed, NotConnected) ∷ []) (λ _. (reply.Ok (done_with what.Nothing), with_inward closed_end h)) same (λ passed.
+pub after-close : (R : SecondaryHistory → Type 0) (h : SecondaryHistory) → R h → ((inward h).closed ≡ false → R (with_inward closed_end h))
+    → R (close_secondary h).1
+after-close R h same closes = tested-keeps R h (((inward h).closed, NotConnected) ∷ []) (λ _. (reply.Ok (done_with what.Nothing), with_inward closed_end h))
+    same (λ passed.
     closes (test-passed (inward h).closed NotConnected [] passed).0)
 
 -- What has to hold of each effect, and where nothing was done, so that `R` holds after every event.
@@ -213,8 +247,10 @@ pub record After (R : SecondaryHistory → Type 0) (h : SecondaryHistory) : Type
   pub same : R h
   pub opens : (unseen : ℕ) → (inward h).closed ≡ true → R (with_inward answering (opened_secondary unseen h))
   pub takes : (frame : Received) → (inward h).closed ≡ false → AfterFrame R h frame
-  pub applies : (place : ℕ) → is_pending_at (inward h) place ≡ true → has_earlier (inward h) place ≡ false → R (with_inward answering (with_inward (applying h.settings.protocol place) h))
-  pub fails : (place : ℕ) (offsets : List ℕ) → is_pending_at (inward h) place ≡ true → has_earlier (inward h) place ≡ false → R (with_inward (failing place offsets) h)
+  pub applies : (place : ℕ) → is_pending_at (inward h) place ≡ true → has_earlier (inward h) place ≡ false
+      → R (with_inward answering (with_inward (applying h.settings.protocol place) h))
+  pub fails : (place : ℕ) (offsets : List ℕ) → is_pending_at (inward h) place ≡ true → has_earlier (inward h) place ≡ false
+      → R (with_inward (failing place offsets) h)
   pub pushes : (inward h).closed ≡ false → (inward h).pushed < length (answers_due h.settings (inward h)) → R (with_inward pushed_one h)
   pub closes : (inward h).closed ≡ false → R (with_inward closed_end h)
 

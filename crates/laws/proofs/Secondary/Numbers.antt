@@ -1,5 +1,6 @@
 -- The numbers of a secondary's connections: they rise from 1 on, and go one by one where it never missed a connection.
-use Rattle.std.proofs.Common.{ℕ, zero, suc, ◌≡◌, ◌-◌, ◌<◌, ◌⊎◌, inl, inr, true, false, List, [], ◌∷◌, ◌++◌, length, map, Option, Some, None, slice_get, refl, sym, ◌∙◌, ap, subst, arith, ◌==◌}
+use Rattle.std.proofs.Common.{ℕ, zero, suc, ◌≡◌, ◌-◌, ◌<◌, ◌⊎◌, inl, inr, true, false, List, [], ◌∷◌, ◌++◌, length, map, Option, Some, None, slice_get, refl}
+use Rattle.std.proofs.Common.{sym, ◌∙◌, ap, subst, arith, ◌==◌}
 use Rattle.std.specs.Prelude.{find, unwrap_or}
 use Rattle.std.proofs.lemmas.Bool.{eqb-true, eq-eqb, ne_eqb, cases_lt}
 use Rattle.std.proofs.lemmas.Option.{slice_get_within}
@@ -8,13 +9,15 @@ use Rattle.model.specs.Stream.{Item, below, contents_of}
 use Rattle.model.specs.Frames.{Packet}
 use Rattle.model.specs.Primary.{last_of, change_last}
 use Rattle.model.specs.Secondary.{Inward, SecondaryHistory, no_inward, inward, inward_at, with_inward, items_taken, secondary_map}
-use Rattle.model.specs.SecondarySteps.{answering, barrier_answer, barriers_to_answer, next_number, opened_secondary, offsets_at, applied_answer, applying, failing}
+use Rattle.model.specs.SecondarySteps.{answering, barrier_answer, barriers_to_answer, next_number, opened_secondary, offsets_at, applied_answer, applying}
+use Rattle.model.specs.SecondarySteps.{failing}
 use Rattle.model.specs.LocalRuns.{SecondaryEvent, OpensToo, Receives, Applies, FailsToApply, Acknowledges, ClosesToo, secondary_after, secondary_run}
 use Rattle.laws.proofs.Lists.Elements.{get-more, same-at}
 use Rattle.laws.proofs.Lists.Fronts.{find-first}
 use Rattle.laws.proofs.Lists.Last.{get-change-back, last-at}
 use Rattle.laws.proofs.Lists.Picks.{pick-found}
-use Rattle.laws.proofs.Secondary.Moves.{framed, refused_end, pushed_one, closed_end, receipting, after-event, after-open, after-receive, after-peer, after-fault, after-push, after-close}
+use Rattle.laws.proofs.Secondary.Moves.{framed, refused_end, pushed_one, closed_end, receipting, after-event, after-open, after-receive, after-peer}
+use Rattle.laws.proofs.Secondary.Moves.{after-fault, after-push, after-close}
 
 -- they rise from 1 on
 pub record NumbersRise (ds : List Inward) : Type 0 where
@@ -28,26 +31,33 @@ AreCounted ds = (j : ℕ) (d : Inward) → slice_get ds j ≡ Some d → d.numbe
 -- No change of a connection changes its number.
 
 number-answering : (d : Inward) → (answering d).number ≡ d.number
-number-answering d = elim d.closed as (λ b. (elim b as (λ _. Inward) [ true ↦ d | false ↦ record d { due = d.due ++ map (barrier_answer d) (barriers_to_answer d) } ]).number ≡ d.number) [ true ↦ refl | false ↦ refl ]
+number-answering d = elim d.closed as
+    (λ b. (elim b as (λ _. Inward) [ true ↦ d | false ↦ record d { due = d.due ++ map (barrier_answer d) (barriers_to_answer d) } ]).number ≡ d.number)
+    [ true ↦ refl | false ↦ refl ]
 
 number-applying : (asked : Protocol) (place : ℕ) (d : Inward) → (applying asked place d).number ≡ d.number
 number-applying asked place d = go (slice_get (items_taken d) place)
   where
     go : (v : Option Item) → (elim v as (λ _. Inward) [
       | None ↦ d
-      | Some item ↦ record d { applied = d.applied ++ offsets_at place (below (length (contents_of item))); due = elim d.closed as (λ _. List Packet) [ true ↦ d.due | false ↦ d.due ++ applied_answer asked place item ] }
+      | Some item ↦ record d {
+        applied = d.applied ++ offsets_at place (below (length (contents_of item)));
+        due = elim d.closed as (λ _. List Packet) [ true ↦ d.due | false ↦ d.due ++ applied_answer asked place item ];
+      }
     ]).number ≡ d.number
     go None = refl
     go (Some item) = refl
 
 -- where a changed connection stood there was one with its number
-before : (f : Inward → Inward) → ((d : Inward) → (f d).number ≡ d.number) → (none : Inward) (ds : List Inward) (j : ℕ) (e : Inward) → slice_get (change_last f ds) j ≡ Some e → (d : Inward) × (slice_get ds j ≡ Some d) × (e.number ≡ d.number)
+before : (f : Inward → Inward) → ((d : Inward) → (f d).number ≡ d.number) → (none : Inward) (ds : List Inward) (j : ℕ) (e : Inward)
+    → slice_get (change_last f ds) j ≡ Some e → (d : Inward) × (slice_get ds j ≡ Some d) × (e.number ≡ d.number)
 before f same none ds j e at = elim (get-change-back f none ds j e at) [
   | inl kept ↦ (e, kept, refl)
   | inr changed ↦ (last_of none ds, changed.1, ap (λ (x : Inward). x.number) changed.0 ∙ same (last_of none ds))
 ]
 
-rise-with : (f : Inward → Inward) → ((d : Inward) → (f d).number ≡ d.number) → (none : Inward) (ds : List Inward) → NumbersRise ds → NumbersRise (change_last f ds)
+rise-with : (f : Inward → Inward) → ((d : Inward) → (f d).number ≡ d.number) → (none : Inward) (ds : List Inward) → NumbersRise ds
+    → NumbersRise (change_last f ds)
 rise-with f same none ds r = record {
   some = λ j e at. let d = before f same none ds j e at in let s = r.some j d.0 d.1 in let n = d.2 in omega arith;
   rise = λ i j d e less atd ate.
@@ -59,7 +69,8 @@ rise-with f same none ds r = record {
       omega arith;
 }
 
-counted-with : (f : Inward → Inward) → ((d : Inward) → (f d).number ≡ d.number) → (none : Inward) (ds : List Inward) → AreCounted ds → AreCounted (change_last f ds)
+counted-with : (f : Inward → Inward) → ((d : Inward) → (f d).number ≡ d.number) → (none : Inward) (ds : List Inward) → AreCounted ds
+    → AreCounted (change_last f ds)
 counted-with f same none ds c j e at = let d = before f same none ds j e at in d.2 ∙ c j d.0 d.1
 
 -- A new connection has a higher number than all.
@@ -99,7 +110,18 @@ rise-opened unseen h r = record {
 }
   where
     new : Inward
-    new = record { number = next_number unseen h; base = secondary_map h; hello = h.tuple; taken = []; refused = false; applied = []; gone = []; due = []; pushed = 0; closed = false }
+    new = record {
+      number = next_number unseen h;
+      base = secondary_map h;
+      hello = h.tuple;
+      taken = [];
+      refused = false;
+      applied = [];
+      gone = [];
+      due = [];
+      pushed = 0;
+      closed = false;
+    }
 
 -- Every event keeps it, and so does every run.
 abbrev Rises : SecondaryHistory → Type 0
@@ -116,11 +138,13 @@ rise-after event h r = after-event Rises h event (record {
       let taken : Rises (with_inward (framed frame) h) = rise-step (framed frame) (λ d. refl) h r in
       record {
         accepts = rise-with answering number-answering (no_inward h) _ taken;
-        receipts = λ write at is late. rise-with answering number-answering (no_inward h) _ (rise-with (receipting (length (items_taken (inward h))) write) (λ d. refl) (no_inward h) _ taken);
+        receipts = λ write at is late. rise-with answering number-answering (no_inward h) _
+            (rise-with (receipting (length (items_taken (inward h))) write) (λ d. refl) (no_inward h) _ taken);
         adopts = λ item tuple consistent is late. rise-with answering number-answering (no_inward h) _ taken;
         refuses = rise-with refused_end (λ d. refl) (no_inward h) _ taken;
       };
-  applies = λ place waiting first. rise-with answering number-answering (no_inward h) _ (rise-step (applying h.settings.protocol place) (number-applying h.settings.protocol place) h r);
+  applies = λ place waiting first. rise-with answering number-answering (no_inward h) _
+      (rise-step (applying h.settings.protocol place) (number-applying h.settings.protocol place) h r);
   fails = λ place offsets waiting first. rise-step (failing place offsets) (λ d. refl) h r;
   pushes = λ standing due. rise-step pushed_one (λ d. refl) h r;
   closes = λ standing. rise-step closed_end (λ d. refl) h r;
@@ -162,7 +186,8 @@ last-counted h c = elim (last-at (no_inward h) h.connections) [
       let last : (inward h).number ≡ 0 = ap (λ (l : List Inward). (last_of (no_inward h) l).number) none in
       let size : length h.connections ≡ 0 = ap length none in
       last ∙ sym size
-  | inr last ↦ let n = c (length h.connections - 1) (inward h) last in let within = slice_get_within h.connections (length h.connections - 1) (inward h) last in omega arith
+  | inr last ↦ let n = c (length h.connections - 1) (inward h) last in let within = slice_get_within h.connections (length h.connections - 1)
+      (inward h) last in omega arith
 ]
 
 pub counted-opened : (h : SecondaryHistory) → AreCounted h.connections → AreCounted (opened_secondary 0 h).connections
@@ -176,22 +201,38 @@ counted-opened h c j e at = elim (get-more h.connections new j e at) [
 ]
   where
     new : Inward
-    new = record { number = next_number 0 h; base = secondary_map h; hello = h.tuple; taken = []; refused = false; applied = []; gone = []; due = []; pushed = 0; closed = false }
+    new = record {
+      number = next_number 0 h;
+      base = secondary_map h;
+      hello = h.tuple;
+      taken = [];
+      refused = false;
+      applied = [];
+      gone = [];
+      due = [];
+      pushed = 0;
+      closed = false;
+    }
 
 -- every such event keeps the count
-pub counted-after : (event : SecondaryEvent) → IsSeen event → (h : SecondaryHistory) → AreCounted h.connections → AreCounted (secondary_after event h).connections
+pub counted-after : (event : SecondaryEvent) → IsSeen event → (h : SecondaryHistory) → AreCounted h.connections
+    → AreCounted (secondary_after event h).connections
 counted-after (OpensToo zero) seen h c = after-open Counts 0 h c (λ was. counted-step answering number-answering (opened_secondary 0 h) (counted-opened h c))
 counted-after (OpensToo (suc unseen)) seen h c = absurd (omega arith)
 counted-after (Receives frame starved) seen h c = after-receive Counts h frame starved c (λ taken is standing.
     let framed_too : Counts (with_inward (framed taken) h) = counted-step (framed taken) (λ d. refl) h c in
     record {
       accepts = counted-with answering number-answering (no_inward h) _ framed_too;
-      receipts = λ write at frame_is late. counted-with answering number-answering (no_inward h) _ (counted-with (receipting (length (items_taken (inward h))) write) (λ d. refl) (no_inward h) _ framed_too);
+      receipts = λ write at frame_is late. counted-with answering number-answering (no_inward h) _
+          (counted-with (receipting (length (items_taken (inward h))) write) (λ d. refl) (no_inward h) _ framed_too);
       adopts = λ item tuple consistent brings late. counted-with answering number-answering (no_inward h) _ framed_too;
       refuses = counted-with refused_end (λ d. refl) (no_inward h) _ framed_too;
     })
-counted-after (Applies place) seen h c = after-peer Counts h place c (λ waiting none. counted-with answering number-answering (no_inward h) _ (counted-step (applying h.settings.protocol place) (number-applying h.settings.protocol place) h c))
-counted-after (FailsToApply place offsets) seen h c = after-fault Counts h place offsets c (λ waiting none. counted-step (failing place offsets) (λ d. refl) h c)
+counted-after (Applies place) seen h c =
+    after-peer Counts h place c (λ waiting none. counted-with answering number-answering (no_inward h) _
+    (counted-step (applying h.settings.protocol place) (number-applying h.settings.protocol place) h c))
+counted-after (FailsToApply place offsets) seen h c =
+    after-fault Counts h place offsets c (λ waiting none. counted-step (failing place offsets) (λ d. refl) h c)
 counted-after (Acknowledges room starved) seen h c = after-push Counts h room starved c (λ standing due. counted-step pushed_one (λ d. refl) h c)
 counted-after ClosesToo seen h c = after-close Counts h c (λ standing. counted-step closed_end (λ d. refl) h c)
 
@@ -199,14 +240,17 @@ counted-after ClosesToo seen h c = after-close Counts h c (λ standing. counted-
 
 -- a connection is found by its number
 pub inward-there : (s : SecondaryHistory) → NumbersRise s.connections → (j : ℕ) (d : Inward) → slice_get s.connections j ≡ Some d → inward_at s d.number ≡ d
-inward-there s r j d at = ap (λ (v : Option Inward). unwrap_or v (no_inward s)) (find-first (λ (c : Inward). c.number == d.number) s.connections j d at (eq-eqb d.number d.number refl) (λ i e less there.
+inward-there s r j d at = ap (λ (v : Option Inward). unwrap_or v (no_inward s))
+    (find-first (λ (c : Inward). c.number == d.number) s.connections j d at (eq-eqb d.number d.number refl) (λ i e less there.
     ne_eqb e.number d.number (λ same. let more = r.rise i j e d less there at in omega arith)))
 
 -- what a look-up finds is a connection of that number, or the end that was never open
-pub inward-cases : (s : SecondaryHistory) (number : ℕ) → ((j : ℕ) × (d : Inward) × (slice_get s.connections j ≡ Some d) × (d.number ≡ number) × (inward_at s number ≡ d)) ⊎ (inward_at s number ≡ no_inward s)
+pub inward-cases : (s : SecondaryHistory) (number : ℕ)
+    → ((j : ℕ) × (d : Inward) × (slice_get s.connections j ≡ Some d) × (d.number ≡ number) × (inward_at s number ≡ d)) ⊎ (inward_at s number ≡ no_inward s)
 inward-cases s number = go (find (λ (c : Inward). c.number == number) s.connections) refl
   where
-    go : (v : Option Inward) → find (λ (c : Inward). c.number == number) s.connections ≡ v → ((j : ℕ) × (d : Inward) × (slice_get s.connections j ≡ Some d) × (d.number ≡ number) × (inward_at s number ≡ d)) ⊎ (inward_at s number ≡ no_inward s)
+    go : (v : Option Inward) → find (λ (c : Inward). c.number == number) s.connections ≡ v
+        → ((j : ℕ) × (d : Inward) × (slice_get s.connections j ≡ Some d) × (d.number ≡ number) × (inward_at s number ≡ d)) ⊎ (inward_at s number ≡ no_inward s)
     go None is = inr (ap (λ (v : Option Inward). unwrap_or v (no_inward s)) is)
     go (Some d) is =
         let found = pick-found (λ (c : Inward). c.number == number) s.connections d is in

@@ -1,5 +1,6 @@
 -- Whatever frames a secondary takes and however its disk fails, its acknowledgements fit.
-use Rattle.std.proofs.Common.{ℕ, zero, suc, ◌≡◌, Bool, true, false, cond, List, [], ◌∷◌, length, Option, Some, None, is_none, Ok, Err, refl, sym, ◌∙◌, ap, subst, nat_lt, nat_le}
+use Rattle.std.proofs.Common.{ℕ, zero, suc, ◌≡◌, Bool, true, false, cond, List, [], ◌∷◌, length, Option, Some, None, is_none, Ok, Err, refl, sym, ◌∙◌, ap}
+use Rattle.std.proofs.Common.{subst, nat_lt, nat_le}
 use Rattle.blocks.specs.declared.refusal.Refusal.{Refusal}
 use Rattle.blocks.specs.declared.refusal.Refusal.TheVariants.{NothingThere, NotConnected, PendingFull, NoMemory}
 use Rattle.blocks.specs.declared.outcome.What.{What}
@@ -15,7 +16,8 @@ use Rattle.model.specs.Frames.{Packet, DataFrame, RsDataReplyFrame, BarrierFrame
 use Rattle.model.specs.Primary.{change_last}
 use Rattle.model.specs.Refusals.{Test}
 use Rattle.model.specs.Secondary.{Inward, SecondaryHistory, secondary_opening, no_inward, inward, with_inward, items_taken, received_item, pending}
-use Rattle.model.specs.SecondarySteps.{answering, succeeding_secondary, opened_secondary, Checked, checking_hello, checking_item, checking, adopting, receiving, take_item, receive, applying, failing}
+use Rattle.model.specs.SecondarySteps.{answering, succeeding_secondary, opened_secondary, Checked, checking_hello, checking_item, checking, adopting, receiving}
+use Rattle.model.specs.SecondarySteps.{take_item, receive, applying, failing}
 use Rattle.model.specs.LocalRuns.{SecondaryEvent, OpensToo, Receives, Applies, FailsToApply, Acknowledges, ClosesToo, secondary_after, secondary_run}
 use Rattle.laws.proofs.Lists.Each.{Each, each-append, each-change}
 use Rattle.laws.proofs.Lists.Last.{change-twice}
@@ -32,7 +34,8 @@ pub record HasOrderlyEnds (asked : Protocol) (h : SecondaryHistory) : Type 0 whe
 
 module _ (asked : Protocol) where
   -- the last connection changes
-  orderly-change : (h later : SecondaryHistory) (f : Inward → Inward) → later.settings ≡ h.settings → later.connections ≡ change_last f h.connections → (IsOrderly asked (inward h) → IsOrderly asked (f (inward h)))
+  orderly-change : (h later : SecondaryHistory) (f : Inward → Inward) → later.settings ≡ h.settings → later.connections ≡ change_last f h.connections
+      → (IsOrderly asked (inward h) → IsOrderly asked (f (inward h)))
       → HasOrderlyEnds asked h → HasOrderlyEnds asked later
   orderly-change h later f same connections keeps a = record {
     protocol = ap (λ (s : Settings). s.protocol) same ∙ a.protocol;
@@ -49,17 +52,23 @@ module _ (asked : Protocol) where
   Judged (Ok done) = HasOrderlyEnds asked (with_inward answering done.1)
   Judged (Err refusal) = Unit {0}
 
-  judged-if : (good : Bool) (done : What) (h : SecondaryHistory) (refusal : Refusal) → HasOrderlyEnds asked (with_inward answering h) → Judged (cond good (Ok (done, h)) (Err refusal))
+  judged-if : (good : Bool) (done : What) (h : SecondaryHistory) (refusal : Refusal) → HasOrderlyEnds asked (with_inward answering h)
+      → Judged (cond good (Ok (done, h)) (Err refusal))
   judged-if true done h refusal a = a
   judged-if false done h refusal a = tt
 
   -- a frame that is no write under B
-  accepts : (h later : SecondaryHistory) (frame : Received) → later.settings ≡ h.settings → later.connections ≡ change_last (framed frame) h.connections → (inward h).closed ≡ false
-      → ((write : Write) → received_item frame ≡ Some (WriteItem write) → asked ≡ protocol.B → ⊥) → HasOrderlyEnds asked h → HasOrderlyEnds asked (with_inward answering later)
-  accepts h later frame same connections standing other a = then-answering later (orderly-change h later (framed frame) same connections (orderly-taking asked frame (inward h) standing other) a)
+  accepts : (h later : SecondaryHistory) (frame : Received) → later.settings ≡ h.settings → later.connections ≡ change_last (framed frame) h.connections
+      → (inward h).closed ≡ false
+      → ((write : Write) → received_item frame ≡ Some (WriteItem write) → asked ≡ protocol.B → ⊥) → HasOrderlyEnds asked h
+      → HasOrderlyEnds asked (with_inward answering later)
+  accepts h later frame same connections standing other a =
+      then-answering later (orderly-change h later (framed frame) same connections (orderly-taking asked frame (inward h) standing other) a)
 
-  judged-write : (h : SecondaryHistory) (write : Write) (at : ℕ) → (inward h).closed ≡ false → nat_lt (length (inward h).taken) 3 ≡ false → HasOrderlyEnds asked h
-      → HasOrderlyEnds asked (with_inward answering (receiving (length (items_taken (inward h))) (WriteItem write) (with_inward (framed (Ok (DataFrame write at))) h)))
+  judged-write : (h : SecondaryHistory) (write : Write) (at : ℕ) → (inward h).closed ≡ false → nat_lt (length (inward h).taken) 3 ≡ false
+      → HasOrderlyEnds asked h
+      → HasOrderlyEnds asked (with_inward answering
+      (receiving (length (items_taken (inward h))) (WriteItem write) (with_inward (framed (Ok (DataFrame write at))) h)))
   judged-write h write at standing late a = go h.settings.protocol a.protocol
     where
       frame : Received
@@ -71,11 +80,13 @@ module _ (asked : Protocol) where
         | protocol.C ↦ with_inward (framed (Ok (DataFrame write at))) h
       ]))
       go protocol.A is = accepts h _ frame refl refl standing (λ w there asks. absurd (let no : protocol.A ≡ protocol.B = is ∙ asks in cc)) a
-      go protocol.B is = then-answering _ (orderly-change h _ (λ c. receipting (length (items_taken (inward h))) write (framed frame c)) refl (change-twice (framed frame) (receipting (length (items_taken (inward h))) write) h.connections)
+      go protocol.B is = then-answering _ (orderly-change h _ (λ c. receipting (length (items_taken (inward h))) write (framed frame c)) refl
+          (change-twice (framed frame) (receipting (length (items_taken (inward h))) write) h.connections)
           (orderly-receipting asked write at (inward h) standing late (sym is)) a)
       go protocol.C is = accepts h _ frame refl refl standing (λ w there asks. absurd (let no : protocol.C ≡ protocol.B = is ∙ asks in cc)) a
 
-  judged-hello : (n : ℕ) (packet : Packet) (h : SecondaryHistory) → (inward h).closed ≡ false → HasOrderlyEnds asked h → Judged (checking_hello n packet (with_inward (framed (Ok packet)) h))
+  judged-hello : (n : ℕ) (packet : Packet) (h : SecondaryHistory) → (inward h).closed ≡ false → HasOrderlyEnds asked h
+      → Judged (checking_hello n packet (with_inward (framed (Ok packet)) h))
   judged-hello zero (ProtocolFrame wanted) h standing a = judged-if _ _ _ _ (accepts h _ (Ok (ProtocolFrame wanted)) refl refl standing (λ w there asks. cc) a)
   judged-hello (suc zero) (SizesFrame blocks) h standing a = judged-if _ _ _ _ (accepts h _ (Ok (SizesFrame blocks)) refl refl standing (λ w there asks. cc) a)
   judged-hello (suc (suc n)) (UuidsFrame tuple) h standing a = accepts h _ (Ok (UuidsFrame tuple)) refl refl standing (λ w there asks. cc) a
@@ -84,14 +95,18 @@ module _ (asked : Protocol) where
   judged-item : (packet : Packet) (h : SecondaryHistory) → (inward h).closed ≡ false → nat_lt (length (inward h).taken) 3 ≡ false → HasOrderlyEnds asked h
       → Judged (checking_item packet (length (items_taken (inward h))) (inward h) (with_inward (framed (Ok packet)) h))
   judged-item (DataFrame write at) h standing late a = judged-if _ _ _ _ (judged-write h write at standing late a)
-  judged-item (RsDataReplyFrame block contents at) h standing late a = judged-if _ _ _ _ (accepts h _ (Ok (RsDataReplyFrame block contents at)) refl refl standing (λ w there asks. cc) a)
+  judged-item (RsDataReplyFrame block contents at) h standing late a =
+      judged-if _ _ _ _ (accepts h _ (Ok (RsDataReplyFrame block contents at)) refl refl standing (λ w there asks. cc) a)
   judged-item (BarrierFrame number) h standing late a = judged-if _ _ _ _ (accepts h _ (Ok (BarrierFrame number)) refl refl standing (λ w there asks. cc) a)
-  judged-item (UuidsFrame tuple) h standing late a = judged-if _ _ (adopting tuple true (with_inward (framed (Ok (UuidsFrame tuple))) h)) _ (accepts h _ (Ok (UuidsFrame tuple)) refl refl standing (λ w there asks. cc) a)
+  judged-item (UuidsFrame tuple) h standing late a = judged-if _ _ (adopting tuple true (with_inward (framed (Ok (UuidsFrame tuple))) h)) _
+      (accepts h _ (Ok (UuidsFrame tuple)) refl refl standing (λ w there asks. cc) a)
   judged-item (SyncUuidFrame word) h standing late a =
-      judged-if _ _ (adopting (record h.tuple { current = word }) false (with_inward (framed (Ok (SyncUuidFrame word))) h)) _ (accepts h _ (Ok (SyncUuidFrame word)) refl refl standing (λ w there asks. cc) a)
+      judged-if _ _ (adopting (record h.tuple { current = word }) false (with_inward (framed (Ok (SyncUuidFrame word))) h)) _
+      (accepts h _ (Ok (SyncUuidFrame word)) refl refl standing (λ w there asks. cc) a)
   judged-item packet h standing late a = tt
 
-  judged : (frame : Received) (h : SecondaryHistory) → (inward h).closed ≡ false → HasOrderlyEnds asked h → Judged (checking frame (inward h) (with_inward (framed frame) h))
+  judged : (frame : Received) (h : SecondaryHistory) → (inward h).closed ≡ false → HasOrderlyEnds asked h
+      → Judged (checking frame (inward h) (with_inward (framed frame) h))
   judged (Err fault) h standing a = tt
   judged (Ok packet) h standing a = go (nat_lt (length (inward h).taken) 3) refl
     where
@@ -110,35 +125,48 @@ module _ (asked : Protocol) where
         | Err refusal ↦ (reply.Refused refusal, with_inward refused_end (with_inward (framed frame) h))
       ]).1
       go (Ok done) j = j
-      go (Err refusal) j = orderly-change h _ (λ c. refused_end (framed frame c)) refl (change-twice (framed frame) refused_end h.connections) (orderly-refusing asked frame (inward h) standing) a
+      go (Err refusal) j = orderly-change h _ (λ c. refused_end (framed frame c)) refl (change-twice (framed frame) refused_end h.connections)
+          (orderly-refusing asked frame (inward h) standing) a
 
-  orderly-receive : (frame : Option Received) (starved : Bool) (h : SecondaryHistory) → HasOrderlyEnds asked h → HasOrderlyEnds asked (receive frame starved h).1
+  orderly-receive : (frame : Option Received) (starved : Bool) (h : SecondaryHistory) → HasOrderlyEnds asked h
+      → HasOrderlyEnds asked (receive frame starved h).1
   orderly-receive frame starved h a =
-      tested-keeps (HasOrderlyEnds asked) h (((inward h).closed, NotConnected) ∷ rest) (λ _. elim frame as (λ _. Reply × SecondaryHistory) [ None ↦ (reply.Refused NothingThere, h) | Some taken ↦ take_item taken h ])
+      tested-keeps (HasOrderlyEnds asked) h (((inward h).closed, NotConnected) ∷ rest)
+      (λ _. elim frame as (λ _. Reply × SecondaryHistory) [ None ↦ (reply.Refused NothingThere, h) | Some taken ↦ take_item taken h ])
       a (λ passed. go frame (test-passed (inward h).closed NotConnected rest passed).0)
     where
       rest : List Test
       rest = (nat_le h.settings.pending (length (pending (inward h))), PendingFull) ∷ (starved, NoMemory) ∷ (is_none frame, NothingThere) ∷ []
 
-      go : (v : Option Received) → (inward h).closed ≡ false → HasOrderlyEnds asked (elim v as (λ _. Reply × SecondaryHistory) [ None ↦ (reply.Refused NothingThere, h) | Some taken ↦ take_item taken h ]).1
+      go : (v : Option Received) → (inward h).closed ≡ false
+          → HasOrderlyEnds asked (elim v as (λ _. Reply × SecondaryHistory) [ None ↦ (reply.Refused NothingThere, h) | Some taken ↦ take_item taken h ]).1
       go None standing = a
       go (Some taken) standing = orderly-take taken h standing a
 
   -- Every event keeps it, and so does every run.
 
   orderly-after : (event : SecondaryEvent) (h : SecondaryHistory) → HasOrderlyEnds asked h → HasOrderlyEnds asked (secondary_after event h)
-  orderly-after (OpensToo unseen) h a = after-open (HasOrderlyEnds asked) unseen h a (λ was. then-answering (opened_secondary unseen h) (record { protocol = a.protocol; ends = each-append (IsOrderly asked) h.connections _ a.ends (orderly-new asked _ _ _) }))
+  orderly-after (OpensToo unseen) h a = after-open (HasOrderlyEnds asked) unseen h a
+      (λ was. then-answering (opened_secondary unseen h)
+      (record { protocol = a.protocol; ends = each-append (IsOrderly asked) h.connections _ a.ends (orderly-new asked _ _ _) }))
   orderly-after (Receives frame starved) h a = orderly-receive frame starved h a
-  orderly-after (Applies place) h a = after-peer (HasOrderlyEnds asked) h place a (λ waiting first. then-answering _ (orderly-change h (with_inward (applying h.settings.protocol place) h) (applying h.settings.protocol place) refl refl
-      (subst (λ (p : Protocol). IsOrderly asked (inward h) → IsOrderly asked (applying p place (inward h))) (sym a.protocol) (orderly-applying asked place (inward h) waiting first)) a))
-  orderly-after (FailsToApply place offsets) h a = after-fault (HasOrderlyEnds asked) h place offsets a (λ waiting first. orderly-change h _ (failing place offsets) refl refl (orderly-failing asked place offsets (inward h) waiting first) a)
-  orderly-after (Acknowledges room starved) h a = after-push (HasOrderlyEnds asked) h room starved a (λ standing due. orderly-change h _ pushed_one refl refl (orderly-pushing asked (inward h)) a)
-  orderly-after ClosesToo h a = after-close (HasOrderlyEnds asked) h a (λ standing. orderly-change h _ closed_end refl refl (orderly-closing asked (inward h)) a)
+  orderly-after (Applies place) h a = after-peer (HasOrderlyEnds asked) h place a
+      (λ waiting first. then-answering _ (orderly-change h (with_inward (applying h.settings.protocol place) h) (applying h.settings.protocol place) refl refl
+      (subst (λ (p : Protocol). IsOrderly asked (inward h) → IsOrderly asked (applying p place (inward h))) (sym a.protocol)
+      (orderly-applying asked place (inward h) waiting first)) a))
+  orderly-after (FailsToApply place offsets) h a = after-fault (HasOrderlyEnds asked) h place offsets a
+      (λ waiting first. orderly-change h _ (failing place offsets) refl refl (orderly-failing asked place offsets (inward h) waiting first) a)
+  orderly-after (Acknowledges room starved) h a = after-push (HasOrderlyEnds asked) h room starved a
+      (λ standing due. orderly-change h _ pushed_one refl refl (orderly-pushing asked (inward h)) a)
+  orderly-after ClosesToo h a = after-close (HasOrderlyEnds asked) h a
+      (λ standing. orderly-change h _ closed_end refl refl (orderly-closing asked (inward h)) a)
 
   orderly-run : (events : List SecondaryEvent) (h : SecondaryHistory) → HasOrderlyEnds asked h → HasOrderlyEnds asked (secondary_run events h)
   orderly-run [] h a = a
   orderly-run (event ∷ events) h a = orderly-run events (secondary_after event h) (orderly-after event h a)
 
 -- Whatever frames a secondary takes, its acknowledgements fit.
-pub secondary_orderly : (settings : Settings) (disk : BlockMap) (tuple : Tuple) (events : List SecondaryEvent) → HasOrderlyEnds settings.protocol (secondary_run events (secondary_opening settings disk tuple))
-secondary_orderly settings disk tuple events = orderly-run settings.protocol events (secondary_opening settings disk tuple) (record { protocol = refl; ends = tt })
+pub secondary_orderly : (settings : Settings) (disk : BlockMap) (tuple : Tuple) (events : List SecondaryEvent)
+    → HasOrderlyEnds settings.protocol (secondary_run events (secondary_opening settings disk tuple))
+secondary_orderly settings disk tuple events = orderly-run settings.protocol events (secondary_opening settings disk tuple)
+    (record { protocol = refl; ends = tt })

@@ -1,5 +1,6 @@
 -- A secondary by itself, over every list of its events: its parts are closed and its disks follow one another.
-use Rattle.std.proofs.Common.{ℕ, zero, suc, ◌≡◌, Bool, true, false, cond, not, List, [], ◌∷◌, ◌++◌, length, Option, Some, None, is_none, Ok, Err, refl, sym, subst, ◌==◌, nat_lt, nat_le}
+use Rattle.std.proofs.Common.{ℕ, zero, suc, ◌≡◌, Bool, true, false, cond, not, List, [], ◌∷◌, ◌++◌, length, Option, Some, None, is_none, Ok, Err, refl, sym}
+use Rattle.std.proofs.Common.{subst, ◌==◌, nat_lt, nat_le}
 use Rattle.std.proofs.lemmas.Bool.{not-false}
 use Rattle.blocks.specs.declared.refusal.Refusal.{Refusal}
 use Rattle.blocks.specs.declared.outcome.What.{What}
@@ -10,10 +11,13 @@ use Rattle.blocks.specs.declared.settings.Protocol.TheVariants as protocol
 use Rattle.blocks.specs.declared.tuple.Tuple.{Tuple}
 use Rattle.model.specs.Contents.{BlockMap}
 use Rattle.model.specs.Stream.{Item, WriteItem}
-use Rattle.model.specs.Frames.{Packet, DataFrame, RsDataReplyFrame, BarrierFrame, ProtocolFrame, UuidsFrame, SizesFrame, SyncUuidFrame, RecvAckFrame, WriteAckFrame, RsWriteAckFrame, BarrierAckFrame, Received, naming}
+use Rattle.model.specs.Frames.{Packet, DataFrame, RsDataReplyFrame, BarrierFrame, ProtocolFrame, UuidsFrame, SizesFrame, SyncUuidFrame, RecvAckFrame}
+use Rattle.model.specs.Frames.{WriteAckFrame, RsWriteAckFrame, BarrierAckFrame, Received, naming}
 use Rattle.model.specs.Refusals.{Test, first_refusal, done_with}
 use Rattle.model.specs.Secondary.{Inward, SecondaryHistory, secondary_opening, no_inward, inward, with_inward, items_taken, pending, secondary_map}
-use Rattle.model.specs.SecondarySteps.{answering, succeeding_secondary, tested_secondary, open_secondary_tests, opened_secondary, open_secondary, Checked, checking_hello, checking_item, checking, adopting, receiving, take_item, receive, peer_tests, is_pending_at, has_earlier, applying, peer, failing, peer_fault, ack_out_tests, answering_with, ack_out, close_secondary}
+use Rattle.model.specs.SecondarySteps.{answering, succeeding_secondary, tested_secondary, open_secondary_tests, opened_secondary, open_secondary, Checked}
+use Rattle.model.specs.SecondarySteps.{checking_hello, checking_item, checking, adopting, receiving, take_item, receive, peer_tests, is_pending_at, has_earlier}
+use Rattle.model.specs.SecondarySteps.{applying, peer, failing, peer_fault, ack_out_tests, answering_with, ack_out, close_secondary}
 use Rattle.model.specs.Acknowledgements.{same_protocol}
 use Rattle.blocks.specs.declared.outcome.Reply.TheVariants as reply
 use Rattle.blocks.specs.declared.refusal.Refusal.TheVariants.{NothingThere, NotConnected, PendingFull, NoMemory, UnknownJob, EpochOpen}
@@ -26,7 +30,8 @@ use Rattle.laws.proofs.Lists.Last.{change-twice}
 use Rattle.laws.proofs.Lists.Each.{Each, each-get, each-append, each-change}
 use Rattle.laws.proofs.Lists.Tests.{test-passed}
 use Rattle.laws.proofs.Secondary.Chained.{AreChained, chained-append, chained-change, chained-next, chained-first, last-disk}
-use Rattle.laws.proofs.Secondary.Good.{IsGood, good-due, good-answering, base-answering, good-new, good-taking, good-refusing, base-applying, good-applying, good-failing}
+use Rattle.laws.proofs.Secondary.Good.{IsGood, good-due, good-answering, base-answering, good-new, good-taking, good-refusing, base-applying, good-applying}
+use Rattle.laws.proofs.Secondary.Good.{good-failing}
 
 -- What every step of a secondary keeps: its connections are good, and its disks follow one another.
 pub record IsKept (h : SecondaryHistory) : Type 0 where
@@ -40,12 +45,14 @@ pub tested-keeps : (P : SecondaryHistory → Type 0) (h : SecondaryHistory) (tes
     → (first_refusal tests ≡ None → P (done tt).1) → P (tested_secondary h tests done).1
 tested-keeps P h tests done same new = go (first_refusal tests) refl
   where
-    go : (v : Option Refusal) → first_refusal tests ≡ v → P (elim v as (λ _. Reply × SecondaryHistory) [ Some refusal ↦ (reply.Refused refusal, h) | None ↦ done tt ]).1
+    go : (v : Option Refusal) → first_refusal tests ≡ v
+        → P (elim v as (λ _. Reply × SecondaryHistory) [ Some refusal ↦ (reply.Refused refusal, h) | None ↦ done tt ]).1
     go (Some refusal) is = same
     go None is = new is
 
 -- A change of the last connection that keeps it good keeps the history.
-kept-change : (f : Inward → Inward) (h : SecondaryHistory) → IsKept h → ((d : Inward) (block : ℕ) → (f d).base block ≡ d.base block) → (IsGood (inward h) → IsGood (f (inward h))) → IsKept (with_inward f h)
+kept-change : (f : Inward → Inward) (h : SecondaryHistory) → IsKept h → ((d : Inward) (block : ℕ) → (f d).base block ≡ d.base block)
+    → (IsGood (inward h) → IsGood (f (inward h))) → IsKept (with_inward f h)
 kept-change f h kept base good = record {
   good = each-change IsGood f (no_inward h) h.connections kept.good good;
   chained = chained-change f base h.opening_map h.connections kept.chained;
@@ -57,10 +64,11 @@ kept-succeeding done h kept = kept-change answering h kept base-answering (good-
 -- Open.
 
 kept-open : (unseen : ℕ) (h : SecondaryHistory) → IsKept h → IsKept (open_secondary unseen h).1
-kept-open unseen h kept = tested-keeps IsKept h (open_secondary_tests h) (λ _. succeeding_secondary what.Nothing (opened_secondary unseen h)) kept (λ passed. kept-succeeding what.Nothing (opened_secondary unseen h) (record {
-  good = each-append IsGood h.connections _ kept.good (good-new _ (secondary_map h) h.tuple);
-  chained = chained-append h.opening_map h.connections _ kept.chained (λ block. last-disk (no_inward h) h.connections block);
-}))
+kept-open unseen h kept = tested-keeps IsKept h (open_secondary_tests h) (λ _. succeeding_secondary what.Nothing (opened_secondary unseen h)) kept
+    (λ passed. kept-succeeding what.Nothing (opened_secondary unseen h) (record {
+      good = each-append IsGood h.connections _ kept.good (good-new _ (secondary_map h) h.tuple);
+      chained = chained-append h.opening_map h.connections _ kept.chained (λ block. last-disk (no_inward h) h.connections block);
+    }))
 
 -- The checks keep the history, but for the tuple and the acknowledgements due.
 
@@ -70,17 +78,22 @@ kept-adopting tuple consistent h kept = record { good = kept.good; chained = kep
 kept-receiving : (place : ℕ) (item : Item) (h : SecondaryHistory) → IsKept h → IsKept (receiving place item h)
 kept-receiving place item h kept = go h.settings.protocol
   where
-    go : (asked : Protocol) → IsKept (elim asked as (λ _. SecondaryHistory) [ protocol.A ↦ h | protocol.B ↦ with_inward (λ c. record c { due = c.due ++ RecvAckFrame (naming place item) ∷ [] }) h | protocol.C ↦ h ])
+    go : (asked : Protocol) → IsKept
+        (elim asked as (λ _. SecondaryHistory)
+        [ protocol.A ↦ h | protocol.B ↦ with_inward (λ c. record c { due = c.due ++ RecvAckFrame (naming place item) ∷ [] }) h | protocol.C ↦ h ])
     go protocol.A = kept
     go protocol.B =
-        kept-change (λ c. record c { due = c.due ++ RecvAckFrame (naming place item) ∷ [] }) h kept (λ d block. refl) (λ good. good-due (inward h) ((inward h).due ++ RecvAckFrame (naming place item) ∷ []) good)
+        kept-change (λ c. record c { due = c.due ++ RecvAckFrame (naming place item) ∷ [] }) h kept (λ d block. refl)
+        (λ good. good-due (inward h) ((inward h).due ++ RecvAckFrame (naming place item) ∷ []) good)
     go protocol.C = kept
 
-kept-if : (good : Bool) (done : What) (h : SecondaryHistory) (refusal : Refusal) (result : What × SecondaryHistory) → IsKept h → cond good (Ok (done, h)) (Err refusal) ≡ Ok result → IsKept result.1
+kept-if : (good : Bool) (done : What) (h : SecondaryHistory) (refusal : Refusal) (result : What × SecondaryHistory) → IsKept h
+    → cond good (Ok (done, h)) (Err refusal) ≡ Ok result → IsKept result.1
 kept-if true done h refusal result kept is = let same : h ≡ result.1 = cc in subst IsKept same kept
 kept-if false done h refusal result kept is = absurd (cc)
 
-kept-hello : (n : ℕ) (packet : Packet) (h : SecondaryHistory) (result : What × SecondaryHistory) → IsKept h → checking_hello n packet h ≡ Ok result → IsKept result.1
+kept-hello : (n : ℕ) (packet : Packet) (h : SecondaryHistory) (result : What × SecondaryHistory) → IsKept h → checking_hello n packet h ≡ Ok result
+    → IsKept result.1
 kept-hello zero (DataFrame write at) h result kept is = absurd (cc)
 kept-hello zero (RsDataReplyFrame block contents at) h result kept is = absurd (cc)
 kept-hello zero (BarrierFrame number) h result kept is = absurd (cc)
@@ -115,24 +128,30 @@ kept-hello (suc (suc n)) (WriteAckFrame ack) h result kept is = absurd (cc)
 kept-hello (suc (suc n)) (RsWriteAckFrame ack) h result kept is = absurd (cc)
 kept-hello (suc (suc n)) (BarrierAckFrame number size) h result kept is = absurd (cc)
 
-kept-item : (packet : Packet) (place : ℕ) (c : Inward) (h : SecondaryHistory) (result : What × SecondaryHistory) → IsKept h → checking_item packet place c h ≡ Ok result → IsKept result.1
-kept-item (DataFrame write at) place c h result kept is = kept-if _ _ (receiving place (WriteItem write) h) _ result (kept-receiving place (WriteItem write) h kept) is
+kept-item : (packet : Packet) (place : ℕ) (c : Inward) (h : SecondaryHistory) (result : What × SecondaryHistory) → IsKept h
+    → checking_item packet place c h ≡ Ok result → IsKept result.1
+kept-item (DataFrame write at) place c h result kept is = kept-if _ _ (receiving place (WriteItem write) h) _ result
+    (kept-receiving place (WriteItem write) h kept) is
 kept-item (RsDataReplyFrame block contents at) place c h result kept is = kept-if _ _ h _ result kept is
 kept-item (BarrierFrame number) place c h result kept is = kept-if _ _ h _ result kept is
 kept-item (ProtocolFrame asked) place c h result kept is = absurd (cc)
 kept-item (UuidsFrame tuple) place c h result kept is = kept-if _ _ (adopting tuple true h) _ result (kept-adopting tuple true h kept) is
 kept-item (SizesFrame blocks) place c h result kept is = absurd (cc)
-kept-item (SyncUuidFrame word) place c h result kept is = kept-if _ _ (adopting (record h.tuple { current = word }) false h) _ result (kept-adopting (record h.tuple { current = word }) false h kept) is
+kept-item (SyncUuidFrame word) place c h result kept is = kept-if _ _ (adopting (record h.tuple { current = word }) false h) _ result
+    (kept-adopting (record h.tuple { current = word }) false h kept) is
 kept-item (RecvAckFrame ack) place c h result kept is = absurd (cc)
 kept-item (WriteAckFrame ack) place c h result kept is = absurd (cc)
 kept-item (RsWriteAckFrame ack) place c h result kept is = absurd (cc)
 kept-item (BarrierAckFrame number size) place c h result kept is = absurd (cc)
 
-kept-checking : (frame : Received) (c : Inward) (h : SecondaryHistory) (result : What × SecondaryHistory) → IsKept h → checking frame c h ≡ Ok result → IsKept result.1
+kept-checking : (frame : Received) (c : Inward) (h : SecondaryHistory) (result : What × SecondaryHistory) → IsKept h → checking frame c h ≡ Ok result
+    → IsKept result.1
 kept-checking (Err fault) c h result kept is = absurd (cc)
 kept-checking (Ok packet) c h result kept is = go (nat_lt (length c.taken) 3) is
   where
-    go : (early : Bool) → elim early as (λ _. Checked) [ true ↦ checking_hello (length c.taken) packet h | false ↦ checking_item packet (length (items_taken c)) c h ] ≡ Ok result → IsKept result.1
+    go : (early : Bool) → elim early as
+        (λ _. Checked) [ true ↦ checking_hello (length c.taken) packet h | false ↦ checking_item packet (length (items_taken c)) c h ] ≡ Ok result
+        → IsKept result.1
     go true is = kept-hello (length c.taken) packet h result kept is
     go false is = kept-item packet (length (items_taken c)) c h result kept is
 
@@ -145,52 +164,69 @@ kept-take frame h standing kept = go (checking frame (inward h) taken) refl
     kept-taken : IsKept (with_inward (λ c. record c { taken = c.taken ++ frame ∷ [] }) h)
     kept-taken = kept-change (λ c. record c { taken = c.taken ++ frame ∷ [] }) h kept (λ d block. refl) (good-taking frame (inward h) standing)
 
-    go : (v : Checked) → checking frame (inward h) (with_inward (λ c. record c { taken = c.taken ++ frame ∷ [] }) h) ≡ v → IsKept (elim v as (λ _. Reply × SecondaryHistory) [
-      | Ok done ↦ succeeding_secondary done.0 done.1
-      | Err refusal ↦ (reply.Refused refusal, with_inward (λ c. record c { refused = true; closed = true }) (with_inward (λ c. record c { taken = c.taken ++ frame ∷ [] }) h))
-    ]).1
+    go : (v : Checked) → checking frame (inward h) (with_inward (λ c. record c { taken = c.taken ++ frame ∷ [] }) h) ≡ v
+        → IsKept (elim v as (λ _. Reply × SecondaryHistory) [
+          | Ok done ↦ succeeding_secondary done.0 done.1
+          | Err refusal ↦ (
+            reply.Refused refusal,
+            with_inward (λ c. record c { refused = true; closed = true }) (with_inward (λ c. record c { taken = c.taken ++ frame ∷ [] }) h),
+          )
+        ]).1
     go (Ok done) is = kept-succeeding done.0 done.1 (kept-checking frame (inward h) _ done kept-taken is)
     go (Err refusal) is = record {
-      good = subst (Each IsGood) (sym (change-twice (λ c. record c { taken = c.taken ++ frame ∷ [] }) (λ c. record c { refused = true; closed = true }) h.connections))
-          (each-change IsGood (λ c. record c { taken = c.taken ++ frame ∷ []; refused = true; closed = true }) (no_inward h) h.connections kept.good (good-refusing frame (inward h) standing));
+      good = subst (Each IsGood) (sym
+          (change-twice (λ c. record c { taken = c.taken ++ frame ∷ [] }) (λ c. record c { refused = true; closed = true }) h.connections))
+          (each-change IsGood (λ c. record c { taken = c.taken ++ frame ∷ []; refused = true; closed = true }) (no_inward h) h.connections kept.good
+          (good-refusing frame (inward h) standing));
       chained = chained-change (λ c. record c { refused = true; closed = true }) (λ d block. refl) h.opening_map _ kept-taken.chained;
     }
 
 kept-receive : (frame : Option Received) (starved : Bool) (h : SecondaryHistory) → IsKept h → IsKept (receive frame starved h).1
-kept-receive frame starved h kept = tested-keeps IsKept h (((inward h).closed, NotConnected) ∷ rest) (λ _. elim frame as (λ _. Reply × SecondaryHistory) [ None ↦ (reply.Refused NothingThere, h) | Some taken ↦ take_item taken h ])
+kept-receive frame starved h kept = tested-keeps IsKept h (((inward h).closed, NotConnected) ∷ rest)
+    (λ _. elim frame as (λ _. Reply × SecondaryHistory) [ None ↦ (reply.Refused NothingThere, h) | Some taken ↦ take_item taken h ])
     kept (λ passed. go frame (test-passed (inward h).closed NotConnected rest passed).0)
   where
     rest : List Test
     rest = (nat_le h.settings.pending (length (pending (inward h))), PendingFull) ∷ (starved, NoMemory) ∷ (is_none frame, NothingThere) ∷ []
 
-    go : (v : Option Received) → (inward h).closed ≡ false → IsKept (elim v as (λ _. Reply × SecondaryHistory) [ None ↦ (reply.Refused NothingThere, h) | Some taken ↦ take_item taken h ]).1
+    go : (v : Option Received) → (inward h).closed ≡ false
+        → IsKept (elim v as (λ _. Reply × SecondaryHistory) [ None ↦ (reply.Refused NothingThere, h) | Some taken ↦ take_item taken h ]).1
     go None standing = kept
     go (Some taken) standing = kept-take taken h standing kept
 
 -- The disk.
 
 kept-peer : (place : ℕ) (h : SecondaryHistory) → IsKept h → IsKept (peer place h).1
-kept-peer place h kept = tested-keeps IsKept h (peer_tests h place) (λ _. succeeding_secondary what.Nothing (with_inward (applying h.settings.protocol place) h)) kept (λ passed.
+kept-peer place h kept = tested-keeps IsKept h (peer_tests h place)
+    (λ _. succeeding_secondary what.Nothing (with_inward (applying h.settings.protocol place) h)) kept (λ passed.
     let one = test-passed (not (is_pending_at (inward h) place)) UnknownJob ((has_earlier (inward h) place, EpochOpen) ∷ []) passed in
     let two = test-passed (has_earlier (inward h) place) EpochOpen [] one.1 in
     kept-succeeding what.Nothing (with_inward (applying h.settings.protocol place) h)
-    (kept-change (applying h.settings.protocol place) h kept (base-applying h.settings.protocol place) (good-applying h.settings.protocol place (inward h) (not-false (is_pending_at (inward h) place) one.0) two.0)))
+    (kept-change (applying h.settings.protocol place) h kept (base-applying h.settings.protocol place)
+    (good-applying h.settings.protocol place (inward h) (not-false (is_pending_at (inward h) place) one.0) two.0)))
 
 kept-fault : (place : ℕ) (offsets : List ℕ) (h : SecondaryHistory) → IsKept h → IsKept (peer_fault place offsets h).1
-kept-fault place offsets h kept = tested-keeps IsKept h (peer_tests h place) (λ _. (reply.Ok (done_with what.Nothing), with_inward (failing place offsets) h)) kept (λ passed.
+kept-fault place offsets h kept = tested-keeps IsKept h (peer_tests h place) (λ _. (reply.Ok (done_with what.Nothing), with_inward (failing place offsets) h))
+    kept (λ passed.
     let one = test-passed (not (is_pending_at (inward h) place)) UnknownJob ((has_earlier (inward h) place, EpochOpen) ∷ []) passed in
     let two = test-passed (has_earlier (inward h) place) EpochOpen [] one.1 in
-    kept-change (failing place offsets) h kept (λ d block. refl) (good-failing place offsets (inward h) (not-false (is_pending_at (inward h) place) one.0) two.0))
+    kept-change (failing place offsets) h kept (λ d block. refl)
+    (good-failing place offsets (inward h) (not-false (is_pending_at (inward h) place) one.0) two.0))
 
 -- Pushing and closing.
 
 kept-push : (room starved : Bool) (h : SecondaryHistory) → IsKept h → IsKept (ack_out room starved h).1
-kept-push room starved h kept = tested-keeps IsKept h (ack_out_tests h room starved) (λ _. (reply.Ok (done_with (answering_with h)), with_inward (λ c. record c { pushed = suc c.pushed }) h)) kept (λ passed.
+kept-push room starved h kept = tested-keeps IsKept h (ack_out_tests h room starved)
+    (λ _. (reply.Ok (done_with (answering_with h)), with_inward (λ c. record c { pushed = suc c.pushed }) h)) kept (λ passed.
     kept-change (λ c. record c { pushed = suc c.pushed }) h kept (λ d block. refl)
-    (λ good. record { sound = sound-same (inward h) (record (inward h) { pushed = suc (inward h).pushed }) good.sound refl refl refl (λ c. c); refused = good.refused }))
+    (λ good. record {
+      sound = sound-same (inward h) (record (inward h) { pushed = suc (inward h).pushed }) good.sound refl refl refl (λ c. c);
+      refused = good.refused;
+    }))
 
 kept-close : (h : SecondaryHistory) → IsKept h → IsKept (close_secondary h).1
-kept-close h kept = tested-keeps IsKept h (((inward h).closed, NotConnected) ∷ []) (λ _. (reply.Ok (done_with what.Nothing), with_inward (λ c. record c { closed = true }) h)) kept (λ passed.
+kept-close h kept = tested-keeps IsKept h (((inward h).closed, NotConnected) ∷ [])
+    (λ _. (reply.Ok (done_with what.Nothing), with_inward (λ c. record c { closed = true }) h)) kept (λ passed.
     kept-change (λ c. record c { closed = true }) h kept (λ d block. refl)
     (λ good. record { sound = sound-same (inward h) (record (inward h) { closed = true }) good.sound refl refl refl (λ c. refl); refused = λ r. refl }))
 

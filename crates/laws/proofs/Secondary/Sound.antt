@@ -1,14 +1,17 @@
 -- What holds of a secondary's connection, whatever frames it takes: the part applied is closed at an epoch.
-use Rattle.std.proofs.Common.{ℕ, ◌≡◌, ◌+◌, ◌≤◌, ◌<◌, ◌⊎◌, inl, inr, Bool, true, false, not, ◌&&◌, List, [], ◌∷◌, ◌++◌, length, take, drop, map, filter, Some, slice_get, refl, sym, ◌∙◌, ap, subst, arith, ◌==◌, nat_lt}
+use Rattle.std.proofs.Common.{ℕ, ◌≡◌, ◌≤◌, ◌<◌, ◌⊎◌, inl, inr, true, false, not, ◌&&◌, List, [], ◌++◌, length, take, drop, Some}
+use Rattle.std.proofs.Common.{slice_get, refl, sym, ◌∙◌, ap, subst, arith, ◌==◌}
 use Rattle.std.specs.List.{list_any}
-use Rattle.std.proofs.lemmas.Bool.{or_parts, or_cases, and_parts, and_from, and_cases, lt-ltb, cases_Bool, both_ways, not-true, not-false, not_from_false, cases_lt}
-use Rattle.std.proofs.lemmas.List.Folds.{list_any-append}
+use Rattle.std.proofs.lemmas.Bool.{leb-true, or_cases, and_parts, and_from, and_cases, lt-ltb, cases_Bool, both_ways, not-true, not-false, not_from_false}
+use Rattle.std.proofs.lemmas.Bool.{cases_lt}
 use Rattle.std.proofs.lemmas.List.{take-append-drop, length-append}
 use Rattle.std.proofs.lemmas.Option.{slice_get_within}
-use Rattle.model.specs.Stream.{Item, Part, is_in, is_whole, contents_of, has_blocks, epoch_of, last_epoch, barriers_in, within}
-use Rattle.model.specs.Secondary.{Inward, items_taken, is_pending, pending}
-use Rattle.model.specs.SecondarySteps.{offsets_at, is_pending_at, has_earlier, failing, blocks_at}
-use Rattle.laws.proofs.Streams.Places.{none-at, some-at, listed-at, At, get-grows, epoch-grows, epoch-behind, last-grows, barriers-append}
+use Rattle.model.specs.Stream.{Item, Part, is_in, is_whole, contents_of, has_blocks, epoch_of, last_epoch, barriers_in}
+use Rattle.model.specs.Secondary.{Inward, items_taken, is_pending}
+use Rattle.model.specs.SecondarySteps.{offsets_at, is_pending_at, has_earlier, failing}
+use Rattle.laws.proofs.Rules.DiskFaults.{failing-pending}
+use Rattle.laws.proofs.Rules.DiskTurns.{none-earlier}
+use Rattle.laws.proofs.Streams.Places.{some-at, At, get-grows, epoch-grows, epoch-behind, last-grows, barriers-append}
 use Rattle.laws.proofs.Streams.Parts.{in-append, in-grows, in-offsets, whole-has, whole-from, whole-grows, in-offsets-listed}
 use Rattle.laws.proofs.Lists.Elements.{get-left}
 
@@ -17,15 +20,19 @@ use Rattle.laws.proofs.Lists.Elements.{get-left}
 pub record IsSound (d : Inward) : Type 0 where
   pub epoch : ℕ
   pub upto : epoch ≤ last_epoch (items_taken d)
-  pub before : (place offset : ℕ) (item : Item) → slice_get (items_taken d) place ≡ Some item → epoch_of (items_taken d) place < epoch → offset < length (contents_of item) → is_in d.applied place offset ≡ true
+  pub before : (place offset : ℕ) (item : Item) → slice_get (items_taken d) place ≡ Some item → epoch_of (items_taken d) place < epoch
+      → offset < length (contents_of item) → is_in d.applied place offset ≡ true
   pub after : (place offset : ℕ) → is_in d.applied place offset ≡ true → epoch_of (items_taken d) place ≤ epoch
   pub within : (place offset : ℕ) → is_in d.applied place offset ≡ true → place < length (items_taken d)
-  pub named : (place offset : ℕ) → is_in d.applied place offset ≡ true → (item : Item) × (slice_get (items_taken d) place ≡ Some item) × (offset < length (contents_of item))
-  pub stopped : (d.gone ≡ []) ⊎ ((d.closed ≡ true) × ((place : ℕ) (item : Item) → slice_get (items_taken d) place ≡ Some item → is_pending d (place, item) ≡ true → epoch_of (items_taken d) place ≤ epoch))
+  pub named : (place offset : ℕ) → is_in d.applied place offset ≡ true
+      → (item : Item) × (slice_get (items_taken d) place ≡ Some item) × (offset < length (contents_of item))
+  pub stopped : (d.gone ≡ []) ⊎ ((d.closed ≡ true) × ((place : ℕ) (item : Item) → slice_get (items_taken d) place ≡ Some item
+      → is_pending d (place, item) ≡ true → epoch_of (items_taken d) place ≤ epoch))
 
 -- It depends on what was taken, applied and given up, and on whether the end is closed. Taking more keeps it while the
 -- end is open.
-pub sound-taking : (d e : Inward) (more : List Item) → IsSound d → d.closed ≡ false → items_taken e ≡ items_taken d ++ more → e.applied ≡ d.applied → e.gone ≡ d.gone → IsSound e
+pub sound-taking : (d e : Inward) (more : List Item) → IsSound d → d.closed ≡ false → items_taken e ≡ items_taken d ++ more → e.applied ≡ d.applied
+    → e.gone ≡ d.gone → IsSound e
 sound-taking d e more s standing items applied gone =
     let old : List Item = items_taken d in
     let stays : d.gone ≡ [] = elim s.stopped [ inl none ↦ none | inr shut ↦ absurd (let t = shut.0 in cc (standing, t)) ] in
@@ -58,7 +65,8 @@ sound-taking d e more s standing items applied gone =
     }
 
 -- what else changes does not matter, and closing keeps it
-pub sound-same : (d e : Inward) → IsSound d → items_taken e ≡ items_taken d → e.applied ≡ d.applied → e.gone ≡ d.gone → (d.closed ≡ true → e.closed ≡ true) → IsSound e
+pub sound-same : (d e : Inward) → IsSound d → items_taken e ≡ items_taken d → e.applied ≡ d.applied → e.gone ≡ d.gone → (d.closed ≡ true → e.closed ≡ true)
+    → IsSound e
 sound-same d e s items applied gone closed = record {
   epoch = s.epoch;
   upto = rw items s.upto;
@@ -91,7 +99,8 @@ pub record Started (d : Inward) (place : ℕ) (s : IsSound d) : Type 0 where
       → offset < length (contents_of old) → is_in d.applied other offset ≡ true
 
 -- the parts of being pending
-waits-parts : (d : Inward) (place : ℕ) (item : Item) → is_pending d (place, item) ≡ true → (has_blocks item ≡ true) × (is_whole d.applied place item ≡ false) × (list_any (λ (p : ℕ). p == place) d.gone ≡ false)
+waits-parts : (d : Inward) (place : ℕ) (item : Item) → is_pending d (place, item) ≡ true
+    → (has_blocks item ≡ true) × (is_whole d.applied place item ≡ false) × (list_any (λ (p : ℕ). p == place) d.gone ≡ false)
 waits-parts d place item h =
     let a = and_parts (has_blocks item && not (is_whole d.applied place item)) (not (list_any (λ (p : ℕ). p == place) d.gone)) h in
     let b = and_parts (has_blocks item) (not (is_whole d.applied place item)) a.0 in
@@ -107,7 +116,8 @@ starting d place s waiting none =
     let waits : is_pending d (place, found.item) ≡ true = found.passes in
     let parts = waits-parts d place found.item waits in
     let not_before : s.epoch ≤ epoch_of items place = elim (cases_lt (epoch_of items place) s.epoch) [
-      | inl early ↦ absurd (both_ways (is_whole d.applied place found.item) parts.1 (whole-from d.applied place found.item (λ offset less. s.before place offset found.item there early less)))
+      | inl early ↦ absurd (both_ways (is_whole d.applied place found.item) parts.1
+          (whole-from d.applied place found.item (λ offset less. s.before place offset found.item there early less)))
       | inr late ↦ late
     ] in
     let not_after : (d.gone ≡ []) ⊎ (epoch_of items place ≡ s.epoch) = elim s.stopped [
@@ -124,11 +134,7 @@ starting d place s waiting none =
       earlier = λ other offset old at early less. elim not_after [
         | inr same ↦ s.before other offset old at (omega arith) less
         | inl free ↦ elim (cases_Bool (is_pending d (other, old))) [
-          | inl also ↦
-              let test : ℕ × Item → Bool = λ (entry : ℕ × Item). nat_lt (epoch_of items entry.0) (epoch_of items place) in
-              let from : 0 + other ≡ other = omega arith in
-              let late : test (other, old) ≡ false = subst (λ (n : ℕ). test (n, old) ≡ false) from (none-at (is_pending d) test 0 items other old at none (subst (λ (n : ℕ). is_pending d (n, old) ≡ true) (sym from) also)) in
-              absurd (both_ways (nat_lt (epoch_of items other) (epoch_of items place)) late (lt-ltb (epoch_of items other) (epoch_of items place) early))
+          | inl also ↦ absurd (let late = none-earlier d place other old none at also in omega arith)
           | inr past ↦ whole-has d.applied other offset old (applied-already d other old free past (some-blocks old offset less)) less
         ]
       ];
@@ -139,7 +145,8 @@ starting d place s waiting none =
     some-blocks item offset less = lt-ltb 0 (length (contents_of item)) (omega arith)
 
     -- what is not pending, with nothing given up, is applied
-    applied-already : (d : Inward) (place : ℕ) (item : Item) → d.gone ≡ [] → is_pending d (place, item) ≡ false → has_blocks item ≡ true → is_whole d.applied place item ≡ true
+    applied-already : (d : Inward) (place : ℕ) (item : Item) → d.gone ≡ [] → is_pending d (place, item) ≡ false → has_blocks item ≡ true
+        → is_whole d.applied place item ≡ true
     applied-already d place item free past blocks =
         let none : list_any (λ (p : ℕ). p == place) d.gone ≡ false = rw free refl in
         elim (and_cases (has_blocks item && not (is_whole d.applied place item)) (not (list_any (λ (p : ℕ). p == place) d.gone)) past) [
@@ -151,7 +158,8 @@ starting d place s waiting none =
         ]
 
 -- what is pending after some blocks were applied was so before
-pub pending-before : (d e : Inward) (more : Part) (place : ℕ) (item : Item) → e.applied ≡ d.applied ++ more → e.gone ≡ d.gone → is_pending e (place, item) ≡ true → is_pending d (place, item) ≡ true
+pub pending-before : (d e : Inward) (more : Part) (place : ℕ) (item : Item) → e.applied ≡ d.applied ++ more → e.gone ≡ d.gone
+    → is_pending e (place, item) ≡ true → is_pending d (place, item) ≡ true
 pending-before d e more place item applied gone waits =
     let parts = waits-parts e place item waits in
     let unfinished : is_whole d.applied place item ≡ false = elim (cases_Bool (is_whole d.applied place item)) [
@@ -160,18 +168,22 @@ pending-before d e more place item applied gone waits =
     ] in
     let there : list_any (λ (p : ℕ). p == place) d.gone ≡ false = rw (← gone) parts.2 in
     and_from (has_blocks item && not (is_whole d.applied place item)) (not (list_any (λ (p : ℕ). p == place) d.gone))
-    (and_from (has_blocks item) (not (is_whole d.applied place item)) parts.0 (not_from_false (is_whole d.applied place item) unfinished)) (not_from_false (list_any (λ (p : ℕ). p == place) d.gone) there)
+    (and_from (has_blocks item) (not (is_whole d.applied place item)) parts.0 (not_from_false (is_whole d.applied place item) unfinished))
+    (not_from_false (list_any (λ (p : ℕ). p == place) d.gone) there)
 
 -- Applying some blocks of an item that may be started keeps the part closed, at that item's epoch.
-pub sound-applying : (d e : Inward) (place : ℕ) (offsets : List ℕ) (s : IsSound d) → (start : Started d place s) → ((n offset : ℕ) → slice_get offsets n ≡ Some offset → offset < length (contents_of start.item))
+pub sound-applying : (d e : Inward) (place : ℕ) (offsets : List ℕ) (s : IsSound d) → (start : Started d place s)
+    → ((n offset : ℕ) → slice_get offsets n ≡ Some offset → offset < length (contents_of start.item))
     → items_taken e ≡ items_taken d → e.applied ≡ d.applied ++ offsets_at place offsets
-    → ((e.gone ≡ d.gone) × (e.closed ≡ d.closed)) ⊎ ((e.closed ≡ true) × ((other : ℕ) (item : Item) → slice_get (items_taken d) other ≡ Some item → is_pending e (other, item) ≡ true → epoch_of (items_taken d) other ≤ epoch_of (items_taken d) place))
+    → ((e.gone ≡ d.gone) × (e.closed ≡ d.closed)) ⊎ ((e.closed ≡ true) × ((other : ℕ) (item : Item) → slice_get (items_taken d) other ≡ Some item
+    → is_pending e (other, item) ≡ true → epoch_of (items_taken d) other ≤ epoch_of (items_taken d) place))
     → IsSound e
 sound-applying d e place offsets s start few items applied rest =
     let old : List Item = items_taken d in
     let here : ℕ = epoch_of old place in
     let is_new : (other offset : ℕ) → is_in e.applied other offset ≡ true → (is_in d.applied other offset ≡ true) ⊎ (place ≡ other) =
-    λ other offset h. elim (or_cases (is_in d.applied other offset) (is_in (offsets_at place offsets) other offset) (sym (in-append d.applied (offsets_at place offsets) other offset) ∙ rw (← applied) h)) [
+    λ other offset h. elim (or_cases (is_in d.applied other offset) (is_in (offsets_at place offsets) other offset)
+    (sym (in-append d.applied (offsets_at place offsets) other offset) ∙ rw (← applied) h)) [
       | inl before ↦ inl before
       | inr added ↦ inr (in-offsets place offsets other offset added)
     ] in
@@ -189,12 +201,17 @@ sound-applying d e place offsets s start few items applied rest =
         | inl before ↦ s.within other offset before
         | inr same ↦ let inside = start.inside in omega arith
       ]);
-      named = λ other offset h. rw items (elim (or_cases (is_in d.applied other offset) (is_in (offsets_at place offsets) other offset) (sym (in-append d.applied (offsets_at place offsets) other offset) ∙ rw (← applied) h)) [
-        | inl before ↦ s.named other offset before
-        | inr added ↦
-            let listed = in-offsets-listed place offsets other offset added in
-            (start.item, subst (λ n. slice_get old n ≡ Some start.item) (in-offsets place offsets other offset added) start.there, few listed.0 offset listed.1)
-      ]);
+      named = λ other offset h. rw items
+          (elim (or_cases (is_in d.applied other offset) (is_in (offsets_at place offsets) other offset)
+          (sym (in-append d.applied (offsets_at place offsets) other offset) ∙ rw (← applied) h)) [
+            | inl before ↦ s.named other offset before
+            | inr added ↦
+                let listed = in-offsets-listed place offsets other offset added in (
+                  start.item,
+                  subst (λ n. slice_get old n ≡ Some start.item) (in-offsets place offsets other offset added) start.there,
+                  few listed.0 offset listed.1,
+                )
+          ]);
       stopped = elim rest [
         | inl kept ↦ elim s.stopped [
           | inl free ↦ inl (kept.0 ∙ free)
@@ -221,25 +238,8 @@ sound-applying d e place offsets s start few items applied rest =
         omega arith
 
 -- After a fault, what is still pending is of no later epoch than the item that failed: the others were dropped.
-pub dropped : (d : Inward) (place : ℕ) (offsets : List ℕ) (other : ℕ) (item : Item) → slice_get (items_taken d) other ≡ Some item → is_pending (failing place offsets d) (other, item) ≡ true
+pub dropped : (d : Inward) (place : ℕ) (offsets : List ℕ) (other : ℕ) (item : Item) → slice_get (items_taken d) other ≡ Some item
+    → is_pending (failing place offsets d) (other, item) ≡ true
     → epoch_of (items_taken d) other ≤ epoch_of (items_taken d) place
-dropped d place offsets other item at waits =
-    let items : List Item = items_taken d in
-    let later : ℕ × Item → Bool = λ (entry : ℕ × Item). nat_lt (epoch_of items place) (epoch_of items entry.0) in
-    let parts = waits-parts (failing place offsets d) other item waits in
-    let places : List ℕ = map (λ (entry : ℕ × Item). entry.0) (filter later (pending d)) in
-    let kept = or_parts (list_any (λ (p : ℕ). p == other) d.gone) (list_any (λ (p : ℕ). p == other) (place ∷ places)) (sym (list_any-append (λ (p : ℕ). p == other) d.gone (place ∷ places)) ∙ parts.2) in
-    let unlisted = (or_parts (place == other) (list_any (λ (p : ℕ). p == other) places) kept.1).1 in
-    let unfinished : is_whole d.applied other item ≡ false = elim (cases_Bool (is_whole d.applied other item)) [
-      | inl whole ↦ absurd (both_ways (is_whole (d.applied ++ offsets_at place (within (blocks_at items place) offsets)) other item) parts.1 (whole-grows d.applied (offsets_at place (within (blocks_at items place) offsets)) other item whole))
-      | inr part ↦ part
-    ] in
-    let waited : is_pending d (other, item) ≡ true = and_from (has_blocks item && not (is_whole d.applied other item)) (not (list_any (λ (p : ℕ). p == other) d.gone))
-    (and_from (has_blocks item) (not (is_whole d.applied other item)) parts.0 (not_from_false (is_whole d.applied other item) unfinished)) (not_from_false (list_any (λ (p : ℕ). p == other) d.gone) kept.0) in
-    elim (cases_lt (epoch_of items place) (epoch_of items other)) [
-      | inl after ↦
-          let from : 0 + other ≡ other = omega arith in
-          let listed = listed-at (is_pending d) later 0 items other item at (subst (λ (n : ℕ). is_pending d (n, item) ≡ true) (sym from) waited) (subst (λ (n : ℕ). later (n, item) ≡ true) (sym from) (lt-ltb (epoch_of items place) (epoch_of items other) after)) in
-          absurd (both_ways (list_any (λ (p : ℕ). p == other) places) unlisted (subst (λ (n : ℕ). list_any (λ (p : ℕ). p == n) places ≡ true) from listed))
-      | inr no_later ↦ no_later
-    ]
+dropped d place offsets other item at waits = leb-true _ _ (and_parts (is_pending d (other, item) && not (other == place)) _
+    (sym (failing-pending d place offsets other item at) ∙ waits)).1

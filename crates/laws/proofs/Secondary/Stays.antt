@@ -29,7 +29,8 @@ abbrev pub IsSameClosed : Inward → Inward → Type 0
 IsSameClosed c d = d ≡ record c { applied = d.applied; gone = d.gone }
 
 -- a change of the last connection that leaves it if it is closed
-stays-change : (s later : SecondaryHistory) (f : Inward → Inward) → later.connections ≡ (with_inward f s).connections → ((inward s).closed ≡ true → IsSameClosed (inward s) (f (inward s))) → StaysClosedToo s later
+stays-change : (s later : SecondaryHistory) (f : Inward → Inward) → later.connections ≡ (with_inward f s).connections
+    → ((inward s).closed ≡ true → IsSameClosed (inward s) (f (inward s))) → StaysClosedToo s later
 stays-change s later f connections keeps = record {
   same = λ k c at closed. rw connections (elim (get-change f (no_inward s) s.connections k c at) [
     | inl same ↦ (c, same, refl)
@@ -42,7 +43,8 @@ stays-change s later f connections keeps = record {
 same-answering : (d : Inward) → d.closed ≡ true → IsSameClosed d (answering d)
 same-answering d closed = go d.closed refl
   where
-    go : (b : Bool) → d.closed ≡ b → IsSameClosed d (elim b as (λ _. Inward) [ true ↦ d | false ↦ record d { due = d.due ++ map (barrier_answer d) (barriers_to_answer d) } ])
+    go : (b : Bool) → d.closed ≡ b → IsSameClosed d
+        (elim b as (λ _. Inward) [ true ↦ d | false ↦ record d { due = d.due ++ map (barrier_answer d) (barriers_to_answer d) } ])
     go true is = refl
     go false is = absurd (both_ways d.closed is closed)
 
@@ -51,21 +53,30 @@ same-applying asked place d closed = go (slice_get (items_taken d) place)
   where
     go : (v : Option Item) → IsSameClosed d (elim v as (λ _. Inward) [
       | None ↦ d
-      | Some item ↦ record d { applied = d.applied ++ offsets_at place (below (length (contents_of item))); due = elim d.closed [ true ↦ d.due | false ↦ d.due ++ applied_answer asked place item ] }
+      | Some item ↦ record d {
+        applied = d.applied ++ offsets_at place (below (length (contents_of item)));
+        due = elim d.closed [ true ↦ d.due | false ↦ d.due ++ applied_answer asked place item ];
+      }
     ])
     go None = refl
-    go (Some item) = ap (λ b. record d { applied = d.applied ++ offsets_at place (below (length (contents_of item))); due = elim b as (λ _. List Packet) [ true ↦ d.due | false ↦ d.due ++ applied_answer asked place item ] }) closed
+    go (Some item) = ap (λ b. record d {
+      applied = d.applied ++ offsets_at place (below (length (contents_of item)));
+      due = elim b as (λ _. List Packet) [ true ↦ d.due | false ↦ d.due ++ applied_answer asked place item ];
+    }) closed
 
 -- a failed item closes an end that is closed already
 same-failing : (place : ℕ) (offsets : List ℕ) (d : Inward) → d.closed ≡ true → IsSameClosed d (failing place offsets d)
-same-failing place offsets d closed = ap (λ b. record d { applied = (failing place offsets d).applied; gone = (failing place offsets d).gone; closed = b }) (sym closed)
+same-failing place offsets d closed = ap (λ b. record d { applied = (failing place offsets d).applied; gone = (failing place offsets d).gone; closed = b })
+    (sym closed)
 
 -- the answers that follow
 stays-answering : (s t : SecondaryHistory) → StaysClosedToo s t → StaysClosedToo s (with_inward answering t)
-stays-answering s t stays = stays-trans s t (with_inward answering t) stays (stays-change t (with_inward answering t) answering refl (same-answering (inward t)))
+stays-answering s t stays = stays-trans s t (with_inward answering t) stays
+    (stays-change t (with_inward answering t) answering refl (same-answering (inward t)))
 
 -- a change of an open end
-stays-open : (s later : SecondaryHistory) (f : Inward → Inward) → later.connections ≡ (with_inward f s).connections → (inward s).closed ≡ false → StaysClosedToo s later
+stays-open : (s later : SecondaryHistory) (f : Inward → Inward) → later.connections ≡ (with_inward f s).connections → (inward s).closed ≡ false
+    → StaysClosedToo s later
 stays-open s later f connections standing = stays-change s later f connections (λ closed. absurd (both_ways (inward s).closed standing closed))
 
 -- one event
@@ -75,13 +86,20 @@ stays-after event s = after-event (StaysClosedToo s) s event (record {
   opens = λ unseen was. stays-answering s (opened_secondary unseen s) (record { same = λ k c at closed. (c, get-left s.connections _ k c at, refl) });
   takes = λ frame standing. record {
     accepts = stays-answering s _ (stays-open s (with_inward (framed frame) s) (framed frame) refl standing);
-    receipts = λ write at is late. stays-answering s _ (stays-open s (with_inward (receipting (length (items_taken (inward s))) write) (with_inward (framed frame) s)) (λ c. receipting (length (items_taken (inward s))) write (framed frame c))
+    receipts = λ write at is late. stays-answering s _
+        (stays-open s (with_inward (receipting (length (items_taken (inward s))) write) (with_inward (framed frame) s))
+        (λ c. receipting (length (items_taken (inward s))) write (framed frame c))
         (change-twice (framed frame) (receipting (length (items_taken (inward s))) write) s.connections) standing);
-    adopts = λ item tuple consistent is late. stays-answering s _ (stays-open s (adopting tuple consistent (with_inward (framed frame) s)) (framed frame) refl standing);
-    refuses = stays-open s (with_inward refused_end (with_inward (framed frame) s)) (λ c. refused_end (framed frame c)) (change-twice (framed frame) refused_end s.connections) standing;
+    adopts = λ item tuple consistent is late. stays-answering s _
+        (stays-open s (adopting tuple consistent (with_inward (framed frame) s)) (framed frame) refl standing);
+    refuses = stays-open s (with_inward refused_end (with_inward (framed frame) s)) (λ c. refused_end (framed frame c))
+        (change-twice (framed frame) refused_end s.connections) standing;
   };
-  applies = λ place waiting none. stays-answering s _ (stays-change s (with_inward (applying s.settings.protocol place) s) (applying s.settings.protocol place) refl (same-applying s.settings.protocol place (inward s)));
-  fails = λ place offsets waiting none. stays-change s (with_inward (failing place offsets) s) (failing place offsets) refl (same-failing place offsets (inward s));
+  applies = λ place waiting none. stays-answering s _
+      (stays-change s (with_inward (applying s.settings.protocol place) s) (applying s.settings.protocol place) refl
+      (same-applying s.settings.protocol place (inward s)));
+  fails = λ place offsets waiting none. stays-change s (with_inward (failing place offsets) s) (failing place offsets) refl
+      (same-failing place offsets (inward s));
   pushes = λ standing due. stays-open s (with_inward pushed_one s) pushed_one refl standing;
   closes = λ standing. stays-open s (with_inward closed_end s) closed_end refl standing;
 })
@@ -90,4 +108,5 @@ stays-after event s = after-event (StaysClosedToo s) s event (record {
 -- dropped there.
 pub secondary_stays_closed : (events : List SecondaryEvent) (s : SecondaryHistory) → StaysClosedToo s (secondary_run events s)
 secondary_stays_closed [] s = stays-self s
-secondary_stays_closed (event ∷ events) s = stays-trans s (secondary_after event s) (secondary_run events (secondary_after event s)) (stays-after event s) (secondary_stays_closed events (secondary_after event s))
+secondary_stays_closed (event ∷ events) s = stays-trans s (secondary_after event s) (secondary_run events (secondary_after event s)) (stays-after event s)
+    (secondary_stays_closed events (secondary_after event s))

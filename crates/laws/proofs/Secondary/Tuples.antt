@@ -1,5 +1,6 @@
 -- A secondary's tuple is that of its opening until it takes an item, and its hello says so.
-use Rattle.std.proofs.Common.{ℕ, ◌≡◌, ◌-◌, ◌<◌, inl, inr, Bool, true, false, List, [], ◌∷◌, ◌++◌, length, take, drop, map, Option, Some, None, slice_get, refl, sym, ◌∙◌, ap, subst, arith, nat_lt}
+use Rattle.std.proofs.Common.{ℕ, ◌≡◌, ◌-◌, ◌<◌, inl, inr, Bool, true, false, List, [], ◌∷◌, ◌++◌, length, take, drop, map, Option, Some, None, slice_get, refl}
+use Rattle.std.proofs.Common.{sym, ◌∙◌, ap, subst, arith, nat_lt}
 use Rattle.std.specs.Prelude.{filter_map, if◌then◌else◌}
 use Rattle.std.specs.List.{cons_option}
 use Rattle.std.proofs.lemmas.Bool.{cases_Bool, both_ways, ltb-false}
@@ -13,8 +14,10 @@ use Rattle.model.specs.Contents.{BlockMap}
 use Rattle.model.specs.Stream.{Item, below, contents_of}
 use Rattle.model.specs.Frames.{Received}
 use Rattle.model.specs.Primary.{last_of, change_last}
-use Rattle.model.specs.Secondary.{Inward, SecondaryHistory, secondary_opening, no_inward, inward, with_inward, accepted_of, received_item, items_taken, secondary_map}
-use Rattle.model.specs.SecondarySteps.{answering, barrier_answer, barriers_to_answer, opened_secondary, offsets_at, applied_answer, applying, failing, adopting, next_number}
+use Rattle.model.specs.Secondary.{Inward, SecondaryHistory, secondary_opening, no_inward, inward, with_inward, accepted_of, received_item, items_taken}
+use Rattle.model.specs.Secondary.{secondary_map}
+use Rattle.model.specs.SecondarySteps.{answering, barrier_answer, barriers_to_answer, opened_secondary, offsets_at, applied_answer, applying, failing, adopting}
+use Rattle.model.specs.SecondarySteps.{next_number}
 use Rattle.model.specs.LocalRuns.{SecondaryEvent, secondary_after, secondary_run}
 use Rattle.laws.proofs.Lists.Last.{get-change, get-change-back, change-twice, last-at, get-last-changed}
 use Rattle.laws.proofs.Secondary.Moves.{framed, receipting, refused_end, pushed_one, closed_end, after-event}
@@ -25,7 +28,8 @@ use Rattle.laws.proofs.Secondary.Good.{taking-more, items-refusing}
 -- refused a frame is closed.
 pub record KeepsTuple (tuple : Tuple) (h : SecondaryHistory) : Type 0 where
   pub quiet : ((j : ℕ) (e : Inward) → slice_get h.connections j ≡ Some e → items_taken e ≡ []) → h.tuple ≡ tuple
-  pub hello : (k : ℕ) (d : Inward) → slice_get h.connections k ≡ Some d → ((j : ℕ) (e : Inward) → j < k → slice_get h.connections j ≡ Some e → items_taken e ≡ []) → d.hello ≡ tuple
+  pub hello : (k : ℕ) (d : Inward) → slice_get h.connections k ≡ Some d
+      → ((j : ℕ) (e : Inward) → j < k → slice_get h.connections j ≡ Some e → items_taken e ≡ []) → d.hello ≡ tuple
   pub refused : (k : ℕ) (d : Inward) → slice_get h.connections k ≡ Some d → d.refused ≡ true → d.closed ≡ true
 
 -- A change of a connection that keeps its hello and loses no item.
@@ -35,12 +39,15 @@ record KeepsFront (d e : Inward) : Type 0 where
   pub refused : (d.refused ≡ true → d.closed ≡ true) → e.refused ≡ true → e.closed ≡ true
 
 -- The last connection changes so. The tuple has to be the first one only where no item was taken before and none is now.
-tuples-change : (tuple : Tuple) (h later : SecondaryHistory) (f : Inward → Inward) → KeepsTuple tuple h → later.connections ≡ change_last f h.connections → KeepsFront (inward h) (f (inward h))
-    → (((j : ℕ) (e : Inward) → slice_get h.connections j ≡ Some e → items_taken e ≡ []) → ((j : ℕ) (e : Inward) → slice_get later.connections j ≡ Some e → items_taken e ≡ []) → later.tuple ≡ tuple)
+tuples-change : (tuple : Tuple) (h later : SecondaryHistory) (f : Inward → Inward) → KeepsTuple tuple h → later.connections ≡ change_last f h.connections
+    → KeepsFront (inward h) (f (inward h))
+    → (((j : ℕ) (e : Inward) → slice_get h.connections j ≡ Some e → items_taken e ≡ [])
+    → ((j : ℕ) (e : Inward) → slice_get later.connections j ≡ Some e → items_taken e ≡ []) → later.tuple ≡ tuple)
     → KeepsTuple tuple later
 tuples-change tuple h later f t connections keeps same =
     let none : Inward = no_inward h in
-    let before : (j : ℕ) (e : Inward) → ((d : Inward) → slice_get later.connections j ≡ Some d → items_taken d ≡ []) → slice_get h.connections j ≡ Some e → items_taken e ≡ []
+    let before : (j : ℕ) (e : Inward) → ((d : Inward) → slice_get later.connections j ≡ Some d → items_taken d ≡ []) → slice_get h.connections j ≡ Some e
+    → items_taken e ≡ []
     = λ j e quiet at. elim (get-change f none h.connections j e at) [
       | inl still ↦ quiet e (rw connections still)
       | inr changed ↦ subst (λ (x : Inward). items_taken (f x) ≡ [] → items_taken x ≡ []) (sym changed.1) keeps.items (quiet (f e) (rw connections changed.0))
@@ -49,16 +56,19 @@ tuples-change tuple h later f t connections keeps same =
       quiet = λ quiet. same (λ j e at. before j e (quiet j) at) quiet;
       hello = λ k d at quiet. elim (get-change-back f none h.connections k d (rw (← connections) at)) [
         | inl still ↦ t.hello k d still (λ j e less there. before j e (λ x. quiet j x less) there)
-        | inr changed ↦ ap (λ (x : Inward). x.hello) changed.0 ∙ (keeps.hello ∙ t.hello k (inward h) changed.1 (λ j e less there. before j e (λ x. quiet j x less) there))
+        | inr changed ↦ ap (λ (x : Inward). x.hello) changed.0
+            ∙ (keeps.hello ∙ t.hello k (inward h) changed.1 (λ j e less there. before j e (λ x. quiet j x less) there))
       ];
       refused = λ k d at was. elim (get-change-back f none h.connections k d (rw (← connections) at)) [
         | inl still ↦ t.refused k d still was
-        | inr changed ↦ subst (λ (x : Inward). x.closed ≡ true) (sym changed.0) (keeps.refused (t.refused k (inward h) changed.1) (subst (λ (x : Inward). x.refused ≡ true) changed.0 was))
+        | inr changed ↦ subst (λ (x : Inward). x.closed ≡ true) (sym changed.0)
+            (keeps.refused (t.refused k (inward h) changed.1) (subst (λ (x : Inward). x.refused ≡ true) changed.0 was))
       ];
     }
 
 -- and the tuple stays
-tuples-with : (tuple : Tuple) (h later : SecondaryHistory) (f : Inward → Inward) → KeepsTuple tuple h → later.connections ≡ change_last f h.connections → later.tuple ≡ h.tuple
+tuples-with : (tuple : Tuple) (h later : SecondaryHistory) (f : Inward → Inward) → KeepsTuple tuple h → later.connections ≡ change_last f h.connections
+    → later.tuple ≡ h.tuple
     → KeepsFront (inward h) (f (inward h)) → KeepsTuple tuple later
 tuples-with tuple h later f t connections same keeps = tuples-change tuple h later f t connections keeps (λ quiet now. same ∙ t.quiet quiet)
 
@@ -76,7 +86,10 @@ front-applying asked place d = go (slice_get (items_taken d) place)
   where
     go : (v : Option Item) → KeepsFront d (elim v as (λ _. Inward) [
       | None ↦ d
-      | Some item ↦ record d { applied = d.applied ++ offsets_at place (below (length (contents_of item))); due = elim d.closed [ true ↦ d.due | false ↦ d.due ++ applied_answer asked place item ] }
+      | Some item ↦ record d {
+        applied = d.applied ++ offsets_at place (below (length (contents_of item)));
+        due = elim d.closed [ true ↦ d.due | false ↦ d.due ++ applied_answer asked place item ];
+      }
     ])
     go None = record { hello = refl; items = λ none. none; refused = λ was. was }
     go (Some item) = record { hello = refl; items = λ none. none; refused = λ was. was }
@@ -90,7 +103,8 @@ front-refusing : (frame : Received) (d : Inward) → d.refused ≡ false → Kee
 front-refusing frame d accepted = record { hello = refl; items = λ none. sym (items-refusing frame d accepted) ∙ none; refused = λ was r. refl }
 
 -- a frame of an item that is taken behind the hello is not lost
-pub taken-item : (frame : Received) (item : Item) (d : Inward) → d.refused ≡ false → nat_lt (length d.taken) 3 ≡ false → received_item frame ≡ Some item → items_taken (framed frame d) ≡ items_taken d ++ item ∷ []
+pub taken-item : (frame : Received) (item : Item) (d : Inward) → d.refused ≡ false → nat_lt (length d.taken) 3 ≡ false → received_item frame ≡ Some item
+    → items_taken (framed frame d) ≡ items_taken d ++ item ∷ []
 taken-item frame item d accepted late is =
     let old : accepted_of d ≡ drop 3 d.taken = ap (λ b. drop 3 (if b then take (length d.taken - 1) d.taken else d.taken)) accepted in
     let new : accepted_of (framed frame d) ≡ drop 3 d.taken ++ frame ∷ [] =
@@ -98,7 +112,8 @@ taken-item frame item d accepted late is =
     ∙ drop-append-le 3 d.taken (frame ∷ []) (ltb-false (length d.taken) 3 late) in
     ap (filter_map received_item) new
     ∙ (filter_map-append received_item (drop 3 d.taken) (frame ∷ [])
-    ∙ (ap (λ v. filter_map received_item (drop 3 d.taken) ++ cons_option v []) is ∙ ap (λ (l : List Received). filter_map received_item l ++ item ∷ []) (sym old)))
+    ∙ (ap (λ v. filter_map received_item (drop 3 d.taken) ++ cons_option v []) is
+    ∙ ap (λ (l : List Received). filter_map received_item l ++ item ∷ []) (sym old)))
 
 -- Steps.
 
@@ -120,12 +135,25 @@ then-answering tuple h t = tuples-with tuple h (with_inward answering h) answeri
 
 tuples-open : (tuple : Tuple) (unseen : ℕ) (h : SecondaryHistory) → KeepsTuple tuple h → KeepsTuple tuple (opened_secondary unseen h)
 tuples-open tuple unseen h t =
-    let new : Inward = record { number = next_number unseen h; base = secondary_map h; hello = h.tuple; taken = []; refused = false; applied = []; gone = []; due = []; pushed = 0; closed = false } in
+    let new : Inward = record {
+      number = next_number unseen h;
+      base = secondary_map h;
+      hello = h.tuple;
+      taken = [];
+      refused = false;
+      applied = [];
+      gone = [];
+      due = [];
+      pushed = 0;
+      closed = false;
+    } in
     record {
       quiet = λ quiet. t.quiet (λ j e at. quiet j e (get-left h.connections (new ∷ []) j e at));
       hello = λ k d at quiet. elim (get-more h.connections new k d at) [
         | inl old ↦ t.hello k d old (λ j e less there. quiet j e less (get-left h.connections (new ∷ []) j e there))
-        | inr added ↦ ap (λ (x : Inward). x.hello) added.1 ∙ t.quiet (λ j e there. quiet j e (let within = slice_get_within h.connections j e there in let end = added.0 in omega arith) (get-left h.connections (new ∷ []) j e there))
+        | inr added ↦ ap (λ (x : Inward). x.hello) added.1
+            ∙ t.quiet (λ j e there. quiet j e (let within = slice_get_within h.connections j e there in let end = added.0 in omega arith)
+            (get-left h.connections (new ∷ []) j e there))
       ];
       refused = λ k d at was. elim (get-more h.connections new k d at) [
         | inl old ↦ t.refused k d old was
@@ -134,13 +162,15 @@ tuples-open tuple unseen h t =
     }
 
 -- a tuple is adopted with an item, so an item was taken from then on
-tuples-adopting : (tuple : Tuple) (h : SecondaryHistory) (frame : Received) (item : Item) (adopted : Tuple) (consistent : Bool) → received_item frame ≡ Some item → nat_lt (length (inward h).taken) 3 ≡ false
+tuples-adopting : (tuple : Tuple) (h : SecondaryHistory) (frame : Received) (item : Item) (adopted : Tuple) (consistent : Bool)
+    → received_item frame ≡ Some item → nat_lt (length (inward h).taken) 3 ≡ false
     → (inward h).closed ≡ false → KeepsTuple tuple h → KeepsTuple tuple (adopting adopted consistent (with_inward (framed frame) h))
 tuples-adopting tuple h frame item adopted consistent is late standing t =
     let accepted = plain tuple h t standing in
     let last = get-last-changed (framed frame) (no_inward h) h.connections (inward h) (open-there h standing) refl in
     tuples-change tuple h (adopting adopted consistent (with_inward (framed frame) h)) (framed frame) t refl (front-taking frame (inward h) accepted)
-    (λ before now. absurd (append-one (items_taken (inward h)) item (sym (taken-item frame item (inward h) accepted late is) ∙ now (length h.connections - 1) (framed frame (inward h)) last)))
+    (λ before now. absurd (append-one (items_taken (inward h)) item (sym (taken-item frame item (inward h) accepted late is)
+    ∙ now (length h.connections - 1) (framed frame (inward h)) last)))
 
 tuples-after : (tuple : Tuple) (event : SecondaryEvent) (h : SecondaryHistory) → KeepsTuple tuple h → KeepsTuple tuple (secondary_after event h)
 tuples-after tuple event h t = after-event (KeepsTuple tuple) h event (record {
@@ -148,21 +178,30 @@ tuples-after tuple event h t = after-event (KeepsTuple tuple) h event (record {
   opens = λ unseen was. then-answering tuple (opened_secondary unseen h) (tuples-open tuple unseen h t);
   takes = λ frame standing.
       let accepted = plain tuple h t standing in
-      let taken : KeepsTuple tuple (with_inward (framed frame) h) = tuples-with tuple h (with_inward (framed frame) h) (framed frame) t refl refl (front-taking frame (inward h) accepted) in
+      let taken : KeepsTuple tuple (with_inward (framed frame) h) = tuples-with tuple h (with_inward (framed frame) h) (framed frame) t refl refl
+      (front-taking frame (inward h) accepted) in
       record {
         accepts = then-answering tuple (with_inward (framed frame) h) taken;
         receipts = λ write at is late.
             let answer : Inward → Inward = receipting (length (items_taken (inward h))) write in
-            then-answering tuple (with_inward answer (with_inward (framed frame) h)) (tuples-with tuple (with_inward (framed frame) h) (with_inward answer (with_inward (framed frame) h)) answer taken refl refl (record { hello = refl; items = λ none. none; refused = λ was. was }));
-        adopts = λ item adopted consistent is late. then-answering tuple (adopting adopted consistent (with_inward (framed frame) h)) (tuples-adopting tuple h frame item adopted consistent is late standing t);
+            then-answering tuple (with_inward answer (with_inward (framed frame) h))
+            (tuples-with tuple (with_inward (framed frame) h) (with_inward answer (with_inward (framed frame) h)) answer taken refl refl
+            (record { hello = refl; items = λ none. none; refused = λ was. was }));
+        adopts = λ item adopted consistent is late. then-answering tuple (adopting adopted consistent (with_inward (framed frame) h))
+            (tuples-adopting tuple h frame item adopted consistent is late standing t);
         refuses =
-            tuples-with tuple h (with_inward refused_end (with_inward (framed frame) h)) (λ c. refused_end (framed frame c)) t (change-twice (framed frame) refused_end h.connections) refl (front-refusing frame (inward h) accepted);
+            tuples-with tuple h (with_inward refused_end (with_inward (framed frame) h)) (λ c. refused_end (framed frame c)) t
+            (change-twice (framed frame) refused_end h.connections) refl (front-refusing frame (inward h) accepted);
       };
   applies = λ place waiting first. then-answering tuple (with_inward (applying h.settings.protocol place) h)
-      (tuples-with tuple h (with_inward (applying h.settings.protocol place) h) (applying h.settings.protocol place) t refl refl (front-applying h.settings.protocol place (inward h)));
-  fails = λ place offsets waiting first. tuples-with tuple h (with_inward (failing place offsets) h) (failing place offsets) t refl refl (record { hello = refl; items = λ none. none; refused = λ was r. refl });
-  pushes = λ standing due. tuples-with tuple h (with_inward pushed_one h) pushed_one t refl refl (record { hello = refl; items = λ none. none; refused = λ was. was });
-  closes = λ standing. tuples-with tuple h (with_inward closed_end h) closed_end t refl refl (record { hello = refl; items = λ none. none; refused = λ was r. refl });
+      (tuples-with tuple h (with_inward (applying h.settings.protocol place) h) (applying h.settings.protocol place) t refl refl
+      (front-applying h.settings.protocol place (inward h)));
+  fails = λ place offsets waiting first. tuples-with tuple h (with_inward (failing place offsets) h) (failing place offsets) t refl refl
+      (record { hello = refl; items = λ none. none; refused = λ was r. refl });
+  pushes = λ standing due. tuples-with tuple h (with_inward pushed_one h) pushed_one t refl refl
+      (record { hello = refl; items = λ none. none; refused = λ was. was });
+  closes = λ standing. tuples-with tuple h (with_inward closed_end h) closed_end t refl refl
+      (record { hello = refl; items = λ none. none; refused = λ was r. refl });
 })
 
 tuples-run : (tuple : Tuple) (events : List SecondaryEvent) (h : SecondaryHistory) → KeepsTuple tuple h → KeepsTuple tuple (secondary_run events h)
@@ -175,4 +214,5 @@ pub secondary_hello : (settings : Settings) (disk : BlockMap) (tuple : Tuple) (e
     → ((j : ℕ) (e : Inward) → j < k → slice_get (secondary_run events (secondary_opening settings disk tuple)).connections j ≡ Some e → items_taken e ≡ [])
     → d.hello ≡ tuple
 secondary_hello settings disk tuple events k d at quiet =
-    (tuples-run tuple events (secondary_opening settings disk tuple) (record { quiet = λ none. refl; hello = λ j e there none. absurd (cc); refused = λ j e there was. absurd (cc) })).hello k d at quiet
+    (tuples-run tuple events (secondary_opening settings disk tuple)
+    (record { quiet = λ none. refl; hello = λ j e there none. absurd (cc); refused = λ j e there was. absurd (cc) })).hello k d at quiet

@@ -3,7 +3,8 @@ use Rattle.std.proofs.Common.{ℕ, zero, suc, ◌≡◌, ◌≤◌, ◌<◌, Boo
 use Rattle.model.specs.Stream.{Item, WriteItem, ResyncItem, BarrierItem, SyncUuidItem, UuidsItem, is_barrier, barriers_in, epoch_of}
 
 -- each epoch that is over has a barrier
-pub barrier-of : (items : List Item) (number : ℕ) → 0 < number → number ≤ barriers_in items → (place : ℕ) × (epoch : ℕ) × (slice_get items place ≡ Some (BarrierItem epoch)) × (epoch_of items place ≡ number)
+pub barrier-of : (items : List Item) (number : ℕ) → 0 < number → number ≤ barriers_in items
+    → (place : ℕ) × (epoch : ℕ) × (slice_get items place ≡ Some (BarrierItem epoch)) × (epoch_of items place ≡ number)
 barrier-of [] number from upto = absurd (omega arith)
 barrier-of (WriteItem write ∷ items) number from upto = let rest = barrier-of items number from upto in (suc rest.0, rest.1, rest.2, rest.3)
 barrier-of (ResyncItem block contents ∷ items) number from upto = let rest = barrier-of items number from upto in (suc rest.0, rest.1, rest.2, rest.3)
@@ -16,7 +17,8 @@ barrier-of (BarrierItem epoch ∷ items) (suc (suc n)) from upto =
     (suc rest.0, rest.1, rest.2, let is = rest.3 in omega arith)
 
 -- what stands behind a barrier is in a later epoch
-pub behind-barrier : (items : List Item) (place later epoch : ℕ) → place < later → later ≤ length items → slice_get items place ≡ Some (BarrierItem epoch) → epoch_of items place < epoch_of items later
+pub behind-barrier : (items : List Item) (place later epoch : ℕ) → place < later → later ≤ length items → slice_get items place ≡ Some (BarrierItem epoch)
+    → epoch_of items place < epoch_of items later
 behind-barrier [] place later epoch less within at = absurd (cc)
 behind-barrier (x ∷ items) place zero epoch less within at = absurd (omega arith)
 behind-barrier (x ∷ items) zero (suc later) epoch less within at =
@@ -28,6 +30,7 @@ behind-barrier (x ∷ items) (suc place) (suc later) epoch less within at =
     go (is_barrier x) rest
   where
     go : (b : Bool) → epoch_of items place < epoch_of items later
-        → suc (length (cond b (x ∷ filter is_barrier (take place items)) (filter is_barrier (take place items)))) < suc (length (cond b (x ∷ filter is_barrier (take later items)) (filter is_barrier (take later items))))
+        → suc (length (cond b (x ∷ filter is_barrier (take place items)) (filter is_barrier (take place items)))) < suc
+        (length (cond b (x ∷ filter is_barrier (take later items)) (filter is_barrier (take later items))))
     go true rest = omega arith
     go false rest = rest

@@ -1,36 +1,44 @@
 -- A lawful stream stays lawful as items go to its end.
-use Rattle.std.proofs.Common.{ℕ, suc, ◌≡◌, ◌+◌, ◌≤◌, ◌<◌, ◌⊎◌, inl, inr, Bool, true, false, cond, ◌&&◌, List, [], ◌∷◌, ◌++◌, length, take, drop, filter, Some, slice_get, refl, sym, ◌∙◌, ap, subst, arith, ◌==◌, nat_lt, length-append}
+use Rattle.std.proofs.Common.{ℕ, suc, ◌≡◌, ◌+◌, ◌≤◌, ◌<◌, ◌⊎◌, inl, inr, Bool, true, false, cond, ◌&&◌, List, [], ◌∷◌, ◌++◌, length, take, drop, filter, Some}
+use Rattle.std.proofs.Common.{slice_get, refl, sym, ◌∙◌, ap, subst, arith, ◌==◌, nat_lt, length-append}
 use Rattle.std.proofs.lemmas.Bool.{both_ways, and_parts, and_from, and_right, false_from_ne_true, ltb-true, lt-ltb, le-leb, eqb-true, ne_eqb}
 use Rattle.std.proofs.lemmas.List.{take-append-drop}
 use Rattle.std.proofs.lemmas.List.Elements.{filter-append}
 use Rattle.std.proofs.lemmas.Option.{slice_get_within}
 use Rattle.std.proofs.Math.Seq.{take-length}
 use Rattle.model.specs.Contents.{Write, covers, ranges_meet}
-use Rattle.model.specs.Stream.{Item, WriteItem, ResyncItem, BarrierItem, is_write, first_of, contents_of, barriers_in, epoch_of, last_epoch, placed_from, placed, items_of_epoch, epoch_size, items_meet, IsLawful}
+use Rattle.model.specs.Stream.{Item, WriteItem, ResyncItem, BarrierItem, is_write, first_of, contents_of, barriers_in, epoch_of, last_epoch, placed_from}
+use Rattle.model.specs.Stream.{placed, items_of_epoch, epoch_size, items_meet, IsLawful}
 use Rattle.laws.proofs.Streams.Places.{barriers-append, epoch-grows}
 use Rattle.laws.proofs.Lists.Elements.{get-more}
 
 -- The items of an epoch, as the stream grows.
 
 -- the placed items of a joined stream
-pub placed-append : (start : ℕ) (items more : List Item) → placed_from start (items ++ more) ≡ placed_from start items ++ placed_from (start + length items) more
+pub placed-append : (start : ℕ) (items more : List Item)
+    → placed_from start (items ++ more) ≡ placed_from start items ++ placed_from (start + length items) more
 placed-append start [] more = ap (λ n. placed_from n more) (omega arith)
 placed-append start (item ∷ items) more =
-    ap (λ (l : List (ℕ × Item)). (start, item) ∷ l) (placed-append (suc start) items more ∙ ap (λ n. placed_from (suc start) items ++ placed_from n more) (omega arith))
+    ap (λ (l : List (ℕ × Item)). (start, item) ∷ l) (placed-append (suc start) items more
+    ∙ ap (λ n. placed_from (suc start) items ++ placed_from n more) (omega arith))
 
 -- two tests that agree on the places of a stream let the same items through
-pub filter-agree : (p q : ℕ × Item → Bool) (start : ℕ) (items : List Item) → ((place : ℕ) (item : Item) → place < start + length items → p (place, item) ≡ q (place, item))
+pub filter-agree : (p q : ℕ × Item → Bool) (start : ℕ) (items : List Item)
+    → ((place : ℕ) (item : Item) → place < start + length items → p (place, item) ≡ q (place, item))
     → filter p (placed_from start items) ≡ filter q (placed_from start items)
 filter-agree p q start [] same = refl
 filter-agree p q start (x ∷ items) same =
     ap (λ b. cond b ((start, x) ∷ filter p (placed_from (suc start) items)) (filter p (placed_from (suc start) items))) (same start x (omega arith))
-    ∙ ap (λ (l : List (ℕ × Item)). cond (q (start, x)) ((start, x) ∷ l) l) (filter-agree p q (suc start) items (λ place item within. same place item (omega arith)))
+    ∙ ap (λ (l : List (ℕ × Item)). cond (q (start, x)) ((start, x) ∷ l) l)
+    (filter-agree p q (suc start) items (λ place item within. same place item (omega arith)))
 
 -- a test that no item passes
-filter-none : (p : ℕ × Item → Bool) (start : ℕ) (items : List Item) → ((place : ℕ) (item : Item) → p (place, item) ≡ false) → filter p (placed_from start items) ≡ []
+filter-none : (p : ℕ × Item → Bool) (start : ℕ) (items : List Item) → ((place : ℕ) (item : Item) → p (place, item) ≡ false)
+    → filter p (placed_from start items) ≡ []
 filter-none p start [] none = refl
 filter-none p start (x ∷ items) none =
-    ap (λ b. cond b ((start, x) ∷ filter p (placed_from (suc start) items)) (filter p (placed_from (suc start) items))) (none start x) ∙ filter-none p (suc start) items none
+    ap (λ b. cond b ((start, x) ∷ filter p (placed_from (suc start) items)) (filter p (placed_from (suc start) items))) (none start x)
+    ∙ filter-none p (suc start) items none
 
 -- the place at the end of a stream is in its last epoch
 pub epoch-end : (items more : List Item) → epoch_of (items ++ more) (length items) ≡ last_epoch items
@@ -51,13 +59,16 @@ epoch-items-grow items item epoch =
     let index : 0 + length items ≡ length items = omega arith in
     ap (filter p) (placed-append 0 items (item ∷ []))
     ∙ (filter-append p (placed items) ((0 + length items, item) ∷ [])
-    ∙ (ap (λ (l : List (ℕ × Item)). l ++ filter p ((0 + length items, item) ∷ [])) (filter-agree p (λ entry. epoch_of items entry.0 == epoch) 0 items (λ place it within. ap (λ n. n == epoch) (epoch-grows items (item ∷ []) place (omega arith))))
+    ∙ (ap (λ (l : List (ℕ × Item)). l ++ filter p ((0 + length items, item) ∷ []))
+    (filter-agree p (λ entry. epoch_of items entry.0 == epoch) 0 items
+    (λ place it within. ap (λ n. n == epoch) (epoch-grows items (item ∷ []) place (omega arith))))
     ∙ (ap (λ n. items_of_epoch items epoch ++ filter p ((n, item) ∷ [])) index
     ∙ ap (λ n. items_of_epoch items epoch ++ cond (n == epoch) ((length items, item) ∷ []) []) (epoch-end items (item ∷ [])))))
 
 -- an epoch behind the last one has no items
 pub epoch-empty : (items : List Item) (epoch : ℕ) → last_epoch items < epoch → items_of_epoch items epoch ≡ []
-epoch-empty items epoch behind = filter-none (λ entry. epoch_of items entry.0 == epoch) 0 items (λ place item. false_from_ne_true (epoch_of items place == epoch) (λ same.
+epoch-empty items epoch behind = filter-none (λ entry. epoch_of items entry.0 == epoch) 0 items
+    (λ place item. false_from_ne_true (epoch_of items place == epoch) (λ same.
     let is : epoch_of items place ≡ epoch = eqb-true (epoch_of items place) epoch same in
     let bound = epoch-bound items place in
     omega arith))
@@ -78,38 +89,45 @@ writes_there entry = is_write entry.1
 
 -- a stream that gets an item keeps the size of each epoch, or the item is a write and the epoch is the last one
 pub size-grow : (items : List Item) (item : Item) (epoch : ℕ)
-    → (epoch_size (items ++ item ∷ []) epoch ≡ epoch_size items epoch) ⊎ ((is_write item ≡ true) × (last_epoch items ≡ epoch) × (epoch_size (items ++ item ∷ []) epoch ≡ suc (epoch_size items epoch)))
+    → (epoch_size (items ++ item ∷ []) epoch ≡ epoch_size items epoch)
+    ⊎ ((is_write item ≡ true) × (last_epoch items ≡ epoch) × (epoch_size (items ++ item ∷ []) epoch ≡ suc (epoch_size items epoch)))
 size-grow items item epoch = go (last_epoch items == epoch) refl (is_write item) refl
   where
-    whole : (b : Bool) → (last_epoch items == epoch) ≡ b → epoch_size (items ++ item ∷ []) epoch ≡ epoch_size items epoch + length (filter writes_there (cond b ((length items, item) ∷ []) []))
+    whole : (b : Bool) → (last_epoch items == epoch) ≡ b
+        → epoch_size (items ++ item ∷ []) epoch ≡ epoch_size items epoch + length (filter writes_there (cond b ((length items, item) ∷ []) []))
     whole b is =
-        ap (λ (l : List (ℕ × Item)). length (filter writes_there l)) (epoch-items-grow items item epoch ∙ ap (λ t. items_of_epoch items epoch ++ cond t ((length items, item) ∷ []) []) is)
+        ap (λ (l : List (ℕ × Item)). length (filter writes_there l)) (epoch-items-grow items item epoch
+        ∙ ap (λ t. items_of_epoch items epoch ++ cond t ((length items, item) ∷ []) []) is)
         ∙ (ap length (filter-append writes_there (items_of_epoch items epoch) (cond b ((length items, item) ∷ []) []))
         ∙ length-append (filter writes_there (items_of_epoch items epoch)) (filter writes_there (cond b ((length items, item) ∷ []) [])))
 
     go : (b : Bool) → (last_epoch items == epoch) ≡ b → (v : Bool) → is_write item ≡ v
-        → (epoch_size (items ++ item ∷ []) epoch ≡ epoch_size items epoch) ⊎ ((is_write item ≡ true) × (last_epoch items ≡ epoch) × (epoch_size (items ++ item ∷ []) epoch ≡ suc (epoch_size items epoch)))
+        → (epoch_size (items ++ item ∷ []) epoch ≡ epoch_size items epoch)
+        ⊎ ((is_write item ≡ true) × (last_epoch items ≡ epoch) × (epoch_size (items ++ item ∷ []) epoch ≡ suc (epoch_size items epoch)))
     go false is v wr = inl (let all = whole false is in omega arith)
     go true is false wr =
-        inl (let all = whole true is in let none : length (filter writes_there ((length items, item) ∷ [])) ≡ 0 = ap (λ b. length {A = ℕ × Item} (cond b ((length items, item) ∷ []) [])) wr in omega arith)
+        inl (let all = whole true is in let none : length (filter writes_there ((length items, item) ∷ [])) ≡ 0 =
+        ap (λ b. length {A = ℕ × Item} (cond b ((length items, item) ∷ []) [])) wr in omega arith)
     go true is true wr = inr (
       wr,
       eqb-true (last_epoch items) epoch is,
-      let all = whole true is in let one : length (filter writes_there ((length items, item) ∷ [])) ≡ 1 = ap (λ b. length {A = ℕ × Item} (cond b ((length items, item) ∷ []) [])) wr in omega arith,
+      let all = whole true is in let one : length (filter writes_there ((length items, item) ∷ [])) ≡ 1 =
+          ap (λ b. length {A = ℕ × Item} (cond b ((length items, item) ∷ []) [])) wr in omega arith,
     )
 
 -- What an item has to be to go to the end of a lawful stream.
-pub record MayFollow (max_epoch : ℕ) (items : List Item) (item : Item) : Type 0 where
+pub record MayFollow (most : ℕ) (items : List Item) (item : Item) : Type 0 where
   pub barrier : (epoch : ℕ) → item ≡ BarrierItem epoch → epoch ≡ last_epoch items
   pub rising : (place : ℕ) (a b : Write) → slice_get items place ≡ Some (WriteItem a) → item ≡ WriteItem b → a.number < b.number
   pub apart : (place : ℕ) (a : Item) → epoch_of items place ≡ last_epoch items → slice_get items place ≡ Some a → items_meet a item ≡ false
-  pub small : is_write item ≡ true → epoch_size items (last_epoch items) < max_epoch
+  pub small : is_write item ≡ true → epoch_size items (last_epoch items) < most
 
 -- then the stream with it is lawful
-pub lawful-append : (max_epoch : ℕ) (items : List Item) (item : Item) → IsLawful max_epoch items → MayFollow max_epoch items item → IsLawful max_epoch (items ++ item ∷ [])
-lawful-append max_epoch items item lawful may = record {
+pub lawful-append : (most : ℕ) (items : List Item) (item : Item) → IsLawful most items → MayFollow most items item → IsLawful most (items ++ item ∷ [])
+lawful-append most items item lawful may = record {
   barriers = λ place epoch at. elim (get-more items item place (BarrierItem epoch) at) [
-    | inl old ↦ lawful.barriers place epoch old ∙ sym (epoch-grows items (item ∷ []) place (let n = slice_get_within items place (BarrierItem epoch) old in omega arith))
+    | inl old ↦ lawful.barriers place epoch old
+        ∙ sym (epoch-grows items (item ∷ []) place (let n = slice_get_within items place (BarrierItem epoch) old in omega arith))
     | inr new ↦ may.barrier epoch (sym new.1) ∙ (sym (epoch-end items (item ∷ [])) ∙ ap (epoch_of (items ++ item ∷ [])) (sym new.0))
   ];
   rising = λ place later a b before ata atb. elim (get-more items item later (WriteItem b) atb) [
@@ -150,8 +168,8 @@ lawful-append max_epoch items item lawful may = record {
 }
 
 -- the empty stream is lawful
-pub lawful-empty : (max_epoch : ℕ) → IsLawful max_epoch []
-lawful-empty max_epoch = record {
+pub lawful-empty : (most : ℕ) → IsLawful most []
+lawful-empty most = record {
   barriers = λ place epoch at. absurd (cc);
   rising = λ place later a b before ata atb. absurd (cc);
   apart = λ place later a b before same ata atb. absurd (cc);
@@ -162,14 +180,17 @@ lawful-empty max_epoch = record {
 
 -- an item without blocks shares none
 pub meets-none : (a b : Item) → length (contents_of b) ≡ 0 → items_meet a b ≡ false
-meets-none a b none = ap (λ n. ranges_meet (first_of a) (length (contents_of a)) (first_of b) n) none ∙ and_right _ _ (and_right (nat_lt 0 (length (contents_of a))) false refl)
+meets-none a b none = ap (λ n. ranges_meet (first_of a) (length (contents_of a)) (first_of b) n) none
+    ∙ and_right _ _ (and_right (nat_lt 0 (length (contents_of a))) false refl)
 
 -- the other way
 pub none-meets : (a b : Item) → length (contents_of a) ≡ 0 → items_meet a b ≡ false
-none-meets a b none = ap (λ n. ranges_meet (first_of a) n (first_of b) (length (contents_of b))) none ∙ and_right _ (nat_lt 0 0 && nat_lt 0 (length (contents_of b))) refl
+none-meets a b none = ap (λ n. ranges_meet (first_of a) n (first_of b) (length (contents_of b))) none
+    ∙ and_right _ (nat_lt 0 0 && nat_lt 0 (length (contents_of b))) refl
 
 -- a write that does not have a block does not meet it
-pub meets-block : (write : Write) (block : ℕ) (contents : List ℕ) → covers write block ≡ false → items_meet (WriteItem write) (ResyncItem block contents) ≡ false
+pub meets-block : (write : Write) (block : ℕ) (contents : List ℕ) → covers write block ≡ false
+    → items_meet (WriteItem write) (ResyncItem block contents) ≡ false
 meets-block write block contents free = false_from_ne_true _ (λ meets.
     let near = (and_parts _ _ meets).0 in
     let parts = and_parts _ _ near in
@@ -178,7 +199,8 @@ meets-block write block contents free = false_from_ne_true _ (λ meets.
     both_ways (covers write block) free (and_from _ _ (le-leb write.first block (omega arith)) (lt-ltb block (write.first + length write.contents) two)))
 
 -- the other way
-pub block-meets : (write : Write) (block : ℕ) (contents : List ℕ) → covers write block ≡ false → items_meet (ResyncItem block contents) (WriteItem write) ≡ false
+pub block-meets : (write : Write) (block : ℕ) (contents : List ℕ) → covers write block ≡ false
+    → items_meet (ResyncItem block contents) (WriteItem write) ≡ false
 block-meets write block contents free = false_from_ne_true _ (λ meets.
     let near = (and_parts _ _ meets).0 in
     let parts = and_parts _ _ near in

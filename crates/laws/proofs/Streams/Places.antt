@@ -1,7 +1,8 @@
 -- Places of a stream, their epochs as the stream grows, and tests over the items at their places.
-use Rattle.std.proofs.Common.{ℕ, zero, suc, ◌≡◌, ◌+◌, ◌-◌, ◌≤◌, ◌<◌, inl, inr, Bool, true, false, cond, List, [], ◌∷◌, ◌++◌, length, take, map, filter, Some, slice_get, refl, sym, ◌∙◌, ap, subst, arith, ◌==◌, length-append, drop}
+use Rattle.std.proofs.Common.{ℕ, zero, suc, ◌≡◌, ◌+◌, ◌-◌, ◌≤◌, ◌<◌, inl, inr, Bool, true, false, cond, List, [], ◌∷◌, ◌++◌, length, take, map, filter, Some}
+use Rattle.std.proofs.Common.{slice_get, refl, sym, ◌∙◌, ap, subst, arith, ◌==◌, length-append, drop}
 use Rattle.std.specs.List.{list_any}
-use Rattle.std.proofs.lemmas.Bool.{or_parts, or_cases, or_left, or_right, eqb-true, eq-eqb, cases_Bool}
+use Rattle.std.proofs.lemmas.Bool.{or_cases, or_left, or_right, eqb-true, eq-eqb, cases_Bool}
 use Rattle.std.proofs.lemmas.List.{take-append-le, length-take-le, take-append-drop}
 use Rattle.std.proofs.lemmas.List.Elements.{filter-append}
 use Rattle.model.specs.Stream.{Item, is_barrier, barriers_in, epoch_of, last_epoch, placed_from}
@@ -43,27 +44,6 @@ get-grows [] more place within = absurd (omega arith)
 get-grows (item ∷ items) more zero within = refl
 get-grows (item ∷ items) more (suc place) within = get-grows items more place (omega arith)
 
--- no item that passes one test and stands at a place passes the other, if none does
-pub none-at : (p test : ℕ × Item → Bool) (start : ℕ) (items : List Item) (n : ℕ) (item : Item) → slice_get items n ≡ Some item
-    → list_any test (filter p (placed_from start items)) ≡ false → p (start + n, item) ≡ true → test (start + n, item) ≡ false
-none-at p test start [] n item at none passes = absurd (cc)
-none-at p test start (x ∷ items) zero item at none passes =
-    let same : x ≡ item = cc in
-    let here : start + 0 ≡ start = omega arith in
-    let first : p (start, x) ≡ true = rw (same) (rw here at passes) in
-    let tested : list_any test (cond true ((start, x) ∷ filter p (placed_from (suc start) items)) (filter p (placed_from (suc start) items))) ≡ false =
-    subst (λ b. list_any test (cond b ((start, x) ∷ filter p (placed_from (suc start) items)) (filter p (placed_from (suc start) items))) ≡ false) first none in
-    let failed = (or_parts (test (start, x)) (list_any test (filter p (placed_from (suc start) items))) tested).0 in
-    rw (here, ← same) failed
-none-at p test start (x ∷ items) (suc n) item at none passes =
-    let here : start + suc n ≡ suc start + n = omega arith in
-    let rest : list_any test (filter p (placed_from (suc start) items)) ≡ false =
-    elim (p (start, x)) as (λ b. list_any test (cond b ((start, x) ∷ filter p (placed_from (suc start) items)) (filter p (placed_from (suc start) items))) ≡ false → list_any test (filter p (placed_from (suc start) items)) ≡ false) [
-      | true ↦ λ h. (or_parts (test (start, x)) (list_any test (filter p (placed_from (suc start) items))) h).1
-      | false ↦ λ h. h
-    ] none in
-    rw here (none-at p test (suc start) items n item at rest (rw here at passes))
-
 -- an item that stands at a place and passes a test
 pub record At (p : ℕ × Item → Bool) (start : ℕ) (items : List Item) (place : ℕ) : Type 0 where
   pub offset : ℕ
@@ -73,7 +53,8 @@ pub record At (p : ℕ × Item → Bool) (start : ℕ) (items : List Item) (plac
   pub passes : p (place, item) ≡ true
 
 -- where one of the passing items is said to stand at a place, it does
-pub some-at : (p : ℕ × Item → Bool) (start : ℕ) (items : List Item) (place : ℕ) → list_any (λ (entry : ℕ × Item). entry.0 == place) (filter p (placed_from start items)) ≡ true → At p start items place
+pub some-at : (p : ℕ × Item → Bool) (start : ℕ) (items : List Item) (place : ℕ)
+    → list_any (λ (entry : ℕ × Item). entry.0 == place) (filter p (placed_from start items)) ≡ true → At p start items place
 some-at p start [] place some = absurd (cc)
 some-at p start (x ∷ items) place some =
     let later : list_any (λ (entry : ℕ × Item). entry.0 == place) (filter p (placed_from (suc start) items)) ≡ true → At p start (x ∷ items) place =
@@ -82,14 +63,16 @@ some-at p start (x ∷ items) place some =
     elim (cases_Bool (p (start, x))) [
       | inl passed ↦
           let here : list_any (λ (entry : ℕ × Item). entry.0 == place) ((start, x) ∷ filter p (placed_from (suc start) items)) ≡ true =
-          subst (λ b. list_any (λ (entry : ℕ × Item). entry.0 == place) (cond b ((start, x) ∷ filter p (placed_from (suc start) items)) (filter p (placed_from (suc start) items))) ≡ true) passed some in
+          subst (λ b. list_any (λ (entry : ℕ × Item). entry.0 == place)
+          (cond b ((start, x) ∷ filter p (placed_from (suc start) items)) (filter p (placed_from (suc start) items))) ≡ true) passed some in
           elim (or_cases (start == place) (list_any (λ (entry : ℕ × Item). entry.0 == place) (filter p (placed_from (suc start) items))) here) [
             | inl same ↦
                 let is : start ≡ place = eqb-true start place same in
                 record { offset = 0; item = x; is = omega arith; there = refl; passes = subst (λ n. p (n, x) ≡ true) is passed }
             | inr h ↦ later h
           ]
-      | inr failed ↦ later (subst (λ b. list_any (λ (entry : ℕ × Item). entry.0 == place) (cond b ((start, x) ∷ filter p (placed_from (suc start) items)) (filter p (placed_from (suc start) items))) ≡ true) failed some)
+      | inr failed ↦ later (subst (λ b. list_any (λ (entry : ℕ × Item). entry.0 == place)
+          (cond b ((start, x) ∷ filter p (placed_from (suc start) items)) (filter p (placed_from (suc start) items))) ≡ true) failed some)
     ]
 
 -- the place of an item that passes two tests is among those of the items that do
@@ -104,29 +87,41 @@ listed-at p test start (x ∷ items) zero item at passes tested =
     let second : test (start, x) ≡ true = rw same (rw here at tested) in
     let rest = filter p (placed_from (suc start) items) in
     let found : list_any (λ (place : ℕ). place == start + 0) (map (λ (entry : ℕ × Item). entry.0) (filter test ((start, x) ∷ rest))) ≡ true =
-    subst (λ b. list_any (λ (place : ℕ). place == start + 0) (map (λ (entry : ℕ × Item). entry.0) (cond b ((start, x) ∷ filter test rest) (filter test rest))) ≡ true) (sym second)
-    (or_left (start == start + 0) (list_any (λ (place : ℕ). place == start + 0) (map (λ (entry : ℕ × Item). entry.0) (filter test rest))) (eq-eqb start (start + 0) (sym here))) in
-    subst (λ b. list_any (λ (place : ℕ). place == start + 0) (map (λ (entry : ℕ × Item). entry.0) (filter test (cond b ((start, x) ∷ rest) rest))) ≡ true) (sym first) found
+    subst (λ b. list_any (λ (place : ℕ). place == start + 0) (map (λ (entry : ℕ × Item). entry.0) (cond b ((start, x) ∷ filter test rest) (filter test rest))) ≡
+    true) (sym second)
+    (or_left (start == start + 0) (list_any (λ (place : ℕ). place == start + 0) (map (λ (entry : ℕ × Item). entry.0) (filter test rest)))
+    (eq-eqb start (start + 0) (sym here))) in
+    subst (λ b. list_any (λ (place : ℕ). place == start + 0) (map (λ (entry : ℕ × Item). entry.0) (filter test (cond b ((start, x) ∷ rest) rest))) ≡ true)
+    (sym first) found
 listed-at p test start (x ∷ items) (suc n) item at passes tested =
     let here : start + suc n ≡ suc start + n = omega arith in
     let rest = filter p (placed_from (suc start) items) in
     let more = listed-at p test (suc start) items n item at (rw here at passes) (rw here at tested) in
     let found : list_any (λ (place : ℕ). place == start + suc n) (map (λ (entry : ℕ × Item). entry.0) (filter test rest)) ≡ true = rw here more in
     let kept : list_any (λ (place : ℕ). place == start + suc n) (map (λ (entry : ℕ × Item). entry.0) (filter test ((start, x) ∷ rest))) ≡ true =
-    elim (test (start, x)) as (λ b. list_any (λ (place : ℕ). place == start + suc n) (map (λ (entry : ℕ × Item). entry.0) (cond b ((start, x) ∷ filter test rest) (filter test rest))) ≡ true) [
-      | true ↦ or_right (start == start + suc n) (list_any (λ (place : ℕ). place == start + suc n) (map (λ (entry : ℕ × Item). entry.0) (filter test rest))) found
+    elim (test (start, x)) as (λ b. list_any (λ (place : ℕ). place == start + suc n)
+    (map (λ (entry : ℕ × Item). entry.0) (cond b ((start, x) ∷ filter test rest) (filter test rest))) ≡ true) [
+      | true ↦ or_right (start == start + suc n) (list_any (λ (place : ℕ). place == start + suc n) (map (λ (entry : ℕ × Item). entry.0) (filter test rest)))
+          found
       | false ↦ found
     ] in
-    elim (p (start, x)) as (λ b. list_any (λ (place : ℕ). place == start + suc n) (map (λ (entry : ℕ × Item). entry.0) (filter test (cond b ((start, x) ∷ rest) rest))) ≡ true) [ true ↦ kept | false ↦ found ]
+    elim (p (start, x)) as (λ b. list_any (λ (place : ℕ). place == start + suc n)
+    (map (λ (entry : ℕ × Item). entry.0) (filter test (cond b ((start, x) ∷ rest) rest))) ≡ true) [ true ↦ kept | false ↦ found ]
 
 -- an item stands at its place among the placed ones
-pub placed-at : (start : ℕ) (items : List Item) (n : ℕ) (item : Item) → slice_get items n ≡ Some item → slice_get (placed_from start items) n ≡ Some (start + n, item)
+pub placed-at : (start : ℕ) (items : List Item) (n : ℕ) (item : Item) → slice_get items n ≡ Some item
+    → slice_get (placed_from start items) n ≡ Some (start + n, item)
 placed-at start [] n item at = absurd (cc)
 placed-at start (x ∷ items) zero item at = let same : x ≡ item = cc in ap (λ (i : Item). Some (start, i)) same ∙ ap (λ (m : ℕ). Some (m, item)) (omega arith)
 placed-at start (x ∷ items) (suc n) item at = placed-at (suc start) items n item at ∙ ap (λ (m : ℕ). Some (m, item)) (omega arith)
 
 -- an element of placed items
-pub placed-back : (start : ℕ) (items : List Item) (n : ℕ) (entry : ℕ × Item) → slice_get (placed_from start items) n ≡ Some entry → (entry.0 ≡ start + n) × (slice_get items n ≡ Some entry.1)
+pub placed-back : (start : ℕ) (items : List Item) (n : ℕ) (entry : ℕ × Item) → slice_get (placed_from start items) n ≡ Some entry
+    → (entry.0 ≡ start + n) × (slice_get items n ≡ Some entry.1)
 placed-back start [] n entry at = absurd (cc)
-placed-back start (x ∷ items) zero entry at = let same : (start, x) ≡ entry = cc in (ap (λ (e : ℕ × Item). e.0) (sym same) ∙ omega arith, ap (λ (e : ℕ × Item). Some e.1) same)
+placed-back start (x ∷ items) zero entry at = let same : (start, x) ≡ entry = cc in (
+  ap (λ (e : ℕ × Item). e.0) (sym same)
+      ∙ omega arith,
+  ap (λ (e : ℕ × Item). Some e.1) same,
+)
 placed-back start (x ∷ items) (suc n) entry at = let rest = placed-back (suc start) items n entry at in (rest.0 ∙ omega arith, rest.1)

@@ -1,8 +1,9 @@
 -- What may stand in a primary's stream beside being lawful: ranges of the device, the order of a resync, and so few items that
 -- each has a place.
-use Rattle.std.proofs.Common.{ℕ, ◌≡◌, ◌+◌, ◌≤◌, ◌<◌, inl, inr, Bool, true, false, cond, not, ◌&&◌, ◌||◌, List, [], ◌∷◌, ◌++◌, length, take, filter, Some, slice_get, refl, sym, ◌∙◌, ap, subst, arith, ◌==◌, length-append, nat_le}
+use Rattle.std.proofs.Common.{ℕ, ◌≡◌, ◌+◌, ◌≤◌, ◌<◌, inl, inr, Bool, true, false, cond, not, ◌&&◌, ◌||◌, List, [], ◌∷◌, ◌++◌, length, take, Some, slice_get}
+use Rattle.std.proofs.Common.{refl, sym, ◌∙◌, ap, subst, arith, ◌==◌, length-append}
 use Rattle.std.specs.List.{list_any}
-use Rattle.std.proofs.lemmas.Bool.{and_parts, cases_lt, or_cases, or_left, or_from, both_ways, leb-true}
+use Rattle.std.proofs.lemmas.Bool.{cases_lt, or_left, both_ways}
 use Rattle.std.proofs.lemmas.List.Folds.{list_any-append}
 use Rattle.std.proofs.lemmas.List.{take-append-le}
 use Rattle.std.proofs.Math.Seq.{take-append_seam}
@@ -10,11 +11,9 @@ use Rattle.std.proofs.lemmas.Option.{slice_get_within}
 use Rattle.blocks.specs.declared.settings.Settings.{Settings}
 use Rattle.blocks.specs.declared.tuple.Tuple.{Tuple}
 use Rattle.model.specs.Contents.{is_range}
-use Rattle.model.specs.Stream.{Item, WriteItem, ResyncItem, BarrierItem, SyncUuidItem, UuidsItem, is_barrier, is_write, barriers_in, last_epoch, items_of_epoch, epoch_size}
-use Rattle.model.specs.Primary.{is_resync, is_sync_start, is_sync_end, in_resync, Outward, PrimaryHistory, outward, stands}
-use Rattle.model.specs.PrimarySteps.{is_settled, epoch_is_over}
-use Rattle.laws.proofs.Lists.Elements.{get-more, get-there}
-use Rattle.laws.proofs.Lists.Picks.{pick-any, any-pick, any-none, pick-filtered}
+use Rattle.model.specs.Stream.{Item, WriteItem, ResyncItem, BarrierItem, SyncUuidItem, UuidsItem, is_barrier, is_write, barriers_in, last_epoch, items_of_epoch}
+use Rattle.model.specs.Primary.{is_resync, is_sync_start, is_sync_end, in_resync}
+use Rattle.laws.proofs.Lists.Elements.{get-more}
 use Rattle.laws.proofs.Streams.Places.{barriers-append}
 use Rattle.laws.proofs.Streams.Lawful.{epoch-items-grow, barrier-empties}
 
@@ -48,18 +47,21 @@ pub record IsSendable (settings : Settings) (items : List Item) : Type 0 where
   pub filled : (epoch : ℕ) → 0 < epoch → epoch ≤ barriers_in items → list_any is_work (items_of_epoch items epoch) ≡ true
 
 -- what an epoch has, it has as the stream grows
-work-grows : (items : List Item) (item : Item) (epoch : ℕ) → list_any is_work (items_of_epoch items epoch) ≡ true → list_any is_work (items_of_epoch (items ++ item ∷ []) epoch) ≡ true
+work-grows : (items : List Item) (item : Item) (epoch : ℕ) → list_any is_work (items_of_epoch items epoch) ≡ true
+    → list_any is_work (items_of_epoch (items ++ item ∷ []) epoch) ≡ true
 work-grows items item epoch some =
     ap (list_any is_work) (epoch-items-grow items item epoch)
     ∙ (list_any-append is_work (items_of_epoch items epoch) (cond (last_epoch items == epoch) ((length items, item) ∷ []) [])
     ∙ or_left (list_any is_work (items_of_epoch items epoch)) (list_any is_work (cond (last_epoch items == epoch) ((length items, item) ∷ []) [])) some)
 
 -- an item goes to its end that may stand there, and there is room
-sendable-append : (settings : Settings) (items : List Item) (item : Item) → IsSendable settings items → MayStand settings items item → (is_barrier item ≡ true → is_busy items ≡ true)
+sendable-append : (settings : Settings) (items : List Item) (item : Item) → IsSendable settings items → MayStand settings items item
+    → (is_barrier item ≡ true → is_busy items ≡ true)
     → length items + 1 + one_if (is_busy (items ++ item ∷ [])) + one_if (in_resync (items ++ item ∷ [])) ≤ 4294967290 → IsSendable settings (items ++ item ∷ [])
 sendable-append settings items item s may ends room = record {
   stands = λ place x at. elim (get-more items item place x at) [
-    | inl old ↦ subst (λ (l : List Item). MayStand settings l x) (sym (take-append-le place items (item ∷ []) (let n = slice_get_within items place x old in omega arith))) (s.stands place x old)
+    | inl old ↦ subst (λ (l : List Item). MayStand settings l x)
+        (sym (take-append-le place items (item ∷ []) (let n = slice_get_within items place x old in omega arith))) (s.stands place x old)
     | inr new ↦
         let front : take place (items ++ item ∷ []) ≡ items = ap (λ n. take n (items ++ item ∷ [])) new.0 ∙ take-append_seam items (item ∷ []) in
         subst (λ (l : List Item). MayStand settings l x) (sym front) (subst (MayStand settings items) (sym new.1) may)
@@ -77,7 +79,8 @@ sendable-append settings items item s may ends room = record {
     one true is = ap (λ b. length (cond b (item ∷ []) [])) is
     one false is = ap (λ b. length (cond b (item ∷ []) [])) is
 
-    last : (epoch : ℕ) (b : Bool) → is_barrier item ≡ b → epoch ≤ barriers_in items + barriers_in (item ∷ []) → barriers_in items < epoch → list_any is_work (items_of_epoch items epoch) ≡ true
+    last : (epoch : ℕ) (b : Bool) → is_barrier item ≡ b → epoch ≤ barriers_in items + barriers_in (item ∷ []) → barriers_in items < epoch
+        → list_any is_work (items_of_epoch items epoch) ≡ true
     last epoch false is within new = absurd (let none = one false is in omega arith)
     last epoch true is within new =
         let single = one true is in
@@ -89,7 +92,8 @@ at-most-one true = omega arith
 at-most-one false = omega arith
 
 -- a write or a resync block, where there are so few items
-pub sendable-work : (settings : Settings) (items : List Item) (item : Item) → IsSendable settings items → MayStand settings items item → is_barrier item ≡ false → length items < 4294967288 → IsSendable settings (items ++ item ∷ [])
+pub sendable-work : (settings : Settings) (items : List Item) (item : Item) → IsSendable settings items → MayStand settings items item → is_barrier item ≡ false
+    → length items < 4294967288 → IsSendable settings (items ++ item ∷ [])
 sendable-work settings items item s may plain few =
     let a = at-most-one (is_busy (items ++ item ∷ [])) in
     let b = at-most-one (in_resync (items ++ item ∷ [])) in
@@ -97,16 +101,19 @@ sendable-work settings items item s may plain few =
 
 -- an item that neither begins nor ends a resync leaves it
 resync-stays : (items : List Item) (item : Item) → is_sync_start item ≡ false → is_sync_end item ≡ false → in_resync (items ++ item ∷ []) ≡ in_resync items
-resync-stays items item start end = go (list_any is_sync_start items) (list_any is_sync_end items) (list_any-append is_sync_start items (item ∷ [])) (list_any-append is_sync_end items (item ∷ []))
+resync-stays items item start end = go (list_any is_sync_start items) (list_any is_sync_end items) (list_any-append is_sync_start items (item ∷ []))
+    (list_any-append is_sync_end items (item ∷ []))
   where
-    go : (a b : Bool) → list_any is_sync_start (items ++ item ∷ []) ≡ (a || (is_sync_start item || false)) → list_any is_sync_end (items ++ item ∷ []) ≡ (b || (is_sync_end item || false))
+    go : (a b : Bool) → list_any is_sync_start (items ++ item ∷ []) ≡ (a || (is_sync_start item || false))
+        → list_any is_sync_end (items ++ item ∷ []) ≡ (b || (is_sync_end item || false))
         → in_resync (items ++ item ∷ []) ≡ (a && not b)
     go true true one two = rw (one, two) refl
     go true false one two = rw (one, two, end) refl
     go false b one two = rw (one, start) refl
 
 -- a barrier, behind a busy epoch
-pub sendable-barrier : (settings : Settings) (items : List Item) → IsSendable settings items → is_busy items ≡ true → IsSendable settings (items ++ BarrierItem (last_epoch items) ∷ [])
+pub sendable-barrier : (settings : Settings) (items : List Item) → IsSendable settings items → is_busy items ≡ true
+    → IsSendable settings (items ++ BarrierItem (last_epoch items) ∷ [])
 sendable-barrier settings items s busy =
     let item : Item = BarrierItem (last_epoch items) in
     let idle : is_busy (items ++ item ∷ []) ≡ false = ap (list_any is_work) (barrier-empties items (last_epoch items)) in
@@ -123,7 +130,8 @@ busy-stays items tuple =
     let item : Item = UuidsItem tuple in
     let grown = barriers-append items (item ∷ []) in
     let same : last_epoch (items ++ item ∷ []) ≡ last_epoch items = omega arith in
-    let rest : (b : Bool) → list_any is_work (cond b ((length items, item) ∷ []) []) ≡ false = λ b. elim b as (λ t. list_any is_work (cond t ((length items, item) ∷ []) []) ≡ false) [ true ↦ refl | false ↦ refl ] in
+    let rest : (b : Bool) → list_any is_work (cond b ((length items, item) ∷ []) []) ≡ false =
+    λ b. elim b as (λ t. list_any is_work (cond t ((length items, item) ∷ []) []) ≡ false) [ true ↦ refl | false ↦ refl ] in
     ap (λ n. list_any is_work (items_of_epoch (items ++ item ∷ []) n)) same
     ∙ (ap (list_any is_work) (epoch-items-grow items item (last_epoch items))
     ∙ (list_any-append is_work (items_of_epoch items (last_epoch items)) (cond (last_epoch items == last_epoch items) ((length items, item) ∷ []) [])
@@ -134,17 +142,20 @@ busy-stays items tuple =
     plain false = refl
 
 -- the end of a resync, where one runs
-pub sendable-end : (settings : Settings) (items : List Item) (tuple : Tuple) → IsSendable settings items → in_resync items ≡ true → IsSendable settings (items ++ UuidsItem tuple ∷ [])
+pub sendable-end : (settings : Settings) (items : List Item) (tuple : Tuple) → IsSendable settings items → in_resync items ≡ true
+    → IsSendable settings (items ++ UuidsItem tuple ∷ [])
 sendable-end settings items tuple s running =
     let item : Item = UuidsItem tuple in
-    let over : in_resync (items ++ item ∷ []) ≡ false = ended (list_any is_sync_start (items ++ item ∷ [])) (list_any is_sync_end items) (list_any-append is_sync_end items (item ∷ [])) in
+    let over : in_resync (items ++ item ∷ []) ≡ false = ended (list_any is_sync_start (items ++ item ∷ [])) (list_any is_sync_end items)
+    (list_any-append is_sync_end items (item ∷ [])) in
     let short = s.short in
     let one : one_if (in_resync items) ≡ 1 = ap one_if running in
     let two : one_if (in_resync (items ++ item ∷ [])) ≡ 0 = ap one_if over in
     let three : one_if (is_busy (items ++ item ∷ [])) ≡ one_if (is_busy items) = ap one_if (busy-stays items tuple) in
     sendable-append settings items item s running (λ ends. absurd (cc)) (omega arith)
   where
-    ended : (a b : Bool) → list_any is_sync_end (items ++ UuidsItem tuple ∷ []) ≡ (b || (true || false)) → (a && not (list_any is_sync_end (items ++ UuidsItem tuple ∷ []))) ≡ false
+    ended : (a b : Bool) → list_any is_sync_end (items ++ UuidsItem tuple ∷ []) ≡ (b || (true || false))
+        → (a && not (list_any is_sync_end (items ++ UuidsItem tuple ∷ []))) ≡ false
     ended true true is = ap not is
     ended true false is = ap not is
     ended false b is = refl
@@ -156,34 +167,3 @@ sendable-empty settings = record { stands = λ place item at. absurd (cc); short
 -- the start of a resync
 pub sendable-start : (settings : Settings) (word : ℕ) → 0 < word → IsSendable settings (SyncUuidItem word ∷ [])
 sendable-start settings word fresh = sendable-work settings [] (SyncUuidItem word) (sendable-empty settings) (refl, fresh) refl (omega arith)
-
--- An epoch that is over had a write or a block.
-pub over-busy : (settings : Settings) → 0 < settings.max_epoch → (h : PrimaryHistory) → h.settings ≡ settings → epoch_is_over h ≡ true → is_busy (outward h).stream ≡ true
-over-busy settings bound h same over = elim (or_cases settled full (and_parts (stands c) (settled || full) over).1) [
-  | inl some ↦ let found = pick-any (is_settled h c) entries some in any-pick is_work entries found.0 found.1 found.2 (work found.1 found.3)
-  | inr many ↦
-      let setting : h.settings.max_epoch ≡ settings.max_epoch = ap (λ (x : Settings). x.max_epoch) same in
-      let size = leb-true h.settings.max_epoch (epoch_size c.stream (last_epoch c.stream)) many in
-      let first = get-there (filter (λ (entry : ℕ × Item). is_write entry.1) entries) 0 (omega arith) in
-      let found = pick-filtered (λ (entry : ℕ × Item). is_write entry.1) entries 0 first.0 first.1 in
-      any-pick is_work entries found.0 first.0 found.1 (or_left (is_write first.0.1) (is_resync first.0.1) found.2)
-]
-  where
-    c : Outward
-    c = outward h
-
-    entries : List (ℕ × Item)
-    entries = items_of_epoch (outward h).stream (last_epoch (outward h).stream)
-
-    settled : Bool
-    settled = list_any (is_settled h (outward h)) (items_of_epoch (outward h).stream (last_epoch (outward h).stream))
-
-    full : Bool
-    full = nat_le h.settings.max_epoch (epoch_size (outward h).stream (last_epoch (outward h).stream))
-
-    work : (entry : ℕ × Item) → is_settled h (outward h) entry ≡ true → is_work entry ≡ true
-    work (place, WriteItem write) is = refl
-    work (place, ResyncItem block contents) is = refl
-    work (place, BarrierItem epoch) is = absurd (both_ways _ (or_from _ _ (any-none _ h.writes (λ accepted. refl)) refl) is)
-    work (place, SyncUuidItem word) is = absurd (both_ways _ (or_from _ _ (any-none _ h.writes (λ accepted. refl)) refl) is)
-    work (place, UuidsItem tuple) is = absurd (both_ways _ (or_from _ _ (any-none _ h.writes (λ accepted. refl)) refl) is)

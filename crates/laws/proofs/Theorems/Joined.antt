@@ -13,9 +13,11 @@ use Rattle.laws.proofs.Theorems.JoinedHeadline.{joined-beginning}
 -- where the identifiers were honest, a settlement of the two at rest has the headline
 pub joined_settles : JoinedRunsSettle
 joined_settles o here there sound joined =
-    settles (primary_run here (primary_at o)) (secondary_run there (secondary_at o)) joined (joined_headline o here there sound joined) (accounted o here sound.ranges sound.local).1.known.numbers.1
+    settles (primary_run here (primary_at o)) (secondary_run there (secondary_at o)) joined (joined_headline o here there sound joined)
+    (accounted o here sound.ranges sound.local).1.known.numbers.1
 
 -- whatever the identifiers say, it has all the rest
 pub joined_settles_anyhow : JoinedRunsSettleAnyhow
 joined_settles_anyhow o here there ranges joined =
-    settles-anyhow (primary_run here (primary_at o)) (secondary_run there (secondary_at o)) joined (joined-beginning o here there ranges joined) (holds_earlier_epochs o there) (keeps_promises o here there tt joined) (numbered-run o.settings o.local o.own o.marks here).numbers.1
+    settles-anyhow (primary_run here (primary_at o)) (secondary_run there (secondary_at o)) joined (joined-beginning o here there ranges joined)
+    (holds_earlier_epochs o there) (keeps_promises o here there tt joined) (numbered-run o.settings o.local o.own o.marks here).numbers.1

@@ -9,6 +9,7 @@ use Rattle.model.specs.Secondary.{SecondaryHistory, secondary_map}
 use Rattle.model.specs.Pair.{same_block}
 use Rattle.model.specs.Headline.{TakesABeginning, MarksDifferences, is_covered}
 use Rattle.model.specs.Theorems.{primary_at, secondary_at, HasRanges, IsSoundOpening, JoinedRuns, JoinedRunsHaveTheHeadline, JoinedRunsCoverDifferences}
+use Rattle.laws.proofs.Rules.EpochEnds.{most_writes}
 use Rattle.laws.proofs.Secondary.Runs.{holds_earlier_epochs}
 use Rattle.laws.proofs.Joining.Promises.{keeps_promises}
 use Rattle.laws.proofs.Theorems.PrimaryAlone.{writes_once, streams_are_lawful, extents_are_few}
@@ -24,7 +25,8 @@ joined-beginning o here there ranges joined =
     let s : SecondaryHistory = secondary_run there (secondary_at o) in
     record {
       taken = takes_a_beginning p s joined;
-      lawful = λ k c at. subst (λ (x : Settings). IsLawful x.max_epoch c.stream) (sym (kept-opening-primary o here).settings) (streams_are_lawful o here ranges k c at);
+      lawful = λ k c at. subst (λ (x : Settings). IsLawful (most_writes x) c.stream) (sym (kept-opening-primary o here).settings)
+          (streams_are_lawful o here ranges k c at);
       once = writes_once o here;
     }
 
@@ -36,14 +38,16 @@ joined_covers o here there sound joined =
     record {
       covered = λ grounded block differs. elim (cases_Bool (is_covered p block)) [
         | inl is ↦ is
-        | inr clean ↦ absurd (both_ways (same_block (local_map p block) (secondary_map s block)) differs (joined-agrees o here there sound joined grounded block (reflects o here sound.ranges sound.local block clean)))
+        | inr clean ↦ absurd (both_ways (same_block (local_map p block) (secondary_map s block)) differs
+            (joined-agrees o here there sound joined grounded block (reflects o here sound.ranges sound.local block clean)))
       ];
       active = subst (λ (x : Settings). length (active_extents p) ≤ x.slots) (sym (kept-opening-primary o here).settings) (extents_are_few o here);
     }
 
 -- while no stream stands, such a block is marked
 pub joined-marks : JoinedRuns IsSoundOpening MarksDifferences
-joined-marks o here there sound joined grounded resting block differs = marks_at_rest o here sound.ranges sound.local resting block ((joined_covers o here there sound joined).covered grounded block differs)
+joined-marks o here there sound joined grounded resting block differs = marks_at_rest o here sound.ranges sound.local resting block
+    ((joined_covers o here there sound joined).covered grounded block differs)
 
 -- where the two are joined, the whole headline holds
 pub joined_headline : JoinedRunsHaveTheHeadline

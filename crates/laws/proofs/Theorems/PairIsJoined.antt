@@ -21,4 +21,5 @@ of-joined IsSuch Holds joined o events shares such =
     let runs = every_run_is_joined o events in
     let both = subst (λ p. IsJoined p (run events (pair_at o)).1.secondary) runs.primary runs.joined in
     let ends = subst (λ s. IsJoined (primary_run runs.here (primary_at o)) s) runs.secondary both in
-    subst (λ p. Holds p (run events (pair_at o)).1.secondary) (sym runs.primary) (subst (λ s. Holds (primary_run runs.here (primary_at o)) s) (sym runs.secondary) (joined o runs.here runs.there such ends))
+    subst (λ p. Holds p (run events (pair_at o)).1.secondary) (sym runs.primary)
+    (subst (λ s. Holds (primary_run runs.here (primary_at o)) s) (sym runs.secondary) (joined o runs.here runs.there such ends))

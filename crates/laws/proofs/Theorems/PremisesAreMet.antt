@@ -9,11 +9,19 @@ use Rattle.model.specs.Headline.{Cover}
 use Rattle.model.specs.Rows.{connect}
 use Rattle.model.specs.Theorems.{marks_at}
 use Rattle.model.specs.WriteRows.{one_write}
-use Rattle.laws.specs.Examples.{new_pair, left_behind, OpeningsAreMet, OneWriteIsMet, CoverIsMet, ReflectionIsMet, RestIsMet, OrderIsMet, WholeEpochIsMet, RefusedFramesAreMet, ReleasesAreMet}
+use Rattle.laws.specs.Examples.{new_pair, left_behind, OpeningsAreMet, OneWriteIsMet, CoverIsMet, ReflectionIsMet, RestIsMet, OrderIsMet, WholeEpochIsMet}
+use Rattle.laws.specs.Examples.{RefusedFramesAreMet, ReleasesAreMet}
 use Rattle.laws.proofs.Theorems.PairIsJoined.{every_run_is_joined}
 
 ranges : IsInRange standard
-ranges = record { blocks = (omega arith, omega arith); max_epoch = (omega arith, omega arith); slots = (omega arith, omega arith); backlog = (omega arith, omega arith); link = (omega arith, omega arith); pending = (omega arith, omega arith) }
+ranges = record {
+  blocks = (omega arith, omega arith);
+  max_epoch = (omega arith, omega arith);
+  slots = (omega arith, omega arith);
+  backlog = (omega arith, omega arith);
+  link = (omega arith, omega arith);
+  pending = (omega arith, omega arith);
+}
 
 -- a disk that is filled with one byte
 filled-disk : (blocks : ℕ) (bytes : List ℕ) → IsDisk blocks (filled blocks bytes)
@@ -21,7 +29,8 @@ filled-disk blocks bytes block = elim (nat_lt block blocks) as (λ b. is_some (i
 
 -- it does not differ from itself
 filled-same : (block : ℕ) → same_block (filled 8 (0 ∷ []) block) (filled 8 (0 ∷ []) block) ≡ true
-filled-same block = elim (nat_lt block 8) as (λ b. same_block (if b then Some (0 ∷ []) else None) (if b then Some (0 ∷ []) else None) ≡ true) [ true ↦ refl | false ↦ refl ]
+filled-same block = elim (nat_lt block 8) as (λ b. same_block (if b then Some (0 ∷ []) else None) (if b then Some (0 ∷ []) else None) ≡ true)
+    [ true ↦ refl | false ↦ refl ]
 
 equal-disks : Cover (marks_at new_pair) (filled 8 (0 ∷ [])) (filled 8 (0 ∷ []))
 equal-disks block differs = absurd (both_ways (same_block (filled 8 (0 ∷ []) block) (filled 8 (0 ∷ []) block)) differs (filled-same block))
@@ -42,8 +51,18 @@ marked-ahead block differs = elim (cases_Bool (block == 2)) [
 
 pub openings_are_met : OpeningsAreMet
 openings_are_met = record {
-  equal = record { ranges = record { here = ranges; there = ranges }; local = filled-disk 8 (0 ∷ []); peer = filled-disk 8 (0 ∷ []); identifiers = record { own_data = omega arith; same_current = λ same. equal-disks; from_bitmap = λ some same. equal-disks } };
-  marked = record { ranges = record { here = ranges; there = ranges }; local = ahead-disk; peer = filled-disk 8 (0 ∷ []); identifiers = record { own_data = omega arith; same_current = λ same. marked-ahead; from_bitmap = λ some same. marked-ahead } };
+  equal = record {
+    ranges = record { here = ranges; there = ranges };
+    local = filled-disk 8 (0 ∷ []);
+    peer = filled-disk 8 (0 ∷ []);
+    identifiers = record { own_data = omega arith; same_current = λ same. equal-disks; from_bitmap = λ some same. equal-disks };
+  };
+  marked = record {
+    ranges = record { here = ranges; there = ranges };
+    local = ahead-disk;
+    peer = filled-disk 8 (0 ∷ []);
+    identifiers = record { own_data = omega arith; same_current = λ same. marked-ahead; from_bitmap = λ some same. marked-ahead };
+  };
   differing = refl;
 }
 
@@ -56,7 +75,17 @@ one_write_is_met = record {
 }
 
 pub cover_is_met : CoverIsMet
-cover_is_met = record { grounded = inl refl; standing = refl; differs = refl; unmarked = refl; unreleased = refl; active = refl; lost = refl; still = refl; marked = refl }
+cover_is_met = record {
+  grounded = inl refl;
+  standing = refl;
+  differs = refl;
+  unmarked = refl;
+  unreleased = refl;
+  active = refl;
+  lost = refl;
+  still = refl;
+  marked = refl;
+}
 
 pub reflection_is_met : ReflectionIsMet
 reflection_is_met = record { written = refl; touched = refl; sure = refl; untouched = refl }
@@ -65,10 +94,30 @@ pub rest_is_met : RestIsMet
 rest_is_met = record { rest = refl; numbers = refl }
 
 pub order_is_met : OrderIsMet
-order_is_met = record { unharmed = record { local = refl; opening = λ same. refl }; consistent = refl; adopted = refl; earlier = refl; later = refl; completed = refl; before = refl; copied = refl; written = refl; whole_to = refl }
+order_is_met = record {
+  unharmed = record { local = refl; opening = λ same. refl };
+  consistent = refl;
+  adopted = refl;
+  earlier = refl;
+  later = refl;
+  completed = refl;
+  before = refl;
+  copied = refl;
+  written = refl;
+  whole_to = refl;
+}
 
 pub whole_epoch_is_met : WholeEpochIsMet
-whole_epoch_is_met = record { unharmed = record { local = refl; opening = λ same. refl }; consistent = refl; write = refl; connection = refl; epoch = refl; whole_to = refl; before = refl; written = refl }
+whole_epoch_is_met = record {
+  unharmed = record { local = refl; opening = λ same. refl };
+  consistent = refl;
+  write = refl;
+  connection = refl;
+  epoch = refl;
+  whole_to = refl;
+  before = refl;
+  written = refl;
+}
 
 pub refused_frames_are_met : RefusedFramesAreMet
 refused_frames_are_met = record {

@@ -1,6 +1,7 @@
 -- `primary_alone`: streams, places, extents and releases of a primary by itself.
-use Rattle.std.proofs.Common.{◌∙◌, ℕ, suc, ◌≡◌, Some, slice_get, sym, ap, subst, arith}
+use Rattle.std.proofs.Common.{◌∙◌, suc, ◌≡◌, Some, slice_get, sym, ap, subst, arith}
 use Rattle.std.proofs.lemmas.Bool.{lt-ltb}
+use Rattle.blocks.specs.Positions.{StreamPosition}
 use Rattle.model.specs.LocalRuns.{primary_run}
 use Rattle.model.specs.Theorems.{primary_at}
 use Rattle.laws.specs.Statements.{PrimaryStreamsAreLawful, PrimaryExtentsAreFew, PrimaryStaysClosed, PrimaryReleasesInOrder, PrimaryWritesOnce}
@@ -27,7 +28,9 @@ extents_are_few o events = primary_extents o.settings o.local o.own o.marks even
 -- its releases come in the order of the writes of a block
 pub releases_in_order : PrimaryReleasesInOrder
 releases_in_order o events ranges sized i j block a b less ata atb cova covb released =
-    released-in-order o.settings (primary_run events (primary_at o)) (ordered-run o.settings o.local o.own o.marks events ranges.here (λ block inside. sized block ∙ lt-ltb block o.settings.blocks inside)) i j block a b less ata atb cova covb released
+    released-in-order o.settings (primary_run events (primary_at o))
+    (ordered-run o.settings o.local o.own o.marks events ranges.here (λ block inside. sized block ∙ lt-ltb block o.settings.blocks inside)) i j block a b
+    less ata atb cova covb released
 
 -- a closed end of a primary stays as it is
 pub stays_closed : PrimaryStaysClosed
@@ -44,8 +47,8 @@ writes_once o events k l place other c d a b atc atd ina inb number =
     let ny : b.number ≡ suc y.0 = ap (λ (w : Write). w.number) (sym y.3) ∙ homes.numbered y.0 y.1 y.2 in
     let index : x.0 ≡ y.0 = omega arith in
     let same : x.1 ≡ y.1 = same-at p.writes y.0 x.1 y.1 (subst (λ n. slice_get p.writes n ≡ Some x.1) index x.2) y.2 in
-    let one : ℕ × ℕ = (k, place) in
-    let two : ℕ × ℕ = (l, other) in
+    let one : StreamPosition = record { index = k; place = place } in
+    let two : StreamPosition = record { index = l; place = other } in
     let homes : Some one ≡ Some two = sym x.4 ∙ (ap (λ (z : Accepted). z.home) same ∙ y.4) in
     let pairs : one ≡ two = cc in
-    (ap (λ (z : ℕ × ℕ). z.0) pairs, ap (λ (z : ℕ × ℕ). z.1) pairs)
+    (ap (λ (z : StreamPosition). z.index) pairs, ap (λ (z : StreamPosition). z.place) pairs)

@@ -11,8 +11,10 @@ use Rattle.laws.proofs.Accounted.Reflected.{reflected, rest-marked}
 use Rattle.laws.proofs.Accounted.Released.{accounted-run}
 
 -- every run of a primary keeps the order of its writes, and accounts for its unmarked blocks
-pub accounted : (o : Opening) (events : List PrimaryEvent) → HasRanges o → IsDisk o.settings.blocks o.local → Ordered o.settings (primary_run events (primary_at o)) × IsAccounted (primary_run events (primary_at o))
-accounted o events ranges sized = accounted-run o.settings o.local o.own o.marks events ranges.here (λ block inside. sized block ∙ lt-ltb block o.settings.blocks inside)
+pub accounted : (o : Opening) (events : List PrimaryEvent) → HasRanges o → IsDisk o.settings.blocks o.local
+    → Ordered o.settings (primary_run events (primary_at o)) × IsAccounted (primary_run events (primary_at o))
+accounted o events ranges sized = accounted-run o.settings o.local o.own o.marks events ranges.here (λ block inside. sized block
+    ∙ lt-ltb block o.settings.blocks inside)
 
 -- a block that is neither marked nor under an unreleased write stands as an item that is surely applied has it, or as at the opening
 pub reflects : PrimaryReflects

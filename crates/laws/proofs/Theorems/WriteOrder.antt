@@ -19,7 +19,8 @@ pub joined_write_order : JoinedRunsKeepWriteOrder
 joined_write_order o here there sound joined unharmed consistent =
     let p = primary_run here (primary_at o) in
     let s = secondary_run there (secondary_at o) in
-    let sized : (block : ℕ) → block < o.settings.blocks → is_some (o.local block) ≡ true = λ block inside. sound.local block ∙ lt-ltb block o.settings.blocks inside in
+    let sized : (block : ℕ) → block < o.settings.blocks → is_some (o.local block) ≡ true = λ block inside. sound.local block
+    ∙ lt-ltb block o.settings.blocks inside in
     let known = left-run o.settings o.local o.own o.marks here sound.ranges.here sized in
     let ordered = known.0.0.0 in
     let homes = ordered.1.1.0.0 in

@@ -1,15 +1,21 @@
 -- What a primary's history keeps of its blocks is kept as a write is accepted, and as a block of a resync is appended.
-use Rattle.std.proofs.Common.{ℕ, suc, ◌≡◌, ◌+◌, ◌-◌, ◌≤◌, ◌<◌, ◌⊎◌, inl, inr, Bool, true, false, not, ◌&&◌, List, [], ◌∷◌, ◌++◌, length, map, filter, Option, Some, None, slice_get, refl, sym, ◌∙◌, ap, subst, arith, ◌==◌, nat_lt, nat_le}
+use Rattle.std.proofs.Common.{ℕ, suc, ◌≡◌, ◌+◌, ◌-◌, ◌≤◌, ◌<◌, ◌⊎◌, inl, inr, Bool, true, false, not, ◌&&◌, List, [], ◌∷◌, ◌++◌, length, map, Option}
+use Rattle.std.proofs.Common.{Some, None, slice_get, refl, sym, ◌∙◌, ap, subst, arith, ◌==◌, nat_lt, nat_le}
 use Rattle.std.specs.Prelude.{if◌then◌else◌, is_some, unwrap_or}
-use Rattle.std.specs.List.{list_any}
-use Rattle.std.proofs.lemmas.Bool.{cases_Bool, both_ways, not-true, and_parts, and_from, not_from_false, or_parts, leb-true, lt-ltb, le-leb}
+use Rattle.std.proofs.lemmas.Bool.{cases_Bool, both_ways, and_parts, and_from, not_from_false, leb-true, lt-ltb, le-leb}
 use Rattle.std.proofs.lemmas.List.{map_push}
 use Rattle.std.proofs.lemmas.Option.{slice_get_within}
-use Rattle.model.specs.Contents.{Write, Layer, block_under, overlay, covers, overlap, extent_of}
-use Rattle.model.specs.Stream.{Item, WriteItem, ResyncItem, below, placed}
+use Rattle.blocks.specs.Positions.{StreamPosition}
+use Rattle.model.specs.Contents.{Write, Layer, block_under, overlay, covers, extent_of}
+use Rattle.model.specs.Stream.{Item, WriteItem, ResyncItem, placed}
 use Rattle.model.specs.Marks.{marking}
-use Rattle.model.specs.Primary.{Waiting, Accepted, Outward, PrimaryHistory, no_outward, outward, last_index, change_last, stands, is_completed, is_open, open_writes, is_on_disk, local_layer, local_map, is_resync, was_resynced, under_way, resync_runs, in_resync, marked_blocks, free_block}
+use Rattle.model.specs.Primary.{Waiting, Accepted, Outward, PrimaryHistory, no_outward, outward, last_index, change_last, stands, is_completed}
+use Rattle.model.specs.Primary.{is_on_disk, local_layer, local_map, is_resync, was_resynced, under_way, resync_runs, in_resync}
+use Rattle.model.specs.Primary.{free_block}
 use Rattle.model.specs.PrimarySteps.{appending, conflict, submission, submitted}
+use Rattle.laws.proofs.Rules.Conflicts.{has_block_of, way-apart}
+use Rattle.laws.proofs.Rules.FreeBlocks.{IsFree, free-found}
+use Rattle.laws.proofs.Rules.Marking.{unmarked-by}
 use Rattle.laws.specs.Reflections.{touches}
 use Rattle.laws.proofs.Lists.Last.{length-change}
 use Rattle.laws.proofs.Primary.Moves.{MaySubmit}
@@ -17,7 +23,7 @@ use Rattle.laws.proofs.Primary.Homes.{HasHomes}
 use Rattle.laws.proofs.Blocks.Latest.{latest, content_of, settling_layer, settling_map}
 use Rattle.laws.proofs.Blocks.LatestMoves.{latest-appended}
 use Rattle.laws.proofs.Tracked.{IsUnderWay, IsCopy, IsTracked}
-use Rattle.laws.proofs.Lists.Picks.{pick-none, pick-found, pick-filtered, filtered-pick, pick-below}
+use Rattle.laws.proofs.Lists.Picks.{pick-none, filtered-pick}
 use Rattle.laws.proofs.Blocks.Overlays.{overlay-append, overlay-some, under-outside, under-inside, settled-is-local}
 use Rattle.laws.proofs.Tracked.Moves.{some-connection, outward-change}
 use Rattle.laws.proofs.Tracked.Outcomes.{waiting-open}
@@ -29,19 +35,25 @@ use Rattle.laws.proofs.Primary.Ends.{stands-parts}
 -- An item goes to the end of the stream.
 
 -- what touches a block last, with one item more
-appended : (h : PrimaryHistory) (item : Item) (block : ℕ) → (outward h).closed ≡ false → latest (change_last (λ c. record c { stream = c.stream ++ item ∷ [] }) h.connections) block
-    ≡ (if touches item block then Some (record { connection = last_index h.connections; place = length (outward h).stream; item = item }) else latest h.connections block)
-appended h item block standing = latest-appended (no_outward h.tuple) (λ c. record c { stream = c.stream ++ item ∷ [] }) item h.connections block (some-connection h standing) refl
+appended : (h : PrimaryHistory) (item : Item) (block : ℕ) → (outward h).closed ≡ false
+    → latest (change_last (λ c. record c { stream = c.stream ++ item ∷ [] }) h.connections) block
+    ≡ (if touches item block then Some (record { connection = last_index h.connections; place = length (outward h).stream; item = item })
+    else latest h.connections block)
+appended h item block standing = latest-appended (no_outward h.tuple) (λ c. record c { stream = c.stream ++ item ∷ [] }) item h.connections block
+    (some-connection h standing) refl
 
 appended-touching : (h : PrimaryHistory) (item : Item) (block : ℕ) → (outward h).closed ≡ false → touches item block ≡ true
-    → latest (change_last (λ c. record c { stream = c.stream ++ item ∷ [] }) h.connections) block ≡ Some (record { connection = last_index h.connections; place = length (outward h).stream; item = item })
+    → latest (change_last (λ c. record c { stream = c.stream ++ item ∷ [] }) h.connections) block ≡ Some
+    (record { connection = last_index h.connections; place = length (outward h).stream; item = item })
 appended-touching h item block standing touched =
-    appended h item block standing ∙ ap (λ b. if b then Some (record { connection = last_index h.connections; place = length (outward h).stream; item = item }) else latest h.connections block) touched
+    appended h item block standing ∙ ap (λ b. if b then Some (record { connection = last_index h.connections; place = length (outward h).stream; item = item })
+    else latest h.connections block) touched
 
 appended-apart : (h : PrimaryHistory) (item : Item) (block : ℕ) → (outward h).closed ≡ false → touches item block ≡ false
     → latest (change_last (λ c. record c { stream = c.stream ++ item ∷ [] }) h.connections) block ≡ latest h.connections block
 appended-apart h item block standing apart =
-    appended h item block standing ∙ ap (λ b. if b then Some (record { connection = last_index h.connections; place = length (outward h).stream; item = item }) else latest h.connections block) apart
+    appended h item block standing ∙ ap (λ b. if b then Some (record { connection = last_index h.connections; place = length (outward h).stream; item = item })
+    else latest h.connections block) apart
 
 -- what is under way then was so, or is the new item
 way-appended : (c : Outward) (item : Item) (place block : ℕ) (contents : List ℕ) → IsUnderWay (record c { stream = c.stream ++ item ∷ [] }) place block contents
@@ -56,8 +68,13 @@ copy-appended : (c : Outward) (item : Item) (place block : ℕ) (contents : List
     → (IsCopy c place block contents × ((write : Write) → item ≡ WriteItem write → covers write block ≡ false)) ⊎ (ResyncItem block contents ≡ item)
 copy-appended c item place block contents copy = elim (get-more c.stream item place (ResyncItem block contents) copy.there) [
   | inl old ↦ inl (
-    record { standing = copy.standing; there = old; last = λ next write after at. copy.last next write after (get-left c.stream (item ∷ []) next (WriteItem write) at) },
-    λ write is. copy.last (length c.stream) write (let within = slice_get_within c.stream place (ResyncItem block contents) old in omega arith) (get-end c.stream item ∙ ap (λ (x : Item). Some x) is),
+    record {
+      standing = copy.standing;
+      there = old;
+      last = λ next write after at. copy.last next write after (get-left c.stream (item ∷ []) next (WriteItem write) at);
+    },
+    λ write is. copy.last (length c.stream) write (let within = slice_get_within c.stream place (ResyncItem block contents) old in omega arith)
+        (get-end c.stream item ∙ ap (λ (x : Item). Some x) is),
   )
   | inr new ↦ inr new.1
 ]
@@ -65,34 +82,30 @@ copy-appended c item place block contents copy = elim (get-more c.stream item pl
 -- A write is accepted.
 
 -- what a block comes to hold with one write more
-settling-more : (h : PrimaryHistory) (added : Accepted) (block : ℕ) → overlay h.opening_map (map settling_layer (h.writes ++ added ∷ [])) block ≡ block_under (settling_layer added) block (settling_map h block)
+settling-more : (h : PrimaryHistory) (added : Accepted) (block : ℕ)
+    → overlay h.opening_map (map settling_layer (h.writes ++ added ∷ [])) block ≡ block_under (settling_layer added) block (settling_map h block)
 settling-more h added block =
-    ap (λ (layers : List Layer). overlay h.opening_map layers block) (map_push settling_layer h.writes added) ∙ overlay-append h.opening_map (map settling_layer h.writes) (settling_layer added) block
+    ap (λ (layers : List Layer). overlay h.opening_map layers block) (map_push settling_layer h.writes added)
+    ∙ overlay-append h.opening_map (map settling_layer h.writes) (settling_layer added) block
 
-settling-apart : (h : PrimaryHistory) (added : Accepted) (block : ℕ) → covers added.write block ≡ false → overlay h.opening_map (map settling_layer (h.writes ++ added ∷ [])) block ≡ settling_map h block
+settling-apart : (h : PrimaryHistory) (added : Accepted) (block : ℕ) → covers added.write block ≡ false
+    → overlay h.opening_map (map settling_layer (h.writes ++ added ∷ [])) block ≡ settling_map h block
 settling-apart h added block apart = settling-more h added block ∙ under-outside (settling_layer added) block (settling_map h block) apart
 
 -- a new write has no block that is under way
-conflict-free : (h : PrimaryHistory) (write : Write) (place block : ℕ) (contents : List ℕ) → is_some (conflict h write) ≡ false → IsUnderWay (outward h) place block contents → covers write block ≡ false
+conflict-free : (h : PrimaryHistory) (write : Write) (place block : ℕ) (contents : List ℕ) → is_some (conflict h write) ≡ false
+    → IsUnderWay (outward h) place block contents → covers write block ≡ false
 conflict-free h write place block contents free way =
     let c : Outward = outward h in
     let item : Item = ResyncItem block contents in
-    let there = filtered-pick (λ entry. is_resync entry.1 && not (was_resynced c entry.0 entry.1)) (placed c.stream) place (place, item) (placed-at 0 c.stream place item way.there ∙ ap (λ (n : ℕ). Some (n, item)) (omega arith)) (not_from_false (was_resynced c place item) way.unanswered) in
-    pick-none meets (under_way c) there.0 (place, item) (none way.standing (cases_Bool (list_any meets (elim (stands c) as (λ _. List (ℕ × Item)) [ true ↦ under_way c | false ↦ [] ])))) there.1
-  where
-    meets : ℕ × Item → Bool
-    meets entry = elim entry.1 as (λ _. Bool) [ ResyncItem block contents ↦ covers write block | _ ↦ false ]
-
-    none : stands (outward h) ≡ true
-        → (list_any meets (elim (stands (outward h)) as (λ _. List (ℕ × Item)) [ true ↦ under_way (outward h) | false ↦ [] ]) ≡ true) ⊎ (list_any meets (elim (stands (outward h)) as (λ _. List (ℕ × Item)) [ true ↦ under_way (outward h) | false ↦ [] ]) ≡ false)
-        → list_any meets (under_way (outward h)) ≡ false
-    none standing (inl met) =
-        absurd (let same : is_some (conflict h write) ≡ true =
-        ap (λ b. is_some (if b then Some 0 else slice_get (map (λ (accepted : Accepted). accepted.write.number) (filter (λ (accepted : Accepted). overlap accepted.write write) (open_writes h))) 0)) met in both_ways (is_some (conflict h write)) free same)
-    none standing (inr not_met) = subst (λ b. list_any meets (elim b as (λ _. List (ℕ × Item)) [ true ↦ under_way (outward h) | false ↦ [] ]) ≡ false) standing not_met
+    let there = filtered-pick (λ entry. is_resync entry.1 && not (was_resynced c entry.0 entry.1)) (placed c.stream) place (place, item)
+    (placed-at 0 c.stream place item way.there
+    ∙ ap (λ (n : ℕ). Some (n, item)) (omega arith)) (not_from_false (was_resynced c place item) way.unanswered) in
+    pick-none (has_block_of write) (under_way c) there.0 (place, item) (way-apart h write free way.standing) there.1
 
 -- A write is accepted of which the journal has none of its number: it lies in the device and has no block under way.
-pub tracked-submits : (h : PrimaryHistory) (first : ℕ) (contents : List (List ℕ)) → MaySubmit h first contents → is_completed h (suc (length h.writes)) ≡ false → IsTracked h
+pub tracked-submits : (h : PrimaryHistory) (first : ℕ) (contents : List (List ℕ)) → MaySubmit h first contents → is_completed h (suc (length h.writes)) ≡ false
+    → IsTracked h
     → HasHomes (submitted h first contents) → IsTracked (submitted h first contents)
 tracked-submits h first contents may fresh t = go (stands (outward h)) refl
   where
@@ -101,29 +114,68 @@ tracked-submits h first contents may fresh t = go (stands (outward h)) refl
 
     fits : first + length contents ≤ h.settings.blocks
     fits =
-        let all = (and_parts ((nat_lt 0 (length contents) && nat_le (length contents) 32) && nat_le (first + length contents) h.settings.blocks) (extent_of first == extent_of (first + length contents - 1)) may.range).0 in
-        leb-true (first + length contents) h.settings.blocks (and_parts (nat_lt 0 (length contents) && nat_le (length contents) 32) (nat_le (first + length contents) h.settings.blocks) all).1
+        let all = (and_parts ((nat_lt 0 (length contents) && nat_le (length contents) 32) && nat_le (first + length contents) h.settings.blocks)
+        (extent_of first == extent_of (first + length contents - 1)) may.range).0 in
+        leb-true (first + length contents) h.settings.blocks
+        (and_parts (nat_lt 0 (length contents) && nat_le (length contents) 32) (nat_le (first + length contents) h.settings.blocks) all).1
 
-    inside : (home : Option (ℕ × ℕ)) (i : ℕ) (accepted : Accepted) → slice_get (h.writes ++ record { write = write; journal_length = length h.journal; home = home; outcome = Waiting } ∷ []) i ≡ Some accepted
+    inside : (home : Option StreamPosition) (i : ℕ) (accepted : Accepted)
+        → slice_get (h.writes ++ record { write = write; journal_length = length h.journal; home = home; outcome = Waiting } ∷ []) i ≡ Some accepted
         → accepted.write.first + length accepted.write.contents ≤ h.settings.blocks
-    inside home i accepted at = elim (get-more h.writes (record { write = write; journal_length = length h.journal; home = home; outcome = Waiting }) i accepted at) [
-      | inl old ↦ t.writes_inside i accepted old
-      | inr new ↦ subst (λ (a : Accepted). a.write.first + length a.write.contents ≤ h.settings.blocks) (sym new.1) fits
-    ]
+    inside home i accepted at = elim
+        (get-more h.writes (record { write = write; journal_length = length h.journal; home = home; outcome = Waiting }) i accepted at) [
+          | inl old ↦ t.writes_inside i accepted old
+          | inr new ↦ subst (λ (a : Accepted). a.write.first + length a.write.contents ≤ h.settings.blocks) (sym new.1) fits
+        ]
 
-    done : (home : Option (ℕ × ℕ)) (i : ℕ) (accepted : Accepted) → slice_get (h.writes ++ record { write = write; journal_length = length h.journal; home = home; outcome = Waiting } ∷ []) i ≡ Some accepted
+    done : (home : Option StreamPosition) (i : ℕ) (accepted : Accepted)
+        → slice_get (h.writes ++ record { write = write; journal_length = length h.journal; home = home; outcome = Waiting } ∷ []) i ≡ Some accepted
         → is_completed h accepted.write.number ≡ true → is_on_disk accepted.outcome ≡ true
-    done home i accepted at completed = elim (get-more h.writes (record { write = write; journal_length = length h.journal; home = home; outcome = Waiting }) i accepted at) [
-      | inl old ↦ t.on_disk i accepted old completed
-      | inr new ↦ absurd (both_ways (is_completed h (suc (length h.writes))) fresh (subst (λ (a : Accepted). is_completed h a.write.number ≡ true) new.1 completed))
-    ]
+    done home i accepted at completed =
+        elim (get-more h.writes (record { write = write; journal_length = length h.journal; home = home; outcome = Waiting }) i accepted at) [
+          | inl old ↦ t.on_disk i accepted old completed
+          | inr new ↦ absurd (both_ways (is_completed h (suc (length h.writes))) fresh
+              (subst (λ (a : Accepted). is_completed h a.write.number ≡ true) new.1 completed))
+        ]
 
     go : (b : Bool) → stands (outward h) ≡ b → HasHomes (elim b as (λ _. PrimaryHistory) [
-      | true ↦ appending (WriteItem (submission h first contents)) (record h { writes = h.writes ++ record { write = submission h first contents; journal_length = length h.journal; home = Some (last_index h.connections, length (outward h).stream); outcome = Waiting } ∷ [] })
-      | false ↦ record h { writes = h.writes ++ record { write = submission h first contents; journal_length = length h.journal; home = None; outcome = Waiting } ∷ []; marks = marking (submission h first contents) h.marks }
+      | true ↦ appending (WriteItem (submission h first contents))
+          (record h {
+            writes = h.writes ++ record {
+              write = submission h first contents;
+              journal_length = length h.journal;
+              home = Some (record { index = last_index h.connections; place = length (outward h).stream });
+              outcome = Waiting;
+            } ∷ [];
+          })
+      | false ↦ record h {
+        writes = h.writes ++ record {
+          write = submission h first contents;
+          journal_length = length h.journal;
+          home = None;
+          outcome = Waiting;
+        } ∷ [];
+        marks = marking (submission h first contents) h.marks;
+      }
     ]) → IsTracked (elim b as (λ _. PrimaryHistory) [
-      | true ↦ appending (WriteItem (submission h first contents)) (record h { writes = h.writes ++ record { write = submission h first contents; journal_length = length h.journal; home = Some (last_index h.connections, length (outward h).stream); outcome = Waiting } ∷ [] })
-      | false ↦ record h { writes = h.writes ++ record { write = submission h first contents; journal_length = length h.journal; home = None; outcome = Waiting } ∷ []; marks = marking (submission h first contents) h.marks }
+      | true ↦ appending (WriteItem (submission h first contents))
+          (record h {
+            writes = h.writes ++ record {
+              write = submission h first contents;
+              journal_length = length h.journal;
+              home = Some (record { index = last_index h.connections; place = length (outward h).stream });
+              outcome = Waiting;
+            } ∷ [];
+          })
+      | false ↦ record h {
+        writes = h.writes ++ record {
+          write = submission h first contents;
+          journal_length = length h.journal;
+          home = None;
+          outcome = Waiting;
+        } ∷ [];
+        marks = marking (submission h first contents) h.marks;
+      }
     ])
     go false is homes =
         let added : Accepted = record { write = write; journal_length = length h.journal; home = None; outcome = Waiting } in
@@ -136,13 +188,13 @@ tracked-submits h first contents may fresh t = go (stands (outward h)) refl
           under_way = λ place block contents way. absurd (both_ways (stands (outward h)) is way.standing);
           copied = λ place block contents copy. absurd (both_ways (stands (outward h)) is copy.standing);
           equal = λ block within unmarked.
-              let parts = or_parts (h.marks block) (covers write block) unmarked in
+              let parts = unmarked-by write h.marks block unmarked in
               t.equal block within parts.0 ∙ sym (settling-apart h added block parts.1);
         }
     go true is homes =
         let c : Outward = outward h in
         let standing : c.closed ≡ false = (stands-parts c is).0 in
-        let home : Option (ℕ × ℕ) = Some (last_index h.connections, length c.stream) in
+        let home : Option StreamPosition = Some (record { index = last_index h.connections; place = length c.stream }) in
         let added : Accepted = record { write = write; journal_length = length h.journal; home = home; outcome = Waiting } in
         let item : Item = WriteItem write in
         let f : Outward → Outward = λ x. record x { stream = x.stream ++ item ∷ [] } in
@@ -161,7 +213,8 @@ tracked-submits h first contents may fresh t = go (stands (outward h)) refl
             | inr new ↦ absurd (let e = new.1 in cc)
             | inl old ↦
                 let index : last_index h.connections ≡ last_index (change_last f h.connections) = ap (λ (n : ℕ). n - 1) (sym (length-change f h.connections)) in
-                appended-apart h item block standing (conflict-free h write place block inner may.free old) ∙ (t.under_way place block inner old ∙ ap (λ (n : ℕ). Some (record { connection = n; place = place; item = ResyncItem block inner })) index)
+                appended-apart h item block standing (conflict-free h write place block inner may.free old)
+                ∙ (t.under_way place block inner old ∙ ap (λ (n : ℕ). Some (record { connection = n; place = place; item = ResyncItem block inner })) index)
           ];
           copied = λ place block inner copy. elim (copy-appended c item place block inner (subst (λ (x : Outward). IsCopy x place block inner) last copy)) [
             | inr new ↦ absurd (let e = new in cc)
@@ -179,7 +232,8 @@ tracked-submits h first contents may fresh t = go (stands (outward h)) refl
             | inl touched ↦
                 ap (content_of (h.opening_map block) block) (appended-touching h item block standing touched)
                 ∙ sym (settling-more h added block ∙ under-inside (settling_layer added) block (settling_map h block) touched refl)
-            | inr apart ↦ ap (content_of (h.opening_map block) block) (appended-apart h item block standing apart) ∙ (t.equal block within unmarked ∙ sym (settling-apart h added block apart))
+            | inr apart ↦ ap (content_of (h.opening_map block) block) (appended-apart h item block standing apart)
+                ∙ (t.equal block within unmarked ∙ sym (settling-apart h added block apart))
           ];
         }
 
@@ -190,36 +244,22 @@ some-unwrap None some = absurd (cc)
 some-unwrap (Some bytes) some = refl
 
 -- nothing is under way where that list is empty
-none-under-way : (h : PrimaryHistory) (place block : ℕ) (contents : List ℕ) → nat_lt 0 (length (under_way (outward h))) ≡ false → IsUnderWay (outward h) place block contents → ⊥
+none-under-way : (h : PrimaryHistory) (place block : ℕ) (contents : List ℕ) → nat_lt 0 (length (under_way (outward h))) ≡ false
+    → IsUnderWay (outward h) place block contents → ⊥
 none-under-way h place block contents none way =
     let c : Outward = outward h in
     let item : Item = ResyncItem block contents in
-    let there = filtered-pick (λ entry. is_resync entry.1 && not (was_resynced c entry.0 entry.1)) (placed c.stream) place (place, item) (placed-at 0 c.stream place item way.there ∙ ap (λ (n : ℕ). Some (n, item)) (omega arith)) (not_from_false (was_resynced c place item) way.unanswered) in
+    let there = filtered-pick (λ entry. is_resync entry.1 && not (was_resynced c entry.0 entry.1)) (placed c.stream) place (place, item)
+    (placed-at 0 c.stream place item way.there
+    ∙ ap (λ (n : ℕ). Some (n, item)) (omega arith)) (not_from_false (was_resynced c place item) way.unanswered) in
     let within = slice_get_within (under_way c) there.0 (place, item) there.1 in
     both_ways (nat_lt 0 (length (under_way c))) none (lt-ltb 0 (length (under_way c)) (omega arith))
 
--- The block that a resync sends next: it is marked, it lies in the device, and no open write has it.
-record IsFree (h : PrimaryHistory) (block : ℕ) : Type 0 where
-  marked : h.marks block ≡ true
-  within : block < h.settings.blocks
-  free : (i : ℕ) (accepted : Accepted) → slice_get h.writes i ≡ Some accepted → is_open h accepted ≡ true → covers accepted.write block ≡ false
-
-free-found : (h : PrimaryHistory) (block : ℕ) → free_block h ≡ Some block → IsFree h block
-free-found h block is =
-    let found = pick-found (λ block. not (list_any (λ (accepted : Accepted). covers accepted.write block) (open_writes h))) (marked_blocks h) block is in
-    let among = pick-filtered h.marks (below h.settings.blocks) found.0 block found.1 in
-    let none : list_any (λ (accepted : Accepted). covers accepted.write block) (open_writes h) ≡ false = not-true (list_any (λ (accepted : Accepted). covers accepted.write block) (open_writes h)) found.2 in
-    record {
-      marked = among.2;
-      within = pick-below h.settings.blocks among.0 block among.1;
-      free = λ i accepted at opens.
-          let there = filtered-pick (is_open h) h.writes i accepted at opens in
-          pick-none (λ (a : Accepted). covers a.write block) (open_writes h) there.0 accepted none there.1;
-    }
-
 -- The block is appended with what the local disk has, which no waiting write will change.
-pub tracked-resyncs : (h : PrimaryHistory) (block : ℕ) → resync_runs (outward h) ≡ true → nat_lt 0 (length (under_way (outward h))) ≡ false → free_block h ≡ Some block → IsTracked h
-    → HasHomes (appending (ResyncItem block (unwrap_or (local_map h block) [])) h) → IsTracked (appending (ResyncItem block (unwrap_or (local_map h block) [])) h)
+pub tracked-resyncs : (h : PrimaryHistory) (block : ℕ) → resync_runs (outward h) ≡ true → nat_lt 0 (length (under_way (outward h))) ≡ false
+    → free_block h ≡ Some block → IsTracked h
+    → HasHomes (appending (ResyncItem block (unwrap_or (local_map h block) [])) h)
+    → IsTracked (appending (ResyncItem block (unwrap_or (local_map h block) [])) h)
 tracked-resyncs h block runs none is t homes =
     let c : Outward = outward h in
     let standing : c.closed ≡ false = (stands-parts c (and_parts (stands c) (in_resync c.stream) runs).0).0 in
@@ -228,11 +268,16 @@ tracked-resyncs h block runs none is t homes =
     let f : Outward → Outward = λ x. record x { stream = x.stream ++ item ∷ [] } in
     let later : PrimaryHistory = appending item h in
     let next : IsFree h block = free-found h block is in
-    let local : local_map h block ≡ Some contents = some-unwrap (local_map h block) (overlay-some h.opening_map (map local_layer h.writes) block (t.sized block next.within)) in
-    let settled : settling_map h block ≡ Some contents = settled-is-local h block (λ i accepted at waits. next.free i accepted at (waiting-open h i accepted t at waits)) ∙ local in
-    let only : (other : ℕ) → touches item other ≡ true → other ≡ block = λ other touched. let ends = between-parts block 1 other touched in let low = ends.0 in let high = ends.1 in omega arith in
-    let touched : touches item block ≡ true = and_from (nat_le block block) (nat_lt block (block + 1)) (le-leb block block (omega arith)) (lt-ltb block (block + 1) (omega arith)) in
-    let last : latest (change_last f h.connections) block ≡ Some (record { connection = last_index h.connections; place = length c.stream; item = item }) = appended-touching h item block standing touched in
+    let local : local_map h block ≡ Some contents =
+    some-unwrap (local_map h block) (overlay-some h.opening_map (map local_layer h.writes) block (t.sized block next.within)) in
+    let settled : settling_map h block ≡ Some contents =
+    settled-is-local h block (λ i accepted at waits. next.free i accepted at (waiting-open h i accepted t at waits)) ∙ local in
+    let only : (other : ℕ) → touches item other ≡ true
+    → other ≡ block = λ other touched. let ends = between-parts block 1 other touched in let low = ends.0 in let high = ends.1 in omega arith in
+    let touched : touches item block ≡ true = and_from (nat_le block block) (nat_lt block (block + 1)) (le-leb block block (omega arith))
+    (lt-ltb block (block + 1) (omega arith)) in
+    let last : latest (change_last f h.connections) block ≡ Some (record { connection = last_index h.connections; place = length c.stream; item = item }) =
+    appended-touching h item block standing touched in
     let end : outward later ≡ f c = outward-change h (no_outward h.tuple) f standing in
     record {
       homes = homes;
@@ -260,7 +305,8 @@ tracked-resyncs h block runs none is t homes =
             let same : other ≡ block = cc in
             let bytes : inner ≡ contents = cc in (
               ap (settling_map h) same ∙ (settled ∙ ap (λ (l : List ℕ). Some l) (sym bytes)),
-              λ i accepted at waits. subst (λ (n : ℕ). covers accepted.write n ≡ false) (sym same) (next.free i accepted at (waiting-open h i accepted t at waits)),
+              λ i accepted at waits. subst (λ (n : ℕ). covers accepted.write n ≡ false) (sym same)
+                  (next.free i accepted at (waiting-open h i accepted t at waits)),
             )
       ];
       equal = λ other within unmarked. elim (cases_Bool (touches item other)) [

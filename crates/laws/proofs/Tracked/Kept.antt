@@ -1,5 +1,6 @@
 -- Every move of a primary keeps what its history keeps of its blocks, and that the journal has accepted writes alone.
-use Rattle.std.proofs.Common.{ℕ, suc, ◌≡◌, ◌≤◌, ◌<◌, inl, inr, Bool, true, false, ◌&&◌, List, [], ◌∷◌, ◌++◌, length, map, Option, Some, None, slice_get, Ok, ap, arith, ◌==◌, length-append, not, sym, ◌∙◌, refl}
+use Rattle.std.proofs.Common.{ℕ, suc, ◌≡◌, ◌≤◌, ◌<◌, inl, inr, Bool, true, false, ◌&&◌, List, [], ◌∷◌, ◌++◌, length, map, Option, Some, None, slice_get, Ok, ap}
+use Rattle.std.proofs.Common.{arith, ◌==◌, length-append, not, sym, ◌∙◌, refl}
 use Rattle.std.specs.Prelude.{is_some}
 use Rattle.std.proofs.lemmas.Bool.{cases_Bool, eqb-true, and_parts, both_ways, not-true, eq-eqb}
 use Rattle.std.proofs.lemmas.List.{length-map}
@@ -12,8 +13,10 @@ use Rattle.model.specs.Contents.{BlockMap}
 use Rattle.model.specs.Stream.{WriteItem, BarrierItem, last_epoch, within}
 use Rattle.model.specs.Frames.{UuidsFrame}
 use Rattle.model.specs.Marks.{marking}
-use Rattle.model.specs.Primary.{LocalOutcome, Waiting, OnDisk, Failed, Accepted, Completion, PrimaryHistory, primary_opening, outward, last_index, with_outward, stands, is_open, completes, is_completed, is_failed, is_waiting, is_on_disk}
-use Rattle.model.specs.PrimarySteps.{newly_completed, completion_of, with_completions, epoch_is_over, resync_is_over, ending_resync, follows, submission, submitted, appending, set_outcome, with_outcome, accepted_at, faulted}
+use Rattle.model.specs.Primary.{LocalOutcome, Waiting, OnDisk, Failed, Accepted, Completion, PrimaryHistory, primary_opening, outward, last_index, with_outward}
+use Rattle.model.specs.Primary.{stands, is_open, completes, is_completed, is_failed, is_waiting, is_on_disk}
+use Rattle.model.specs.PrimarySteps.{newly_completed, completion_of, with_completions, epoch_is_over, resync_is_over, ending_resync, follows, submission}
+use Rattle.model.specs.PrimarySteps.{submitted, appending, set_outcome, with_outcome, accepted_at, faulted}
 use Rattle.model.specs.Acknowledgements.{begun_with}
 use Rattle.laws.proofs.Primary.Moves.{IsKeptByMoves, following-from, with_frame}
 use Rattle.laws.proofs.Primary.Homes.{HasHomes}
@@ -21,7 +24,8 @@ use Rattle.laws.proofs.Primary.HomesMoves.{homes-kept}
 use Rattle.laws.proofs.Tracked.{IsTracked}
 use Rattle.laws.proofs.Lists.Picks.{pick-any, pick-filtered, pick-image, any-pick}
 use Rattle.laws.proofs.Tracked.Moves.{tracked-opening}
-use Rattle.laws.proofs.Tracked.Quiet.{tracked-completions, tracked-parting, tracked-ending, tracked-opens, tracked-begins, tracked-closes, tracked-refuses, tracked-sends, tracked-takes, tracked-receipts, tracked-clears}
+use Rattle.laws.proofs.Tracked.Quiet.{tracked-completions, tracked-parting, tracked-ending, tracked-opens, tracked-begins, tracked-closes, tracked-refuses}
+use Rattle.laws.proofs.Tracked.Quiet.{tracked-sends, tracked-takes, tracked-receipts, tracked-clears}
 use Rattle.laws.proofs.Tracked.Outcomes.{tracked-writes, tracked-faults}
 use Rattle.laws.proofs.Tracked.Added.{tracked-submits, tracked-resyncs}
 use Rattle.laws.proofs.Lists.Elements.{get-split}
@@ -29,7 +33,8 @@ use Rattle.laws.proofs.Lists.Once.{Once, once-append, once-map, once-filter}
 
 -- No entry of the journal has a number that no accepted write has, and none has that of another.
 abbrev pub HasNumbers : PrimaryHistory → Type 0
-HasNumbers h = ((n : ℕ) (entry : Completion) → slice_get h.journal n ≡ Some entry → entry.write.number ≤ length h.writes) × Once (λ (entry : Completion). entry.write.number) h.journal
+HasNumbers h = ((n : ℕ) (entry : Completion) → slice_get h.journal n ≡ Some entry → entry.write.number ≤ length h.writes)
+    × Once (λ (entry : Completion). entry.write.number) h.journal
 
 -- the next number is new to the journal
 pub fresh-number : (h : PrimaryHistory) → HasNumbers h → is_completed h (suc (length h.writes)) ≡ false
@@ -79,13 +84,16 @@ numbers-completions h homes numbers = (
     passes a = is_open h a && completes h a
 
     -- what is completed now was not completed before
-    new : (m n : ℕ) (old added : Completion) → slice_get h.journal m ≡ Some old → slice_get (map (completion_of h) (newly_completed h)) n ≡ Some added → old.write.number ≡ added.write.number → ⊥
+    new : (m n : ℕ) (old added : Completion) → slice_get h.journal m ≡ Some old → slice_get (map (completion_of h) (newly_completed h)) n ≡ Some added
+        → old.write.number ≡ added.write.number → ⊥
     new m n old added was now same =
         let of = pick-image (completion_of h) (newly_completed h) n added now in
         let stood = pick-filtered passes h.writes n of.0 of.1 in
-        let waits = and_parts (not (is_completed h of.0.write.number)) (not (is_failed of.0.outcome)) (and_parts (is_open h of.0) (completes h of.0) stood.2).0 in
+        let waits = and_parts (not (is_completed h of.0.write.number)) (not (is_failed of.0.outcome))
+        (and_parts (is_open h of.0) (completes h of.0) stood.2).0 in
         let number : old.write.number ≡ of.0.write.number = same ∙ ap (λ (e : Completion). e.write.number) (sym of.2) in
-        both_ways (is_completed h of.0.write.number) (not-true (is_completed h of.0.write.number) waits.0) (any-pick (λ (entry : Completion). entry.write.number == of.0.write.number) h.journal m old was (eq-eqb old.write.number of.0.write.number number))
+        both_ways (is_completed h of.0.write.number) (not-true (is_completed h of.0.write.number) waits.0)
+        (any-pick (λ (entry : Completion). entry.write.number == of.0.write.number) h.journal m old was (eq-eqb old.write.number of.0.write.number number))
 
     distinct : Once (λ (a : Accepted). a.write.number) h.writes
     distinct m n a b ata atb same =
@@ -95,7 +103,8 @@ numbers-completions h homes numbers = (
 
     once : Once (λ (entry : Completion). entry.write.number) (h.journal ++ map (completion_of h) (newly_completed h))
     once = once-append (λ (entry : Completion). entry.write.number) h.journal (map (completion_of h) (newly_completed h)) numbers.1
-        (once-map (λ (entry : Completion). entry.write.number) (completion_of h) (newly_completed h) (once-filter (λ (a : Accepted). a.write.number) passes h.writes distinct)) new
+        (once-map (λ (entry : Completion). entry.write.number) (completion_of h) (newly_completed h)
+        (once-filter (λ (a : Accepted). a.write.number) passes h.writes distinct)) new
 
 -- completions go to the journal
 pub known-completions : (h : PrimaryHistory) → IsKnown h → IsKnown (with_completions h)
@@ -122,22 +131,53 @@ numbers-submitted h first contents numbers = go (stands (outward h))
     more added n entry at = let low = numbers.0 n entry at in let long = length-append h.writes (added ∷ []) in omega arith
 
     go : (b : Bool) → HasNumbers (elim b as (λ _. PrimaryHistory) [
-      | true ↦ appending (WriteItem (submission h first contents)) (record h { writes = h.writes ++ record { write = submission h first contents; journal_length = length h.journal; home = Some (last_index h.connections, length (outward h).stream); outcome = Waiting } ∷ [] })
-      | false ↦ record h { writes = h.writes ++ record { write = submission h first contents; journal_length = length h.journal; home = None; outcome = Waiting } ∷ []; marks = marking (submission h first contents) h.marks }
+      | true ↦ appending (WriteItem (submission h first contents))
+          (record h {
+            writes = h.writes ++ record {
+              write = submission h first contents;
+              journal_length = length h.journal;
+              home = Some (record { index = last_index h.connections; place = length (outward h).stream });
+              outcome = Waiting;
+            } ∷ [];
+          })
+      | false ↦ record h {
+        writes = h.writes ++ record {
+          write = submission h first contents;
+          journal_length = length h.journal;
+          home = None;
+          outcome = Waiting;
+        } ∷ [];
+        marks = marking (submission h first contents) h.marks;
+      }
     ])
-    go true = (more (record { write = submission h first contents; journal_length = length h.journal; home = Some (last_index h.connections, length (outward h).stream); outcome = Waiting }), numbers.1)
+    go true = (
+      more (record {
+        write = submission h first contents;
+        journal_length = length h.journal;
+        home = Some (record { index = last_index h.connections; place = length (outward h).stream });
+        outcome = Waiting;
+      }),
+      numbers.1,
+    )
     go false = (more (record { write = submission h first contents; journal_length = length h.journal; home = None; outcome = Waiting }), numbers.1)
 
 -- an outcome that is put down adds no write
-pub numbers-outcome : (h : PrimaryHistory) (number : ℕ) (outcome : LocalOutcome) → HasNumbers h → (n : ℕ) (entry : Completion) → slice_get h.journal n ≡ Some entry
+pub numbers-outcome : (h : PrimaryHistory) (number : ℕ) (outcome : LocalOutcome) → HasNumbers h → (n : ℕ) (entry : Completion)
+    → slice_get h.journal n ≡ Some entry
     → entry.write.number ≤ length (map (set_outcome number outcome) h.writes)
-numbers-outcome h number outcome numbers n entry at = let low = numbers.0 n entry at in let long = length-map h.writes (set_outcome number outcome) in omega arith
+numbers-outcome h number outcome numbers n entry at = let low = numbers.0 n entry at in let long =
+    length-map h.writes (set_outcome number outcome) in omega arith
 
 -- nor does a failed one
 pub numbers-faulted : (h : PrimaryHistory) (number : ℕ) (offsets : List ℕ) → HasNumbers h → HasNumbers (faulted number offsets h)
 numbers-faulted h number offsets numbers = go (accepted_at h number)
   where
-    go : (v : Option Accepted) → HasNumbers (elim v as (λ _. PrimaryHistory) [ None ↦ h | Some accepted ↦ with_outcome number (Failed (within (length accepted.write.contents) offsets)) (record h { marks = marking accepted.write h.marks }) ])
+    go : (v : Option Accepted) → HasNumbers
+        (elim v as (λ _. PrimaryHistory) [
+          | None ↦ h
+          | Some accepted ↦ with_outcome number (Failed (within (length accepted.write.contents) offsets))
+              (record h { marks = marking accepted.write h.marks })
+        ])
     go None = numbers
     go (Some accepted) = (numbers-outcome h number (Failed (within (length accepted.write.contents) offsets)) numbers, numbers.1)
 
@@ -156,27 +196,51 @@ known-kept = record {
     tracked = tracked-submits h first contents may (fresh-number h known.numbers) known.tracked (homes-kept.submits h first contents may known.tracked.homes);
     numbers = numbers-submitted h first contents known.numbers;
   };
-  writes = λ h number waiting known. record { tracked = tracked-writes h number waiting known.tracked; numbers = (numbers-outcome h number OnDisk known.numbers, known.numbers.1) };
+  writes = λ h number waiting known. record {
+    tracked = tracked-writes h number waiting known.tracked;
+    numbers = (numbers-outcome h number OnDisk known.numbers, known.numbers.1);
+  };
   faults = λ h number offsets waiting known. record {
     tracked = tracked-faults h number offsets waiting known.tracked (homes-kept.faults h number offsets waiting known.tracked.homes);
     numbers = numbers-faulted h number offsets known.numbers;
   };
-  sends = λ h standing due known. record { tracked = tracked-sends h standing known.tracked (homes-kept.sends h standing due known.tracked.homes); numbers = known.numbers };
-  greets = λ h frame standing new met known. record { tracked = tracked-takes h frame standing known.tracked (homes-kept.greets h frame standing new met known.tracked.homes); numbers = known.numbers };
+  sends = λ h standing due known. record {
+    tracked = tracked-sends h standing known.tracked (homes-kept.sends h standing due known.tracked.homes);
+    numbers = known.numbers;
+  };
+  greets = λ h frame standing new met known. record {
+    tracked = tracked-takes h frame standing known.tracked
+        (homes-kept.greets h frame standing new met known.tracked.homes);
+    numbers = known.numbers;
+  };
   begins = λ h peer decided standing new late is fresh known. record {
     tracked = tracked-begins h peer decided standing new known.tracked (homes-kept.begins h peer decided standing new late is fresh known.tracked.homes);
     numbers = numbers-begun (record (with_outward (with_frame (Ok (UuidsFrame peer))) h) { peer = Some peer }) decided known.numbers;
   };
-  receives = λ h ack standing begun may known. record { tracked = tracked-takes h _ standing known.tracked (homes-kept.receives h ack standing begun may known.tracked.homes); numbers = known.numbers };
-  applies = λ h ack standing begun may known. record { tracked = tracked-takes h _ standing known.tracked (homes-kept.applies h ack standing begun may known.tracked.homes); numbers = known.numbers };
+  receives = λ h ack standing begun may known.
+      record { tracked = tracked-takes h _ standing known.tracked (homes-kept.receives h ack standing begun may known.tracked.homes); numbers = known.numbers };
+  applies = λ h ack standing begun may known.
+      record { tracked = tracked-takes h _ standing known.tracked (homes-kept.applies h ack standing begun may known.tracked.homes); numbers = known.numbers };
   clears = λ h ack standing begun may known. record { tracked = tracked-clears h ack standing begun may known.tracked; numbers = known.numbers };
-  confirms = λ h number size standing begun turn known. record { tracked = tracked-takes h _ standing known.tracked (homes-kept.confirms h number size standing begun turn known.tracked.homes); numbers = known.numbers };
+  confirms = λ h number size standing begun turn known.
+      record {
+        tracked = tracked-takes h _ standing known.tracked (homes-kept.confirms h number size standing begun turn known.tracked.homes);
+        numbers = known.numbers;
+      };
   refuses = λ h frame peer standing known. record { tracked = tracked-refuses h frame peer standing known.tracked; numbers = known.numbers };
-  resyncs = λ h block runs alone is known. record { tracked = tracked-resyncs h block runs alone is known.tracked (homes-kept.resyncs h block runs alone is known.tracked.homes); numbers = known.numbers };
+  resyncs = λ h block runs alone is known. record {
+    tracked = tracked-resyncs h block runs alone is known.tracked
+        (homes-kept.resyncs h block runs alone is known.tracked.homes);
+    numbers = known.numbers;
+  };
   closes = λ h standing known. record { tracked = tracked-closes h standing known.tracked; numbers = known.numbers };
   receipts = λ h number known. record { tracked = tracked-receipts h number known.tracked; numbers = known.numbers };
 }
 
 -- It holds at the opening.
-pub known-opening : (settings : Settings) (disk : BlockMap) (tuple : Tuple) (marks : ℕ → Bool) → ((block : ℕ) → block < settings.blocks → is_some (disk block) ≡ true) → IsKnown (primary_opening settings disk tuple marks)
-known-opening settings disk tuple marks sized = record { tracked = tracked-opening settings disk tuple marks sized; numbers = (λ n entry at. absurd (cc), λ m n a b ata. absurd (cc)) }
+pub known-opening : (settings : Settings) (disk : BlockMap) (tuple : Tuple) (marks : ℕ → Bool)
+    → ((block : ℕ) → block < settings.blocks → is_some (disk block) ≡ true) → IsKnown (primary_opening settings disk tuple marks)
+known-opening settings disk tuple marks sized = record {
+  tracked = tracked-opening settings disk tuple marks sized;
+  numbers = (λ n entry at. absurd (cc), λ m n a b ata. absurd (cc));
+}

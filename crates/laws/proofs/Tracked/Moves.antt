@@ -1,5 +1,6 @@
 -- Moves of a primary that add nothing to its writes: no item that touches a block is added, and none comes under way.
-use Rattle.std.proofs.Common.{ℕ, ◌≡◌, ◌+◌, ◌-◌, ◌≤◌, ◌<◌, inl, inr, Bool, true, false, ◌||◌, List, [], ◌∷◌, ◌++◌, length, Option, Some, None, slice_get, refl, sym, ◌∙◌, ap, subst, arith, nat_lt, nat_le}
+use Rattle.std.proofs.Common.{ℕ, ◌≡◌, ◌+◌, ◌-◌, ◌≤◌, ◌<◌, inl, inr, Bool, true, false, ◌||◌, List, [], ◌∷◌, ◌++◌, length, Option, Some, None, slice_get, refl}
+use Rattle.std.proofs.Common.{sym, ◌∙◌, ap, subst, arith, nat_lt, nat_le}
 use Rattle.std.specs.Prelude.{if◌then◌else◌, is_some}
 use Rattle.std.specs.List.{list_any}
 use Rattle.std.proofs.lemmas.Bool.{both_ways, le-ltb, and_right, or_parts}
@@ -10,7 +11,8 @@ use Rattle.model.specs.Contents.{BlockMap, Write}
 use Rattle.model.specs.Stream.{Item, WriteItem, ResyncItem, first_of, contents_of, IsBeginning}
 use Rattle.model.specs.Frames.{Received, naming}
 use Rattle.model.specs.Marks.{Marks}
-use Rattle.model.specs.Primary.{Outward, PrimaryHistory, primary_opening, no_outward, last_of, outward, last_index, change_last, stands, accepted_frames, is_rs_write_ack, was_resynced, local_layer, local_map}
+use Rattle.model.specs.Primary.{Outward, PrimaryHistory, primary_opening, no_outward, last_of, outward, last_index, change_last, stands, accepted_frames}
+use Rattle.model.specs.Primary.{is_rs_write_ack, was_resynced, local_layer, local_map}
 use Rattle.laws.specs.Reflections.{touches}
 use Rattle.laws.proofs.Lists.Last.{last-change, length-change}
 use Rattle.laws.proofs.Primary.Homes.{HasHomes}
@@ -23,7 +25,8 @@ use Rattle.laws.proofs.Lists.Elements.{get-left, get-more}
 use Rattle.laws.proofs.Blocks.Ranges.{outside-range}
 
 -- At the opening nothing was written or sent.
-pub tracked-opening : (settings : Settings) (disk : BlockMap) (tuple : Tuple) (marks : ℕ → Bool) → ((block : ℕ) → block < settings.blocks → is_some (disk block) ≡ true)
+pub tracked-opening : (settings : Settings) (disk : BlockMap) (tuple : Tuple) (marks : ℕ → Bool)
+    → ((block : ℕ) → block < settings.blocks → is_some (disk block) ≡ true)
     → IsTracked (primary_opening settings disk tuple marks)
 tracked-opening settings disk tuple marks sized = record {
   homes = homes-opening settings disk tuple marks;
@@ -37,10 +40,13 @@ tracked-opening settings disk tuple marks sized = record {
 }
 
 -- No item touches a block past the end of the device, and no write reaches it.
-pub beyond-the-end : (h : PrimaryHistory) (block : ℕ) → IsTracked h → h.settings.blocks ≤ block → (latest h.connections block ≡ None) × (local_map h block ≡ h.opening_map block)
+pub beyond-the-end : (h : PrimaryHistory) (block : ℕ) → IsTracked h → h.settings.blocks ≤ block
+    → (latest h.connections block ≡ None) × (local_map h block ≡ h.opening_map block)
 beyond-the-end h block t past = (
   go (latest h.connections block) refl,
-  overlay-none local_layer h.opening_map h.writes block (λ i accepted at v. under-outside (local_layer accepted) block v (outside-range accepted.write.first (length accepted.write.contents) h.settings.blocks block (t.writes_inside i accepted at) past)),
+  overlay-none local_layer h.opening_map h.writes block
+      (λ i accepted at v. under-outside (local_layer accepted) block v
+      (outside-range accepted.write.first (length accepted.write.contents) h.settings.blocks block (t.writes_inside i accepted at) past)),
 )
   where
     go : (v : Option Touch) → latest h.connections block ≡ v → v ≡ None
@@ -54,8 +60,10 @@ pub some-connection : (h : PrimaryHistory) → (outward h).closed ≡ false → 
 some-connection h standing none = both_ways (outward h).closed standing (ap (λ (l : List Outward). (last_of (no_outward h.tuple) l).closed) none)
 
 -- after a change of an open end's connection the last one is the changed one
-pub outward-change : (h : PrimaryHistory) (none : Outward) (f : Outward → Outward) → (outward h).closed ≡ false → last_of none (change_last f h.connections) ≡ f (outward h)
-outward-change h none f standing = elim (last-change f (no_outward h.tuple) none h.connections) [ inl empty ↦ absurd (some-connection h standing empty) | inr changed ↦ changed ]
+pub outward-change : (h : PrimaryHistory) (none : Outward) (f : Outward → Outward) → (outward h).closed ≡ false
+    → last_of none (change_last f h.connections) ≡ f (outward h)
+outward-change h none f standing =
+    elim (last-change f (no_outward h.tuple) none h.connections) [ inl empty ↦ absurd (some-connection h standing empty) | inr changed ↦ changed ]
 
 -- A block of a resync on a stream that stands after a change of its connection: it stood there before, acknowledged if it is
 -- not under way any more, and so did each write that stands there.
@@ -67,11 +75,16 @@ pub record KeepsBlock (c d : Outward) (place block : ℕ) (contents : List ℕ) 
 
 -- a change that adds no block of a resync to a stream
 abbrev pub KeepsBlocks : Outward → Outward → Type 0
-KeepsBlocks c d = (place block : ℕ) (contents : List ℕ) → stands d ≡ true → slice_get d.stream place ≡ Some (ResyncItem block contents) → KeepsBlock c d place block contents
+KeepsBlocks c d = (place block : ℕ) (contents : List ℕ) → stands d ≡ true → slice_get d.stream place ≡ Some (ResyncItem block contents)
+    → KeepsBlock c d place block contents
 
 -- what is under way then was so before
 pub way-before : (c d : Outward) (place block : ℕ) (contents : List ℕ) → KeepsBlocks c d → IsUnderWay d place block contents → IsUnderWay c place block contents
-way-before c d place block contents keeps way = let old = keeps place block contents way.standing way.there in record { standing = old.standing; there = old.there; unanswered = old.unanswered way.unanswered }
+way-before c d place block contents keeps way = let old = keeps place block contents way.standing way.there in record {
+  standing = old.standing;
+  there = old.there;
+  unanswered = old.unanswered way.unanswered;
+}
 
 -- and what no later write has
 pub copy-before : (c d : Outward) (place block : ℕ) (contents : List ℕ) → KeepsBlocks c d → IsCopy d place block contents → IsCopy c place block contents
@@ -80,10 +93,12 @@ copy-before c d place block contents keeps copy =
     record { standing = old.standing; there = old.there; last = λ next write after at. copy.last next write after (old.writes next write at) }
 
 -- what was acknowledged stays so as frames are taken
-pub unanswered-before : (c d : Outward) (place : ℕ) (item : Item) → IsBeginning (accepted_frames c) (accepted_frames d) → was_resynced d place item ≡ false → was_resynced c place item ≡ false
+pub unanswered-before : (c d : Outward) (place : ℕ) (item : Item) → IsBeginning (accepted_frames c) (accepted_frames d) → was_resynced d place item ≡ false
+    → was_resynced c place item ≡ false
 unanswered-before c d place item grows not_so =
     let p : Received → Bool = is_rs_write_ack (naming place item) in
-    let both : (list_any p (accepted_frames c) || list_any p grows.0) ≡ false = sym (list_any-append p (accepted_frames c) grows.0) ∙ (ap (list_any p) grows.1 ∙ not_so) in
+    let both : (list_any p (accepted_frames c) || list_any p grows.0) ≡ false = sym (list_any-append p (accepted_frames c) grows.0)
+    ∙ (ap (list_any p) grows.1 ∙ not_so) in
     (or_parts (list_any p (accepted_frames c)) (list_any p grows.0) both).0
 
 -- Quiet moves.
@@ -93,10 +108,13 @@ abbrev pub changed : PrimaryHistory → List Outward → Marks → Tuple → Opt
 changed h connections marks tuple peer receipts = record h { connections = connections; marks = marks; tuple = tuple; peer = peer; receipts = receipts }
 
 -- The same items touch blocks last, what is under way was so, and what was sent is the same where no mark is.
-pub tracked-quiet : (h : PrimaryHistory) (connections : List Outward) (marks : Marks) (tuple : Tuple) (peer : Option Tuple) (receipts : List ℕ) → IsTracked h → HasHomes (changed h connections marks tuple peer receipts)
+pub tracked-quiet : (h : PrimaryHistory) (connections : List Outward) (marks : Marks) (tuple : Tuple) (peer : Option Tuple) (receipts : List ℕ) → IsTracked h
+    → HasHomes (changed h connections marks tuple peer receipts)
     → ((block : ℕ) → latest connections block ≡ latest h.connections block)
-    → (stands (outward (changed h connections marks tuple peer receipts)) ≡ true → last_index connections ≡ last_index h.connections) → KeepsBlocks (outward h) (outward (changed h connections marks tuple peer receipts))
-    → ((block : ℕ) → block < h.settings.blocks → marks block ≡ false → sent_map h block ≡ settling_map h block) → IsTracked (changed h connections marks tuple peer receipts)
+    → (stands (outward (changed h connections marks tuple peer receipts)) ≡ true → last_index connections ≡ last_index h.connections)
+    → KeepsBlocks (outward h) (outward (changed h connections marks tuple peer receipts))
+    → ((block : ℕ) → block < h.settings.blocks → marks block ≡ false → sent_map h block ≡ settling_map h block)
+    → IsTracked (changed h connections marks tuple peer receipts)
 tracked-quiet h connections marks tuple peer receipts t homes same index keeps equal = record {
   homes = homes;
   sized = t.sized;
@@ -114,10 +132,13 @@ tracked-quiet h connections marks tuple peer receipts t homes same index keeps e
     later = changed h connections marks tuple peer receipts
 
 -- The last connection of an open end changes.
-pub tracked-turn : (h : PrimaryHistory) (f : Outward → Outward) (marks : Marks) (tuple : Tuple) (peer : Option Tuple) (receipts : List ℕ) → (outward h).closed ≡ false → IsTracked h
-    → HasHomes (changed h (change_last f h.connections) marks tuple peer receipts) → ((block : ℕ) → latest (change_last f h.connections) block ≡ latest h.connections block)
+pub tracked-turn : (h : PrimaryHistory) (f : Outward → Outward) (marks : Marks) (tuple : Tuple) (peer : Option Tuple) (receipts : List ℕ)
+    → (outward h).closed ≡ false → IsTracked h
+    → HasHomes (changed h (change_last f h.connections) marks tuple peer receipts)
+    → ((block : ℕ) → latest (change_last f h.connections) block ≡ latest h.connections block)
     → KeepsBlocks (outward h) (f (outward h))
-    → ((block : ℕ) → block < h.settings.blocks → marks block ≡ false → sent_map h block ≡ settling_map h block) → IsTracked (changed h (change_last f h.connections) marks tuple peer receipts)
+    → ((block : ℕ) → block < h.settings.blocks → marks block ≡ false → sent_map h block ≡ settling_map h block)
+    → IsTracked (changed h (change_last f h.connections) marks tuple peer receipts)
 tracked-turn h f marks tuple peer receipts standing t homes same keeps equal =
     tracked-quiet h (change_last f h.connections) marks tuple peer receipts t homes same (λ stood. ap (λ (n : ℕ). n - 1) (length-change f h.connections))
     (subst (KeepsBlocks (outward h)) (sym (outward-change h (no_outward tuple) f standing)) keeps) equal
@@ -126,20 +147,25 @@ tracked-turn h f marks tuple peer receipts standing t homes same keeps equal =
 pub untouched : (item : Item) (block : ℕ) → contents_of item ≡ [] → first_of item ≡ 0 → touches item block ≡ false
 untouched item block none first =
     let size : length (contents_of item) ≡ 0 = ap length none in
-    and_right (nat_le (first_of item) block) (nat_lt block (first_of item + length (contents_of item))) (le-ltb block (first_of item + length (contents_of item)) (omega arith))
+    and_right (nat_le (first_of item) block) (nat_lt block (first_of item + length (contents_of item)))
+    (le-ltb block (first_of item + length (contents_of item)) (omega arith))
 
 -- An item without blocks goes to the end of the stream.
-pub tracked-appending : (h : PrimaryHistory) (item : Item) (tuple : Tuple) → (outward h).closed ≡ false → contents_of item ≡ [] → first_of item ≡ 0 → IsTracked h
+pub tracked-appending : (h : PrimaryHistory) (item : Item) (tuple : Tuple) → (outward h).closed ≡ false → contents_of item ≡ [] → first_of item ≡ 0
+    → IsTracked h
     → HasHomes (changed h (change_last (λ c. record c { stream = c.stream ++ item ∷ [] }) h.connections) h.marks tuple h.peer h.receipts)
     → IsTracked (changed h (change_last (λ c. record c { stream = c.stream ++ item ∷ [] }) h.connections) h.marks tuple h.peer h.receipts)
 tracked-appending h item tuple standing none first t homes =
     let f : Outward → Outward = λ c. record c { stream = c.stream ++ item ∷ [] } in
     let c : Outward = outward h in
     tracked-turn h f h.marks tuple h.peer h.receipts standing t homes
-    (λ block. latest-appended (no_outward h.tuple) f item h.connections block (some-connection h standing) refl ∙ ap (λ b. if b then Some (record { connection = last_index h.connections; place = length c.stream; item = item }) else latest h.connections block) (untouched item block none first))
+    (λ block. latest-appended (no_outward h.tuple) f item h.connections block (some-connection h standing) refl
+    ∙ ap (λ b. if b then Some (record { connection = last_index h.connections; place = length c.stream; item = item })
+    else latest h.connections block) (untouched item block none first))
     (λ place block contents stood there. record {
       standing = stood;
-      there = elim (get-more c.stream item place (ResyncItem block contents) there) [ inl old ↦ old | inr new ↦ absurd (let e = new.1 in let same : [] ≡ contents ∷ [] = sym none ∙ ap contents_of (sym e) in cc) ];
+      there = elim (get-more c.stream item place (ResyncItem block contents) there)
+          [ inl old ↦ old | inr new ↦ absurd (let e = new.1 in let same : [] ≡ contents ∷ [] = sym none ∙ ap contents_of (sym e) in cc) ];
       unanswered = λ unanswered. unanswered;
       writes = λ next write at. get-left c.stream (item ∷ []) next (WriteItem write) at;
     })

@@ -19,7 +19,8 @@ pub record IsNumbered (h : PrimaryHistory) : Type 0 where
   pub numbers : HasNumbers h
 
 numbered-following : (h : PrimaryHistory) → IsNumbered h → IsNumbered (follows h).history
-numbered-following = following-from IsNumbered IsNumbered IsNumbered (λ h known. record { homes = homes-completions h known.homes; numbers = numbers-completions h known.homes known.numbers })
+numbered-following = following-from IsNumbered IsNumbered IsNumbered
+    (λ h known. record { homes = homes-completions h known.homes; numbers = numbers-completions h known.homes known.numbers })
     (λ g over known. record { homes = homes-parting g over known.homes; numbers = known.numbers }) (λ g on known. known)
     (λ g over known. record { homes = homes-ending g over known.homes; numbers = known.numbers }) (λ g known. known)
 
@@ -28,9 +29,18 @@ numbered-kept : IsKeptByMoves IsNumbered IsNumbered
 numbered-kept = record {
   following = numbered-following;
   opens = λ h sync loss closed fresh known. record { homes = homes-kept.opens h sync loss closed fresh known.homes; numbers = known.numbers };
-  submits = λ h first contents may known. record { homes = homes-kept.submits h first contents may known.homes; numbers = numbers-submitted h first contents known.numbers };
-  writes = λ h number waiting known. record { homes = homes-kept.writes h number waiting known.homes; numbers = (numbers-outcome h number OnDisk known.numbers, known.numbers.1) };
-  faults = λ h number offsets waiting known. record { homes = homes-kept.faults h number offsets waiting known.homes; numbers = numbers-faulted h number offsets known.numbers };
+  submits = λ h first contents may known. record {
+    homes = homes-kept.submits h first contents may known.homes;
+    numbers = numbers-submitted h first contents known.numbers;
+  };
+  writes = λ h number waiting known. record {
+    homes = homes-kept.writes h number waiting known.homes;
+    numbers = (numbers-outcome h number OnDisk known.numbers, known.numbers.1);
+  };
+  faults = λ h number offsets waiting known. record {
+    homes = homes-kept.faults h number offsets waiting known.homes;
+    numbers = numbers-faulted h number offsets known.numbers;
+  };
   sends = λ h standing due known. record { homes = homes-kept.sends h standing due known.homes; numbers = known.numbers };
   greets = λ h frame standing new met known. record { homes = homes-kept.greets h frame standing new met known.homes; numbers = known.numbers };
   begins = λ h peer decided standing new late is fresh known. record {
@@ -40,7 +50,10 @@ numbered-kept = record {
   receives = λ h ack standing begun may known. record { homes = homes-kept.receives h ack standing begun may known.homes; numbers = known.numbers };
   applies = λ h ack standing begun may known. record { homes = homes-kept.applies h ack standing begun may known.homes; numbers = known.numbers };
   clears = λ h ack standing begun may known. record { homes = homes-kept.clears h ack standing begun may known.homes; numbers = known.numbers };
-  confirms = λ h number size standing begun turn known. record { homes = homes-kept.confirms h number size standing begun turn known.homes; numbers = known.numbers };
+  confirms = λ h number size standing begun turn known. record {
+    homes = homes-kept.confirms h number size standing begun turn known.homes;
+    numbers = known.numbers;
+  };
   refuses = λ h frame peer standing known. record { homes = homes-kept.refuses h frame peer standing known.homes; numbers = known.numbers };
   resyncs = λ h block runs alone is known. record { homes = homes-kept.resyncs h block runs alone is known.homes; numbers = known.numbers };
   closes = λ h standing known. record { homes = homes-kept.closes h standing known.homes; numbers = known.numbers };
@@ -52,6 +65,8 @@ numbered-released : IsKeptByReleases IsNumbered IsNumbered
 numbered-released = kept-by-releases IsNumbered IsNumbered (λ h marks known. record { homes = homes-marks h marks known.homes; numbers = known.numbers })
 
 -- In every run of a primary the journal has each number once.
-pub numbered-run : (settings : Settings) (disk : BlockMap) (tuple : Tuple) (marks : ℕ → Bool) (events : List PrimaryEvent) → IsNumbered (primary_run events (primary_opening settings disk tuple marks))
-numbered-run settings disk tuple marks events = keeps-run IsNumbered IsNumbered numbered-kept numbered-released events (primary_opening settings disk tuple marks)
+pub numbered-run : (settings : Settings) (disk : BlockMap) (tuple : Tuple) (marks : ℕ → Bool) (events : List PrimaryEvent)
+    → IsNumbered (primary_run events (primary_opening settings disk tuple marks))
+numbered-run settings disk tuple marks events = keeps-run IsNumbered IsNumbered numbered-kept numbered-released events
+    (primary_opening settings disk tuple marks)
     (record { homes = homes-opening settings disk tuple marks; numbers = (λ n entry at. absurd (cc), λ m n a b ata. absurd (cc)) })

@@ -1,8 +1,9 @@
 -- What a primary's history keeps of its blocks is kept by what follows a step, and by every move that adds no write and no block.
-use Rattle.std.proofs.Common.{ℕ, zero, suc, ◌≡◌, ◌-◌, ◌<◌, inl, inr, Bool, true, false, not, ◌&&◌, ◌||◌, List, [], ◌∷◌, ◌++◌, length, map, Option, Some, None, slice_get, Ok, refl, sym, ◌∙◌, ap, subst, arith, ◌==◌, nat_lt}
+use Rattle.std.proofs.Common.{ℕ, zero, suc, ◌≡◌, ◌-◌, ◌<◌, inl, inr, Bool, true, false, not, ◌&&◌, List, [], ◌∷◌, ◌++◌, length, map, Option, Some, None}
+use Rattle.std.proofs.Common.{slice_get, Ok, refl, sym, ◌∙◌, ap, subst, arith, ◌==◌, nat_lt}
 use Rattle.std.specs.Prelude.{if◌then◌else◌}
 use Rattle.std.specs.List.{list_any}
-use Rattle.std.proofs.lemmas.Bool.{cases_Bool, both_ways, not-false, and_parts, and_cases, and_from, not_from_false, or_parts, or_cases, eqb-true, lt-ltb}
+use Rattle.std.proofs.lemmas.Bool.{cases_Bool, both_ways, not-false, and_parts, and_cases, and_from, not_from_false, or_cases, eqb-true, lt-ltb}
 use Rattle.std.proofs.lemmas.List.Folds.{list_any-append}
 use Rattle.blocks.specs.declared.tuple.Tuple.{Tuple}
 use Rattle.blocks.specs.declared.outcome.Decision.{Decision}
@@ -12,9 +13,16 @@ use Rattle.model.specs.Stream.{Item, WriteItem, ResyncItem, BarrierItem, SyncUui
 use Rattle.model.specs.Frames.{Received, UuidsFrame, RsWriteAckFrame, Acknowledged, naming}
 use Rattle.model.specs.Identifiers.{are_fresh, sync_start, sync_end, lost}
 use Rattle.model.specs.Marks.{Marks, clearing, marking_all, marking_unreleased}
-use Rattle.model.specs.Primary.{Accepted, Completion, Outward, PrimaryHistory, no_outward, last_of, outward, last_index, change_last, with_outward, stands, is_on_disk, is_completed, is_open, is_answered, is_alone, completes, in_resync, resync_runs, under_way, marked_blocks, is_resync, was_resynced, same_naming, items_sent}
-use Rattle.model.specs.PrimarySteps.{known_tuples, newly_completed, completion_of, with_completions, epoch_is_over, appending, resync_is_over, ending_resync, opened, closing, receipted}
+use Rattle.model.specs.Primary.{Accepted, Completion, Outward, PrimaryHistory, no_outward, last_of, outward, last_index, change_last, with_outward, stands}
+use Rattle.model.specs.Primary.{is_on_disk, is_completed, is_open, completes}
+use Rattle.model.specs.Primary.{is_resync, was_resynced, same_naming, items_sent}
+use Rattle.model.specs.PrimarySteps.{known_tuples, newly_completed, completion_of, with_completions, epoch_is_over, appending, resync_is_over, ending_resync}
+use Rattle.model.specs.PrimarySteps.{opened, closing, receipted}
 use Rattle.model.specs.Acknowledgements.{begun_with}
+use Rattle.laws.proofs.Rules.Completions.{completes-parts}
+use Rattle.laws.proofs.Rules.ResyncEnds.{over-stands}
+use Rattle.laws.proofs.Rules.CloseMarks.{close-keeps}
+use Rattle.laws.proofs.Rules.EpochEnds.{over-standing}
 use Rattle.laws.specs.Reflections.{content_at}
 use Rattle.laws.proofs.Blocks.LatestPlaces.{latest-last}
 use Rattle.laws.proofs.Lists.Last.{last-change, change-twice, last-more}
@@ -32,7 +40,8 @@ use Rattle.laws.proofs.Primary.HomesFollowing.{homes-completions, homes-ending, 
 -- What follows a step.
 
 -- two accepted writes of one number are one
-pub same-number : (h : PrimaryHistory) (i j : ℕ) (a b : Accepted) → HasHomes h → slice_get h.writes i ≡ Some a → slice_get h.writes j ≡ Some b → a.write.number ≡ b.write.number → a ≡ b
+pub same-number : (h : PrimaryHistory) (i j : ℕ) (a b : Accepted) → HasHomes h → slice_get h.writes i ≡ Some a → slice_get h.writes j ≡ Some b
+    → a.write.number ≡ b.write.number → a ≡ b
 same-number h i j a b homes ata atb same =
     let na = homes.numbered i a ata in
     let nb = homes.numbered j b atb in
@@ -47,17 +56,19 @@ tracked-completions h t = record {
   sized = t.sized;
   writes_inside = t.writes_inside;
   items_inside = t.items_inside;
-  on_disk = λ i accepted at done. elim (or_cases (is_completed h accepted.write.number) (list_any (has accepted) entries) (sym (list_any-append (has accepted) h.journal entries) ∙ done)) [
-    | inl before ↦ t.on_disk i accepted at before
-    | inr now ↦
-        let entry = pick-any (has accepted) entries now in
-        let of = pick-image (completion_of h) (newly_completed h) entry.0 entry.1 entry.2 in
-        let stood = pick-filtered (λ a. is_open h a && completes h a) h.writes entry.0 of.0 of.1 in
-        let number : entry.1.write.number ≡ accepted.write.number = eqb-true entry.1.write.number accepted.write.number entry.3 in
-        let same : of.0 ≡ accepted = same-number h stood.0 i of.0 accepted t.homes stood.1 at (ap (λ (e : Completion). e.write.number) of.2 ∙ number) in
-        let disk : is_on_disk of.0.outcome ≡ true = (and_parts (is_on_disk of.0.outcome) (is_answered h of.0 || is_alone h of.0) (and_parts (is_open h of.0) (completes h of.0) stood.2).1).0 in
-        subst (λ (a : Accepted). is_on_disk a.outcome ≡ true) same disk
-  ];
+  on_disk = λ i accepted at done. elim
+      (or_cases (is_completed h accepted.write.number) (list_any (has accepted) entries) (sym (list_any-append (has accepted) h.journal entries) ∙ done)) [
+        | inl before ↦ t.on_disk i accepted at before
+        | inr now ↦
+            let entry = pick-any (has accepted) entries now in
+            let of = pick-image (completion_of h) (newly_completed h) entry.0 entry.1 entry.2 in
+            let stood = pick-filtered (λ a. is_open h a && completes h a) h.writes entry.0 of.0 of.1 in
+            let number : entry.1.write.number ≡ accepted.write.number = eqb-true entry.1.write.number accepted.write.number entry.3 in
+            let same : of.0 ≡ accepted = same-number h stood.0 i of.0 accepted t.homes stood.1 at (ap (λ (e : Completion). e.write.number) of.2 ∙ number) in
+            let disk : is_on_disk of.0.outcome ≡ true =
+            (completes-parts h of.0 (and_parts (is_open h of.0) (completes h of.0) stood.2).1).0 in
+            subst (λ (a : Accepted). is_on_disk a.outcome ≡ true) same disk
+      ];
   under_way = t.under_way;
   copied = t.copied;
   equal = t.equal;
@@ -71,29 +82,36 @@ tracked-completions h t = record {
 
 -- A barrier ends an epoch.
 pub tracked-parting : (g : PrimaryHistory) → epoch_is_over g ≡ true → IsTracked g → IsTracked (appending (BarrierItem (last_epoch (outward g).stream)) g)
-tracked-parting g over t = tracked-appending g (BarrierItem (last_epoch (outward g).stream)) g.tuple (stands-parts (outward g) (and_parts (stands (outward g)) _ over).0).0 refl refl t (homes-parting g over t.homes)
-
--- a running resync stands on an open end
-runs-standing : (g : PrimaryHistory) → resync_is_over g ≡ true → (outward g).closed ≡ false
-runs-standing g over = go (resync_runs (outward g)) refl over
-  where
-    go : (b : Bool) → resync_runs (outward g) ≡ b → elim b as (λ _. Bool) [ false ↦ false | true ↦ (length (marked_blocks g) == 0) && (length (under_way (outward g)) == 0) ] ≡ true → (outward g).closed ≡ false
-    go false eq over = absurd (cc)
-    go true eq over = (stands-parts (outward g) (and_parts (stands (outward g)) (in_resync (outward g).stream) eq).0).0
+tracked-parting g over t = tracked-appending g (BarrierItem (last_epoch (outward g).stream)) g.tuple (stands-parts (outward g) (over-standing g over)).0 refl
+    refl t (homes-parting g over t.homes)
 
 -- A resync ends.
 pub tracked-ending : (g : PrimaryHistory) → resync_is_over g ≡ true → IsTracked g → IsTracked (ending_resync g)
-tracked-ending g over t = tracked-appending g (UuidsItem (sync_end g.tuple)) (sync_end g.tuple) (runs-standing g over) refl refl t (homes-ending g over t.homes)
+tracked-ending g over t = tracked-appending g (UuidsItem (sync_end g.tuple)) (sync_end g.tuple) (stands-parts
+    (outward g) (over-stands g over)).0 refl refl t (homes-ending g over t.homes)
 
 -- Connections open, begin and close.
 
 -- A new connection has not begun.
-pub tracked-opens : (h : PrimaryHistory) (sync loss : ℕ) → (outward h).closed ≡ true → are_fresh sync loss (known_tuples h) ≡ true → IsTracked h → IsTracked (opened h sync loss)
+pub tracked-opens : (h : PrimaryHistory) (sync loss : ℕ) → (outward h).closed ≡ true → are_fresh sync loss (known_tuples h) ≡ true → IsTracked h
+    → IsTracked (opened h sync loss)
 tracked-opens h sync loss closed fresh t =
-    let new : Outward = record { sync = sync; loss = loss; hello = h.tuple; stream = []; pushed = 0; taken = []; refused = false; begun = false; closed = false } in
+    let new : Outward = record {
+      sync = sync;
+      loss = loss;
+      hello = h.tuple;
+      stream = [];
+      pushed = 0;
+      taken = [];
+      refused = false;
+      begun = false;
+      closed = false;
+    } in
     let none : stands (outward (opened h sync loss)) ≡ false = ap stands (last-more (no_outward h.tuple) new h.connections) in
-    tracked-quiet h (h.connections ++ new ∷ []) h.marks h.tuple h.peer h.receipts t (homes-kept.opens h sync loss closed fresh t.homes) (λ block. latest-opened h.connections new block refl)
-    (λ stood. absurd (both_ways (stands (outward (opened h sync loss))) none stood)) (λ place block contents stood there. absurd (both_ways (stands (outward (opened h sync loss))) none stood)) t.equal
+    tracked-quiet h (h.connections ++ new ∷ []) h.marks h.tuple h.peer h.receipts t (homes-kept.opens h sync loss closed fresh t.homes)
+    (λ block. latest-opened h.connections new block refl)
+    (λ stood. absurd (both_ways (stands (outward (opened h sync loss))) none stood))
+    (λ place block contents stood there. absurd (both_ways (stands (outward (opened h sync loss))) none stood)) t.equal
 
 -- a stream without items has no block of a resync, nor has one that only begins a resync
 no-block : (place block : ℕ) (contents : List ℕ) → slice_get [] place ≡ Some (ResyncItem block contents) → ⊥
@@ -118,36 +136,49 @@ tracked-begins h peer decided standing new t = go decided
     beginning : (g : Outward → Outward) (marks : Marks) (tuple : Tuple)
         → HasHomes (changed h (change_last g (change_last (with_frame (Ok (UuidsFrame peer))) h.connections)) marks tuple (Some peer) h.receipts)
         → ((block : ℕ) → latest (change_last (λ c. g (with_frame (Ok (UuidsFrame peer)) c)) h.connections) block ≡ latest h.connections block)
-        → ((place block : ℕ) (contents : List ℕ) → slice_get (g (with_frame (Ok (UuidsFrame peer)) (outward h))).stream place ≡ Some (ResyncItem block contents) → ⊥)
+        → ((place block : ℕ) (contents : List ℕ) → slice_get (g (with_frame (Ok (UuidsFrame peer)) (outward h))).stream place ≡ Some (ResyncItem block contents)
+        → ⊥)
         → ((block : ℕ) → block < h.settings.blocks → marks block ≡ false → sent_map h block ≡ settling_map h block)
         → IsTracked (changed h (change_last g (change_last (with_frame (Ok (UuidsFrame peer))) h.connections)) marks tuple (Some peer) h.receipts)
     beginning g marks tuple homes same none equal =
         let f : Outward → Outward = λ c. g (with_frame (Ok (UuidsFrame peer)) c) in
-        let twice : change_last g (change_last (with_frame (Ok (UuidsFrame peer))) h.connections) ≡ change_last f h.connections = change-twice (with_frame (Ok (UuidsFrame peer))) g h.connections in
+        let twice : change_last g (change_last (with_frame (Ok (UuidsFrame peer))) h.connections) ≡ change_last f h.connections =
+        change-twice (with_frame (Ok (UuidsFrame peer))) g h.connections in
         subst (λ (cs : List Outward). IsTracked (changed h cs marks tuple (Some peer) h.receipts)) (sym twice)
-        (tracked-turn h f marks tuple (Some peer) h.receipts standing t (subst (λ (cs : List Outward). HasHomes (changed h cs marks tuple (Some peer) h.receipts)) twice homes) same (λ place block contents stood there. absurd (none place block contents there)) equal)
+        (tracked-turn h f marks tuple (Some peer) h.receipts standing t
+        (subst (λ (cs : List Outward). HasHomes (changed h cs marks tuple (Some peer) h.receipts)) twice homes) same
+        (λ place block contents stood there. absurd (none place block contents there)) equal)
 
     started : (word : ℕ) (block : ℕ)
-        → latest (change_last (λ (c : Outward). record c { taken = c.taken ++ Ok (UuidsFrame peer) ∷ []; begun = true; stream = SyncUuidItem word ∷ [] }) h.connections) block ≡ latest h.connections block
+        → latest (change_last (λ (c : Outward). record c { taken = c.taken ++ Ok (UuidsFrame peer) ∷ []; begun = true; stream = SyncUuidItem word ∷ [] })
+        h.connections) block ≡ latest h.connections block
     started word block =
         let item : Item = SyncUuidItem word in
-        latest-appended (no_outward h.tuple) (λ (c : Outward). record c { taken = c.taken ++ Ok (UuidsFrame peer) ∷ []; begun = true; stream = SyncUuidItem word ∷ [] }) item h.connections block (some-connection h standing)
+        latest-appended (no_outward h.tuple)
+        (λ (c : Outward). record c { taken = c.taken ++ Ok (UuidsFrame peer) ∷ []; begun = true; stream = SyncUuidItem word ∷ [] }) item h.connections block
+        (some-connection h standing)
         (ap (λ (l : List Item). l ++ item ∷ []) (sym empty))
-        ∙ ap (λ b. if b then Some (record { connection = last_index h.connections; place = length (outward h).stream; item = item }) else latest h.connections block) (untouched item block refl refl)
+        ∙ ap (λ b. if b then Some (record { connection = last_index h.connections; place = length (outward h).stream; item = item })
+        else latest h.connections block) (untouched item block refl refl)
 
     go : (v : Decision) → HasHomes (begun_with v seen) → IsTracked (begun_with v seen)
     go NoSync homes =
-        beginning (λ c. record c { begun = true }) h.marks h.tuple homes (λ block. latest-same _ h.connections block (λ c. refl)) (λ place block contents there. no-block place block contents (subst (λ (l : List Item). slice_get l place ≡ Some (ResyncItem block contents)) empty there)) t.equal
+        beginning (λ c. record c { begun = true }) h.marks h.tuple homes (λ block. latest-same _ h.connections block (λ c. refl))
+        (λ place block contents there. no-block place block contents
+        (subst (λ (l : List Item). slice_get l place ≡ Some (ResyncItem block contents)) empty there)) t.equal
     go BitmapSync homes =
         let word : ℕ = (outward seen).sync in
-        beginning (λ c. record c { begun = true; stream = SyncUuidItem word ∷ [] }) h.marks (sync_start word h.tuple) homes (started word) (no-block-begun word) t.equal
+        beginning (λ c. record c { begun = true; stream = SyncUuidItem word ∷ [] }) h.marks (sync_start word h.tuple) homes (started word)
+        (no-block-begun word) t.equal
     go FullSync homes =
         let word : ℕ = (outward seen).sync in
-        beginning (λ c. record c { begun = true; stream = SyncUuidItem word ∷ [] }) (marking_all h.settings.blocks) (sync_start word h.tuple) homes (started word) (no-block-begun word)
+        beginning (λ c. record c { begun = true; stream = SyncUuidItem word ∷ [] }) (marking_all h.settings.blocks) (sync_start word h.tuple) homes
+        (started word) (no-block-begun word)
         (λ block within unmarked. absurd (both_ways (nat_lt block h.settings.blocks) unmarked (lt-ltb block h.settings.blocks within)))
 
 -- a closed end has nothing under way
-closed-last : (none : Outward) (connections : List Outward) → none.closed ≡ true → (last_of none (change_last (λ (c : Outward). record c { closed = true }) connections)).closed ≡ true
+closed-last : (none : Outward) (connections : List Outward) → none.closed ≡ true
+    → (last_of none (change_last (λ (c : Outward). record c { closed = true }) connections)).closed ≡ true
 closed-last none connections closed = elim (last-change (λ (c : Outward). record c { closed = true }) none none connections) [
   | inl empty ↦ ap (λ (l : List Outward). (last_of none (change_last (λ (c : Outward). record c { closed = true }) l)).closed) empty ∙ closed
   | inr changed ↦ ap (λ (c : Outward). c.closed) changed
@@ -155,12 +186,15 @@ closed-last none connections closed = elim (last-change (λ (c : Outward). recor
 
 -- The end closes: marks are only set.
 tracked-closed : (h : PrimaryHistory) (connections : List Outward) (marks : Marks) (tuple : Tuple) (peer : Option Tuple) → IsTracked h
-    → HasHomes (changed h (change_last (λ c. record c { closed = true }) connections) marks tuple peer h.receipts) → ((block : ℕ) → latest connections block ≡ latest h.connections block)
+    → HasHomes (changed h (change_last (λ c. record c { closed = true }) connections) marks tuple peer h.receipts)
+    → ((block : ℕ) → latest connections block ≡ latest h.connections block)
     → ((block : ℕ) → marks block ≡ false → h.marks block ≡ false)
     → IsTracked (changed h (change_last (λ c. record c { closed = true }) connections) marks tuple peer h.receipts)
 tracked-closed h connections marks tuple peer t homes same grow =
-    tracked-quiet h (change_last (λ c. record c { closed = true }) connections) marks tuple peer h.receipts t homes (λ block. latest-same (λ c. record c { closed = true }) connections block (λ c. refl) ∙ same block)
-    (λ stood. absurd (shut stood)) (λ place block contents stood there. absurd (shut stood)) (λ block within unmarked. t.equal block within (grow block unmarked))
+    tracked-quiet h (change_last (λ c. record c { closed = true }) connections) marks tuple peer h.receipts t homes
+    (λ block. latest-same (λ c. record c { closed = true }) connections block (λ c. refl) ∙ same block)
+    (λ stood. absurd (shut stood)) (λ place block contents stood there. absurd (shut stood))
+    (λ block within unmarked. t.equal block within (grow block unmarked))
   where
     last : Outward
     last = last_of (no_outward tuple) (change_last (λ (c : Outward). record c { closed = true }) connections)
@@ -171,54 +205,68 @@ tracked-closed h connections marks tuple peer t homes same grow =
 -- The primary closes its end.
 pub tracked-closes : (h : PrimaryHistory) → (outward h).closed ≡ false → IsTracked h → IsTracked (closing h)
 tracked-closes h standing t =
-    tracked-closed h h.connections (marking_unreleased h) (if (outward h).begun then lost (outward h).loss h.tuple else h.tuple) h.peer t (homes-kept.closes h standing t.homes) (λ block. refl) (λ block unmarked. (or_parts (h.marks block) _ unmarked).0)
+    tracked-closed h h.connections (marking_unreleased h) (if (outward h).begun then lost (outward h).loss h.tuple
+    else h.tuple) h.peer t (homes-kept.closes h standing t.homes) (λ block. refl) (λ block unmarked. close-keeps h block unmarked)
 
 -- A frame is refused, and the end closes.
 pub tracked-refuses : (h : PrimaryHistory) (frame : Received) (peer : Option Tuple) → (outward h).closed ≡ false → IsTracked h
     → IsTracked (closing (with_outward refusing (record (with_outward (with_frame frame) h) { peer = peer })))
 tracked-refuses h frame peer standing t =
     let g : PrimaryHistory = with_outward refusing (record (with_outward (with_frame frame) h) { peer = peer }) in
-    tracked-closed h (change_last refusing (change_last (with_frame frame) h.connections)) (marking_unreleased g) (if (outward g).begun then lost (outward g).loss h.tuple else h.tuple) peer t (homes-kept.refuses h frame peer standing t.homes)
-    (λ block. latest-same refusing (change_last (with_frame frame) h.connections) block (λ c. refl) ∙ latest-same (with_frame frame) h.connections block (λ c. refl)) (λ block unmarked. (or_parts (h.marks block) _ unmarked).0)
+    tracked-closed h (change_last refusing (change_last (with_frame frame) h.connections)) (marking_unreleased g) (if (outward g).begun
+    then lost (outward g).loss h.tuple else h.tuple) peer t (homes-kept.refuses h frame peer standing t.homes)
+    (λ block. latest-same refusing (change_last (with_frame frame) h.connections) block (λ c. refl)
+    ∙ latest-same (with_frame frame) h.connections block (λ c. refl)) (λ block unmarked. close-keeps g block unmarked)
 
 -- Frames go out and come in.
 
 -- A frame is sent.
 pub tracked-sends : (h : PrimaryHistory) → (outward h).closed ≡ false → IsTracked h → HasHomes (with_outward pushing h) → IsTracked (with_outward pushing h)
-tracked-sends h standing t homes = tracked-turn h pushing h.marks h.tuple h.peer h.receipts standing t homes (λ block. latest-same pushing h.connections block (λ c. refl))
-    (λ place block contents stood there. record { standing = stood; there = there; unanswered = λ unanswered. unanswered; writes = λ next write at. at }) t.equal
+tracked-sends h standing t homes = tracked-turn h pushing h.marks h.tuple h.peer h.receipts standing t homes
+    (λ block. latest-same pushing h.connections block (λ c. refl))
+    (λ place block contents stood there. record { standing = stood; there = there; unanswered = λ unanswered. unanswered; writes = λ next write at. at })
+    t.equal
 
 -- A frame is taken, and marks may change where what was sent is the same.
-tracked-taking : (h : PrimaryHistory) (frame : Received) (marks : Marks) → (outward h).closed ≡ false → IsTracked h → HasHomes (changed h (change_last (with_frame frame) h.connections) marks h.tuple h.peer h.receipts)
-    → ((block : ℕ) → block < h.settings.blocks → marks block ≡ false → sent_map h block ≡ settling_map h block) → IsTracked (changed h (change_last (with_frame frame) h.connections) marks h.tuple h.peer h.receipts)
-tracked-taking h frame marks standing t homes equal = tracked-turn h (with_frame frame) marks h.tuple h.peer h.receipts standing t homes (λ block. latest-same (with_frame frame) h.connections block (λ c. refl))
+tracked-taking : (h : PrimaryHistory) (frame : Received) (marks : Marks) → (outward h).closed ≡ false → IsTracked h
+    → HasHomes (changed h (change_last (with_frame frame) h.connections) marks h.tuple h.peer h.receipts)
+    → ((block : ℕ) → block < h.settings.blocks → marks block ≡ false → sent_map h block ≡ settling_map h block)
+    → IsTracked (changed h (change_last (with_frame frame) h.connections) marks h.tuple h.peer h.receipts)
+tracked-taking h frame marks standing t homes equal = tracked-turn h (with_frame frame) marks h.tuple h.peer h.receipts standing t homes
+    (λ block. latest-same (with_frame frame) h.connections block (λ c. refl))
     (λ place block contents stood there. record {
       standing = stood;
       there = there;
-      unanswered = unanswered-before (outward h) (with_frame frame (outward h)) place (ResyncItem block contents) (frames-taking (outward h) frame (not-refused h t.homes standing (length h.connections - 1) (open-at h standing)));
+      unanswered = unanswered-before (outward h) (with_frame frame (outward h)) place (ResyncItem block contents)
+          (frames-taking (outward h) frame (not-refused h t.homes standing (length h.connections - 1) (open-at h standing)));
       writes = λ next write at. at;
     }) equal
 
 -- A frame is taken.
-pub tracked-takes : (h : PrimaryHistory) (frame : Received) → (outward h).closed ≡ false → IsTracked h → HasHomes (with_outward (with_frame frame) h) → IsTracked (with_outward (with_frame frame) h)
+pub tracked-takes : (h : PrimaryHistory) (frame : Received) → (outward h).closed ≡ false → IsTracked h → HasHomes (with_outward (with_frame frame) h)
+    → IsTracked (with_outward (with_frame frame) h)
 tracked-takes h frame standing t homes = tracked-taking h frame h.marks standing t homes t.equal
 
 -- A receipt is taken.
 pub tracked-receipts : (h : PrimaryHistory) (number : ℕ) → IsTracked h → IsTracked (receipted number h)
-tracked-receipts h number t = tracked-quiet h h.connections h.marks h.tuple h.peer (h.receipts ++ number ∷ []) t (homes-kept.receipts h number t.homes) (λ block. refl) (λ stood. refl)
-    (λ place block contents stood there. record { standing = stood; there = there; unanswered = λ unanswered. unanswered; writes = λ next write at. at }) t.equal
+tracked-receipts h number t = tracked-quiet h h.connections h.marks h.tuple h.peer (h.receipts ++ number ∷ []) t (homes-kept.receipts h number t.homes)
+    (λ block. refl) (λ stood. refl)
+    (λ place block contents stood there. record { standing = stood; there = there; unanswered = λ unanswered. unanswered; writes = λ next write at. at })
+    t.equal
 
 -- no write behind a block that is under way has it
-pub under-way-copied : (h : PrimaryHistory) (place block : ℕ) (contents : List ℕ) → IsTracked h → IsUnderWay (outward h) place block contents → IsCopy (outward h) place block contents
+pub under-way-copied : (h : PrimaryHistory) (place block : ℕ) (contents : List ℕ) → IsTracked h → IsUnderWay (outward h) place block contents
+    → IsCopy (outward h) place block contents
 under-way-copied h place block contents t way = record {
   standing = way.standing;
   there = way.there;
   last = λ next write after at. elim (cases_Bool (covers write block)) [
     | inr apart ↦ apart
-    | inl covered ↦ absurd (elim (latest-last h.connections block _ (t.under_way place block contents way) (last_index h.connections) next (outward h) (WriteItem write) (open-at h (stands-parts (outward h) way.standing).0) at covered) [
-      | inl before ↦ omega arith
-      | inr here ↦ let low = here.1 in omega arith
-    ])
+    | inl covered ↦ absurd (elim (latest-last h.connections block _ (t.under_way place block contents way) (last_index h.connections) next (outward h)
+        (WriteItem write) (open-at h (stands-parts (outward h) way.standing).0) at covered) [
+          | inl before ↦ omega arith
+          | inr here ↦ let low = here.1 in omega arith
+        ])
   ];
 }
 
@@ -227,17 +275,22 @@ pub copy-content : (block : ℕ) (contents : List ℕ) → content_at (ResyncIte
 copy-content block contents = let none : block - block ≡ 0 = omega arith in ap (λ (n : ℕ). slice_get (contents ∷ []) n) none
 
 -- on a block that is under way what was sent is what the local disk comes to hold
-under-way-equal : (h : PrimaryHistory) (place block : ℕ) (contents : List ℕ) → IsTracked h → IsUnderWay (outward h) place block contents → sent_map h block ≡ settling_map h block
+under-way-equal : (h : PrimaryHistory) (place block : ℕ) (contents : List ℕ) → IsTracked h → IsUnderWay (outward h) place block contents
+    → sent_map h block ≡ settling_map h block
 under-way-equal h place block contents t way =
-    ap (content_of (h.opening_map block) block) (t.under_way place block contents way) ∙ (copy-content block contents ∙ sym (t.copied place block contents (under-way-copied h place block contents t way)).0)
+    ap (content_of (h.opening_map block) block) (t.under_way place block contents way)
+    ∙ (copy-content block contents ∙ sym (t.copied place block contents (under-way-copied h place block contents t way)).0)
 
 -- A block's acknowledgement clears its mark: it was under way.
-pub tracked-clears : (h : PrimaryHistory) (ack : Acknowledged) → (outward h).closed ≡ false → (outward h).begun ≡ true → MayAcknowledge h is_resync was_resynced ack → IsTracked h
+pub tracked-clears : (h : PrimaryHistory) (ack : Acknowledged) → (outward h).closed ≡ false → (outward h).begun ≡ true
+    → MayAcknowledge h is_resync was_resynced ack → IsTracked h
     → IsTracked (record (with_outward (with_frame (Ok (RsWriteAckFrame ack))) h) { marks = clearing ack.first h.marks })
 tracked-clears h ack standing begun may t =
-    tracked-taking h (Ok (RsWriteAckFrame ack)) (clearing ack.first h.marks) standing t (homes-kept.clears h ack standing begun may t.homes) (λ block within unmarked. elim (and_cases (h.marks block) (not (block == ack.first)) unmarked) [
+    tracked-taking h (Ok (RsWriteAckFrame ack)) (clearing ack.first h.marks) standing t (homes-kept.clears h ack standing begun may t.homes)
+    (λ block within unmarked. elim (and_cases (h.marks block) (not (block == ack.first)) unmarked) [
       | inl before ↦ t.equal block within before
-      | inr cleared ↦ let is : block ≡ ack.first = eqb-true block ack.first (not-false (block == ack.first) cleared) in subst (λ (b : ℕ). sent_map h b ≡ settling_map h b) (sym is) (there (slice_get (outward h).stream ack.place) refl may.names may.first)
+      | inr cleared ↦ let is : block ≡ ack.first = eqb-true block ack.first (not-false (block == ack.first) cleared) in subst
+          (λ (b : ℕ). sent_map h b ≡ settling_map h b) (sym is) (there (slice_get (outward h).stream ack.place) refl may.names may.first)
     ])
   where
     stood : stands (outward h) ≡ true
@@ -249,15 +302,21 @@ tracked-clears h ack standing begun may t =
     block-of (ResyncItem block contents) is resync same open_yet =
         let parts = and_parts ((block == ack.first) && (0 == ack.number)) ((1 == ack.count) && (ack.place == ack.place)) same in
         let first : block ≡ ack.first = eqb-true block ack.first (and_parts (block == ack.first) (0 == ack.number) parts.0).0 in
-        subst (λ (b : ℕ). sent_map h b ≡ settling_map h b) first (under-way-equal h ack.place block contents t (record { standing = stood; there = is; unanswered = open_yet }))
+        subst (λ (b : ℕ). sent_map h b ≡ settling_map h b) first
+        (under-way-equal h ack.place block contents t (record { standing = stood; there = is; unanswered = open_yet }))
     block-of (BarrierItem epoch) is resync same open_yet = absurd (cc)
     block-of (SyncUuidItem word) is resync same open_yet = absurd (cc)
     block-of (UuidsItem tuple) is resync same open_yet = absurd (cc)
 
     there : (v : Option Item) → slice_get (outward h).stream ack.place ≡ v
-        → elim v as (λ _. Bool) [ None ↦ false | Some item ↦ (is_resync item && same_naming (naming ack.place item) ack) && nat_lt ack.place (items_sent (outward h)) ] ≡ true
+        → elim v as (λ _. Bool) [
+          | None ↦ false
+          | Some item ↦ (is_resync item && same_naming (naming ack.place item) ack)
+              && nat_lt ack.place (items_sent (outward h))
+        ] ≡ true
         → elim v as (λ _. Bool) [ None ↦ false | Some item ↦ was_resynced (outward h) ack.place item ] ≡ false → sent_map h ack.first ≡ settling_map h ack.first
     there None is names first = absurd (cc)
     there (Some item) is names first =
-        let parts = and_parts (is_resync item) (same_naming (naming ack.place item) ack) (and_parts (is_resync item && same_naming (naming ack.place item) ack) (nat_lt ack.place (items_sent (outward h))) names).0 in
+        let parts = and_parts (is_resync item) (same_naming (naming ack.place item) ack)
+        (and_parts (is_resync item && same_naming (naming ack.place item) ack) (nat_lt ack.place (items_sent (outward h))) names).0 in
         block-of item is parts.0 parts.1 first

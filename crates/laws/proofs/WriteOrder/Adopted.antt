@@ -1,6 +1,7 @@
 -- The order of writes of a secondary that adopted the tuple that ended a resync: what it has was applied on that connection, over
 -- what the earlier writes leave on the primary's opening disk.
-use Rattle.std.proofs.Common.{ℕ, suc, ◌≡◌, ◌-◌, ◌<◌, inl, inr, true, false, not, nat_lt, zero-add, List, [], length, take, map, Option, Some, slice_get, refl, sym, ◌∙◌, ap, subst, arith}
+use Rattle.std.proofs.Common.{ℕ, suc, ◌≡◌, ◌-◌, ◌<◌, inl, inr, true, false, not, nat_lt, zero-add, List, [], length, take, map, Option, Some, slice_get, refl}
+use Rattle.std.proofs.Common.{sym, ◌∙◌, ap, subst, arith}
 use Rattle.std.specs.List.{list_any}
 use Rattle.std.proofs.lemmas.Bool.{cases_Bool, cases_lt, both_ways, or_from, and_left, ltb-true, false_from_ne_true}
 use Rattle.std.proofs.lemmas.Option.{slice_get_within}
@@ -39,11 +40,15 @@ use Rattle.laws.proofs.WriteOrder.SpanMoves.{HasSpans}
 use Rattle.laws.proofs.WriteOrder.Generations.{TakesOnly, IsLeft}
 use Rattle.laws.proofs.WriteOrder.GenerationMoves.{HasLeft}
 use Rattle.laws.proofs.WriteOrder.Consistent.{IsAdopted}
-use Rattle.laws.proofs.WriteOrder.Ends.{none-in, first-in, brings-nothing, base-from-opening, base-from-end, rises, peer-hello, outward-of, behind-of, none-failed}
+use Rattle.laws.proofs.WriteOrder.Ends.{none-in, first-in, brings-nothing, base-from-opening, base-from-end, rises, peer-hello, outward-of, behind-of}
+use Rattle.laws.proofs.WriteOrder.Ends.{none-failed}
 
-module _ (o : Opening) (here : List PrimaryEvent) (there : List SecondaryEvent) (sound : IsSoundOpening o) (joined : IsJoined (primary_run here (primary_at o)) (secondary_run there (secondary_at o)))
-    (unharmed : IsUnharmed (primary_run here (primary_at o)) (secondary_run there (secondary_at o))) (homes : HasHomes (primary_run here (primary_at o))) (accounted : IsAccounted (primary_run here (primary_at o)))
-    (spans : HasSpans (primary_run here (primary_at o))) (left : HasLeft (primary_run here (primary_at o))) (epochs : HoldsEarlierEpochs (secondary_run there (secondary_at o))) (a : IsAdopted (secondary_run there (secondary_at o))) where
+module _ (o : Opening) (here : List PrimaryEvent) (there : List SecondaryEvent) (sound : IsSoundOpening o)
+    (joined : IsJoined (primary_run here (primary_at o)) (secondary_run there (secondary_at o)))
+    (unharmed : IsUnharmed (primary_run here (primary_at o)) (secondary_run there (secondary_at o))) (homes : HasHomes (primary_run here (primary_at o)))
+    (accounted : IsAccounted (primary_run here (primary_at o)))
+    (spans : HasSpans (primary_run here (primary_at o))) (left : HasLeft (primary_run here (primary_at o)))
+    (epochs : HoldsEarlierEpochs (secondary_run there (secondary_at o))) (a : IsAdopted (secondary_run there (secondary_at o))) where
   abbrev p : PrimaryHistory
   p = primary_run here (primary_at o)
 
@@ -57,7 +62,8 @@ module _ (o : Opening) (here : List PrimaryEvent) (there : List SecondaryEvent) 
   d = a.end
 
   -- the primary's end of the connection
-  adopted-on : (k : ℕ) × (c : Outward) × AreEnds (primary_run here (primary_at o)) (secondary_run there (secondary_at o)) k a.index c a.end × IsBeginning (items_taken a.end) c.stream
+  adopted-on : (k : ℕ) × (c : Outward) × AreEnds (primary_run here (primary_at o)) (secondary_run there (secondary_at o)) k a.index c a.end
+      × IsBeginning (items_taken a.end) c.stream
   adopted-on = outward-of o here there joined a.index a.place a.end (UuidsItem s.tuple) a.at a.there
 
   abbrev k : ℕ
@@ -73,18 +79,21 @@ module _ (o : Opening) (here : List PrimaryEvent) (there : List SecondaryEvent) 
   begun-there : c.begun ≡ true
   begun-there = elim (cases_Bool c.begun) [
     | inl is ↦ is
-    | inr new ↦ absurd (let nothing : slice_get [] a.place ≡ Some (UuidsItem s.tuple) = subst (λ (l : List Item). slice_get l a.place ≡ Some (UuidsItem s.tuple)) (homes.empty k c adopted-on.2.outward new) ended-there in cc (nothing))
+    | inr new ↦ absurd (let nothing : slice_get [] a.place ≡ Some (UuidsItem s.tuple) =
+        subst (λ (l : List Item). slice_get l a.place ≡ Some (UuidsItem s.tuple)) (homes.empty k c adopted-on.2.outward new) ended-there in cc (nothing))
   ]
 
   -- it adopted a tuple
   adopted : has_adopted s ≡ true
-  adopted = any-pick (λ (e : Inward). list_any is_sync_end (items_taken e)) s.connections j d a.at (any-pick is_sync_end (items_taken d) a.place (UuidsItem s.tuple) a.there refl)
+  adopted = any-pick (λ (e : Inward). list_any is_sync_end (items_taken e)) s.connections j d a.at
+      (any-pick is_sync_end (items_taken d) a.place (UuidsItem s.tuple) a.there refl)
 
   base-same : (block : ℕ) → base_of p s block ≡ p.opening_map block
   base-same block = ap (λ b. elim b as (λ _. Option (List ℕ)) [ true ↦ p.opening_map block | false ↦ s.opening_map block ]) adopted
 
   -- of two connections the one with the lower number comes first
-  comes-first : (m : ℕ) (e : Inward) (i : ℕ) (f : Inward) → slice_get s.connections m ≡ Some e → slice_get s.connections i ≡ Some f → e.number < f.number → m < i
+  comes-first : (m : ℕ) (e : Inward) (i : ℕ) (f : Inward) → slice_get s.connections m ≡ Some e → slice_get s.connections i ≡ Some f → e.number < f.number
+      → m < i
   comes-first m e i f ate atf less = elim (cases_lt m i) [
     | inl is ↦ is
     | inr late ↦ absurd (elim (cases_lt i m) [
@@ -124,7 +133,8 @@ module _ (o : Opening) (here : List PrimaryEvent) (there : List SecondaryEvent) 
         elim left-then [
           | inl standing ↦ let last = standing.last in omega arith
           | inr gone ↦ elim (gone.resyncs of.0 of.1 (omega arith) of.2.outward) [
-            | inl new ↦ let nothing : slice_get [] 0 ≡ Some head.0 = subst (λ (l : List Item). slice_get l 0 ≡ Some head.0) (homes.empty of.0 of.1 of.2.outward new) there_too in cc (nothing)
+            | inl new ↦ let nothing : slice_get [] 0 ≡ Some head.0 = subst (λ (l : List Item). slice_get l 0 ≡ Some head.0)
+                (homes.empty of.0 of.1 of.2.outward new) there_too in cc (nothing)
             | inr resync ↦
                 let same : head.0 ≡ SyncUuidItem resync.0 = same-at of.1.stream 0 head.0 (SyncUuidItem resync.0) there_too resync.1 in
                 both_ways (is_sync_start head.0) ((a.later m e less at).items 0 head.0 head.1).0 (ap is_sync_start same)
@@ -161,7 +171,8 @@ module _ (o : Opening) (here : List PrimaryEvent) (there : List SecondaryEvent) 
       let one = end.2.number in
       let two = adopted-on.2.number in
       let below_it = from.less in
-      base-from-end s epochs block v end.0 e end.2.inward holds j d (comes-first end.0 e j d end.2.inward a.at (omega arith)) a.at (λ m f low high at n i taken touched.
+      base-from-end s epochs block v end.0 e end.2.inward holds j d (comes-first end.0 e j d end.2.inward a.at (omega arith)) a.at
+      (λ m f low high at n i taken touched.
       let of = outward-of o here there joined m n f i at taken in
       let number = of.2.number in
       let after = (rises o here there joined).rise end.0 m e f low end.2.inward at in
@@ -175,7 +186,8 @@ module _ (o : Opening) (here : List PrimaryEvent) (there : List SecondaryEvent) 
       let mine = kept-opening-primary o here in
       let theirs = kept-opening-secondary o there in
       let same = unmarked-agree o here there sound joined grounded block below.unmarked (inr (below.began.0, below.began.1, λ inside. below.began.2)) in
-      let was : s.opening_map block ≡ v = ap (λ (m : BlockMap). m block) theirs.disk ∙ (sym same ∙ (ap (λ (m : BlockMap). m block) (sym mine.disk) ∙ below.content)) in
+      let was : s.opening_map block ≡ v = ap (λ (m : BlockMap). m block) theirs.disk
+      ∙ (sym same ∙ (ap (λ (m : BlockMap). m block) (sym mine.disk) ∙ below.content)) in
       base-from-opening s epochs block v was j d a.at (λ m f high at n i taken touched.
       let of = outward-of o here there joined m n f i at taken in
       let number = of.2.number in
@@ -185,21 +197,29 @@ module _ (o : Opening) (here : List PrimaryEvent) (there : List SecondaryEvent) 
 
   -- what is bare stays as the connection opened
   bare-map : (block : ℕ) → IsBare block → map_of d block ≡ d.base block
-  bare-map block bare = layers-bare d.base 0 (items_taken d) d.applied block (λ n i at touched. subst (λ (m : ℕ). is_in d.applied m (block - first_of i) ≡ false) (sym (zero-add n)) (bare n i at touched))
+  bare-map block bare = layers-bare d.base 0 (items_taken d) d.applied block
+      (λ n i at touched. subst (λ (m : ℕ). is_in d.applied m (block - first_of i) ≡ false) (sym (zero-add n)) (bare n i at touched))
 
   -- past the end of the device
   opened-outside : (older block : ℕ) → (block < p.settings.blocks → ⊥) → IsBare block → d.base block ≡ left_by p older block
   opened-outside older block out bare =
-      let free : (i : ℕ) (w : Accepted) → slice_get p.writes i ≡ Some w → covers w.write block ≡ false = λ i w at. false_from_ne_true (covers w.write block) (λ covered. out (covered-inside p accounted.known i block w at covered)) in
-      let unmarked : is_marked p block ≡ false = and_left (nat_lt block p.settings.blocks) (p.marks block) (false_from_ne_true (nat_lt block p.settings.blocks) (λ inside. out (ltb-true block p.settings.blocks inside))) in
+      let free : (i : ℕ) (w : Accepted) → slice_get p.writes i ≡ Some w
+      → covers w.write block ≡ false = λ i w at. false_from_ne_true (covers w.write block)
+      (λ covered. out (covered-inside p accounted.known i block w at covered)) in
+      let unmarked : is_marked p block ≡ false = and_left (nat_lt block p.settings.blocks) (p.marks block)
+      (false_from_ne_true (nat_lt block p.settings.blocks) (λ inside. out (ltb-true block p.settings.blocks inside))) in
       let unheld : list_any (λ (w : Accepted). covers w.write block) (unreleased p) ≡ false = false_from_ne_true _ (λ some.
       let found = pick-any (λ (w : Accepted). covers w.write block) (unreleased p) some in
       let stood = pick-filtered (λ (w : Accepted). not (is_released p w)) p.writes found.0 found.1 found.2 in
       both_ways (covers found.1.write block) (free stood.0 found.1 stood.1) found.3) in
-      let same = same-equal (local_map p block) (secondary_map s block) (joined-agrees o here there sound joined grounded block (reflected p block accounted (or_from (is_marked p block) _ unmarked unheld))) in
-      let here_map : local_map p block ≡ p.opening_map block = overlay-none local_layer p.opening_map p.writes block (λ i w at v. under-outside (local_layer w) block v (free i w at)) in
-      let there_map : secondary_map s block ≡ map_of d block = reaches-disk s epochs block (map_of d block) j d a.at refl (λ m e less at. brings-nothing block (map_of d block) e (later-empty m e less at)) in
-      let left_there : left_by p older block ≡ p.opening_map block = overlay-none full_layer p.opening_map (take older p.writes) block (λ i w at v. under-outside (full_layer w) block v (free i w (get-front older p.writes i w at).1)) in
+      let same = same-equal (local_map p block) (secondary_map s block)
+      (joined-agrees o here there sound joined grounded block (reflected p block accounted (or_from (is_marked p block) _ unmarked unheld))) in
+      let here_map : local_map p block ≡ p.opening_map block = overlay-none local_layer p.opening_map p.writes block
+      (λ i w at v. under-outside (local_layer w) block v (free i w at)) in
+      let there_map : secondary_map s block ≡ map_of d block = reaches-disk s epochs block (map_of d block) j d a.at refl
+      (λ m e less at. brings-nothing block (map_of d block) e (later-empty m e less at)) in
+      let left_there : left_by p older block ≡ p.opening_map block = overlay-none full_layer p.opening_map (take older p.writes) block
+      (λ i w at v. under-outside (full_layer w) block v (free i w (get-front older p.writes i w at).1)) in
       sym (bare-map block bare) ∙ (sym there_map ∙ (sym same ∙ (here_map ∙ sym left_there)))
 
   opened-on : (block : ℕ) → IsBare block → d.base block ≡ left_by p span.0 block
@@ -212,11 +232,13 @@ module _ (o : Opening) (here : List PrimaryEvent) (there : List SecondaryEvent) 
           let parts = between-parts (first_of told.item) (length (contents_of told.item)) block told.touched in
           let low = parts.0 in
           let high = parts.1 in
-          both_ways (is_in d.applied told.place (block - first_of told.item)) (bare told.place told.item applied.0 told.touched) (whole-has d.applied told.place (block - first_of told.item) told.item applied.1 (omega arith)))
+          both_ways (is_in d.applied told.place (block - first_of told.item)) (bare told.place told.item applied.0 told.touched)
+          (whole-has d.applied told.place (block - first_of told.item) told.item applied.1 (omega arith)))
     ]
   ]
 
   -- So there is a set behind it.
   pub adopted-behind : IsBehind (primary_run here (primary_at o)) (secondary_run there (secondary_at o))
-  adopted-behind = behind-of o here there joined k j span.0 span.1 c d adopted-on.2 adopted-on.3 epochs fine span.2 later-empty (λ place block contents at. base-same block)
+  adopted-behind = behind-of o here there joined k j span.0 span.1 c d adopted-on.2 adopted-on.3 epochs fine span.2 later-empty
+      (λ place block contents at. base-same block)
       (λ block bare. opened-on block bare ∙ overlay-same p.opening_map (base_of p s) (map full_layer (take span.0 p.writes)) block (sym (base-same block)))

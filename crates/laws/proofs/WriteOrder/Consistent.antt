@@ -1,6 +1,7 @@
 -- Why a secondary calls itself consistent: it never took a SYNC_UUID, or it adopted the tuple that ended a resync and took no
 -- SYNC_UUID on a later connection. Kept by every step, whatever frames it takes.
-use Rattle.std.proofs.Common.{ℕ, suc, ◌≡◌, ◌-◌, ◌<◌, ◌⊎◌, inl, inr, Bool, true, false, not, ◌==◌, nat_lt, List, [], ◌∷◌, ◌++◌, length, take, drop, map, Option, Some, None, slice_get, Ok, refl, sym, ◌∙◌, ap, subst, arith}
+use Rattle.std.proofs.Common.{ℕ, suc, ◌≡◌, ◌-◌, ◌<◌, ◌⊎◌, inl, inr, Bool, true, false, not, ◌==◌, nat_lt, List, [], ◌∷◌, ◌++◌, length, take, drop, map, Option}
+use Rattle.std.proofs.Common.{Some, None, slice_get, Ok, refl, sym, ◌∙◌, ap, subst, arith}
 use Rattle.std.specs.Prelude.{filter_map, if◌then◌else◌}
 use Rattle.std.specs.List.{list_any, cons_option}
 use Rattle.std.proofs.lemmas.Bool.{cases_Bool, both_ways, and_parts, not-true, eq-eqb, ltb-true, ltb-false, false_from_ne_true}
@@ -14,8 +15,10 @@ use Rattle.model.specs.Contents.{BlockMap}
 use Rattle.model.specs.Stream.{Item, WriteItem, UuidsItem, IsBeginning, below, contents_of}
 use Rattle.model.specs.Frames.{Received, UuidsFrame}
 use Rattle.model.specs.Primary.{change_last, is_sync_start, is_sync_end, is_resync}
-use Rattle.model.specs.Secondary.{Inward, SecondaryHistory, secondary_opening, no_inward, inward, with_inward, accepted_of, received_item, items_taken, is_in_resync, secondary_map}
-use Rattle.model.specs.SecondarySteps.{answering, barrier_answer, barriers_to_answer, opened_secondary, next_number, offsets_at, applied_answer, applying, failing, adopting}
+use Rattle.model.specs.Secondary.{Inward, SecondaryHistory, secondary_opening, no_inward, inward, with_inward, accepted_of, received_item, items_taken}
+use Rattle.model.specs.Secondary.{is_in_resync, secondary_map}
+use Rattle.model.specs.SecondarySteps.{answering, barrier_answer, barriers_to_answer, opened_secondary, next_number, offsets_at, applied_answer, applying}
+use Rattle.model.specs.SecondarySteps.{failing, adopting}
 use Rattle.model.specs.LocalRuns.{SecondaryEvent, secondary_after, secondary_run}
 use Rattle.laws.proofs.Lists.Beginnings.{begins-self, get-beginning}
 use Rattle.laws.proofs.Lists.Elements.{get-left, get-more, get-end}
@@ -54,11 +57,13 @@ pub record HasSynced (h : SecondaryHistory) : Type 0 where
 record KeepsPlain (d e : Inward) : Type 0 where
   hello : e.hello ≡ d.hello
   grows : IsBeginning (items_taken d) (items_taken e)
-  items : (n : ℕ) (i : Item) → slice_get (items_taken e) n ≡ Some i → (slice_get (items_taken d) n ≡ Some i) ⊎ ((is_sync_start i ≡ false) × ((is_sync_end i ≡ false) × (is_resync i ≡ true → is_in_resync d ≡ true)))
+  items : (n : ℕ) (i : Item) → slice_get (items_taken e) n ≡ Some i
+      → (slice_get (items_taken d) n ≡ Some i) ⊎ ((is_sync_start i ≡ false) × ((is_sync_end i ≡ false) × (is_resync i ≡ true → is_in_resync d ≡ true)))
   refused : (d.refused ≡ true → d.closed ≡ true) → e.refused ≡ true → e.closed ≡ true
 
 -- one that keeps the items
-same-items : (d e : Inward) → e.hello ≡ d.hello → items_taken e ≡ items_taken d → ((d.refused ≡ true → d.closed ≡ true) → e.refused ≡ true → e.closed ≡ true) → KeepsPlain d e
+same-items : (d e : Inward) → e.hello ≡ d.hello → items_taken e ≡ items_taken d → ((d.refused ≡ true → d.closed ≡ true) → e.refused ≡ true → e.closed ≡ true)
+    → KeepsPlain d e
 same-items d e hello items refused = record {
   hello = hello;
   grows = subst (λ (l : List Item). IsBeginning (items_taken d) l) (sym items) (begins-self (items_taken d));
@@ -86,12 +91,14 @@ plain-keeps tuple d e k p = record {
 }
 
 -- The last connection changes so, and no tuple is adopted.
-synced-change : (h later : SecondaryHistory) (f : Inward → Inward) → later.connections ≡ change_last f h.connections → later.tuple ≡ h.tuple → later.opening_tuple ≡ h.opening_tuple → later.consistent ≡ h.consistent → KeepsPlain (inward h) (f (inward h))
+synced-change : (h later : SecondaryHistory) (f : Inward → Inward) → later.connections ≡ change_last f h.connections → later.tuple ≡ h.tuple
+    → later.opening_tuple ≡ h.opening_tuple → later.consistent ≡ h.consistent → KeepsPlain (inward h) (f (inward h))
     → HasSynced h → HasSynced later
 synced-change h later f connections tuple opening consistent k t = record {
   refused = λ j d at was. elim (back j d at) [
     | inl same ↦ t.refused j d same was
-    | inr changed ↦ subst (λ (x : Inward). x.closed ≡ true) (sym changed.0) (k.refused (t.refused j (inward h) changed.1) (subst (λ (x : Inward). x.refused ≡ true) changed.0 was))
+    | inr changed ↦ subst (λ (x : Inward). x.closed ≡ true) (sym changed.0)
+        (k.refused (t.refused j (inward h) changed.1) (subst (λ (x : Inward). x.refused ≡ true) changed.0 was))
   ];
   synced = λ is. elim (t.synced (sym consistent ∙ is)) [
     | inl never ↦ inl (record {
@@ -106,22 +113,34 @@ synced-change h later f connections tuple opening consistent k t = record {
           place = adopted.place;
           end = new.0;
           at = new.1;
-          there = get-beginning (items_taken adopted.end) (items_taken new.0) adopted.place (UuidsItem later.tuple) new.2 (subst (λ (x : Tuple). slice_get (items_taken adopted.end) adopted.place ≡ Some (UuidsItem x)) (sym tuple) adopted.there);
+          there = get-beginning (items_taken adopted.end) (items_taken new.0) adopted.place (UuidsItem later.tuple) new.2
+              (subst (λ (x : Tuple). slice_get (items_taken adopted.end) adopted.place ≡ Some (UuidsItem x)) (sym tuple) adopted.there);
           later = λ j d less at. subst (λ (x : Tuple). IsPlainEnd x d) (sym tuple) (plain j d at h.tuple (λ e there. adopted.later j e less there));
         })
   ];
 }
   where
-    back : (j : ℕ) (d : Inward) → slice_get later.connections j ≡ Some d → (slice_get h.connections j ≡ Some d) ⊎ ((d ≡ f (inward h)) × (slice_get h.connections j ≡ Some (inward h)) × (suc j ≡ length h.connections))
+    back : (j : ℕ) (d : Inward) → slice_get later.connections j ≡ Some d
+        → (slice_get h.connections j ≡ Some d) ⊎ ((d ≡ f (inward h)) × (slice_get h.connections j ≡ Some (inward h)) × (suc j ≡ length h.connections))
     back j d at = get-change-back f (no_inward h) h.connections j d (subst (λ (l : List Inward). slice_get l j ≡ Some d) connections at)
 
-    plain : (j : ℕ) (d : Inward) → slice_get later.connections j ≡ Some d → (tuple : Tuple) → ((e : Inward) → slice_get h.connections j ≡ Some e → IsPlainEnd tuple e) → IsPlainEnd tuple d
-    plain j d at tuple was = elim (back j d at) [ inl same ↦ was d same | inr changed ↦ subst (IsPlainEnd tuple) (sym changed.0) (plain-keeps tuple (inward h) (f (inward h)) k (was (inward h) changed.1)) ]
+    plain : (j : ℕ) (d : Inward) → slice_get later.connections j ≡ Some d → (tuple : Tuple)
+        → ((e : Inward) → slice_get h.connections j ≡ Some e → IsPlainEnd tuple e) → IsPlainEnd tuple d
+    plain j d at tuple was = elim (back j d at) [
+      | inl same ↦ was d same
+      | inr changed ↦ subst (IsPlainEnd tuple) (sym changed.0)
+          (plain-keeps tuple (inward h) (f (inward h)) k (was (inward h) changed.1))
+    ]
 
-    forward : (j : ℕ) (d : Inward) → slice_get h.connections j ≡ Some d → (e : Inward) × (slice_get later.connections j ≡ Some e) × IsBeginning (items_taken d) (items_taken e)
+    forward : (j : ℕ) (d : Inward) → slice_get h.connections j ≡ Some d
+        → (e : Inward) × (slice_get later.connections j ≡ Some e) × IsBeginning (items_taken d) (items_taken e)
     forward j d at = elim (get-change f (no_inward h) h.connections j d at) [
       | inl same ↦ (d, subst (λ (l : List Inward). slice_get l j ≡ Some d) (sym connections) same, begins-self (items_taken d))
-      | inr changed ↦ (f d, subst (λ (l : List Inward). slice_get l j ≡ Some (f d)) (sym connections) changed.0, subst (λ (x : Inward). IsBeginning (items_taken x) (items_taken (f x))) (sym changed.1) k.grows)
+      | inr changed ↦ (
+        f d,
+        subst (λ (l : List Inward). slice_get l j ≡ Some (f d)) (sym connections) changed.0,
+        subst (λ (x : Inward). IsBeginning (items_taken x) (items_taken (f x))) (sym changed.1) k.grows,
+      )
     ]
 
 -- Changes of an end.
@@ -138,7 +157,10 @@ plain-applying asked place d = go (slice_get (items_taken d) place)
   where
     go : (v : Option Item) → KeepsPlain d (elim v as (λ _. Inward) [
       | None ↦ d
-      | Some item ↦ record d { applied = d.applied ++ offsets_at place (below (length (contents_of item))); due = elim d.closed [ true ↦ d.due | false ↦ d.due ++ applied_answer asked place item ] }
+      | Some item ↦ record d {
+        applied = d.applied ++ offsets_at place (below (length (contents_of item)));
+        due = elim d.closed [ true ↦ d.due | false ↦ d.due ++ applied_answer asked place item ];
+      }
     ])
     go None = same-items d d refl refl (λ was. was)
     go (Some item) = same-items d _ refl refl (λ was. was)
@@ -146,7 +168,8 @@ plain-applying asked place d = go (slice_get (items_taken d) place)
 -- the items of an end that is still in its hello
 items-early : (frame : Received) (d : Inward) → d.refused ≡ false → nat_lt (length d.taken) 3 ≡ true → items_taken (framed frame d) ≡ []
 items-early frame d plain early =
-    ap (λ b. filter_map received_item (drop 3 (if b then take (length (d.taken ++ frame ∷ []) - 1) (d.taken ++ frame ∷ []) else (d.taken ++ frame ∷ [])))) plain ∙ ap (filter_map received_item) (short d.taken (ltb-true (length d.taken) 3 early))
+    ap (λ b. filter_map received_item (drop 3 (if b then take (length (d.taken ++ frame ∷ []) - 1) (d.taken ++ frame ∷ []) else (d.taken ++ frame ∷ [])))) plain
+    ∙ ap (filter_map received_item) (short d.taken (ltb-true (length d.taken) 3 early))
   where
     short : (l : List Received) → length l < 3 → drop 3 (l ++ frame ∷ []) ≡ []
     short [] less = refl
@@ -155,7 +178,8 @@ items-early frame d plain early =
     short (a ∷ b ∷ c ∷ l) less = absurd (omega arith)
 
 -- a frame behind the hello that brings no item adds none
-items-none : (frame : Received) (d : Inward) → d.refused ≡ false → nat_lt (length d.taken) 3 ≡ false → received_item frame ≡ None → items_taken (framed frame d) ≡ items_taken d
+items-none : (frame : Received) (d : Inward) → d.refused ≡ false → nat_lt (length d.taken) 3 ≡ false → received_item frame ≡ None
+    → items_taken (framed frame d) ≡ items_taken d
 items-none frame d plain late is =
     let old : accepted_of d ≡ drop 3 d.taken = ap (λ b. drop 3 (if b then take (length d.taken - 1) d.taken else d.taken)) plain in
     let new : accepted_of (framed frame d) ≡ drop 3 d.taken ++ frame ∷ [] =
@@ -163,14 +187,20 @@ items-none frame d plain late is =
     ∙ drop-append-le 3 d.taken (frame ∷ []) (ltb-false (length d.taken) 3 late) in
     ap (filter_map received_item) new
     ∙ (filter_map-append received_item (drop 3 d.taken) (frame ∷ [])
-    ∙ (ap (λ v. filter_map received_item (drop 3 d.taken) ++ cons_option v []) is ∙ (append-nil (filter_map received_item (drop 3 d.taken)) ∙ ap (filter_map received_item) (sym old))))
+    ∙ (ap (λ v. filter_map received_item (drop 3 d.taken) ++ cons_option v []) is
+    ∙ (append-nil (filter_map received_item (drop 3 d.taken)) ∙ ap (filter_map received_item) (sym old))))
 
 -- a plain frame
 plain-taking : (h : SecondaryHistory) (frame : Received) → (inward h).refused ≡ false → IsPlain h frame → KeepsPlain (inward h) (framed frame (inward h))
 plain-taking h frame plain (inl early) =
     let none = items-early frame (inward h) plain early in
     let more = taking-more frame (inward h) plain in
-    record { hello = refl; grows = (more.0, sym more.1); items = λ n i at. absurd (let there : slice_get [] n ≡ Some i = subst (λ (l : List Item). slice_get l n ≡ Some i) none at in cc (there)); refused = λ was. was }
+    record {
+      hello = refl;
+      grows = (more.0, sym more.1);
+      items = λ n i at. absurd (let there : slice_get [] n ≡ Some i = subst (λ (l : List Item). slice_get l n ≡ Some i) none at in cc (there));
+      refused = λ was. was;
+    }
 plain-taking h frame plain (inr late) = go (received_item frame) refl
   where
     go : (v : Option Item) → received_item frame ≡ v → KeepsPlain (inward h) (framed frame (inward h))
@@ -182,7 +212,8 @@ plain-taking h frame plain (inr late) = go (received_item frame) refl
           grows = (item ∷ [], sym same);
           items = λ n i at. elim (get-more (items_taken (inward h)) item n i (subst (λ (l : List Item). slice_get l n ≡ Some i) same at)) [
             | inl old ↦ inl old
-            | inr new ↦ inr (subst (λ (x : Item). (is_sync_start x ≡ false) × ((is_sync_end x ≡ false) × (is_resync x ≡ true → is_in_resync (inward h) ≡ true))) (sym new.1) (late.1 item is))
+            | inr new ↦ inr (subst (λ (x : Item). (is_sync_start x ≡ false) × ((is_sync_end x ≡ false) × (is_resync x ≡ true → is_in_resync (inward h) ≡ true)))
+                (sym new.1) (late.1 item is))
           ];
           refused = λ was. was;
         }
@@ -200,12 +231,17 @@ then-answering h t = synced-change h (with_inward answering h) answering refl re
 
 synced-opens : (unseen : ℕ) (h : SecondaryHistory) → HasSynced h → HasSynced (opened_secondary unseen h)
 synced-opens unseen h t = record {
-  refused = λ j d at was. elim (get-more h.connections new j d at) [ inl old ↦ t.refused j d old was | inr added ↦ absurd (both_ways d.refused (ap (λ (x : Inward). x.refused) added.1) was) ];
+  refused = λ j d at was. elim (get-more h.connections new j d at)
+      [ inl old ↦ t.refused j d old was | inr added ↦ absurd (both_ways d.refused (ap (λ (x : Inward). x.refused) added.1) was) ];
   synced = λ is. elim (t.synced is) [
     | inl never ↦ inl (record {
       tuple = never.tuple;
       known = never.known;
-      ends = λ j d at. elim (get-more h.connections new j d at) [ inl old ↦ never.ends j d old | inr added ↦ subst (IsPlainEnd h.opening_tuple) (sym added.1) (record { hello = never.tuple; items = λ n i there. absurd (cc) }) ];
+      ends = λ j d at. elim (get-more h.connections new j d at) [
+        | inl old ↦ never.ends j d old
+        | inr added ↦ subst (IsPlainEnd h.opening_tuple) (sym added.1)
+            (record { hello = never.tuple; items = λ n i there. absurd (cc) })
+      ];
     })
     | inr adopted ↦ inr (record {
       index = adopted.index;
@@ -213,30 +249,48 @@ synced-opens unseen h t = record {
       end = adopted.end;
       at = get-left h.connections (new ∷ []) adopted.index adopted.end adopted.at;
       there = adopted.there;
-      later = λ j d less at. elim (get-more h.connections new j d at) [ inl old ↦ adopted.later j d less old | inr added ↦ subst (IsPlainEnd h.tuple) (sym added.1) (record { hello = refl; items = λ n i there. absurd (cc) }) ];
+      later = λ j d less at. elim (get-more h.connections new j d at) [
+        | inl old ↦ adopted.later j d less old
+        | inr added ↦ subst (IsPlainEnd h.tuple)
+            (sym added.1) (record { hello = refl; items = λ n i there. absurd (cc) })
+      ];
     })
   ];
 }
   where
     new : Inward
-    new = record { number = next_number unseen h; base = secondary_map h; hello = h.tuple; taken = []; refused = false; applied = []; gone = []; due = []; pushed = 0; closed = false }
+    new = record {
+      number = next_number unseen h;
+      base = secondary_map h;
+      hello = h.tuple;
+      taken = [];
+      refused = false;
+      applied = [];
+      gone = [];
+      due = [];
+      pushed = 0;
+      closed = false;
+    }
 
 -- a resync starts
 synced-starts : (h : SecondaryHistory) (frame : Received) (tuple : Tuple) → HasSynced h → HasSynced (adopting tuple false (with_inward (framed frame) h))
 synced-starts h frame tuple t = record {
   refused = λ j d at was. elim (get-change-back (framed frame) (no_inward h) h.connections j d at) [
     | inl same ↦ t.refused j d same was
-    | inr changed ↦ subst (λ (x : Inward). x.closed ≡ true) (sym changed.0) (t.refused j (inward h) changed.1 (subst (λ (x : Inward). x.refused ≡ true) changed.0 was))
+    | inr changed ↦ subst (λ (x : Inward). x.closed ≡ true) (sym changed.0)
+        (t.refused j (inward h) changed.1 (subst (λ (x : Inward). x.refused ≡ true) changed.0 was))
   ];
   synced = λ is. absurd (cc);
 }
 
 -- it ends, and its tuple is adopted
-synced-ends : (h : SecondaryHistory) (tuple : Tuple) → (inward h).closed ≡ false → nat_lt (length (inward h).taken) 3 ≡ false → HasSynced h → HasSynced (adopting tuple true (with_inward (framed (Ok (UuidsFrame tuple))) h))
+synced-ends : (h : SecondaryHistory) (tuple : Tuple) → (inward h).closed ≡ false → nat_lt (length (inward h).taken) 3 ≡ false → HasSynced h
+    → HasSynced (adopting tuple true (with_inward (framed (Ok (UuidsFrame tuple))) h))
 synced-ends h tuple standing late t = record {
   refused = λ j d at was. elim (get-change-back (framed frame) (no_inward h) h.connections j d at) [
     | inl same ↦ t.refused j d same was
-    | inr changed ↦ subst (λ (x : Inward). x.closed ≡ true) (sym changed.0) (t.refused j (inward h) changed.1 (subst (λ (x : Inward). x.refused ≡ true) changed.0 was))
+    | inr changed ↦ subst (λ (x : Inward). x.closed ≡ true) (sym changed.0)
+        (t.refused j (inward h) changed.1 (subst (λ (x : Inward). x.refused ≡ true) changed.0 was))
   ];
   synced = λ is. inr (
       let there = open-there h standing in
@@ -246,8 +300,10 @@ synced-ends h tuple standing late t = record {
         place = length (items_taken (inward h));
         end = framed frame (inward h);
         at = get-last-changed (framed frame) (no_inward h) h.connections (inward h) there refl;
-        there = subst (λ (l : List Item). slice_get l (length (items_taken (inward h))) ≡ Some (UuidsItem tuple)) (sym items) (get-end (items_taken (inward h)) (UuidsItem tuple));
-        later = λ j d less at. absurd (let within = slice_get_within (change_last (framed frame) h.connections) j d at in let size = length-change (framed frame) h.connections in omega arith);
+        there = subst (λ (l : List Item). slice_get l (length (items_taken (inward h))) ≡ Some (UuidsItem tuple)) (sym items)
+            (get-end (items_taken (inward h)) (UuidsItem tuple));
+        later = λ j d less at. absurd (let within = slice_get_within (change_last (framed frame) h.connections) j d at in let size =
+            length-change (framed frame) h.connections in omega arith);
       });
 }
   where
@@ -261,7 +317,8 @@ synced-after event h t = after-kinds HasSynced h event (record {
   takes = λ frame standing.
       let plain = not-refused-yet h t standing in
       record {
-        accepts = λ kind. then-answering (with_inward (framed frame) h) (synced-change h (with_inward (framed frame) h) (framed frame) refl refl refl refl (plain-taking h frame plain kind) t);
+        accepts = λ kind. then-answering (with_inward (framed frame) h)
+            (synced-change h (with_inward (framed frame) h) (framed frame) refl refl refl refl (plain-taking h frame plain kind) t);
         receipts = λ write at is late.
             let kind : IsPlain h frame = inr (
               late,
@@ -271,16 +328,26 @@ synced-after event h t = after-kinds HasSynced h event (record {
             ) in
             let taken = synced-change h (with_inward (framed frame) h) (framed frame) refl refl refl refl (plain-taking h frame plain kind) t in
             let answer : Inward → Inward = receipting (length (items_taken (inward h))) write in
-            then-answering (with_inward answer (with_inward (framed frame) h)) (synced-change (with_inward (framed frame) h) (with_inward answer (with_inward (framed frame) h)) answer refl refl refl refl (same-items _ _ refl refl (λ was. was)) taken);
-        starts = λ word is late. then-answering (adopting (record h.tuple { current = word }) false (with_inward (framed frame) h)) (synced-starts h frame (record h.tuple { current = word }) t);
-        ends = λ tuple is late. subst (λ (x : Received). HasSynced (with_inward answering (adopting tuple true (with_inward (framed x) h)))) (sym is) (then-answering (adopting tuple true (with_inward (framed (Ok (UuidsFrame tuple))) h)) (synced-ends h tuple standing late t));
-        refuses = synced-change h (with_inward refused_end (with_inward (framed frame) h)) (λ c. refused_end (framed frame c)) (change-twice (framed frame) refused_end h.connections) refl refl refl
+            then-answering (with_inward answer (with_inward (framed frame) h))
+            (synced-change (with_inward (framed frame) h) (with_inward answer (with_inward (framed frame) h)) answer refl refl refl refl
+            (same-items _ _ refl refl (λ was. was)) taken);
+        starts = λ word is late. then-answering (adopting (record h.tuple { current = word }) false (with_inward (framed frame) h))
+            (synced-starts h frame (record h.tuple { current = word }) t);
+        ends = λ tuple is late. subst (λ (x : Received). HasSynced (with_inward answering (adopting tuple true (with_inward (framed x) h)))) (sym is)
+            (then-answering (adopting tuple true (with_inward (framed (Ok (UuidsFrame tuple))) h)) (synced-ends h tuple standing late t));
+        refuses = synced-change h (with_inward refused_end (with_inward (framed frame) h)) (λ c. refused_end (framed frame c))
+            (change-twice (framed frame) refused_end h.connections) refl refl refl
             (same-items (inward h) (refused_end (framed frame (inward h))) refl (items-refusing frame (inward h) plain) (λ was r. refl)) t;
       };
-  applies = λ place. then-answering (with_inward (applying h.settings.protocol place) h) (synced-change h (with_inward (applying h.settings.protocol place) h) (applying h.settings.protocol place) refl refl refl refl (plain-applying h.settings.protocol place (inward h)) t);
-  fails = λ place offsets. synced-change h (with_inward (failing place offsets) h) (failing place offsets) refl refl refl refl (same-items (inward h) (failing place offsets (inward h)) refl refl (λ was r. refl)) t;
-  pushes = λ standing. synced-change h (with_inward pushed_one h) pushed_one refl refl refl refl (same-items (inward h) (pushed_one (inward h)) refl refl (λ was. was)) t;
-  closes = λ standing. synced-change h (with_inward closed_end h) closed_end refl refl refl refl (same-items (inward h) (closed_end (inward h)) refl refl (λ was r. refl)) t;
+  applies = λ place. then-answering (with_inward (applying h.settings.protocol place) h)
+      (synced-change h (with_inward (applying h.settings.protocol place) h) (applying h.settings.protocol place) refl refl refl refl
+      (plain-applying h.settings.protocol place (inward h)) t);
+  fails = λ place offsets. synced-change h (with_inward (failing place offsets) h) (failing place offsets) refl refl refl refl
+      (same-items (inward h) (failing place offsets (inward h)) refl refl (λ was r. refl)) t;
+  pushes = λ standing. synced-change h (with_inward pushed_one h) pushed_one refl refl refl refl
+      (same-items (inward h) (pushed_one (inward h)) refl refl (λ was. was)) t;
+  closes = λ standing. synced-change h (with_inward closed_end h) closed_end refl refl refl refl
+      (same-items (inward h) (closed_end (inward h)) refl refl (λ was r. refl)) t;
 })
 
 synced-from : (events : List SecondaryEvent) (h : SecondaryHistory) → HasSynced h → HasSynced (secondary_run events h)
@@ -288,8 +355,13 @@ synced-from [] h t = t
 synced-from (event ∷ events) h t = synced-from events (secondary_after event h) (synced-after event h t)
 
 -- In every run of a secondary.
-pub synced-run : (settings : Settings) (disk : BlockMap) (tuple : Tuple) (events : List SecondaryEvent) → HasSynced (secondary_run events (secondary_opening settings disk tuple))
+pub synced-run : (settings : Settings) (disk : BlockMap) (tuple : Tuple) (events : List SecondaryEvent)
+    → HasSynced (secondary_run events (secondary_opening settings disk tuple))
 synced-run settings disk tuple events = synced-from events (secondary_opening settings disk tuple) (record {
   refused = λ j d at. absurd (cc);
-  synced = λ is. inl (record { tuple = refl; known = λ none. both_ways (tuple.current == 0) (not-true (tuple.current == 0) is) (eq-eqb tuple.current 0 none); ends = λ j d at. absurd (cc) });
+  synced = λ is. inl (record {
+    tuple = refl;
+    known = λ none. both_ways (tuple.current == 0) (not-true (tuple.current == 0) is) (eq-eqb tuple.current 0 none);
+    ends = λ j d at. absurd (cc);
+  });
 })

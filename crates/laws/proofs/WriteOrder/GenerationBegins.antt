@@ -1,5 +1,6 @@
 -- What becomes of a generation that was left where a stream begins.
-use Rattle.std.proofs.Common.{ℕ, suc, ◌≡◌, ◌-◌, ◌<◌, ◌⊎◌, inl, inr, true, false, List, [], ◌∷◌, ◌++◌, length, Some, slice_get, Ok, refl, sym, ◌∙◌, ap, subst, arith}
+use Rattle.std.proofs.Common.{ℕ, suc, ◌≡◌, ◌-◌, ◌<◌, ◌⊎◌, inl, inr, true, false, List, [], ◌∷◌, ◌++◌, length, Some, slice_get, Ok, refl, sym, ◌∙◌, ap, subst}
+use Rattle.std.proofs.Common.{arith}
 use Rattle.std.proofs.lemmas.Bool.{both_ways}
 use Rattle.std.proofs.lemmas.Option.{slice_get_within}
 use Rattle.blocks.specs.declared.tuple.Tuple.{Tuple}
@@ -28,11 +29,14 @@ pub record BeginsHere (h later : PrimaryHistory) (peer : Tuple) (decided : Decis
   pub taken : (f (outward h)).taken ≡ (outward h).taken ++ Ok (UuidsFrame peer) ∷ []
   pub no_end : (n : ℕ) (tuple : Tuple) → slice_get (f (outward h)).stream n ≡ Some (UuidsItem tuple) → ⊥
   -- without a resync the tuple stays, or the stream is one
-  pub how : ((decided ≡ NoSync) × (later.tuple ≡ h.tuple)) ⊎ ((decided ≡ NoSync → ⊥) × ((word : ℕ) × (slice_get (f (outward h)).stream 0 ≡ Some (SyncUuidItem word))))
+  pub how : ((decided ≡ NoSync) × (later.tuple ≡ h.tuple))
+      ⊎ ((decided ≡ NoSync → ⊥) × ((word : ℕ) × (slice_get (f (outward h)).stream 0 ≡ Some (SyncUuidItem word))))
 
-module _ (h later : PrimaryHistory) (peer : Tuple) (decided : Decision) (f : Outward → Outward) (accounted : IsAccounted h) (standing : (outward h).closed ≡ false) (fresh : (outward h).begun ≡ false)
+module _ (h later : PrimaryHistory) (peer : Tuple) (decided : Decision) (f : Outward
+    → Outward) (accounted : IsAccounted h) (standing : (outward h).closed ≡ false) (fresh : (outward h).begun ≡ false)
     (is : decision h.tuple peer ≡ Ok decided) (unused : stands_in (outward h).loss peer ≡ false) (b : BeginsHere h later peer decided f) where
-  begin-back : (j : ℕ) (c : Outward) → slice_get later.connections j ≡ Some c → (slice_get h.connections j ≡ Some c) ⊎ ((c ≡ f (outward h)) × (slice_get h.connections j ≡ Some (outward h)) × (suc j ≡ length h.connections))
+  begin-back : (j : ℕ) (c : Outward) → slice_get later.connections j ≡ Some c
+      → (slice_get h.connections j ≡ Some c) ⊎ ((c ≡ f (outward h)) × (slice_get h.connections j ≡ Some (outward h)) × (suc j ≡ length h.connections))
   begin-back j c at = get-change-back f (no_outward h.tuple) h.connections j c (subst (λ (l : List Outward). slice_get l j ≡ Some c) b.connections at)
 
   begin-size : length later.connections ≡ length h.connections
@@ -45,7 +49,8 @@ module _ (h later : PrimaryHistory) (peer : Tuple) (decided : Decision) (f : Out
   begin-within = slice_get_within h.connections (length h.connections - 1) (outward h) begin-there
 
   begin-last : slice_get later.connections (length h.connections - 1) ≡ Some (f (outward h))
-  begin-last = subst (λ (l : List Outward). slice_get l (length h.connections - 1) ≡ Some (f (outward h))) (sym b.connections) (get-last-changed f (no_outward h.tuple) h.connections (outward h) begin-there refl)
+  begin-last = subst (λ (l : List Outward). slice_get l (length h.connections - 1) ≡ Some (f (outward h))) (sym b.connections)
+      (get-last-changed f (no_outward h.tuple) h.connections (outward h) begin-there refl)
 
   begin-end : outward later ≡ f (outward h)
   begin-end = elim (outward-change h later f b.connections) [
@@ -57,7 +62,8 @@ module _ (h later : PrimaryHistory) (peer : Tuple) (decided : Decision) (f : Out
   begin-taken = (Ok (UuidsFrame peer) ∷ [], sym b.taken)
 
   begin-frame : slice_get (f (outward h)).taken (length (outward h).taken) ≡ Some (Ok (UuidsFrame peer))
-  begin-frame = subst (λ (l : List Received). slice_get l (length (outward h).taken) ≡ Some (Ok (UuidsFrame peer))) (sym b.taken) (get-end (outward h).taken (Ok (UuidsFrame peer)))
+  begin-frame = subst (λ (l : List Received). slice_get l (length (outward h).taken) ≡ Some (Ok (UuidsFrame peer))) (sym b.taken)
+      (get-end (outward h).taken (Ok (UuidsFrame peer)))
 
   -- the peer of this stream has the word
   begin-peer : (word from : ℕ) → from < length h.connections → TakesOnly word from later → peer.current ≡ word
@@ -73,16 +79,23 @@ module _ (h later : PrimaryHistory) (peer : Tuple) (decided : Decision) (f : Out
       | inl same ↦ g.resyncs j c more same
       | inr changed ↦ subst IsResync (sym changed.0) (elim b.how [
         | inr resync ↦ inr resync.1
-        | inl none ↦ absurd (g.current (decided-none h.tuple peer (subst (λ (v : Decision). decision h.tuple peer ≡ Ok v) none.0 is) ∙ begin-peer word from (g.past standing) only))
+        | inl none ↦ absurd (g.current (decided-none h.tuple peer (subst (λ (v : Decision). decision h.tuple peer ≡ Ok v) none.0 is)
+            ∙ begin-peer word from (g.past standing) only))
       ])
     ];
   })
 
   -- the first stream begins: without a resync at the word, or with one at another
-  begin-first : (word : ℕ) → (word ≡ 0 → ⊥) → (h.opening_tuple.current ≡ word → h.opening_tuple.bitmap ≡ 0) → TakesOnly word 0 later → NoneBegun h → IsFirst word later
+  begin-first : (word : ℕ) → (word ≡ 0 → ⊥) → (h.opening_tuple.current ≡ word → h.opening_tuple.bitmap ≡ 0) → TakesOnly word 0 later → NoneBegun h
+      → IsFirst word later
   begin-first word some premise only none =
       let its : peer.current ≡ word = begin-peer word 0 (let w = begin-within in omega arith) only in
-      let opening : h.tuple ≡ h.opening_tuple = elim accounted.began [ inl nothing ↦ nothing.tuple | inr first ↦ absurd (both_ways first.1.end.begun (none first.1.connection first.1.end first.1.at) first.1.begun) ] in
+      let opening : h.tuple ≡ h.opening_tuple =
+      elim accounted.began [
+        | inl nothing ↦ nothing.tuple
+        | inr first ↦ absurd
+            (both_ways first.1.end.begun (none first.1.connection first.1.end first.1.at) first.1.begun)
+      ] in
       elim b.how [
         | inl same ↦
             let current : h.tuple.current ≡ word = decided-none h.tuple peer (subst (λ (v : Decision). decision h.tuple peer ≡ Ok v) same.0 is) ∙ its in
@@ -105,7 +118,8 @@ module _ (h later : PrimaryHistory) (peer : Tuple) (decided : Decision) (f : Out
           left = inr (record {
             few = let e = begin-size in omega arith;
             past = λ unshut. let e = begin-size in let w = begin-within in omega arith;
-            current = λ equal. resync.0 (let both : Ok decided ≡ Ok NoSync = sym is ∙ decided-same h.tuple peer (λ zero_peer. some (sym its ∙ zero_peer)) (sym b.current ∙ (equal ∙ sym its)) in cc);
+            current = λ equal. resync.0 (let both : Ok decided ≡ Ok NoSync = sym is
+                ∙ decided-same h.tuple peer (λ zero_peer. some (sym its ∙ zero_peer)) (sym b.current ∙ (equal ∙ sym its)) in cc);
             resyncs = λ j c more at. elim (begin-back j c at) [ inl old ↦ inl (none j c old) | inr changed ↦ subst IsResync (sym changed.0) (inr resync.1) ];
           });
           earlier = λ j c less at. elim (begin-back j c at) [ inl old ↦ none j c old | inr changed ↦ absurd (let end = changed.2 in omega arith) ];
@@ -118,7 +132,8 @@ module _ (h later : PrimaryHistory) (peer : Tuple) (decided : Decision) (f : Out
     own = λ unshut. b.current ∙ (t.own standing ∙ ap (λ (x : Tuple). x.current) (sym b.hello ∙ ap (λ (c : Outward). c.hello) (sym begin-end)));
     fresh = λ j c at equal. elim (begin-back j c at) [
       | inl same ↦ t.fresh j c same equal
-      | inr changed ↦ t.fresh j (outward h) changed.1 (sym b.loss ∙ (ap (λ (x : Outward). x.loss) (sym changed.0) ∙ (equal ∙ ap (λ (x : Tuple). x.current) (ap (λ (x : Outward). x.hello) changed.0 ∙ b.hello))))
+      | inr changed ↦ t.fresh j (outward h) changed.1 (sym b.loss
+          ∙ (ap (λ (x : Outward). x.loss) (sym changed.0) ∙ (equal ∙ ap (λ (x : Tuple). x.current) (ap (λ (x : Outward). x.hello) changed.0 ∙ b.hello))))
     ];
     met = λ j c at began. elim (begin-back j c at) [
       | inl same ↦ t.met j c same began
@@ -130,19 +145,23 @@ module _ (h later : PrimaryHistory) (peer : Tuple) (decided : Decision) (f : Out
       )
     ];
     ended = λ i n c tuple at there only. elim (begin-back i c at) [
-      | inl same ↦ begin-gone tuple.current (suc i) only (t.ended i n c tuple same there (takes-back h later f tuple.current (suc i) b.connections begin-taken only))
+      | inl same ↦ begin-gone tuple.current (suc i) only
+          (t.ended i n c tuple same there (takes-back h later f tuple.current (suc i) b.connections begin-taken only))
       | inr changed ↦ absurd (b.no_end n tuple (subst (λ (x : Outward). slice_get x.stream n ≡ Some (UuidsItem tuple)) changed.0 there))
     ];
     first = λ word some premise only.
-        let before : h.opening_tuple.current ≡ word → h.opening_tuple.bitmap ≡ 0 = λ equal. sym (ap (λ (x : Tuple). x.bitmap) b.opening) ∙ premise (ap (λ (x : Tuple). x.current) b.opening ∙ equal) in
+        let before : h.opening_tuple.current ≡ word → h.opening_tuple.bitmap ≡ 0 = λ equal. sym (ap (λ (x : Tuple). x.bitmap) b.opening)
+        ∙ premise (ap (λ (x : Tuple). x.current) b.opening ∙ equal) in
         elim (t.first word some before (takes-back h later f word 0 b.connections begin-taken only)) [
           | inl none ↦ inr (begin-first word some before only none)
           | inr one ↦
-              let past : one.from < length h.connections = elim one.left [ inl s ↦ absurd (both_ways (outward h).begun fresh s.begun) | inr g ↦ g.past standing ] in
+              let past : one.from < length h.connections =
+              elim one.left [ inl s ↦ absurd (both_ways (outward h).begun fresh s.begun) | inr g ↦ g.past standing ] in
               inr (record {
                 from = one.from;
                 left = begin-gone word one.from (λ j n c from more. only j n c from (omega arith)) one.left;
-                earlier = λ j c less at. elim (begin-back j c at) [ inl old ↦ one.earlier j c less old | inr changed ↦ absurd (let end = changed.2 in omega arith) ];
+                earlier = λ j c less at. elim (begin-back j c at)
+                    [ inl old ↦ one.earlier j c less old | inr changed ↦ absurd (let end = changed.2 in omega arith) ];
                 there = λ j c index at. elim (begin-back j c at) [
                   | inr changed ↦ absurd (let end = changed.2 in omega arith)
                   | inl old ↦ elim (one.there j c index old) [ inl new ↦ inl new | inr bitmap ↦ inr (ap (λ (x : Tuple). x.bitmap) b.opening ∙ bitmap) ]

@@ -1,5 +1,6 @@
 -- Every run of a primary keeps that a generation that was left does not come back.
-use Rattle.std.proofs.Common.{ℕ, suc, ◌≡◌, ◌-◌, ◌+◌, ◌<◌, ◌⊎◌, inl, inr, true, false, List, [], ◌∷◌, ◌++◌, length, Some, slice_get, Ok, refl, sym, ◌∙◌, ap, subst, arith, length-append}
+use Rattle.std.proofs.Common.{ℕ, suc, ◌≡◌, ◌-◌, ◌+◌, ◌<◌, ◌⊎◌, inl, inr, true, false, List, [], ◌∷◌, ◌++◌, length, Some, slice_get, Ok, refl, sym, ◌∙◌, ap}
+use Rattle.std.proofs.Common.{subst, arith, length-append}
 use Rattle.std.proofs.lemmas.Bool.{both_ways}
 use Rattle.std.proofs.lemmas.Option.{slice_get_within}
 use Rattle.blocks.specs.declared.tuple.Tuple.{Tuple}
@@ -13,9 +14,10 @@ use Rattle.laws.proofs.Lists.Elements.{get-left, get-more}
 use Rattle.laws.proofs.Lists.Last.{get-change-back, change-none, last-more, length-change}
 use Rattle.laws.proofs.Primary.Homes.{open-at}
 use Rattle.laws.proofs.Primary.Moves.{following-from}
-use Rattle.laws.proofs.Primary.StaysClosed.{over-stands}
+use Rattle.laws.proofs.Rules.ResyncEnds.{over-stands}
 use Rattle.laws.proofs.Primary.Ends.{stands-parts}
-use Rattle.laws.proofs.WriteOrder.Generations.{TakesOnly, IsResync, IsGone, IsLeft, outward-change, outward-none, KeepsLeft, resync-grows, left-change, takes-back, end-current, end-bitmap, lost-current, lost-fresh, not-current, fresh-loss}
+use Rattle.laws.proofs.WriteOrder.Generations.{TakesOnly, IsResync, IsGone, IsLeft, outward-change, outward-none, KeepsLeft, resync-grows, left-change}
+use Rattle.laws.proofs.WriteOrder.Generations.{takes-back, end-current, end-bitmap, lost-current, lost-fresh, not-current, fresh-loss}
 
 -- no stream began
 abbrev pub NoneBegun : PrimaryHistory → Type 0
@@ -33,23 +35,28 @@ pub record IsFirst (word : ℕ) (h : PrimaryHistory) : Type 0 where
 pub record HasLeft (h : PrimaryHistory) : Type 0 where
   pub own : (outward h).closed ≡ false → h.tuple.current ≡ (outward h).hello.current
   pub fresh : (k : ℕ) (c : Outward) → slice_get h.connections k ≡ Some c → c.loss ≡ c.hello.current → ⊥
-  pub met : (k : ℕ) (c : Outward) → slice_get h.connections k ≡ Some c → c.begun ≡ true → (n : ℕ) × (peer : Tuple) × (slice_get c.taken n ≡ Some (Ok (UuidsFrame peer))) × (stands_in c.loss peer ≡ false)
-  pub ended : (i n : ℕ) (c : Outward) (tuple : Tuple) → slice_get h.connections i ≡ Some c → slice_get c.stream n ≡ Some (UuidsItem tuple) → TakesOnly tuple.current (suc i) h → IsLeft tuple.current (suc i) h
+  pub met : (k : ℕ) (c : Outward) → slice_get h.connections k ≡ Some c → c.begun ≡ true
+      → (n : ℕ) × (peer : Tuple) × (slice_get c.taken n ≡ Some (Ok (UuidsFrame peer))) × (stands_in c.loss peer ≡ false)
+  pub ended : (i n : ℕ) (c : Outward) (tuple : Tuple) → slice_get h.connections i ≡ Some c → slice_get c.stream n ≡ Some (UuidsItem tuple)
+      → TakesOnly tuple.current (suc i) h → IsLeft tuple.current (suc i) h
   pub first : (word : ℕ) → (word ≡ 0 → ⊥) → (h.opening_tuple.current ≡ word → h.opening_tuple.bitmap ≡ 0) → TakesOnly word 0 h → NoneBegun h ⊎ IsFirst word h
 
 -- The last connection changes and goes on.
 pub left-goes-on : (h later : PrimaryHistory) (f : Outward → Outward) → KeepsLeft h later f → later.opening_tuple ≡ h.opening_tuple
     → ((n : ℕ) (tuple : Tuple) → slice_get (f (outward h)).stream n ≡ Some (UuidsItem tuple)
-    → (slice_get (outward h).stream n ≡ Some (UuidsItem tuple)) ⊎ ((tuple.current ≡ h.tuple.current) × ((later.tuple.bitmap ≡ 0) × (((outward h).closed ≡ false) × ((outward h).begun ≡ true)))))
+    → (slice_get (outward h).stream n ≡ Some (UuidsItem tuple))
+    ⊎ ((tuple.current ≡ h.tuple.current) × ((later.tuple.bitmap ≡ 0) × (((outward h).closed ≡ false) × ((outward h).begun ≡ true)))))
     → HasLeft h → HasLeft later
 left-goes-on h later f k opening ends t = record {
   own = λ unshut. elim (outward-change h later f k.connections) [
     | inl none ↦ absurd (both_ways (outward later).closed unshut (outward-none h later f k.connections none))
-    | inr end ↦ k.current ∙ (t.own (sym k.closed ∙ (ap (λ (c : Outward). c.closed) (sym end) ∙ unshut)) ∙ ap (λ (x : Tuple). x.current) (sym k.hello ∙ ap (λ (c : Outward). c.hello) (sym end)))
+    | inr end ↦ k.current ∙ (t.own (sym k.closed ∙ (ap (λ (c : Outward). c.closed) (sym end) ∙ unshut))
+        ∙ ap (λ (x : Tuple). x.current) (sym k.hello ∙ ap (λ (c : Outward). c.hello) (sym end)))
   ];
   fresh = λ j c at is. elim (back j c at) [
     | inl same ↦ t.fresh j c same is
-    | inr changed ↦ t.fresh j (outward h) changed.1 (sym k.loss ∙ (ap (λ (x : Outward). x.loss) (sym changed.0) ∙ (is ∙ ap (λ (x : Tuple). x.current) (ap (λ (x : Outward). x.hello) changed.0 ∙ k.hello))))
+    | inr changed ↦ t.fresh j (outward h) changed.1 (sym k.loss
+        ∙ (ap (λ (x : Outward). x.loss) (sym changed.0) ∙ (is ∙ ap (λ (x : Tuple). x.current) (ap (λ (x : Outward). x.hello) changed.0 ∙ k.hello))))
   ];
   met = λ j c at begun. elim (back j c at) [
     | inl same ↦ t.met j c same begun
@@ -57,7 +64,8 @@ left-goes-on h later f k opening ends t = record {
         let was = t.met j (outward h) changed.1 (sym k.begun ∙ (ap (λ (x : Outward). x.begun) (sym changed.0) ∙ begun)) in (
           was.0,
           was.1,
-          subst (λ (x : Outward). slice_get x.taken was.0 ≡ Some (Ok (UuidsFrame was.1))) (sym changed.0) (get-beginning (outward h).taken (f (outward h)).taken was.0 (Ok (UuidsFrame was.1)) k.taken was.2),
+          subst (λ (x : Outward). slice_get x.taken was.0 ≡ Some (Ok (UuidsFrame was.1))) (sym changed.0)
+              (get-beginning (outward h).taken (f (outward h)).taken was.0 (Ok (UuidsFrame was.1)) k.taken was.2),
           ap (λ (n : ℕ). stands_in n was.1) (ap (λ (x : Outward). x.loss) changed.0 ∙ k.loss) ∙ was.3,
         )
   ];
@@ -80,28 +88,40 @@ left-goes-on h later f k opening ends t = record {
           ]
         ]
       ];
-  first = λ word some premise only. elim (t.first word some (λ is. sym (ap (λ (x : Tuple). x.bitmap) opening) ∙ premise (ap (λ (x : Tuple). x.current) opening ∙ is)) (takes-back h later f word 0 k.connections k.taken only)) [
-    | inl none ↦ inl (λ j c at. begun-back j c at (λ x there. none j x there))
-    | inr one ↦ inr (record {
-      from = one.from;
-      left = left-change h later f word one.from k one.left;
-      earlier = λ j c less at. begun-back j c at (λ x there. one.earlier j x less there);
-      there = λ j c is at. elim (back j c at) [
-        | inl same ↦ elim (one.there j c is same) [ inl new ↦ inl new | inr bitmap ↦ inr (ap (λ (x : Tuple). x.bitmap) opening ∙ bitmap) ]
-        | inr changed ↦ elim (one.there j (outward h) is changed.1) [ inl new ↦ inl (ap (λ (x : Outward). x.begun) changed.0 ∙ (k.begun ∙ new)) | inr bitmap ↦ inr (ap (λ (x : Tuple). x.bitmap) opening ∙ bitmap) ]
+  first = λ word some premise only. elim (t.first word some (λ is. sym (ap (λ (x : Tuple). x.bitmap) opening)
+      ∙ premise (ap (λ (x : Tuple). x.current) opening ∙ is)) (takes-back h later f word 0 k.connections k.taken only)) [
+        | inl none ↦ inl (λ j c at. begun-back j c at (λ x there. none j x there))
+        | inr one ↦ inr (record {
+          from = one.from;
+          left = left-change h later f word one.from k one.left;
+          earlier = λ j c less at. begun-back j c at (λ x there. one.earlier j x less there);
+          there = λ j c is at. elim (back j c at) [
+            | inl same ↦ elim (one.there j c is same) [ inl new ↦ inl new | inr bitmap ↦ inr (ap (λ (x : Tuple). x.bitmap) opening ∙ bitmap) ]
+            | inr changed ↦ elim (one.there j (outward h) is changed.1) [
+              | inl new ↦ inl (ap (λ (x : Outward). x.begun) changed.0
+                  ∙ (k.begun ∙ new))
+              | inr bitmap ↦ inr (ap (λ (x : Tuple). x.bitmap) opening ∙ bitmap)
+            ]
+          ];
+        })
       ];
-    })
-  ];
 }
   where
-    back : (j : ℕ) (c : Outward) → slice_get later.connections j ≡ Some c → (slice_get h.connections j ≡ Some c) ⊎ ((c ≡ f (outward h)) × (slice_get h.connections j ≡ Some (outward h)) × (suc j ≡ length h.connections))
+    back : (j : ℕ) (c : Outward) → slice_get later.connections j ≡ Some c
+        → (slice_get h.connections j ≡ Some c) ⊎ ((c ≡ f (outward h)) × (slice_get h.connections j ≡ Some (outward h)) × (suc j ≡ length h.connections))
     back j c at = get-change-back f (no_outward h.tuple) h.connections j c (subst (λ (l : List Outward). slice_get l j ≡ Some c) k.connections at)
 
-    begun-back : (j : ℕ) (c : Outward) → slice_get later.connections j ≡ Some c → ((x : Outward) → slice_get h.connections j ≡ Some x → x.begun ≡ false) → c.begun ≡ false
-    begun-back j c at none = elim (back j c at) [ inl same ↦ none c same | inr changed ↦ ap (λ (x : Outward). x.begun) changed.0 ∙ (k.begun ∙ none (outward h) changed.1) ]
+    begun-back : (j : ℕ) (c : Outward) → slice_get later.connections j ≡ Some c → ((x : Outward) → slice_get h.connections j ≡ Some x → x.begun ≡ false)
+        → c.begun ≡ false
+    begun-back j c at none = elim (back j c at) [
+      | inl same ↦ none c same
+      | inr changed ↦ ap (λ (x : Outward). x.begun) changed.0
+          ∙ (k.begun ∙ none (outward h) changed.1)
+    ]
 
 -- nothing changes that is spoken of
-pub left-still : (h later : PrimaryHistory) → later.connections ≡ h.connections → later.tuple ≡ h.tuple → later.opening_tuple ≡ h.opening_tuple → HasLeft h → HasLeft later
+pub left-still : (h later : PrimaryHistory) → later.connections ≡ h.connections → later.tuple ≡ h.tuple → later.opening_tuple ≡ h.opening_tuple → HasLeft h
+    → HasLeft later
 left-still h later connections tuple opening t = left-goes-on h later (λ c. c) (record {
   connections = connections ∙ sym (change-none h.connections);
   current = ap (λ (x : Tuple). x.current) tuple;
@@ -115,9 +135,12 @@ left-still h later connections tuple opening t = left-goes-on h later (λ c. c) 
 }) opening (λ n tuple there. inl there) t
 
 -- the last connection changes, and no end of a resync is appended
-pub left-with : (h later : PrimaryHistory) (f : Outward → Outward) → later.connections ≡ change_last f h.connections → later.tuple ≡ h.tuple → later.opening_tuple ≡ h.opening_tuple → (f (outward h)).closed ≡ (outward h).closed → (f (outward h)).begun ≡ (outward h).begun
-    → (f (outward h)).loss ≡ (outward h).loss → (f (outward h)).hello ≡ (outward h).hello → IsBeginning (outward h).stream (f (outward h)).stream → IsBeginning (outward h).taken (f (outward h)).taken
-    → ((n : ℕ) (tuple : Tuple) → slice_get (f (outward h)).stream n ≡ Some (UuidsItem tuple) → slice_get (outward h).stream n ≡ Some (UuidsItem tuple)) → HasLeft h → HasLeft later
+pub left-with : (h later : PrimaryHistory) (f : Outward → Outward) → later.connections ≡ change_last f h.connections → later.tuple ≡ h.tuple
+    → later.opening_tuple ≡ h.opening_tuple → (f (outward h)).closed ≡ (outward h).closed → (f (outward h)).begun ≡ (outward h).begun
+    → (f (outward h)).loss ≡ (outward h).loss → (f (outward h)).hello ≡ (outward h).hello → IsBeginning (outward h).stream (f (outward h)).stream
+    → IsBeginning (outward h).taken (f (outward h)).taken
+    → ((n : ℕ) (tuple : Tuple) → slice_get (f (outward h)).stream n ≡ Some (UuidsItem tuple) → slice_get (outward h).stream n ≡ Some (UuidsItem tuple))
+    → HasLeft h → HasLeft later
 left-with h later f connections tuple opening closed begun loss hello stream taken ends t = left-goes-on h later f (record {
   connections = connections;
   current = ap (λ (x : Tuple). x.current) tuple;
@@ -131,9 +154,11 @@ left-with h later f connections tuple opening closed begun loss hello stream tak
 }) opening (λ n tuple there. inl (ends n tuple there)) t
 
 -- an item is appended that ends no resync
-pub left-appends : (h later : PrimaryHistory) (item : Item) → later.connections ≡ change_last (λ c. record c { stream = c.stream ++ item ∷ [] }) h.connections → later.tuple ≡ h.tuple → later.opening_tuple ≡ h.opening_tuple → ((tuple : Tuple) → item ≡ UuidsItem tuple → ⊥)
+pub left-appends : (h later : PrimaryHistory) (item : Item) → later.connections ≡ change_last (λ c. record c { stream = c.stream ++ item ∷ [] }) h.connections
+    → later.tuple ≡ h.tuple → later.opening_tuple ≡ h.opening_tuple → ((tuple : Tuple) → item ≡ UuidsItem tuple → ⊥)
     → HasLeft h → HasLeft later
-left-appends h later item connections tuple opening other t = left-with h later (λ c. record c { stream = c.stream ++ item ∷ [] }) connections tuple opening refl refl refl refl (item ∷ [], refl) (begins-self (outward h).taken)
+left-appends h later item connections tuple opening other t = left-with h later (λ c. record c { stream = c.stream ++ item ∷ [] }) connections tuple opening
+    refl refl refl refl (item ∷ [], refl) (begins-self (outward h).taken)
     (λ n t there. elim (get-more (outward h).stream item n (UuidsItem t) there) [ inl old ↦ old | inr new ↦ absurd (other t (sym new.1)) ]) t
 
 -- a resync ends
@@ -165,9 +190,11 @@ left-following = following-from HasLeft HasLeft HasLeft (λ h t. left-still h (w
     (λ g over t. left-appends g _ (BarrierItem (last_epoch (outward g).stream)) refl refl refl (λ tuple is. cc) t) (λ g on t. t) left-ending (λ g t. t)
 
 -- A stream ends: if it had begun, another generation begins with it, or had begun before.
-pub left-closes : (h later : PrimaryHistory) (f : Outward → Outward) → (outward h).closed ≡ false → later.connections ≡ change_last f h.connections → later.opening_tuple ≡ h.opening_tuple
+pub left-closes : (h later : PrimaryHistory) (f : Outward → Outward) → (outward h).closed ≡ false → later.connections ≡ change_last f h.connections
+    → later.opening_tuple ≡ h.opening_tuple
     → (((outward h).begun ≡ true) × (later.tuple ≡ lost (outward h).loss h.tuple)) ⊎ (((outward h).begun ≡ false) × (later.tuple ≡ h.tuple))
-    → (f (outward h)).closed ≡ true → (f (outward h)).begun ≡ (outward h).begun → (f (outward h)).loss ≡ (outward h).loss → (f (outward h)).hello ≡ (outward h).hello → (f (outward h)).stream ≡ (outward h).stream → IsBeginning (outward h).taken (f (outward h)).taken
+    → (f (outward h)).closed ≡ true → (f (outward h)).begun ≡ (outward h).begun → (f (outward h)).loss ≡ (outward h).loss
+    → (f (outward h)).hello ≡ (outward h).hello → (f (outward h)).stream ≡ (outward h).stream → IsBeginning (outward h).taken (f (outward h)).taken
     → HasLeft h → HasLeft later
 left-closes h later f standing connections opening tuple closed begun loss hello stream taken t = record {
   own = λ unshut. absurd (elim (outward-change h later f connections) [
@@ -176,7 +203,8 @@ left-closes h later f standing connections opening tuple closed begun loss hello
   ]);
   fresh = λ j c at is. elim (back j c at) [
     | inl same ↦ t.fresh j c same is
-    | inr changed ↦ t.fresh j (outward h) changed.1 (sym loss ∙ (ap (λ (x : Outward). x.loss) (sym changed.0) ∙ (is ∙ ap (λ (x : Tuple). x.current) (ap (λ (x : Outward). x.hello) changed.0 ∙ hello))))
+    | inr changed ↦ t.fresh j (outward h) changed.1 (sym loss
+        ∙ (ap (λ (x : Outward). x.loss) (sym changed.0) ∙ (is ∙ ap (λ (x : Tuple). x.current) (ap (λ (x : Outward). x.hello) changed.0 ∙ hello))))
   ];
   met = λ j c at began. elim (back j c at) [
     | inl same ↦ t.met j c same began
@@ -184,7 +212,8 @@ left-closes h later f standing connections opening tuple closed begun loss hello
         let was = t.met j (outward h) changed.1 (sym begun ∙ (ap (λ (x : Outward). x.begun) (sym changed.0) ∙ began)) in (
           was.0,
           was.1,
-          subst (λ (x : Outward). slice_get x.taken was.0 ≡ Some (Ok (UuidsFrame was.1))) (sym changed.0) (get-beginning (outward h).taken (f (outward h)).taken was.0 (Ok (UuidsFrame was.1)) taken was.2),
+          subst (λ (x : Outward). slice_get x.taken was.0 ≡ Some (Ok (UuidsFrame was.1))) (sym changed.0)
+              (get-beginning (outward h).taken (f (outward h)).taken was.0 (Ok (UuidsFrame was.1)) taken was.2),
           ap (λ (n : ℕ). stands_in n was.1) (ap (λ (x : Outward). x.loss) changed.0 ∙ loss) ∙ was.3,
         )
   ];
@@ -192,7 +221,10 @@ left-closes h later f standing connections opening tuple closed begun loss hello
       let before = takes-back h later f ending.current (suc i) connections taken only in
       elim (back i c at) [
         | inl same ↦ leaves ending.current (suc i) before (t.ended i n c ending same there before)
-        | inr changed ↦ leaves ending.current (suc i) before (t.ended i n (outward h) ending changed.1 (subst (λ (l : List Item). slice_get l n ≡ Some (UuidsItem ending)) stream (subst (λ (x : Outward). slice_get x.stream n ≡ Some (UuidsItem ending)) changed.0 there)) before)
+        | inr changed ↦ leaves ending.current (suc i) before
+            (t.ended i n (outward h) ending changed.1
+            (subst (λ (l : List Item). slice_get l n ≡ Some (UuidsItem ending)) stream
+            (subst (λ (x : Outward). slice_get x.stream n ≡ Some (UuidsItem ending)) changed.0 there)) before)
       ];
   first = λ word some premise only.
       let before = takes-back h later f word 0 connections taken only in
@@ -204,17 +236,27 @@ left-closes h later f standing connections opening tuple closed begun loss hello
           earlier = λ j c less at. begun-back j c at (λ x there. one.earlier j x less there);
           there = λ j c is at. elim (back j c at) [
             | inl same ↦ elim (one.there j c is same) [ inl new ↦ inl new | inr bitmap ↦ inr (ap (λ (x : Tuple). x.bitmap) opening ∙ bitmap) ]
-            | inr changed ↦ elim (one.there j (outward h) is changed.1) [ inl new ↦ inl (ap (λ (x : Outward). x.begun) changed.0 ∙ (begun ∙ new)) | inr bitmap ↦ inr (ap (λ (x : Tuple). x.bitmap) opening ∙ bitmap) ]
+            | inr changed ↦ elim (one.there j (outward h) is changed.1) [
+              | inl new ↦ inl (ap (λ (x : Outward). x.begun) changed.0
+                  ∙ (begun ∙ new))
+              | inr bitmap ↦ inr (ap (λ (x : Tuple). x.bitmap) opening ∙ bitmap)
+            ]
           ];
         })
       ];
 }
   where
-    back : (j : ℕ) (c : Outward) → slice_get later.connections j ≡ Some c → (slice_get h.connections j ≡ Some c) ⊎ ((c ≡ f (outward h)) × (slice_get h.connections j ≡ Some (outward h)) × (suc j ≡ length h.connections))
+    back : (j : ℕ) (c : Outward) → slice_get later.connections j ≡ Some c
+        → (slice_get h.connections j ≡ Some c) ⊎ ((c ≡ f (outward h)) × (slice_get h.connections j ≡ Some (outward h)) × (suc j ≡ length h.connections))
     back j c at = get-change-back f (no_outward h.tuple) h.connections j c (subst (λ (l : List Outward). slice_get l j ≡ Some c) connections at)
 
-    begun-back : (j : ℕ) (c : Outward) → slice_get later.connections j ≡ Some c → ((x : Outward) → slice_get h.connections j ≡ Some x → x.begun ≡ false) → c.begun ≡ false
-    begun-back j c at none = elim (back j c at) [ inl same ↦ none c same | inr changed ↦ ap (λ (x : Outward). x.begun) changed.0 ∙ (begun ∙ none (outward h) changed.1) ]
+    begun-back : (j : ℕ) (c : Outward) → slice_get later.connections j ≡ Some c → ((x : Outward) → slice_get h.connections j ≡ Some x → x.begun ≡ false)
+        → c.begun ≡ false
+    begun-back j c at none = elim (back j c at) [
+      | inl same ↦ none c same
+      | inr changed ↦ ap (λ (x : Outward). x.begun) changed.0
+          ∙ (begun ∙ none (outward h) changed.1)
+    ]
 
     size : length later.connections ≡ length h.connections
     size = ap length connections ∙ length-change f h.connections
@@ -256,30 +298,38 @@ left-closes h later f standing connections opening tuple closed begun loss hello
       current = other-word word from only g;
       resyncs = λ j c more at. elim (back j c at) [
         | inl same ↦ g.resyncs j c more same
-        | inr changed ↦ subst IsResync (sym changed.0) (resync-grows (outward h) (f (outward h)) begun (subst (λ (l : List Item). IsBeginning (outward h).stream l) (sym stream) (begins-self (outward h).stream)) (g.resyncs j (outward h) more changed.1))
+        | inr changed ↦ subst IsResync (sym changed.0)
+            (resync-grows (outward h) (f (outward h)) begun
+            (subst (λ (l : List Item). IsBeginning (outward h).stream l) (sym stream) (begins-self (outward h).stream))
+            (g.resyncs j (outward h) more changed.1))
       ];
     })
 
 -- A connection opens.
-pub left-opens : (h : PrimaryHistory) (sync loss : ℕ) → (outward h).closed ≡ true → are_fresh sync loss (known_tuples h) ≡ true → HasLeft h → HasLeft (opened h sync loss)
+pub left-opens : (h : PrimaryHistory) (sync loss : ℕ) → (outward h).closed ≡ true → are_fresh sync loss (known_tuples h) ≡ true → HasLeft h
+    → HasLeft (opened h sync loss)
 left-opens h sync loss shut fresh t = record {
   own = λ unshut. ap (λ (c : Outward). c.hello.current) (sym (last-more (no_outward h.tuple) new h.connections));
   fresh = λ j c at is. elim (get-more h.connections new j c at) [
     | inl old ↦ t.fresh j c old is
     | inr added ↦ fresh-loss h sync loss fresh (ap (λ (x : Outward). x.loss) (sym added.1) ∙ (is ∙ ap (λ (x : Outward). x.hello.current) added.1))
   ];
-  met = λ j c at begun. elim (get-more h.connections new j c at) [ inl old ↦ t.met j c old begun | inr added ↦ absurd (both_ways c.begun (ap (λ (x : Outward). x.begun) added.1) begun) ];
+  met = λ j c at begun. elim (get-more h.connections new j c at)
+      [ inl old ↦ t.met j c old begun | inr added ↦ absurd (both_ways c.begun (ap (λ (x : Outward). x.begun) added.1) begun) ];
   ended = λ i n c tuple at there only. elim (get-more h.connections new i c at) [
     | inl old ↦ goes-on tuple.current (suc i) (t.ended i n c tuple old there (back tuple.current (suc i) only))
-    | inr added ↦ absurd (let item : slice_get [] n ≡ Some (UuidsItem tuple) = subst (λ (x : Outward). slice_get x.stream n ≡ Some (UuidsItem tuple)) added.1 there in cc (item))
+    | inr added ↦ absurd (let item : slice_get [] n ≡ Some (UuidsItem tuple) = subst (λ (x : Outward). slice_get x.stream n ≡ Some (UuidsItem tuple)) added.1
+        there in cc (item))
   ];
   first = λ word some premise only. elim (t.first word some premise (back word 0 only)) [
     | inl none ↦ inl (λ j c at. elim (get-more h.connections new j c at) [ inl old ↦ none j c old | inr added ↦ ap (λ (x : Outward). x.begun) added.1 ])
     | inr one ↦ inr (record {
       from = one.from;
       left = goes-on word one.from one.left;
-      earlier = λ j c less at. elim (get-more h.connections new j c at) [ inl old ↦ one.earlier j c less old | inr added ↦ ap (λ (x : Outward). x.begun) added.1 ];
-      there = λ j c is at. elim (get-more h.connections new j c at) [ inl old ↦ one.there j c is old | inr added ↦ inl (ap (λ (x : Outward). x.begun) added.1) ];
+      earlier = λ j c less at. elim (get-more h.connections new j c at)
+          [ inl old ↦ one.earlier j c less old | inr added ↦ ap (λ (x : Outward). x.begun) added.1 ];
+      there = λ j c is at. elim (get-more h.connections new j c at)
+          [ inl old ↦ one.there j c is old | inr added ↦ inl (ap (λ (x : Outward). x.begun) added.1) ];
     })
   ];
 }
@@ -299,5 +349,6 @@ left-opens h sync loss shut fresh t = record {
       few = let few = g.few in let e = size in omega arith;
       past = λ unshut. let few = g.few in let e = size in omega arith;
       current = g.current;
-      resyncs = λ j c more at. elim (get-more h.connections new j c at) [ inl old ↦ g.resyncs j c more old | inr added ↦ inl (ap (λ (x : Outward). x.begun) added.1) ];
+      resyncs = λ j c more at. elim (get-more h.connections new j c at)
+          [ inl old ↦ g.resyncs j c more old | inr added ↦ inl (ap (λ (x : Outward). x.begun) added.1) ];
     })

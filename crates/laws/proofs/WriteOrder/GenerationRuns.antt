@@ -1,5 +1,6 @@
 -- A generation that was left does not come back, in any run of a primary.
-use Rattle.std.proofs.Common.{ℕ, zero, suc, ◌≡◌, ◌-◌, ◌<◌, ◌⊎◌, inl, inr, Bool, true, false, List, [], ◌∷◌, ◌++◌, length, Option, Some, None, slice_get, Ok, refl, ◌∙◌, ap, subst}
+use Rattle.std.proofs.Common.{ℕ, zero, suc, ◌≡◌, ◌-◌, ◌<◌, ◌⊎◌, inl, inr, Bool, true, false, List, [], ◌∷◌, ◌++◌, length, Option, Some, None, slice_get, Ok}
+use Rattle.std.proofs.Common.{refl, ◌∙◌, ap, subst}
 use Rattle.std.specs.Prelude.{is_some, unwrap_or, if◌then◌else◌}
 use Rattle.std.proofs.lemmas.Bool.{both_ways}
 use Rattle.blocks.specs.declared.settings.Settings.{Settings}
@@ -12,10 +13,12 @@ use Rattle.model.specs.Stream.{Item, WriteItem, ResyncItem, SyncUuidItem, UuidsI
 use Rattle.model.specs.Frames.{Received, UuidsFrame, RsWriteAckFrame, BarrierAckFrame}
 use Rattle.model.specs.Identifiers.{stands_in, decision, lost}
 use Rattle.model.specs.Marks.{marking}
-use Rattle.model.specs.Primary.{Waiting, OnDisk, Failed, Accepted, Outward, PrimaryHistory, no_outward, outward, last_of, last_index, change_last, with_outward, stands, local_map, primary_opening}
+use Rattle.model.specs.Primary.{Waiting, OnDisk, Failed, Accepted, Outward, PrimaryHistory, no_outward, outward, last_of, last_index, change_last, with_outward}
+use Rattle.model.specs.Primary.{stands, local_map, primary_opening}
 use Rattle.model.specs.PrimarySteps.{appending, submission, submitted, with_outcome, accepted_at, faulted, closing, receipted}
 use Rattle.model.specs.Acknowledgements.{begun_with}
 use Rattle.model.specs.LocalRuns.{PrimaryEvent, primary_run}
+use Rattle.laws.proofs.Rules.EpochEnds.{TakesWrites, takes-writes}
 use Rattle.laws.proofs.Lists.Beginnings.{begins-self}
 use Rattle.laws.proofs.Lists.Last.{change-twice}
 use Rattle.laws.proofs.Primary.Homes.{HasHomes, open-at}
@@ -30,8 +33,24 @@ left-submits : (h : PrimaryHistory) (first : ℕ) (contents : List (List ℕ)) �
 left-submits h first contents t = go (stands (outward h))
   where
     go : (b : Bool) → HasLeft (elim b as (λ _. PrimaryHistory) [
-      | true ↦ appending (WriteItem (submission h first contents)) (record h { writes = h.writes ++ record { write = submission h first contents; journal_length = length h.journal; home = Some (last_index h.connections, length (outward h).stream); outcome = Waiting } ∷ [] })
-      | false ↦ record h { writes = h.writes ++ record { write = submission h first contents; journal_length = length h.journal; home = None; outcome = Waiting } ∷ []; marks = marking (submission h first contents) h.marks }
+      | true ↦ appending (WriteItem (submission h first contents))
+          (record h {
+            writes = h.writes ++ record {
+              write = submission h first contents;
+              journal_length = length h.journal;
+              home = Some (record { index = last_index h.connections; place = length (outward h).stream });
+              outcome = Waiting;
+            } ∷ [];
+          })
+      | false ↦ record h {
+        writes = h.writes ++ record {
+          write = submission h first contents;
+          journal_length = length h.journal;
+          home = None;
+          outcome = Waiting;
+        } ∷ [];
+        marks = marking (submission h first contents) h.marks;
+      }
     ])
     go true = left-appends h _ (WriteItem (submission h first contents)) refl refl refl (λ tuple is. cc) t
     go false = left-still h _ refl refl refl t
@@ -39,7 +58,12 @@ left-submits h first contents t = go (stands (outward h))
 left-faults : (h : PrimaryHistory) (number : ℕ) (offsets : List ℕ) → HasLeft h → HasLeft (faulted number offsets h)
 left-faults h number offsets t = go (accepted_at h number)
   where
-    go : (v : Option Accepted) → HasLeft (elim v as (λ _. PrimaryHistory) [ None ↦ h | Some accepted ↦ with_outcome number (Failed (within (length accepted.write.contents) offsets)) (record h { marks = marking accepted.write h.marks }) ])
+    go : (v : Option Accepted) → HasLeft
+        (elim v as (λ _. PrimaryHistory) [
+          | None ↦ h
+          | Some accepted ↦ with_outcome number (Failed (within (length accepted.write.contents) offsets))
+              (record h { marks = marking accepted.write h.marks })
+        ])
     go None = t
     go (Some accepted) = left-still h _ refl refl refl t
 
@@ -48,7 +72,8 @@ start-end : (word n : ℕ) (tuple : Tuple) → slice_get (SyncUuidItem word ∷ 
 start-end word zero tuple at = cc
 start-end word (suc n) tuple at = cc
 
-left-begins : (h : PrimaryHistory) (peer : Tuple) (decided : Decision) → HasHomes h → IsAccounted h → (outward h).closed ≡ false → (outward h).begun ≡ false → decision h.tuple peer ≡ Ok decided → stands_in (outward h).loss peer ≡ false → HasLeft h
+left-begins : (h : PrimaryHistory) (peer : Tuple) (decided : Decision) → HasHomes h → IsAccounted h → (outward h).closed ≡ false → (outward h).begun ≡ false
+    → decision h.tuple peer ≡ Ok decided → stands_in (outward h).loss peer ≡ false → HasLeft h
     → HasLeft (begun_with decided (record (with_outward (with_frame (Ok (UuidsFrame peer))) h) { peer = Some peer }))
 left-begins h peer decided homes accounted standing fresh is unused t = go decided is
   where
@@ -64,22 +89,26 @@ left-begins h peer decided homes accounted standing fresh is unused t = go decid
     none-there : (n : ℕ) (i : Item) → slice_get (outward h).stream n ≡ Some i → ⊥
     none-there n i at = let there : slice_get [] n ≡ Some i = subst (λ (l : List Item). slice_get l n ≡ Some i) empty at in cc (there)
 
-    go : (v : Decision) → decision h.tuple peer ≡ Ok v → HasLeft (begun_with v (record (with_outward (with_frame (Ok (UuidsFrame peer))) h) { peer = Some peer }))
-    go NoSync is = left-beginning h (begun_with NoSync taken) peer NoSync (λ c. record c { taken = c.taken ++ Ok (UuidsFrame peer) ∷ []; begun = true }) accounted standing fresh is unused (record {
-      connections = change-twice (with_frame frame) (λ c. record c { begun = true }) h.connections;
-      opening = refl;
-      current = refl;
-      closed = refl;
-      begun = refl;
-      loss = refl;
-      hello = refl;
-      taken = refl;
-      no_end = λ n tuple at. none-there n (UuidsItem tuple) at;
-      how = inl (refl, refl);
-    }) t
+    go : (v : Decision) → decision h.tuple peer ≡ Ok v
+        → HasLeft (begun_with v (record (with_outward (with_frame (Ok (UuidsFrame peer))) h) { peer = Some peer }))
+    go NoSync is = left-beginning h (begun_with NoSync taken) peer NoSync (λ c. record c { taken = c.taken ++ Ok (UuidsFrame peer) ∷ []; begun = true })
+        accounted standing fresh is unused (record {
+          connections = change-twice (with_frame frame) (λ c. record c { begun = true }) h.connections;
+          opening = refl;
+          current = refl;
+          closed = refl;
+          begun = refl;
+          loss = refl;
+          hello = refl;
+          taken = refl;
+          no_end = λ n tuple at. none-there n (UuidsItem tuple) at;
+          how = inl (refl, refl);
+        }) t
     go BitmapSync is =
         let word = (outward (with_outward (with_frame (Ok (UuidsFrame peer))) h)).sync in
-        left-beginning h (begun_with BitmapSync taken) peer BitmapSync (λ c. record c { taken = c.taken ++ Ok (UuidsFrame peer) ∷ []; begun = true; stream = SyncUuidItem word ∷ [] }) accounted standing fresh is unused (record {
+        left-beginning h (begun_with BitmapSync taken) peer BitmapSync
+        (λ c. record c { taken = c.taken ++ Ok (UuidsFrame peer) ∷ []; begun = true; stream = SyncUuidItem word ∷ [] }) accounted standing fresh is unused
+        (record {
           connections = change-twice (with_frame frame) (λ c. record c { begun = true; stream = SyncUuidItem word ∷ [] }) h.connections;
           opening = refl;
           current = start-current word h.tuple;
@@ -93,7 +122,9 @@ left-begins h peer decided homes accounted standing fresh is unused t = go decid
         }) t
     go FullSync is =
         let word = (outward (with_outward (with_frame (Ok (UuidsFrame peer))) h)).sync in
-        left-beginning h (begun_with FullSync taken) peer FullSync (λ c. record c { taken = c.taken ++ Ok (UuidsFrame peer) ∷ []; begun = true; stream = SyncUuidItem word ∷ [] }) accounted standing fresh is unused (record {
+        left-beginning h (begun_with FullSync taken) peer FullSync
+        (λ c. record c { taken = c.taken ++ Ok (UuidsFrame peer) ∷ []; begun = true; stream = SyncUuidItem word ∷ [] }) accounted standing fresh is unused
+        (record {
           connections = change-twice (with_frame frame) (λ c. record c { begun = true; stream = SyncUuidItem word ∷ [] }) h.connections;
           opening = refl;
           current = start-current word h.tuple;
@@ -107,14 +138,17 @@ left-begins h peer decided homes accounted standing fresh is unused t = go decid
         }) t
 
 -- the tuple after a close
-closed-tuple : (h : PrimaryHistory) (tuple : Tuple) → tuple ≡ (if (outward h).begun then lost (outward h).loss h.tuple else h.tuple) → (((outward h).begun ≡ true) × (tuple ≡ lost (outward h).loss h.tuple)) ⊎ (((outward h).begun ≡ false) × (tuple ≡ h.tuple))
+closed-tuple : (h : PrimaryHistory) (tuple : Tuple) → tuple ≡ (if (outward h).begun then lost (outward h).loss h.tuple else h.tuple)
+    → (((outward h).begun ≡ true) × (tuple ≡ lost (outward h).loss h.tuple)) ⊎ (((outward h).begun ≡ false) × (tuple ≡ h.tuple))
 closed-tuple h tuple is = go (outward h).begun refl is
   where
-    go : (b : Bool) → (outward h).begun ≡ b → tuple ≡ (if b then lost (outward h).loss h.tuple else h.tuple) → (((outward h).begun ≡ true) × (tuple ≡ lost (outward h).loss h.tuple)) ⊎ (((outward h).begun ≡ false) × (tuple ≡ h.tuple))
+    go : (b : Bool) → (outward h).begun ≡ b → tuple ≡ (if b then lost (outward h).loss h.tuple else h.tuple)
+        → (((outward h).begun ≡ true) × (tuple ≡ lost (outward h).loss h.tuple)) ⊎ (((outward h).begun ≡ false) × (tuple ≡ h.tuple))
     go true begun is = inl (begun, is)
     go false begun is = inr (begun, is)
 
-left-refuses : (h : PrimaryHistory) (frame : Received) (peer : Option Tuple) → (outward h).closed ≡ false → HasLeft h → HasLeft (closing (with_outward refusing (record (with_outward (with_frame frame) h) { peer = peer })))
+left-refuses : (h : PrimaryHistory) (frame : Received) (peer : Option Tuple) → (outward h).closed ≡ false → HasLeft h
+    → HasLeft (closing (with_outward refusing (record (with_outward (with_frame frame) h) { peer = peer })))
 left-refuses h frame peer standing t =
     let mid : PrimaryHistory = with_outward refusing (record (with_outward (with_frame frame) h) { peer = peer }) in
     let later : PrimaryHistory = closing mid in
@@ -124,32 +158,51 @@ left-refuses h frame peer standing t =
       | inl none ↦ absurd (both_ways (outward h).closed standing (ap (λ (l : List Outward). (last_of (no_outward h.tuple) l).closed) none))
       | inr is ↦ is
     ] in
-    let tuple : later.tuple ≡ (if (outward h).begun then lost (outward h).loss h.tuple else h.tuple) = ap (λ (c : Outward). if c.begun then lost c.loss h.tuple else h.tuple) end in
-    left-closes h later f standing (ap (change_last (λ (c : Outward). record c { closed = true })) twice ∙ change-twice (λ c. refusing (with_frame frame c)) (λ c. record c { closed = true }) h.connections) refl (closed-tuple h later.tuple tuple) refl refl refl refl refl (frame ∷ [], refl) t
+    let tuple : later.tuple ≡ (if (outward h).begun then lost (outward h).loss h.tuple else h.tuple) = ap (λ (c : Outward). if c.begun then lost c.loss h.tuple
+    else h.tuple) end in
+    left-closes h later f standing (ap (change_last (λ (c : Outward). record c { closed = true })) twice
+    ∙ change-twice (λ c. refusing (with_frame frame c)) (λ c. record c { closed = true }) h.connections) refl (closed-tuple h later.tuple tuple) refl refl
+    refl refl refl (frame ∷ [], refl) t
 
 -- Every move keeps it, beside the spans.
-left-kept : (settings : Settings) → 0 < settings.max_epoch → IsKeptByMoves (λ h. Spanned settings h × HasLeft h) (λ h. SpannedAfter settings h × HasLeft h)
+left-kept : (settings : Settings) → TakesWrites settings → IsKeptByMoves (λ h. Spanned settings h × HasLeft h) (λ h. SpannedAfter settings h × HasLeft h)
 left-kept settings bound =
     let base = spans-kept settings bound in
-    let takes : (h : PrimaryHistory) (frame : Received) → HasLeft h → HasLeft (with_outward (with_frame frame) h) = λ h frame t. left-with h (with_outward (with_frame frame) h) (with_frame frame) refl refl refl refl refl refl refl (begins-self (outward h).stream) (frame ∷ [], refl) (λ n tuple there. there) t in
+    let takes : (h : PrimaryHistory) (frame : Received) → HasLeft h
+    → HasLeft (with_outward (with_frame frame) h) = λ h frame t. left-with h (with_outward (with_frame frame) h) (with_frame frame) refl refl refl refl refl
+    refl refl (begins-self (outward h).stream) (frame ∷ [], refl) (λ n tuple there. there) t in
     record {
       following = λ h p. (base.following h p.0, left-following h p.1);
       opens = λ h sync loss closed fresh p. (base.opens h sync loss closed fresh p.0, left-opens h sync loss closed fresh p.1);
       submits = λ h first contents may p. (base.submits h first contents may p.0, left-submits h first contents p.1);
       writes = λ h number waiting p. (base.writes h number waiting p.0, left-still h (with_outcome number OnDisk h) refl refl refl p.1);
       faults = λ h number offsets waiting p. (base.faults h number offsets waiting p.0, left-faults h number offsets p.1);
-      sends = λ h standing due p. (base.sends h standing due p.0, left-with h (with_outward pushing h) pushing refl refl refl refl refl refl refl (begins-self (outward h).stream) (begins-self (outward h).taken) (λ n tuple there. there) p.1);
+      sends = λ h standing due p. (
+        base.sends h standing due p.0,
+        left-with h (with_outward pushing h) pushing refl refl refl refl refl refl refl (begins-self (outward h).stream) (begins-self (outward h).taken)
+            (λ n tuple there. there) p.1,
+      );
       greets = λ h frame standing new met p. (base.greets h frame standing new met p.0, takes h frame p.1);
-      begins = λ h peer decided standing new late is fresh p. (base.begins h peer decided standing new late is fresh p.0, left-begins h peer decided p.0.0.0.1.1.0.0 p.0.0.1 standing new is fresh p.1);
+      begins = λ h peer decided standing new late is fresh p. (
+        base.begins h peer decided standing new late is fresh p.0,
+        left-begins h peer decided p.0.0.0.1.1.0.0 p.0.0.1 standing new is fresh p.1,
+      );
       receives = λ h ack standing begun may p. (base.receives h ack standing begun may p.0, takes h _ p.1);
       applies = λ h ack standing begun may p. (base.applies h ack standing begun may p.0, takes h _ p.1);
-      clears = λ h ack standing begun may p. (base.clears h ack standing begun may p.0, left-still (with_outward (with_frame (Ok (RsWriteAckFrame ack))) h) _ refl refl refl (takes h (Ok (RsWriteAckFrame ack)) p.1));
+      clears = λ h ack standing begun may p. (
+        base.clears h ack standing begun may p.0,
+        left-still (with_outward (with_frame (Ok (RsWriteAckFrame ack))) h) _ refl refl refl (takes h (Ok (RsWriteAckFrame ack)) p.1),
+      );
       confirms = λ h number size standing begun turn p. (base.confirms h number size standing begun turn p.0, takes h _ p.1);
       refuses = λ h frame peer standing p. (base.refuses h frame peer standing p.0, left-refuses h frame peer standing p.1);
-      resyncs = λ h block runs alone is p. (base.resyncs h block runs alone is p.0, left-appends h _ (ResyncItem block (unwrap_or (local_map h block) [])) refl refl refl (λ tuple same. cc) p.1);
+      resyncs = λ h block runs alone is p. (
+        base.resyncs h block runs alone is p.0,
+        left-appends h _ (ResyncItem block (unwrap_or (local_map h block) [])) refl refl refl (λ tuple same. cc) p.1,
+      );
       closes = λ h standing p. (
         base.closes h standing p.0,
-        left-closes h (closing h) (λ c. record c { closed = true }) standing refl refl (closed-tuple h (closing h).tuple refl) refl refl refl refl refl (begins-self (outward h).taken) p.1,
+        left-closes h (closing h) (λ c. record c { closed = true }) standing refl refl (closed-tuple h (closing h).tuple refl) refl refl refl refl refl
+            (begins-self (outward h).taken) p.1,
       );
       receipts = λ h number p. (base.receipts h number p.0, left-still h (receipted number h) refl refl refl p.1);
     }
@@ -159,12 +212,26 @@ left-released settings =
     let base = spans-released settings in
     record {
       writes = λ h number waiting p q. (base.writes h number waiting p.0 q.0, left-still (with_outcome number OnDisk h) _ refl refl refl q.1);
-      confirms = λ h number size standing begun turn p q. (base.confirms h number size standing begun turn p.0 q.0, left-still (with_outward (with_frame (Ok (BarrierAckFrame number size))) h) _ refl refl refl q.1);
+      confirms = λ h number size standing begun turn p q. (
+        base.confirms h number size standing begun turn p.0 q.0,
+        left-still (with_outward (with_frame (Ok (BarrierAckFrame number size))) h) _ refl refl refl q.1,
+      );
     }
 
 -- In every run of a primary.
-pub left-run : (settings : Settings) (disk : BlockMap) (tuple : Tuple) (marks : ℕ → Bool) (events : List PrimaryEvent) → IsInRange settings → ((block : ℕ) → block < settings.blocks → is_some (disk block) ≡ true)
-    → Spanned settings (primary_run events (primary_opening settings disk tuple marks)) × HasLeft (primary_run events (primary_opening settings disk tuple marks))
+pub left-run : (settings : Settings) (disk : BlockMap) (tuple : Tuple) (marks : ℕ → Bool) (events : List PrimaryEvent) → IsInRange settings
+    → ((block : ℕ) → block < settings.blocks → is_some (disk block) ≡ true)
+    → Spanned settings (primary_run events (primary_opening settings disk tuple marks))
+    × HasLeft (primary_run events (primary_opening settings disk tuple marks))
 left-run settings disk tuple marks events range sized =
-    keeps-run (λ h. Spanned settings h × HasLeft h) (λ h. SpannedAfter settings h × HasLeft h) (left-kept settings range.max_epoch.0) (left-released settings) events (primary_opening settings disk tuple marks)
-    (spans-run settings disk tuple marks [] range sized, record { own = λ unshut. absurd (cc); fresh = λ k c at. absurd (cc); met = λ k c at. absurd (cc); ended = λ i n c t at. absurd (cc); first = λ word some premise only. inl (λ k c at. absurd (cc)) })
+    keeps-run (λ h. Spanned settings h × HasLeft h) (λ h. SpannedAfter settings h × HasLeft h) (left-kept settings (takes-writes settings range))
+    (left-released settings) events (primary_opening settings disk tuple marks) (
+      spans-run settings disk tuple marks [] range sized,
+      record {
+        own = λ unshut. absurd (cc);
+        fresh = λ k c at. absurd (cc);
+        met = λ k c at. absurd (cc);
+        ended = λ i n c t at. absurd (cc);
+        first = λ word some premise only. inl (λ k c at. absurd (cc));
+      },
+    )

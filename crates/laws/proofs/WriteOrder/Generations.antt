@@ -1,23 +1,25 @@
 -- Once a generation of data is left, no later stream begins without a resync to a peer that still has it. What the primary's
 -- tuple says of that, at a given word and from a given connection on.
-use Rattle.std.proofs.Common.{ℕ, ◌≡◌, ◌<◌, ◌≤◌, ◌⊎◌, inl, inr, Bool, true, false, not, ◌&&◌, ◌||◌, ◌==◌, List, [], ◌∷◌, length, Option, Some, None, slice_get, Ok, refl, sym, ◌∙◌, ap, subst, arith}
+use Rattle.std.proofs.Common.{ℕ, ◌≡◌, ◌<◌, ◌≤◌, ◌⊎◌, inl, inr, Bool, true, false, ◌||◌, ◌==◌, List, [], length, Some, slice_get, Ok, refl, sym, ◌∙◌, ap, subst}
+use Rattle.std.proofs.Common.{arith}
 use Rattle.std.specs.Prelude.{if◌then◌else◌}
-use Rattle.std.specs.List.{list_any}
-use Rattle.std.proofs.lemmas.Bool.{cases_Bool, both_ways, and_parts, or_parts, not-true, eqb-true, eq-eqb, false_from_ne_true}
+use Rattle.std.proofs.lemmas.Bool.{cases_Bool, both_ways, or_parts, eqb-true, eq-eqb, false_from_ne_true}
 use Rattle.blocks.specs.declared.tuple.Tuple.{Tuple}
 use Rattle.blocks.specs.declared.outcome.Decision.TheVariants.{NoSync, BitmapSync, FullSync}
 use Rattle.model.specs.Stream.{SyncUuidItem, IsBeginning}
 use Rattle.model.specs.Frames.{UuidsFrame}
-use Rattle.model.specs.Identifiers.{are_fresh, is_fresh, stands_in, decision, lost, into_history, sync_start, sync_end}
+use Rattle.model.specs.Identifiers.{are_fresh, stands_in, decision, lost, into_history, sync_start, sync_end}
 use Rattle.model.specs.Primary.{Outward, PrimaryHistory, no_outward, last_of, outward, change_last}
 use Rattle.model.specs.PrimarySteps.{known_tuples}
+use Rattle.laws.proofs.Rules.FreshWords.{loss-not-own}
+use Rattle.laws.proofs.Rules.Decisions.{decided-by}
 use Rattle.laws.proofs.Lists.Beginnings.{get-beginning}
-use Rattle.laws.proofs.Blocks.SameBlocks.{decided-by}
 use Rattle.laws.proofs.Lists.Last.{get-change, get-change-back, last-change, length-change}
 
 -- every tuple that the primary took on these connections, from this one on, has the word for its current identifier
 abbrev pub TakesOnly : ℕ → ℕ → PrimaryHistory → Type 0
-TakesOnly word from h = (j n : ℕ) (c : Outward) (peer : Tuple) → from ≤ j → slice_get h.connections j ≡ Some c → slice_get c.taken n ≡ Some (Ok (UuidsFrame peer)) → peer.current ≡ word
+TakesOnly word from h = (j n : ℕ) (c : Outward) (peer : Tuple) → from ≤ j → slice_get h.connections j ≡ Some c
+    → slice_get c.taken n ≡ Some (Ok (UuidsFrame peer)) → peer.current ≡ word
 
 -- a stream that has not begun, or began with a resync
 abbrev pub IsResync : Outward → Type 0
@@ -44,14 +46,16 @@ abbrev pub IsLeft : ℕ → ℕ → PrimaryHistory → Type 0
 IsLeft word from h = IsStanding word from h ⊎ IsGone word from h
 
 -- the last end after a change of it
-pub outward-change : (h later : PrimaryHistory) (f : Outward → Outward) → later.connections ≡ change_last f h.connections → (h.connections ≡ []) ⊎ (outward later ≡ f (outward h))
+pub outward-change : (h later : PrimaryHistory) (f : Outward → Outward) → later.connections ≡ change_last f h.connections
+    → (h.connections ≡ []) ⊎ (outward later ≡ f (outward h))
 outward-change h later f connections = elim (last-change f (no_outward h.tuple) (no_outward later.tuple) h.connections) [
   | inl none ↦ inl none
   | inr last ↦ inr (ap (last_of (no_outward later.tuple)) connections ∙ last)
 ]
 
 -- the last end where there is none
-pub outward-none : (h later : PrimaryHistory) (f : Outward → Outward) → later.connections ≡ change_last f h.connections → h.connections ≡ [] → (outward later).closed ≡ true
+pub outward-none : (h later : PrimaryHistory) (f : Outward → Outward) → later.connections ≡ change_last f h.connections → h.connections ≡ []
+    → (outward later).closed ≡ true
 outward-none h later f connections none = ap (λ (l : List Outward). (last_of (no_outward later.tuple) l).closed) (connections ∙ ap (change_last f) none)
 
 -- What a change of the last connection keeps of it.
@@ -93,14 +97,16 @@ left-change h later f word from k (inr g) =
         | inr end ↦ let past = g.past (sym k.closed ∙ (ap (λ (c : Outward). c.closed) (sym end) ∙ unshut)) in omega arith
       ];
       current = λ is. g.current (sym k.current ∙ is);
-      resyncs = λ j c more at. elim (get-change-back f (no_outward h.tuple) h.connections j c (subst (λ (l : List Outward). slice_get l j ≡ Some c) k.connections at)) [
-        | inl same ↦ g.resyncs j c more same
-        | inr changed ↦ subst IsResync (sym changed.0) (resync-grows (outward h) (f (outward h)) k.begun k.stream (g.resyncs j (outward h) more changed.1))
-      ];
+      resyncs = λ j c more at. elim (get-change-back f (no_outward h.tuple) h.connections j c
+          (subst (λ (l : List Outward). slice_get l j ≡ Some c) k.connections at)) [
+            | inl same ↦ g.resyncs j c more same
+            | inr changed ↦ subst IsResync (sym changed.0) (resync-grows (outward h) (f (outward h)) k.begun k.stream (g.resyncs j (outward h) more changed.1))
+          ];
     })
 
 -- what was taken stays taken
-pub takes-back : (h later : PrimaryHistory) (f : Outward → Outward) (word from : ℕ) → later.connections ≡ change_last f h.connections → IsBeginning (outward h).taken (f (outward h)).taken → TakesOnly word from later → TakesOnly word from h
+pub takes-back : (h later : PrimaryHistory) (f : Outward → Outward) (word from : ℕ) → later.connections ≡ change_last f h.connections
+    → IsBeginning (outward h).taken (f (outward h)).taken → TakesOnly word from later → TakesOnly word from h
 takes-back h later f word from connections grows only j n c peer more at there = elim (get-change f (no_outward h.tuple) h.connections j c at) [
   | inl same ↦ only j n c peer more (subst (λ (l : List Outward). slice_get l j ≡ Some c) (sym connections) same) there
   | inr changed ↦ only j n (f c) peer more (subst (λ (l : List Outward). slice_get l j ≡ Some (f c)) (sym connections) changed.0)
@@ -111,11 +117,17 @@ takes-back h later f word from connections grows only j n c peer more at there =
 
 -- a resync leaves the current identifier
 history-current : (word : ℕ) (t : Tuple) → (into_history word t).current ≡ t.current
-history-current word t = elim (t.bitmap == 0) as (λ b. (if b then record t { bitmap = word } else record { current = t.current; bitmap = word; first_historical = t.bitmap; second_historical = t.first_historical }).current ≡ t.current) [ true ↦ refl | false ↦ refl ]
+history-current word t = elim (t.bitmap == 0) as
+    (λ b. (if b then record t { bitmap = word }
+    else record { current = t.current; bitmap = word; first_historical = t.bitmap; second_historical = t.first_historical }).current ≡ t.current)
+    [ true ↦ refl | false ↦ refl ]
 
 -- and sets the bitmap's
 history-bitmap : (word : ℕ) (t : Tuple) → (into_history word t).bitmap ≡ word
-history-bitmap word t = elim (t.bitmap == 0) as (λ b. (if b then record t { bitmap = word } else record { current = t.current; bitmap = word; first_historical = t.bitmap; second_historical = t.first_historical }).bitmap ≡ word) [ true ↦ refl | false ↦ refl ]
+history-bitmap word t = elim (t.bitmap == 0) as
+    (λ b. (if b then record t { bitmap = word }
+    else record { current = t.current; bitmap = word; first_historical = t.bitmap; second_historical = t.first_historical }).bitmap ≡ word)
+    [ true ↦ refl | false ↦ refl ]
 
 -- the end of a resync leaves the current identifier, and no bitmap's
 pub end-current : (t : Tuple) → (sync_end t).current ≡ t.current
@@ -133,7 +145,9 @@ start-current word t = history-current word t
 pub lost-current : (word : ℕ) (t : Tuple) → ((t.bitmap ≡ 0) × ((lost word t).current ≡ word)) ⊎ ((lost word t).current ≡ t.current)
 lost-current word t = go (t.bitmap == 0) refl
   where
-    go : (b : Bool) → (t.bitmap == 0) ≡ b → ((t.bitmap ≡ 0) × ((if b then record t { current = word; bitmap = t.current } else t).current ≡ word)) ⊎ ((if b then record t { current = word; bitmap = t.current } else t).current ≡ t.current)
+    go : (b : Bool) → (t.bitmap == 0) ≡ b
+        → ((t.bitmap ≡ 0) × ((if b then record t { current = word; bitmap = t.current } else t).current ≡ word))
+        ⊎ ((if b then record t { current = word; bitmap = t.current } else t).current ≡ t.current)
     go true is = inl (eqb-true t.bitmap 0 is, refl)
     go false is = inr refl
 
@@ -149,15 +163,7 @@ not-current word t none is =
 
 -- a fresh loss word is not the current one
 pub fresh-loss : (h : PrimaryHistory) (sync loss : ℕ) → are_fresh sync loss (known_tuples h) ≡ true → loss ≡ h.tuple.current → ⊥
-fresh-loss h sync loss fresh is =
-    let both = and_parts (is_fresh sync (known_tuples h) && is_fresh loss (known_tuples h)) (not (sync == loss)) fresh in
-    let one = and_parts (is_fresh sync (known_tuples h)) (is_fresh loss (known_tuples h)) both.0 in
-    let none = not-true (list_any (stands_in loss) (known_tuples h)) (and_parts _ (not (list_any (stands_in loss) (known_tuples h))) one.1).1 in
-    not-current loss h.tuple (go h.peer none) is
-  where
-    go : (v : Option Tuple) → list_any (stands_in loss) (elim v as (λ _. List Tuple) [ None ↦ h.tuple ∷ [] | Some peer ↦ h.tuple ∷ peer ∷ [] ]) ≡ false → stands_in loss h.tuple ≡ false
-    go None none = (or_parts (stands_in loss h.tuple) _ none).0
-    go (Some peer) none = (or_parts (stands_in loss h.tuple) _ none).0
+fresh-loss h sync loss fresh is = not-current loss h.tuple (loss-not-own h sync loss fresh) is
 
 -- equal currents are decided as no resync
 pub decided-same : (own peer : Tuple) → (peer.current ≡ 0 → ⊥) → own.current ≡ peer.current → decision own peer ≡ Ok NoSync

@@ -1,13 +1,14 @@
 -- The order of writes of a secondary that never took a SYNC_UUID: what it has was applied on the first connection whose stream
 -- began, and before that there was no write.
-use Rattle.std.proofs.Common.{ℕ, suc, ◌≡◌, ◌-◌, ◌<◌, ◌⊎◌, inl, inr, true, false, nat_lt, List, [], length, map, filter, Option, Some, slice_get, refl, sym, ◌∙◌, ap, subst, arith}
+use Rattle.std.proofs.Common.{ℕ, suc, ◌≡◌, ◌-◌, ◌<◌, ◌⊎◌, inl, inr, true, false, nat_lt, List, [], length, Option, Some, slice_get, refl, sym, ◌∙◌}
+use Rattle.std.proofs.Common.{ap, subst, arith}
 use Rattle.std.specs.List.{list_any}
 use Rattle.std.proofs.lemmas.Bool.{cases_Bool, cases_lt, both_ways, lt-ltb, false_from_ne_true}
 use Rattle.std.proofs.lemmas.Option.{slice_get_within}
 use Rattle.blocks.specs.declared.tuple.Tuple.{Tuple}
-use Rattle.model.specs.Stream.{Item, ResyncItem, SyncUuidItem, IsBeginning, barriers_in, below}
+use Rattle.model.specs.Stream.{Item, ResyncItem, SyncUuidItem, IsBeginning}
 use Rattle.model.specs.Primary.{Outward, PrimaryHistory, last_of, is_sync_start, is_sync_end, is_resync}
-use Rattle.model.specs.Secondary.{Inward, SecondaryHistory, no_inward, inward, items_taken, is_done_to, whole}
+use Rattle.model.specs.Secondary.{Inward, SecondaryHistory, no_inward, inward, items_taken, whole}
 use Rattle.model.specs.LocalRuns.{PrimaryEvent, primary_run, SecondaryEvent, secondary_run}
 use Rattle.model.specs.Headline.{IsJoined, HoldsEarlierEpochs}
 use Rattle.model.specs.Theorems.{Opening, IsSoundOpening, primary_at, secondary_at}
@@ -17,6 +18,7 @@ use Rattle.laws.proofs.Lists.Beginnings.{get-beginning}
 use Rattle.laws.proofs.Lists.Elements.{same-at}
 use Rattle.laws.proofs.Lists.Last.{last-at}
 use Rattle.laws.proofs.Lists.Picks.{pick-any}
+use Rattle.laws.proofs.Rules.Usage.{whole-none}
 use Rattle.laws.proofs.Joining.Agreeing.{from-opening}
 use Rattle.laws.proofs.Joining.Ends.{AreEnds}
 use Rattle.laws.proofs.Primary.Homes.{HasHomes}
@@ -29,7 +31,8 @@ use Rattle.laws.proofs.WriteOrder.Consistent.{IsNever}
 use Rattle.laws.proofs.WriteOrder.Ends.{none-in, first-in, brings-nothing, base-from-opening, rises, peer-hello, outward-of, behind-of, none-failed}
 
 -- Where the secondary took no item, the empty set is behind it.
-pub none-taken : (p : PrimaryHistory) (s : SecondaryHistory) → HoldsEarlierEpochs s → has_adopted s ≡ false → ((j : ℕ) (d : Inward) → slice_get s.connections j ≡ Some d → items_taken d ≡ []) → (set : Blocks) × IsOnDisk p s set
+pub none-taken : (p : PrimaryHistory) (s : SecondaryHistory) → HoldsEarlierEpochs s → has_adopted s ≡ false
+    → ((j : ℕ) (d : Inward) → slice_get s.connections j ≡ Some d → items_taken d ≡ []) → (set : Blocks) × IsOnDisk p s set
 none-taken p s epochs bare none = (
   λ number offset. false,
   record {
@@ -37,19 +40,22 @@ none-taken p s epochs bare none = (
     disk = λ block.
         from-opening s epochs block (s.opening_map block) refl (λ j e at. brings-nothing block (s.opening_map block) e (none j e at))
         ∙ (ap (λ b. elim b as (λ _. Option (List ℕ)) [ true ↦ p.opening_map block | false ↦ s.opening_map block ]) (sym bare)
-        ∙ sym (overlay-none (layer_of (λ number offset. false)) (base_of p s) p.writes block (λ i a at v. under-bare (layer_of (λ number offset. false) a) block v (λ inside. refl))));
+        ∙ sym (overlay-none (layer_of (λ number offset. false)) (base_of p s) p.writes block
+        (λ i a at v. under-bare (layer_of (λ number offset. false) a) block v (λ inside. refl))));
     epochs = λ n k place offset accepted at home number upto. absurd (let zero_whole = nothing-whole in omega arith);
   },
 )
   where
     nothing-whole : whole s ≡ 0
-    nothing-whole = ap (λ (l : List Item). last_of 0 (filter (is_done_to (inward s)) (map suc (below (barriers_in l))))) (elim (last-at (no_inward s) s.connections) [
+    nothing-whole = whole-none s (elim (last-at (no_inward s) s.connections) [
       | inl empty ↦ ap (λ (l : List Inward). items_taken (last_of (no_inward s) l)) empty
       | inr last ↦ none (length s.connections - 1) (inward s) last
     ])
 
-module _ (o : Opening) (here : List PrimaryEvent) (there : List SecondaryEvent) (sound : IsSoundOpening o) (joined : IsJoined (primary_run here (primary_at o)) (secondary_run there (secondary_at o)))
-    (unharmed : IsUnharmed (primary_run here (primary_at o)) (secondary_run there (secondary_at o))) (homes : HasHomes (primary_run here (primary_at o))) (spans : HasSpans (primary_run here (primary_at o))) (left : HasLeft (primary_run here (primary_at o)))
+module _ (o : Opening) (here : List PrimaryEvent) (there : List SecondaryEvent) (sound : IsSoundOpening o)
+    (joined : IsJoined (primary_run here (primary_at o)) (secondary_run there (secondary_at o)))
+    (unharmed : IsUnharmed (primary_run here (primary_at o)) (secondary_run there (secondary_at o))) (homes : HasHomes (primary_run here (primary_at o)))
+    (spans : HasSpans (primary_run here (primary_at o))) (left : HasLeft (primary_run here (primary_at o)))
     (epochs : HoldsEarlierEpochs (secondary_run there (secondary_at o))) (never : IsNever (secondary_run there (secondary_at o))) where
   abbrev p : PrimaryHistory
   p = primary_run here (primary_at o)
@@ -78,12 +84,14 @@ module _ (o : Opening) (here : List PrimaryEvent) (there : List SecondaryEvent) 
   first-stream = left.first word never.known unharmed.opening only-opening
 
   -- a connection on which it took an item is that one
-  took-first : (first : IsFirst word p) (k j n : ℕ) (c : Outward) (d : Inward) (i : Item) → AreEnds p s k j c d → IsBeginning (items_taken d) c.stream → slice_get (items_taken d) n ≡ Some i → (suc k ≡ first.from) × ((c.begun ≡ true) × (p.opening_tuple.bitmap ≡ 0))
+  took-first : (first : IsFirst word p) (k j n : ℕ) (c : Outward) (d : Inward) (i : Item) → AreEnds p s k j c d → IsBeginning (items_taken d) c.stream
+      → slice_get (items_taken d) n ≡ Some i → (suc k ≡ first.from) × ((c.begun ≡ true) × (p.opening_tuple.bitmap ≡ 0))
   took-first first k j n c d i ends begins taken =
       let at = get-beginning (items_taken d) c.stream n i begins taken in
       let begun : c.begun ≡ true = elim (cases_Bool c.begun) [
         | inl is ↦ is
-        | inr new ↦ absurd (let none = homes.empty k c ends.outward new in let nothing : slice_get [] n ≡ Some i = subst (λ (l : List Item). slice_get l n ≡ Some i) none at in cc (nothing))
+        | inr new ↦ absurd (let none = homes.empty k c ends.outward new in let nothing : slice_get [] n ≡ Some i =
+            subst (λ (l : List Item). slice_get l n ≡ Some i) none at in cc (nothing))
       ] in
       let within = slice_get_within p.connections k c ends.outward in
       let low : k < first.from = elim (cases_lt k first.from) [
@@ -95,7 +103,8 @@ module _ (o : Opening) (here : List PrimaryEvent) (there : List SecondaryEvent) 
             | inr resync ↦
                 let some : nat_lt 0 (length (items_taken d)) ≡ true = taken-some (items_taken d) n i taken in
                 let head = first-in (items_taken d) some in
-                let same : head.0 ≡ SyncUuidItem resync.0 = same-at c.stream 0 head.0 (SyncUuidItem resync.0) (get-beginning (items_taken d) c.stream 0 head.0 begins head.1) resync.1 in
+                let same : head.0 ≡ SyncUuidItem resync.0 = same-at c.stream 0 head.0 (SyncUuidItem resync.0)
+                (get-beginning (items_taken d) c.stream 0 head.0 begins head.1) resync.1 in
                 both_ways (is_sync_start head.0) ((never.ends j d ends.inward).items 0 head.0 head.1).0 (ap is_sync_start same)
           ]
         ])
@@ -111,7 +120,8 @@ module _ (o : Opening) (here : List PrimaryEvent) (there : List SecondaryEvent) 
       taken-some xs n i at = lt-ltb 0 (length xs) (let within = slice_get_within xs n i at in omega arith)
 
   -- So there is a set behind it.
-  pub never-keeps : ((b : IsBehind (primary_run here (primary_at o)) (secondary_run there (secondary_at o))) → (set : Blocks) × IsOnDisk (primary_run here (primary_at o)) (secondary_run there (secondary_at o)) set)
+  pub never-keeps : ((b : IsBehind (primary_run here (primary_at o)) (secondary_run there (secondary_at o)))
+      → (set : Blocks) × IsOnDisk (primary_run here (primary_at o)) (secondary_run there (secondary_at o)) set)
       → (set : Blocks) × IsOnDisk (primary_run here (primary_at o)) (secondary_run there (secondary_at o)) set
   never-keeps keeps = elim (last-passing (λ (j : ℕ) (d : Inward). nat_lt 0 (length (items_taken d))) s.connections) [
     | inr none ↦ none-taken p s epochs never-adopted (λ j d at. none-in (items_taken d) (none j d at))
@@ -132,17 +142,22 @@ module _ (o : Opening) (here : List PrimaryEvent) (there : List SecondaryEvent) 
               let its = took-first first k j 0 c d head.0 of.2 of.3 head.1 in
               let span = spans.spans k c of.2.outward its.1.0 in
               let none_older : span.0 ≡ 0 = span.2.first (λ i e less at. first.earlier i e (let index = its.0 in omega arith) at) its.1.1 in
-              let base_same : (block : ℕ) → base_of p s block ≡ s.opening_map block = λ block. ap (λ b. elim b as (λ _. Option (List ℕ)) [ true ↦ p.opening_map block | false ↦ s.opening_map block ]) never-adopted in
-              keeps (behind-of o here there joined k j span.0 span.1 c d of.2 of.3 epochs (none-failed o here there joined unharmed) span.2 (λ m e less at. none-in (items_taken e) (l.later m e less at))
-              (λ place block contents at. absurd (both_ways (is_resync (ResyncItem block contents)) ((never.ends j d l.at).items place (ResyncItem block contents) at).1.1 refl))
+              let base_same : (block : ℕ) → base_of p s block ≡ s.opening_map block =
+              λ block. ap (λ b. elim b as (λ _. Option (List ℕ)) [ true ↦ p.opening_map block | false ↦ s.opening_map block ]) never-adopted in
+              keeps (behind-of o here there joined k j span.0 span.1 c d of.2 of.3 epochs (none-failed o here there joined unharmed) span.2
+              (λ m e less at. none-in (items_taken e) (l.later m e less at))
+              (λ place block contents at. absurd
+              (both_ways (is_resync (ResyncItem block contents)) ((never.ends j d l.at).items place (ResyncItem block contents) at).1.1 refl))
               (λ block bare.
-              base-from-opening s epochs block (s.opening_map block) refl j d l.at (λ m e less at. brings-nothing block (s.opening_map block) e (earlier-empty first j d k c of.2 its.0 m e less at))
+              base-from-opening s epochs block (s.opening_map block) refl j d l.at
+              (λ m e less at. brings-nothing block (s.opening_map block) e (earlier-empty first j d k c of.2 its.0 m e less at))
               ∙ (sym (base_same block) ∙ ap (λ (n : ℕ). writes_over (base_of p s) n p.writes block) (sym none_older))))
         ]
   ]
     where
       -- it took nothing on an earlier connection
-      earlier-empty : (first : IsFirst word p) (j : ℕ) (d : Inward) (k : ℕ) (c : Outward) → AreEnds p s k j c d → suc k ≡ first.from → (m : ℕ) (e : Inward) → m < j → slice_get s.connections m ≡ Some e → items_taken e ≡ []
+      earlier-empty : (first : IsFirst word p) (j : ℕ) (d : Inward) (k : ℕ) (c : Outward) → AreEnds p s k j c d → suc k ≡ first.from → (m : ℕ) (e : Inward)
+          → m < j → slice_get s.connections m ≡ Some e → items_taken e ≡ []
       earlier-empty first j d k c ends index m e less at = elim (cases_Bool (nat_lt 0 (length (items_taken e)))) [
         | inr none ↦ none-in (items_taken e) none
         | inl some ↦ absurd (

@@ -1,22 +1,25 @@
 -- The moves that open, begin or close a stream, accept a write or read a block of a resync keep the spans; so does every run.
-use Rattle.std.proofs.Common.{ℕ, ◌≡◌, ◌-◌, ◌+◌, ◌<◌, inl, inr, true, false, not, ◌==◌, List, [], ◌∷◌, ◌++◌, length, take, map, Option, Some, None, slice_get, Ok, refl, sym, ◌∙◌, ap, subst, arith}
+use Rattle.std.proofs.Common.{ℕ, ◌≡◌, ◌-◌, ◌+◌, ◌<◌, inl, inr, true, false, not, ◌==◌, List, [], ◌∷◌, ◌++◌, length, take, map, Option, Some, None, slice_get}
+use Rattle.std.proofs.Common.{Ok, refl, sym, ◌∙◌, ap, subst, arith}
 use Rattle.std.specs.Prelude.{is_some, unwrap_or}
-use Rattle.std.specs.List.{list_any}
-use Rattle.std.proofs.lemmas.Bool.{cases_Bool, cases_lt, both_ways, and_parts, and_cases, and_from, not-true, not-false, eqb-true, lt-ltb, le-leb}
+use Rattle.std.proofs.lemmas.Bool.{cases_Bool, cases_lt, both_ways, and_parts, and_cases, and_from, not-false, eqb-true, lt-ltb, le-leb}
 use Rattle.std.proofs.lemmas.Option.{slice_get_within}
 use Rattle.std.proofs.lemmas.List.{append-nil}
 use Rattle.std.proofs.Math.Seq.{take-append_seam}
 use Rattle.blocks.specs.declared.tuple.Tuple.{Tuple}
 use Rattle.model.specs.Contents.{Write, covers, overlay}
-use Rattle.model.specs.Stream.{Item, WriteItem, ResyncItem, UuidsItem, IsBeginning, epoch_of, last_epoch, below}
+use Rattle.model.specs.Stream.{Item, WriteItem, ResyncItem, UuidsItem, IsBeginning, epoch_of, last_epoch}
 use Rattle.model.specs.Frames.{Received, Acknowledged, RsWriteAckFrame}
 use Rattle.model.specs.Marks.{clearing}
-use Rattle.model.specs.Primary.{LocalOutcome, Waiting, OnDisk, Failed, Accepted, Outward, PrimaryHistory, outward, change_last, with_outward, stands, local_layer, local_map, offset_reached, is_waiting, is_failed, is_open, open_writes, is_resync, was_resynced, resync_runs, in_resync, marked_blocks, free_block, accepted_frames}
+use Rattle.model.specs.Primary.{LocalOutcome, Waiting, OnDisk, Failed, Accepted, Outward, PrimaryHistory, outward, change_last, with_outward, stands}
+use Rattle.model.specs.Primary.{local_layer, local_map, offset_reached, is_waiting, is_failed, is_resync, was_resynced, resync_runs}
+use Rattle.model.specs.Primary.{in_resync, free_block, accepted_frames}
 use Rattle.model.specs.PrimarySteps.{epoch_is_over, appending, opened, closing}
+use Rattle.laws.proofs.Rules.FreeBlocks.{IsFree, free-found}
+use Rattle.laws.proofs.Rules.EpochEnds.{goes-on}
 use Rattle.laws.proofs.Lists.Beginnings.{begins-self}
 use Rattle.laws.proofs.Lists.Elements.{get-left, get-more, same-at}
 use Rattle.laws.proofs.Lists.Last.{change-twice}
-use Rattle.laws.proofs.Lists.Picks.{pick-filtered, filtered-pick, pick-found, pick-none, found-passes, pick-below}
 use Rattle.laws.proofs.Blocks.Overlays.{overlay-agrees, under-alike, under-outside, overlay-some}
 use Rattle.laws.proofs.Streams.Lawful.{epoch-end, epoch-bound}
 use Rattle.laws.proofs.Streams.Places.{epoch-grows}
@@ -25,7 +28,7 @@ use Rattle.laws.proofs.Primary.Moves.{MayAcknowledge, with_frame, refusing}
 use Rattle.laws.proofs.Primary.Ends.{not-refused, frames-refusing}
 use Rattle.laws.proofs.Primary.LastOpen.{IsLastOpen, open-is-last}
 use Rattle.laws.proofs.Primary.StaysClosed.{open-stands}
-use Rattle.laws.proofs.Primary.LastEpoch.{end-open, write-open}
+use Rattle.laws.proofs.Primary.LastEpoch.{write-open}
 use Rattle.laws.proofs.Tracked.Kept.{IsKnown, waits-open}
 use Rattle.laws.proofs.Accounted.Moves.{first-carries}
 use Rattle.laws.proofs.Accounted.Kept.{keeps-open, named-item, resynced-now}
@@ -36,10 +39,14 @@ use Rattle.laws.proofs.WriteOrder.SpanMoves.{HasSpans, span-shut, keeps-quiet}
 use Rattle.laws.proofs.WriteOrder.SpanKept.{grows-with, grows-item, spans-end, spans-takes}
 
 -- An acknowledged block of a resync.
-pub spans-clears : (h : PrimaryHistory) (ack : Acknowledged) → HasHomes h → IsLastOpen h → (outward h).closed ≡ false → (outward h).begun ≡ true → MayAcknowledge h is_resync was_resynced ack → HasSpans h
+pub spans-clears : (h : PrimaryHistory) (ack : Acknowledged) → HasHomes h → IsLastOpen h → (outward h).closed ≡ false → (outward h).begun ≡ true
+    → MayAcknowledge h is_resync was_resynced ack → HasSpans h
     → HasSpans (record (with_outward (with_frame (Ok (RsWriteAckFrame ack))) h) { marks = clearing ack.first h.marks })
 spans-clears h ack homes last standing begun may t =
-    spans-takes h _ (Ok (RsWriteAckFrame ack)) homes last standing refl refl (refl, (refl, (refl, refl))) (λ block unmarked. elim (and_cases (h.marks block) (not (block == ack.first)) unmarked) [
+    spans-takes h _ (Ok (RsWriteAckFrame ack)) homes last standing refl refl (
+      refl,
+      (refl, (refl, refl)),
+    ) (λ block unmarked. elim (and_cases (h.marks block) (not (block == ack.first)) unmarked) [
       | inl clean ↦ inl clean
       | inr cleared ↦
           let is : block ≡ ack.first = eqb-true block ack.first (not-false (block == ack.first) cleared) in
@@ -58,7 +65,9 @@ pub spans-closes : (h : PrimaryHistory) → IsLastOpen h → HasSpans h → HasS
 spans-closes h last t =
     let f : Outward → Outward = λ c. record c { closed = true } in
     spans-end h (closing h) f last refl refl (refl, (refl, (refl, refl))) refl (begins-self (outward h).taken)
-    (keeps-quiet h (closing h) (f (outward h)) refl (λ k at. grows-with (outward h) (f (outward h)) refl (omega arith) (begins-self (accepted_frames (outward h)))) (λ is. absurd (cc)) refl (λ unshut block unmarked. absurd (cc))) t
+    (keeps-quiet h (closing h) (f (outward h)) refl
+    (λ k at. grows-with (outward h) (f (outward h)) refl (omega arith) (begins-self (accepted_frames (outward h)))) (λ is. absurd (cc)) refl
+    (λ unshut block unmarked. absurd (cc))) t
 
 -- The same where it refuses a frame.
 pub spans-refuses : (h : PrimaryHistory) (frame : Received) (peer : Option Tuple) → HasHomes h → IsLastOpen h → (outward h).closed ≡ false → HasSpans h
@@ -66,9 +75,13 @@ pub spans-refuses : (h : PrimaryHistory) (frame : Received) (peer : Option Tuple
 spans-refuses h frame peer homes last standing t =
     let f : Outward → Outward = λ c. record c { taken = c.taken ++ frame ∷ []; refused = true; closed = true } in
     let later : PrimaryHistory = closing (with_outward refusing (record (with_outward (with_frame frame) h) { peer = peer })) in
-    spans-end h later f last (ap (change_last (λ (c : Outward). record c { closed = true })) (change-twice (with_frame frame) refusing h.connections) ∙ change-twice (λ c. refusing (with_frame frame c)) (λ c. record c { closed = true }) h.connections) refl
+    spans-end h later f last (ap (change_last (λ (c : Outward). record c { closed = true })) (change-twice (with_frame frame) refusing h.connections)
+    ∙ change-twice (λ c. refusing (with_frame frame c)) (λ c. record c { closed = true }) h.connections) refl
     (refl, (refl, (refl, refl))) refl (frame ∷ [], refl)
-    (keeps-quiet h later (f (outward h)) refl (λ k at. grows-with (outward h) (f (outward h)) refl (omega arith) (subst (λ (l : List Received). IsBeginning (accepted_frames (outward h)) l) (sym (frames-refusing (outward h) frame (not-refused h homes standing k at))) (begins-self (accepted_frames (outward h)))))
+    (keeps-quiet h later (f (outward h)) refl
+    (λ k at. grows-with (outward h) (f (outward h)) refl (omega arith)
+    (subst (λ (l : List Received). IsBeginning (accepted_frames (outward h)) l)
+    (sym (frames-refusing (outward h) frame (not-refused h homes standing k at))) (begins-self (accepted_frames (outward h)))))
     (λ is. absurd (cc)) refl (λ unshut block unmarked. absurd (cc))) t
 
 -- where the last end is closed, every end is
@@ -84,8 +97,13 @@ spans-opens h sync loss last shut t = record {
   spans = λ k c at begun. elim (get-more h.connections new k c at) [
     | inr added ↦ absurd (let no : c.begun ≡ false = ap (λ (x : Outward). x.begun) added.1 in both_ways c.begun no begun)
     | inl old ↦
-        let s = t.spans k c old begun in
-        (s.0, s.1, span-shut h (opened h sync loss) k c s.0 s.1 passes old (all-closed h last shut k c old) (λ j e less there. get-left h.connections (new ∷ []) j e there) (λ n other b from there home. let within = slice_get_within h.writes n b there in omega arith) s.2)
+        let s = t.spans k c old begun in (
+          s.0,
+          s.1,
+          span-shut h (opened h sync loss) k c s.0 s.1 passes old (all-closed h last shut k c old)
+              (λ j e less there. get-left h.connections (new ∷ []) j e there)
+              (λ n other b from there home. let within = slice_get_within h.writes n b there in omega arith) s.2,
+        )
   ];
   quiet = λ none bitmap. t.quiet (λ k c at. none k c (get-left h.connections (new ∷ []) k c at)) bitmap;
 }
@@ -115,11 +133,14 @@ pub take-all : {X : Type 0} (xs : List X) → take (length xs) xs ≡ xs
 take-all xs = ap (take (length xs)) (sym (append-nil xs)) ∙ take-append_seam xs []
 
 -- where no waiting write has the block, and none failed, it has what all writes leave
-pub local-full : (h : PrimaryHistory) (block : ℕ) → NoneFailed h → ((i : ℕ) (a : Accepted) → slice_get h.writes i ≡ Some a → is_waiting a.outcome ≡ true → covers a.write block ≡ false) → local_map h block ≡ left_by h (length h.writes) block
+pub local-full : (h : PrimaryHistory) (block : ℕ) → NoneFailed h
+    → ((i : ℕ) (a : Accepted) → slice_get h.writes i ≡ Some a → is_waiting a.outcome ≡ true → covers a.write block ≡ false)
+    → local_map h block ≡ left_by h (length h.writes) block
 local-full h block fine free =
     overlay-agrees local_layer full_layer h.opening_map h.writes block (λ i a at v. elim (cases_Bool (covers a.write block)) [
       | inr outside ↦ under-outside (local_layer a) block v outside ∙ sym (under-outside (full_layer a) block v outside)
-      | inl inside ↦ under-alike a.write.first a.write.contents (offset_reached a.outcome) (λ offset. true) block v (reached a.outcome (fine i a at) (λ waits. both_ways (covers a.write block) (free i a at waits) inside) (block - a.write.first))
+      | inl inside ↦ under-alike a.write.first a.write.contents (offset_reached a.outcome) (λ offset. true) block v
+          (reached a.outcome (fine i a at) (λ waits. both_ways (covers a.write block) (free i a at waits) inside) (block - a.write.first))
     ])
     ∙ ap (λ (l : List Accepted). overlay h.opening_map (map full_layer l) block) (sym (take-all h.writes))
   where
@@ -129,7 +150,8 @@ local-full h block fine free =
     reached (Failed offsets) fails waits offset = absurd (cc)
 
 -- A block of a resync is read: no open write has it.
-pub spans-resyncs : (h : PrimaryHistory) (block : ℕ) → IsKnown h → HasHomes h → IsLastOpen h → epoch_is_over h ≡ false → resync_runs (outward h) ≡ true → free_block h ≡ Some block → HasSpans h
+pub spans-resyncs : (h : PrimaryHistory) (block : ℕ) → IsKnown h → HasHomes h → IsLastOpen h → epoch_is_over h ≡ false → resync_runs (outward h) ≡ true
+    → free_block h ≡ Some block → HasSpans h
     → HasSpans (appending (ResyncItem block (unwrap_or (local_map h block) [])) h)
 spans-resyncs h block known homes last on runs free t =
     spans-end h later f last refl refl (refl, (refl, (refl, refl))) refl (begins-self (outward h).taken) (record {
@@ -150,11 +172,15 @@ spans-resyncs h block known homes last on runs free t =
               count = length h.writes;
               more = omega arith;
               bound = omega arith;
-              content = sym (local-full h block fine (λ i a ata waits. uncovered i a ata (waits-open h known i a ata waits))) ∙ (some-of (local_map h block) (overlay-some h.opening_map (map local_layer h.writes) block (known.tracked.sized block inside_device)) ∙ ap (λ (l : List ℕ). Some l) (sym two));
+              content = sym (local-full h block fine (λ i a ata waits. next.free i a ata (waits-open h known i a ata waits)))
+                  ∙ (some-of (local_map h block) (overlay-some h.opening_map (map local_layer h.writes) block (known.tracked.sized block next.within))
+                  ∙ ap (λ (l : List ℕ). Some l) (sym two));
               before = λ n a from less ata covered.
                   let home = s.own n a from (omega arith) ata in
                   let was = homes.housed n k home.0 a ata home.1 in
-                  let item_there : slice_get (outward h).stream home.0 ≡ Some (WriteItem a.write) = subst (λ (c : Outward). slice_get c.stream home.0 ≡ Some (WriteItem a.write)) (same-at h.connections k was.0 (outward h) was.1 at) was.2 in
+                  let item_there : slice_get (outward h).stream home.0 ≡ Some (WriteItem a.write) =
+                  subst (λ (c : Outward). slice_get c.stream home.0 ≡ Some (WriteItem a.write)) (same-at h.connections k was.0 (outward h) was.1 at)
+                  was.2 in
                   let within = slice_get_within (outward h).stream home.0 (WriteItem a.write) item_there in
                   let near = epoch-grows (outward h).stream (item ∷ []) home.0 (omega arith) in
                   let far = epoch-end (outward h).stream (item ∷ []) in
@@ -162,14 +188,15 @@ spans-resyncs h block known homes last on runs free t =
                     home.0,
                     home.1,
                     (omega arith),
-                    subst (λ (m : ℕ). epoch_of ((outward h).stream ++ item ∷ []) home.0 < epoch_of ((outward h).stream ++ item ∷ []) m) (sym size) (elim (cases_lt (epoch_of (outward h).stream home.0) (last_epoch (outward h).stream)) [
-                      | inl low ↦ omega arith
-                      | inr high ↦ absurd (
-                          let equal : epoch_of (outward h).stream home.0 ≡ last_epoch (outward h).stream = omega arith in
-                          let opened_one = write-open h (outward h) k home.0 a.write homes at (end-open h stood on) equal item_there in
-                          let none = pick-none (λ (x : Accepted). covers x.write block) (open_writes h) opened_one.0 opened_one.1 free_of_open opened_one.2 in
-                          both_ways (covers a.write block) (subst (λ (w : Write). covers w block ≡ false) opened_one.3 none) covered)
-                    ]),
+                    subst (λ (m : ℕ). epoch_of ((outward h).stream ++ item ∷ []) home.0 < epoch_of ((outward h).stream ++ item ∷ []) m) (sym size)
+                        (elim (cases_lt (epoch_of (outward h).stream home.0) (last_epoch (outward h).stream)) [
+                          | inl low ↦ omega arith
+                          | inr high ↦ absurd (
+                              let equal : epoch_of (outward h).stream home.0 ≡ last_epoch (outward h).stream = omega arith in
+                              let opened_one = write-open h (outward h) k home.0 a.write homes at (goes-on h stood on) equal item_there in
+                              let none = next.apart opened_one.0 opened_one.1 opened_one.2 in
+                              both_ways (covers a.write block) (subst (λ (w : Write). covers w block ≡ false) opened_one.3 none) covered)
+                        ]),
                   );
               after = λ n other_place a from ata home. absurd (let within = slice_get_within h.writes n a ata in omega arith);
             }))
@@ -200,17 +227,8 @@ spans-resyncs h block known homes last on runs free t =
     contents_block (ResyncItem b c) = c
     contents_block _ = []
 
-    free_of_open : list_any (λ (a : Accepted). covers a.write block) (open_writes h) ≡ false
-    free_of_open = not-true _ (found-passes (λ (b : ℕ). not (list_any (λ (a : Accepted). covers a.write b) (open_writes h))) (marked_blocks h) block free)
-
-    uncovered : (i : ℕ) (a : Accepted) → slice_get h.writes i ≡ Some a → is_open h a ≡ true → covers a.write block ≡ false
-    uncovered i a ata opens = let found = filtered-pick (is_open h) h.writes i a ata opens in pick-none (λ (x : Accepted). covers x.write block) (open_writes h) found.0 a free_of_open found.1
-
-    inside_device : block < h.settings.blocks
-    inside_device =
-        let found = pick-found (λ (b : ℕ). not (list_any (λ (a : Accepted). covers a.write b) (open_writes h))) (marked_blocks h) block free in
-        let listed = pick-filtered h.marks (below h.settings.blocks) found.0 block found.1 in
-        pick-below h.settings.blocks listed.0 block listed.1
+    next : IsFree h block
+    next = free-found h block free
 
     some-of : (v : Option (List ℕ)) → is_some v ≡ true → v ≡ Some (unwrap_or v [])
     some-of None is = absurd (cc)

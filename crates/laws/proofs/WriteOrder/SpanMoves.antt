@@ -22,14 +22,16 @@ pub record HasSpans (h : PrimaryHistory) : Type 0 where
 
 -- the opening stays
 abbrev pub SameOpening : PrimaryHistory → PrimaryHistory → Type 0
-SameOpening h later = (later.opening_map ≡ h.opening_map) × ((later.opening_tuple ≡ h.opening_tuple) × ((later.opening_marks ≡ h.opening_marks) × (later.settings ≡ h.settings)))
+SameOpening h later = (later.opening_map ≡ h.opening_map)
+    × ((later.opening_tuple ≡ h.opening_tuple) × ((later.opening_marks ≡ h.opening_marks) × (later.settings ≡ h.settings)))
 
 -- the first stream that began stays so
 abbrev pub KeepsFirst : PrimaryHistory → PrimaryHistory → Type 0
 KeepsFirst h later = (decided : Decision) → FirstBegan h decided → FirstBegan later decided
 
 -- The last connection changes, and no write.
-pub passes-change : (h later : PrimaryHistory) (f : Outward → Outward) → later.connections ≡ change_last f h.connections → later.writes ≡ h.writes → SameOpening h later → KeepsFirst h later → Passes h later
+pub passes-change : (h later : PrimaryHistory) (f : Outward → Outward) → later.connections ≡ change_last f h.connections → later.writes ≡ h.writes
+    → SameOpening h later → KeepsFirst h later → Passes h later
 passes-change h later f connections writes opening first = record {
   map = opening.0;
   tuple = opening.1.0;
@@ -39,15 +41,19 @@ passes-change h later f connections writes opening first = record {
   writes = λ i b less at. (b, subst (λ (l : List Accepted). slice_get l i ≡ Some b) writes at, refl, refl);
   count = let same = ap length writes in omega arith;
   fine = λ fine n a at. fine n a (subst (λ (l : List Accepted). slice_get l n ≡ Some a) (sym writes) at);
-  front = λ j c less at. subst (λ (l : List Outward). slice_get l j ≡ Some c) (sym connections) (elim (get-change f (no_outward h.tuple) h.connections j c at) [ inl same ↦ same | inr changed ↦ absurd (let end = changed.2 in omega arith) ]);
-  back = λ j c less at. elim (get-change-back f (no_outward h.tuple) h.connections j c (subst (λ (l : List Outward). slice_get l j ≡ Some c) connections at)) [ inl same ↦ same | inr changed ↦ absurd (let end = changed.2 in omega arith) ];
+  front = λ j c less at. subst (λ (l : List Outward). slice_get l j ≡ Some c) (sym connections)
+      (elim (get-change f (no_outward h.tuple) h.connections j c at) [ inl same ↦ same | inr changed ↦ absurd (let end = changed.2 in omega arith) ]);
+  back = λ j c less at. elim (get-change-back f (no_outward h.tuple) h.connections j c (subst (λ (l : List Outward). slice_get l j ≡ Some c) connections at))
+      [ inl same ↦ same | inr changed ↦ absurd (let end = changed.2 in omega arith) ];
   first = first;
 }
 
 -- A span of a closed end stays.
 pub span-shut : (h later : PrimaryHistory) (k : ℕ) (c : Outward) (older newer : ℕ) → Passes h later → slice_get h.connections k ≡ Some c → c.closed ≡ true
     → ((j : ℕ) (e : Outward) → j < k → slice_get h.connections j ≡ Some e → slice_get later.connections j ≡ Some e)
-    → ((n other : ℕ) (b : Accepted) → length h.writes ≤ n → slice_get later.writes n ≡ Some b → b.home ≡ Some (k, other) → ⊥) → IsSpan h k c older newer → IsSpan later k c older newer
+    → ((n other : ℕ) (b : Accepted) → length h.writes ≤ n → slice_get later.writes n ≡ Some b → b.home ≡ Some (record { index = k; place = other }) → ⊥)
+    → IsSpan h k c older newer
+    → IsSpan later k c older newer
 span-shut h later k c older newer p at shut earlier added s = span-passes h later k c c older newer newer p at (record {
   grows = grows-self c;
   unshut = λ is. is;
@@ -64,7 +70,8 @@ span-shut h later k c older newer p at shut earlier added s = span-passes h late
 }) (λ fine unshut. absurd (both_ways c.closed unshut shut)) (λ fine place block contents there. inl there) (λ n tuple there. inl there) s
 
 -- where the last connection stands after a change of it
-pub last-end : (h later : PrimaryHistory) (f : Outward → Outward) → later.connections ≡ change_last f h.connections → (k : ℕ) (d : Outward) → slice_get later.connections k ≡ Some d → length h.connections ≤ suc k
+pub last-end : (h later : PrimaryHistory) (f : Outward → Outward) → later.connections ≡ change_last f h.connections → (k : ℕ) (d : Outward)
+    → slice_get later.connections k ≡ Some d → length h.connections ≤ suc k
     → (slice_get h.connections k ≡ Some (outward h)) × (d ≡ f (outward h))
 last-end h later f connections k d at late =
     let there : slice_get (change_last f h.connections) k ≡ Some d = subst (λ (l : List Outward). slice_get l k ≡ Some d) connections at in
@@ -74,21 +81,30 @@ last-end h later f connections k d at late =
     elim (last-at (no_outward h.tuple) h.connections) [
       | inl none ↦ absurd (let empty : length h.connections ≡ 0 = ap length none in omega arith)
       | inr last ↦
-          let changed = get-last-changed f (no_outward h.tuple) h.connections (outward h) last refl in
-          (subst (λ (n : ℕ). slice_get h.connections n ≡ Some (outward h)) index last, same-at (change_last f h.connections) k d (f (outward h)) there (subst (λ (n : ℕ). slice_get (change_last f h.connections) n ≡ Some (f (outward h))) index changed))
+          let changed = get-last-changed f (no_outward h.tuple) h.connections (outward h) last refl in (
+            subst (λ (n : ℕ). slice_get h.connections n ≡ Some (outward h)) index last,
+            same-at (change_last f h.connections) k d (f (outward h)) there
+                (subst (λ (n : ℕ). slice_get (change_last f h.connections) n ≡ Some (f (outward h))) index changed),
+          )
     ]
 
 -- The last connection changes, no write is accepted, and what comes of its span is known.
 pub spans-with : (h later : PrimaryHistory) → IsLastOpen h → Passes h later
-    → ((n k other : ℕ) (b : Accepted) → length h.writes ≤ n → slice_get later.writes n ≡ Some b → suc k < length h.connections → b.home ≡ Some (k, other) → ⊥)
-    → ((k : ℕ) (d : Outward) → slice_get later.connections k ≡ Some d → d.begun ≡ true → length h.connections ≤ suc k → (older : ℕ) × (newer : ℕ) × IsSpan later k d older newer)
+    → ((n k other : ℕ) (b : Accepted) → length h.writes ≤ n → slice_get later.writes n ≡ Some b → suc k < length h.connections
+    → b.home ≡ Some (record { index = k; place = other }) → ⊥)
+    → ((k : ℕ) (d : Outward) → slice_get later.connections k ≡ Some d → d.begun ≡ true → length h.connections ≤ suc k
+    → (older : ℕ) × (newer : ℕ) × IsSpan later k d older newer)
     → HasSpans h → (k : ℕ) (d : Outward) → slice_get later.connections k ≡ Some d → d.begun ≡ true → (older : ℕ) × (newer : ℕ) × IsSpan later k d older newer
 spans-with h later last p added ends t k d at begun = elim (cases_lt (suc k) (length h.connections)) [
   | inr late ↦ ends k d at begun (omega arith)
   | inl early ↦
       let was = p.back k d early at in
-      let s = t.spans k d was begun in
-      (s.0, s.1, span-shut h later k d s.0 s.1 p was (last k d was early) (λ j e less there. p.front j e (omega arith) there) (λ n other b from there home. added n k other b from there early home) s.2)
+      let s = t.spans k d was begun in (
+        s.0,
+        s.1,
+        span-shut h later k d s.0 s.1 p was (last k d was early) (λ j e less there. p.front j e (omega arith) there)
+            (λ n other b from there home. added n k other b from there early home) s.2,
+      )
 ]
 
 -- What a change of the last connection keeps of its span.
@@ -96,25 +112,33 @@ pub record KeepsSpan (h later : PrimaryHistory) (d : Outward) : Type 0 where
   pub grows : (k : ℕ) → slice_get h.connections k ≡ Some (outward h) → Grows (outward h) d
   pub unshut : d.closed ≡ false → (outward h).closed ≡ false
   pub begun : d.begun ≡ (outward h).begun
-  pub marks : NoneFailed later → d.closed ≡ false → (block : ℕ) → block < h.settings.blocks → later.marks block ≡ false → (h.marks block ≡ false) ⊎ IsTold d block
-  pub reads : (k older newer : ℕ) → slice_get h.connections k ≡ Some (outward h) → IsSpan h k (outward h) older newer → NoneFailed later → (place block : ℕ) (contents : List ℕ) → slice_get d.stream place ≡ Some (ResyncItem block contents)
+  pub marks : NoneFailed later → d.closed ≡ false → (block : ℕ) → block < h.settings.blocks → later.marks block ≡ false
+      → (h.marks block ≡ false) ⊎ IsTold d block
+  pub reads : (k older newer : ℕ) → slice_get h.connections k ≡ Some (outward h) → IsSpan h k (outward h) older newer → NoneFailed later
+      → (place block : ℕ) (contents : List ℕ) → slice_get d.stream place ≡ Some (ResyncItem block contents)
       → (slice_get (outward h).stream place ≡ Some (ResyncItem block contents)) ⊎ IsRead later k d older place block contents
-  pub ends : (n : ℕ) (tuple : Tuple) → slice_get d.stream n ≡ Some (UuidsItem tuple) → (slice_get (outward h).stream n ≡ Some (UuidsItem tuple)) ⊎ (((outward h).closed ≡ false) × ((block : ℕ) → block < h.settings.blocks → h.marks block ≡ false))
+  pub ends : (n : ℕ) (tuple : Tuple) → slice_get d.stream n ≡ Some (UuidsItem tuple)
+      → (slice_get (outward h).stream n ≡ Some (UuidsItem tuple)) ⊎ (((outward h).closed ≡ false) × ((block : ℕ) → block < h.settings.blocks
+      → h.marks block ≡ false))
 
 -- one that keeps the stream, and takes no mark away
-pub keeps-quiet : (h later : PrimaryHistory) (d : Outward) → d.stream ≡ (outward h).stream → ((k : ℕ) → slice_get h.connections k ≡ Some (outward h) → Grows (outward h) d) → (d.closed ≡ false → (outward h).closed ≡ false) → d.begun ≡ (outward h).begun
+pub keeps-quiet : (h later : PrimaryHistory) (d : Outward) → d.stream ≡ (outward h).stream
+    → ((k : ℕ) → slice_get h.connections k ≡ Some (outward h) → Grows (outward h) d) → (d.closed ≡ false → (outward h).closed ≡ false)
+    → d.begun ≡ (outward h).begun
     → (d.closed ≡ false → (block : ℕ) → later.marks block ≡ false → h.marks block ≡ false) → KeepsSpan h later d
 keeps-quiet h later d stream grows unshut begun marks = record {
   grows = grows;
   unshut = unshut;
   begun = begun;
   marks = λ fine is block inside unmarked. inl (marks is block unmarked);
-  reads = λ k older newer at s fine place block contents there. inl (subst (λ (l : List Item). slice_get l place ≡ Some (ResyncItem block contents)) stream there);
+  reads = λ k older newer at s fine place block contents there. inl
+      (subst (λ (l : List Item). slice_get l place ≡ Some (ResyncItem block contents)) stream there);
   ends = λ n tuple there. inl (subst (λ (l : List Item). slice_get l n ≡ Some (UuidsItem tuple)) stream there);
 }
 
 -- no connection began before the change, where none did after it
-none-before : (h later : PrimaryHistory) (f : Outward → Outward) → later.connections ≡ change_last f h.connections → (f (outward h)).begun ≡ (outward h).begun → ((k : ℕ) (c : Outward) → slice_get later.connections k ≡ Some c → c.begun ≡ false)
+none-before : (h later : PrimaryHistory) (f : Outward → Outward) → later.connections ≡ change_last f h.connections → (f (outward h)).begun ≡ (outward h).begun
+    → ((k : ℕ) (c : Outward) → slice_get later.connections k ≡ Some c → c.begun ≡ false)
     → (k : ℕ) (c : Outward) → slice_get h.connections k ≡ Some c → c.begun ≡ false
 none-before h later f connections begun none k c at = elim (get-change f (no_outward h.tuple) h.connections k c at) [
   | inl same ↦ none k c (subst (λ (l : List Outward). slice_get l k ≡ Some c) (sym connections) same)
@@ -124,9 +148,11 @@ none-before h later f connections begun none k c at = elim (get-change f (no_out
 ]
 
 -- The last connection changes so, and no write is accepted.
-pub spans-change : (h later : PrimaryHistory) (f : Outward → Outward) → IsLastOpen h → Passes h later → later.connections ≡ change_last f h.connections → length later.writes ≡ length h.writes → KeepsSpan h later (f (outward h)) → HasSpans h → HasSpans later
+pub spans-change : (h later : PrimaryHistory) (f : Outward → Outward) → IsLastOpen h → Passes h later → later.connections ≡ change_last f h.connections
+    → length later.writes ≡ length h.writes → KeepsSpan h later (f (outward h)) → HasSpans h → HasSpans later
 spans-change h later f last p connections size keeps t = record {
-  spans = spans-with h later last p (λ n k other b from there early home. let within = slice_get_within later.writes n b there in omega arith) (λ k d at begun late.
+  spans = spans-with h later last p (λ n k other b from there early home. let within = slice_get_within later.writes n b there in omega arith)
+      (λ k d at begun late.
       let end = last-end h later f connections k d at late in
       let was : (outward h).begun ≡ true = sym keeps.begun ∙ (ap (λ (x : Outward). x.begun) (sym end.1) ∙ begun) in
       let s = t.spans k (outward h) end.0 was in

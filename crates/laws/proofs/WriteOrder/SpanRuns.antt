@@ -1,5 +1,6 @@
 -- Every run of a primary keeps the spans of its connections.
-use Rattle.std.proofs.Common.{ℕ, zero, suc, ◌≡◌, ◌-◌, ◌<◌, ◌≤◌, inl, inr, Bool, true, false, not, ◌&&◌, ◌||◌, nat_lt, List, [], ◌∷◌, ◌++◌, length, Some, slice_get, Ok, refl, sym, ◌∙◌, ap, subst, arith}
+use Rattle.std.proofs.Common.{ℕ, zero, suc, ◌≡◌, ◌-◌, ◌<◌, ◌≤◌, inl, inr, Bool, true, false, not, ◌&&◌, ◌||◌, nat_lt, List, [], ◌∷◌, ◌++◌, length, Some}
+use Rattle.std.proofs.Common.{slice_get, Ok, refl, sym, ◌∙◌, ap, subst, arith}
 use Rattle.std.specs.Prelude.{is_some}
 use Rattle.std.specs.List.{list_any}
 use Rattle.std.proofs.lemmas.Bool.{cases_lt, both_ways, and_right, or_parts, lt-ltb, false_from_ne_true}
@@ -13,11 +14,13 @@ use Rattle.model.specs.Contents.{BlockMap, covers}
 use Rattle.model.specs.Stream.{Item, WriteItem, ResyncItem, SyncUuidItem, UuidsItem}
 use Rattle.model.specs.Frames.{Received, UuidsFrame, BarrierAckFrame}
 use Rattle.model.specs.Identifiers.{decision}
-use Rattle.model.specs.Primary.{OnDisk, Accepted, Outward, PrimaryHistory, no_outward, outward, last_index, change_last, with_outward, stands, local_map, accepted_frames, primary_opening, unreleased, is_released, is_confirmed, is_alone}
+use Rattle.model.specs.Primary.{OnDisk, Accepted, Outward, PrimaryHistory, no_outward, outward, last_index, change_last, with_outward, stands, local_map}
+use Rattle.model.specs.Primary.{accepted_frames, primary_opening, unreleased, is_released, is_confirmed, is_alone}
 use Rattle.model.specs.PrimarySteps.{with_outcome, receipted}
 use Rattle.model.specs.Acknowledgements.{begun_with}
 use Rattle.model.specs.LocalRuns.{PrimaryEvent, primary_run}
 use Rattle.model.specs.Headline.{is_marked, is_covered}
+use Rattle.laws.proofs.Rules.EpochEnds.{TakesWrites, takes-writes}
 use Rattle.laws.specs.Reflections.{FirstBegan, NoneBegan}
 use Rattle.laws.proofs.Lists.Beginnings.{begins-self}
 use Rattle.laws.proofs.Lists.Elements.{get-end, same-at}
@@ -51,8 +54,10 @@ record BeginsStream (h later : PrimaryHistory) (peer : Tuple) (decided : Decisio
   marks : (block : ℕ) → block < h.settings.blocks → later.marks block ≡ false → h.marks block ≡ false
   full : decided ≡ FullSync → (block : ℕ) → block < h.settings.blocks → later.marks block ≡ false → ⊥
 
-module _ (h later : PrimaryHistory) (peer : Tuple) (decided : Decision) (f : Outward → Outward) (homes : HasHomes h) (last : IsLastOpen h) (accounted : IsAccounted h)
-    (standing : (outward h).closed ≡ false) (fresh : (outward h).begun ≡ false) (is : decision h.tuple peer ≡ Ok decided) (b : BeginsStream h later peer decided f) where
+module _ (h later : PrimaryHistory) (peer : Tuple) (decided : Decision) (f : Outward → Outward) (homes : HasHomes h) (last : IsLastOpen h)
+    (accounted : IsAccounted h)
+    (standing : (outward h).closed ≡ false) (fresh : (outward h).begun ≡ false) (is : decision h.tuple peer ≡ Ok decided)
+    (b : BeginsStream h later peer decided f) where
   -- a stream that began before stays the first one
   begins-first : KeepsFirst h later
   begins-first other old = record {
@@ -63,10 +68,11 @@ module _ (h later : PrimaryHistory) (peer : Tuple) (decided : Decision) (f : Out
       | inr changed ↦ absurd (both_ways (outward h).begun fresh (ap (λ (x : Outward). x.begun) (sym changed.1) ∙ old.begun))
     ];
     begun = old.begun;
-    earlier = λ k d early at. elim (get-change-back f (no_outward h.tuple) h.connections k d (subst (λ (l : List Outward). slice_get l k ≡ Some d) b.connections at)) [
-      | inl same ↦ old.earlier k d early same
-      | inr changed ↦ absurd (let end = changed.2 in let within = slice_get_within h.connections old.connection old.end old.at in omega arith)
-    ];
+    earlier = λ k d early at. elim (get-change-back f (no_outward h.tuple) h.connections k d
+        (subst (λ (l : List Outward). slice_get l k ≡ Some d) b.connections at)) [
+          | inl same ↦ old.earlier k d early same
+          | inr changed ↦ absurd (let end = changed.2 in let within = slice_get_within h.connections old.connection old.end old.at in omega arith)
+        ];
     peer = old.peer;
     n = old.n;
     taken = old.taken;
@@ -78,15 +84,18 @@ module _ (h later : PrimaryHistory) (peer : Tuple) (decided : Decision) (f : Out
   begins-now none = record {
     connection = last_index h.connections;
     end = f (outward h);
-    at = subst (λ (l : List Outward). slice_get l (last_index h.connections) ≡ Some (f (outward h))) (sym b.connections) (get-last-changed f (no_outward h.tuple) h.connections (outward h) (open-at h standing) refl);
+    at = subst (λ (l : List Outward). slice_get l (last_index h.connections) ≡ Some (f (outward h))) (sym b.connections)
+        (get-last-changed f (no_outward h.tuple) h.connections (outward h) (open-at h standing) refl);
     begun = b.begun;
-    earlier = λ k d early at. elim (get-change-back f (no_outward h.tuple) h.connections k d (subst (λ (l : List Outward). slice_get l k ≡ Some d) b.connections at)) [
-      | inl same ↦ none.none k d same
-      | inr changed ↦ absurd (let end = changed.2 in omega arith)
-    ];
+    earlier = λ k d early at. elim (get-change-back f (no_outward h.tuple) h.connections k d
+        (subst (λ (l : List Outward). slice_get l k ≡ Some d) b.connections at)) [
+          | inl same ↦ none.none k d same
+          | inr changed ↦ absurd (let end = changed.2 in omega arith)
+        ];
     peer = peer;
     n = length (outward h).taken;
-    taken = subst (λ (l : List Received). slice_get l (length (outward h).taken) ≡ Some (Ok (UuidsFrame peer))) (sym b.taken) (get-end (outward h).taken (Ok (UuidsFrame peer)));
+    taken = subst (λ (l : List Received). slice_get l (length (outward h).taken) ≡ Some (Ok (UuidsFrame peer))) (sym b.taken)
+        (get-end (outward h).taken (Ok (UuidsFrame peer)));
     decides = subst (λ (t : Tuple). decision t peer ≡ Ok decided) (none.tuple ∙ sym b.opening.1.0) is;
   }
 
@@ -102,15 +111,19 @@ module _ (h later : PrimaryHistory) (peer : Tuple) (decided : Decision) (f : Out
 
   -- a block that is not marked is not under an unreleased write
   uncovered : (block : ℕ) → h.marks block ≡ false → is_covered h block ≡ false
-  uncovered block unmarked = false_from_ne_true (is_covered h block) (λ covered. both_ways (is_marked h block) (and_right (nat_lt block h.settings.blocks) (h.marks block) unmarked) (rest-marked h block accounted last resting covered))
+  uncovered block unmarked = false_from_ne_true (is_covered h block)
+      (λ covered. both_ways (is_marked h block) (and_right (nat_lt block h.settings.blocks) (h.marks block) unmarked)
+      (rest-marked h block accounted last resting covered))
 
   -- so the local disk has there what all writes leave
   holds : NoneFailed h → (block : ℕ) → h.marks block ≡ false → local_map h block ≡ left_by h (length h.writes) block
   holds fine block unmarked = local-full h block fine (λ i a at waits. false_from_ne_true (covers a.write block) (λ covered.
       let held : is_released h a ≡ false = ap (λ w. not w && (is_confirmed h a || is_alone h a)) waits in
-      both_ways (list_any (λ (x : Accepted). covers x.write block) (unreleased h)) (or_parts (is_marked h block) _ (uncovered block unmarked)).1 (held-covers h block i a at held covered)))
+      both_ways (list_any (λ (x : Accepted). covers x.write block) (unreleased h)) (or_parts (is_marked h block) _ (uncovered block unmarked)).1
+      (held-covers h block i a at held covered)))
 
-  begins-below : NoneFailed later → (k block : ℕ) → slice_get h.connections k ≡ Some (outward h) → length h.connections ≤ suc k → block < h.settings.blocks → later.marks block ≡ false → WasBelow later k (length h.writes) block
+  begins-below : NoneFailed later → (k block : ℕ) → slice_get h.connections k ≡ Some (outward h) → length h.connections ≤ suc k → block < h.settings.blocks
+      → later.marks block ≡ false → WasBelow later k (length h.writes) block
   begins-below fine k block at late inside unmarked =
       let clean = b.marks block inside unmarked in
       let same = holds (begins-passes.fine fine) block clean in
@@ -127,8 +140,10 @@ module _ (h later : PrimaryHistory) (peer : Tuple) (decided : Decision) (f : Out
             | inr not_early ↦ absurd (
                 let inside_list = slice_get_within h.connections from.connection from.end from.at in
                 let index : from.connection ≡ k = omega arith in
-                let end : from.end ≡ outward h = same-at h.connections k from.end (outward h) (subst (λ (n : ℕ). slice_get h.connections n ≡ Some from.end) index from.at) at in
-                let there : slice_get [] from.place ≡ Some from.item = subst (λ (l : List Item). slice_get l from.place ≡ Some from.item) none (subst (λ (c : Outward). slice_get c.stream from.place ≡ Some from.item) end from.there) in
+                let end : from.end ≡ outward h = same-at h.connections k from.end (outward h)
+                (subst (λ (n : ℕ). slice_get h.connections n ≡ Some from.end) index from.at) at in
+                let there : slice_get [] from.place ≡ Some from.item = subst (λ (l : List Item). slice_get l from.place ≡ Some from.item) none
+                (subst (λ (c : Outward). slice_get c.stream from.place ≡ Some from.item) end from.there) in
                 cc (there))
           ];
           at = from.at;
@@ -146,7 +161,8 @@ module _ (h later : PrimaryHistory) (peer : Tuple) (decided : Decision) (f : Out
             ]))
       ]
 
-  begins-span : (k : ℕ) → slice_get h.connections k ≡ Some (outward h) → length h.connections ≤ suc k → HasSpans h → IsSpan later k (f (outward h)) (length h.writes) (length h.writes)
+  begins-span : (k : ℕ) → slice_get h.connections k ≡ Some (outward h) → length h.connections ≤ suc k → HasSpans h
+      → IsSpan later k (f (outward h)) (length h.writes) (length h.writes)
   begins-span k at late t =
       let size : length later.writes ≡ length h.writes = ap length b.writes in
       record {
@@ -157,7 +173,8 @@ module _ (h later : PrimaryHistory) (peer : Tuple) (decided : Decision) (f : Out
             let old = subst (λ (l : List Accepted). slice_get l n ≡ Some a) b.writes there in
             let was = homes.housed n k place a old home in
             let end : was.0 ≡ outward h = same-at h.connections k was.0 (outward h) was.1 at in
-            let item : slice_get [] place ≡ Some (WriteItem a.write) = subst (λ (l : List Item). slice_get l place ≡ Some (WriteItem a.write)) (empty k at) (subst (λ (c : Outward). slice_get c.stream place ≡ Some (WriteItem a.write)) end was.2) in
+            let item : slice_get [] place ≡ Some (WriteItem a.write) = subst (λ (l : List Item). slice_get l place ≡ Some (WriteItem a.write)) (empty k at)
+            (subst (λ (c : Outward). slice_get c.stream place ≡ Some (WriteItem a.write)) end was.2) in
             cc (item);
         own = λ n a from less there. absurd (omega arith);
         past = λ n place a from there home. let within = slice_get_within later.writes n a there in omega arith;
@@ -168,21 +185,29 @@ module _ (h later : PrimaryHistory) (peer : Tuple) (decided : Decision) (f : Out
               let inside = slice_get_within h.connections j c there in
               let within = slice_get_within h.connections k (outward h) at in
               let index : j ≡ k = omega arith in
-              ap (λ (x : Outward). x.begun) (same-at h.connections k c (outward h) (subst (λ (n : ℕ). slice_get h.connections n ≡ Some c) index there) at) ∙ fresh
+              ap (λ (x : Outward). x.begun) (same-at h.connections k c (outward h) (subst (λ (n : ℕ). slice_get h.connections n ≡ Some c) index there) at)
+              ∙ fresh
         ]) (sym (ap (λ (x : Tuple). x.bitmap) b.opening.1.0) ∙ bitmap);
-        clean = λ fine unshut block inside unmarked. inr (begins-below fine k block at late (subst (λ (x : Settings). block < x.blocks) b.opening.1.1.1 inside) unmarked);
+        clean = λ fine unshut block inside unmarked. inr
+            (begins-below fine k block at late (subst (λ (x : Settings). block < x.blocks) b.opening.1.1.1 inside) unmarked);
         synced = λ fine n tuple there. absurd (b.no_end n tuple there);
       }
 
   begins-spans : HasSpans h → HasSpans later
   begins-spans t = record {
-    spans = spans-with h later last begins-passes (λ n k other a from there early home. let within = slice_get_within later.writes n a there in let size = ap length b.writes in omega arith) (λ k d at begun late.
-        let end = last-end h later f b.connections k d at late in
-        (length h.writes, length h.writes, subst (λ (x : Outward). IsSpan later k x (length h.writes) (length h.writes)) (sym end.1) (begins-span k end.0 late t))) t;
+    spans = spans-with h later last begins-passes (λ n k other a from there early home. let within = slice_get_within later.writes n a there in let size =
+        ap length b.writes in omega arith) (λ k d at begun late.
+        let end = last-end h later f b.connections k d at late in (
+          length h.writes,
+          length h.writes,
+          subst (λ (x : Outward). IsSpan later k x (length h.writes) (length h.writes)) (sym end.1) (begins-span k end.0 late t),
+        )) t;
     quiet = λ none bitmap. absurd (
         let there = open-at h standing in
         let changed = get-last-changed f (no_outward h.tuple) h.connections (outward h) there refl in
-        both_ways (f (outward h)).begun (none (length h.connections - 1) (f (outward h)) (subst (λ (l : List Outward). slice_get l (length h.connections - 1) ≡ Some (f (outward h))) (sym b.connections) changed)) b.begun);
+        both_ways (f (outward h)).begun
+        (none (length h.connections - 1) (f (outward h))
+        (subst (λ (l : List Outward). slice_get l (length h.connections - 1) ≡ Some (f (outward h))) (sym b.connections) changed)) b.begun);
   }
 
 -- what a stream begins with is no block of a resync, and no end of one
@@ -194,7 +219,8 @@ start-end : (word n : ℕ) (tuple : Tuple) → slice_get (SyncUuidItem word ∷ 
 start-end word zero tuple at = cc
 start-end word (suc n) tuple at = cc
 
-spans-begins : (h : PrimaryHistory) (peer : Tuple) (decided : Decision) → HasHomes h → IsLastOpen h → IsAccounted h → (outward h).closed ≡ false → (outward h).begun ≡ false → decision h.tuple peer ≡ Ok decided → HasSpans h
+spans-begins : (h : PrimaryHistory) (peer : Tuple) (decided : Decision) → HasHomes h → IsLastOpen h → IsAccounted h → (outward h).closed ≡ false
+    → (outward h).begun ≡ false → decision h.tuple peer ≡ Ok decided → HasSpans h
     → HasSpans (begun_with decided (record (with_outward (with_frame (Ok (UuidsFrame peer))) h) { peer = Some peer }))
 spans-begins h peer decided homes last accounted standing fresh is t = go decided is
   where
@@ -210,21 +236,25 @@ spans-begins h peer decided homes last accounted standing fresh is t = go decide
     none-there : (n : ℕ) (i : Item) → slice_get (outward h).stream n ≡ Some i → ⊥
     none-there n i at = let there : slice_get [] n ≡ Some i = subst (λ (l : List Item). slice_get l n ≡ Some i) empty at in cc (there)
 
-    go : (v : Decision) → decision h.tuple peer ≡ Ok v → HasSpans (begun_with v (record (with_outward (with_frame (Ok (UuidsFrame peer))) h) { peer = Some peer }))
-    go NoSync is = begins-spans h (begun_with NoSync taken) peer NoSync (λ c. record c { taken = c.taken ++ Ok (UuidsFrame peer) ∷ []; begun = true }) homes last accounted standing fresh is (record {
-      connections = change-twice (with_frame frame) (λ c. record c { begun = true }) h.connections;
-      writes = refl;
-      opening = (refl, (refl, (refl, refl)));
-      begun = refl;
-      taken = refl;
-      no_block = λ n block contents at. none-there n (ResyncItem block contents) at;
-      no_end = λ n tuple at. none-there n (UuidsItem tuple) at;
-      marks = λ block inside unmarked. unmarked;
-      full = λ same. absurd (cc);
-    }) t
+    go : (v : Decision) → decision h.tuple peer ≡ Ok v
+        → HasSpans (begun_with v (record (with_outward (with_frame (Ok (UuidsFrame peer))) h) { peer = Some peer }))
+    go NoSync is = begins-spans h (begun_with NoSync taken) peer NoSync (λ c. record c { taken = c.taken ++ Ok (UuidsFrame peer) ∷ []; begun = true }) homes
+        last accounted standing fresh is (record {
+          connections = change-twice (with_frame frame) (λ c. record c { begun = true }) h.connections;
+          writes = refl;
+          opening = (refl, (refl, (refl, refl)));
+          begun = refl;
+          taken = refl;
+          no_block = λ n block contents at. none-there n (ResyncItem block contents) at;
+          no_end = λ n tuple at. none-there n (UuidsItem tuple) at;
+          marks = λ block inside unmarked. unmarked;
+          full = λ same. absurd (cc);
+        }) t
     go BitmapSync is =
         let word = (outward (with_outward (with_frame (Ok (UuidsFrame peer))) h)).sync in
-        begins-spans h (begun_with BitmapSync taken) peer BitmapSync (λ c. record c { taken = c.taken ++ Ok (UuidsFrame peer) ∷ []; begun = true; stream = SyncUuidItem word ∷ [] }) homes last accounted standing fresh is (record {
+        begins-spans h (begun_with BitmapSync taken) peer BitmapSync
+        (λ c. record c { taken = c.taken ++ Ok (UuidsFrame peer) ∷ []; begun = true; stream = SyncUuidItem word ∷ [] }) homes last accounted standing fresh
+        is (record {
           connections = change-twice (with_frame frame) (λ c. record c { begun = true; stream = SyncUuidItem word ∷ [] }) h.connections;
           writes = refl;
           opening = (refl, (refl, (refl, refl)));
@@ -237,8 +267,11 @@ spans-begins h peer decided homes last accounted standing fresh is t = go decide
         }) t
     go FullSync is =
         let word = (outward (with_outward (with_frame (Ok (UuidsFrame peer))) h)).sync in
-        let all : (block : ℕ) → block < h.settings.blocks → nat_lt block h.settings.blocks ≡ false → ⊥ = λ block inside out. both_ways (nat_lt block h.settings.blocks) out (lt-ltb block h.settings.blocks inside) in
-        begins-spans h (begun_with FullSync taken) peer FullSync (λ c. record c { taken = c.taken ++ Ok (UuidsFrame peer) ∷ []; begun = true; stream = SyncUuidItem word ∷ [] }) homes last accounted standing fresh is (record {
+        let all : (block : ℕ) → block < h.settings.blocks → nat_lt block h.settings.blocks ≡ false
+        → ⊥ = λ block inside out. both_ways (nat_lt block h.settings.blocks) out (lt-ltb block h.settings.blocks inside) in
+        begins-spans h (begun_with FullSync taken) peer FullSync
+        (λ c. record c { taken = c.taken ++ Ok (UuidsFrame peer) ∷ []; begun = true; stream = SyncUuidItem word ∷ [] }) homes last accounted standing fresh
+        is (record {
           connections = change-twice (with_frame frame) (λ c. record c { begun = true; stream = SyncUuidItem word ∷ [] }) h.connections;
           writes = refl;
           opening = (refl, (refl, (refl, refl)));
@@ -259,11 +292,16 @@ abbrev pub SpannedAfter : Settings → PrimaryHistory → Type 0
 SpannedAfter settings h = BothAfter settings h × HasSpans h
 
 -- every move does
-pub spans-kept : (settings : Settings) → 0 < settings.max_epoch → IsKeptByMoves (Spanned settings) (SpannedAfter settings)
+pub spans-kept : (settings : Settings) → TakesWrites settings → IsKeptByMoves (Spanned settings) (SpannedAfter settings)
 spans-kept settings bound =
-    let base : IsKeptByMoves (Both settings) (BothAfter settings) = both-kept (Ordered settings) (OrderedAfter settings) IsAccounted IsAccounted (in-order-kept settings bound) accounted-kept in
-    let takes : (h : PrimaryHistory) (frame : Received) → (outward h).closed ≡ false → Spanned settings h → HasSpans (with_outward (with_frame frame) h) = λ h frame standing p.
-    spans-takes h (with_outward (with_frame frame) h) frame p.0.0.1.1.0.0 p.0.0.1.0 standing refl refl (refl, (refl, (refl, refl))) (λ block unmarked. inl unmarked) p.1 in
+    let base : IsKeptByMoves (Both settings) (BothAfter settings) = both-kept (Ordered settings) (OrderedAfter settings) IsAccounted IsAccounted
+    (in-order-kept settings bound) accounted-kept in
+    let takes : (h : PrimaryHistory) (frame : Received) → (outward h).closed ≡ false → Spanned settings h
+    → HasSpans (with_outward (with_frame frame) h) = λ h frame standing p.
+    spans-takes h (with_outward (with_frame frame) h) frame p.0.0.1.1.0.0 p.0.0.1.0 standing refl refl (
+      refl,
+      (refl, (refl, refl)),
+    ) (λ block unmarked. inl unmarked) p.1 in
     record {
       following = λ h p. (base.following h p.0, (spans-following h (p.0.0.1.0, p.1)).1);
       opens = λ h sync loss closed fresh p. (base.opens h sync loss closed fresh p.0, spans-opens h sync loss p.0.0.1.0 closed p.1);
@@ -273,18 +311,29 @@ spans-kept settings bound =
       sends = λ h standing due p. (
         base.sends h standing due p.0,
         spans-end h (with_outward pushing h) pushing p.0.0.1.0 refl refl (refl, (refl, (refl, refl))) refl (begins-self (outward h).taken)
-            (keeps-quiet h (with_outward pushing h) (pushing (outward h)) refl (λ k at. grows-with (outward h) (pushing (outward h)) refl (omega arith) (begins-self (accepted_frames (outward h)))) (λ u. u) refl (λ unshut block unmarked. unmarked)) p.1,
+            (keeps-quiet h (with_outward pushing h) (pushing (outward h)) refl
+            (λ k at. grows-with (outward h) (pushing (outward h)) refl (omega arith) (begins-self (accepted_frames (outward h)))) (λ u. u) refl
+            (λ unshut block unmarked. unmarked)) p.1,
       );
       greets = λ h frame standing new met p. (base.greets h frame standing new met p.0, takes h frame standing p);
-      begins = λ h peer decided standing new late is fresh p. (base.begins h peer decided standing new late is fresh p.0, spans-begins h peer decided p.0.0.1.1.0.0 p.0.0.1.0 p.0.1 standing new is p.1);
+      begins = λ h peer decided standing new late is fresh p. (
+        base.begins h peer decided standing new late is fresh p.0,
+        spans-begins h peer decided p.0.0.1.1.0.0 p.0.0.1.0 p.0.1 standing new is p.1,
+      );
       receives = λ h ack standing begun may p. (base.receives h ack standing begun may p.0, takes h _ standing p);
       applies = λ h ack standing begun may p. (base.applies h ack standing begun may p.0, takes h _ standing p);
       clears = λ h ack standing begun may p. (base.clears h ack standing begun may p.0, spans-clears h ack p.0.0.1.1.0.0 p.0.0.1.0 standing begun may p.1);
       confirms = λ h number size standing begun turn p. (base.confirms h number size standing begun turn p.0, takes h _ standing p);
       refuses = λ h frame peer standing p. (base.refuses h frame peer standing p.0, spans-refuses h frame peer p.0.0.1.1.0.0 p.0.0.1.0 standing p.1);
-      resyncs = λ h block runs alone is p. (base.resyncs h block runs alone is p.0, spans-resyncs h block p.0.0.0 p.0.0.1.1.0.0 p.0.0.1.0 p.0.0.1.1.0.1.on runs is p.1);
+      resyncs = λ h block runs alone is p. (
+        base.resyncs h block runs alone is p.0,
+        spans-resyncs h block p.0.0.0 p.0.0.1.1.0.0 p.0.0.1.0 p.0.0.1.1.0.1.on runs is p.1,
+      );
       closes = λ h standing p. (base.closes h standing p.0, spans-closes h p.0.0.1.0 p.1);
-      receipts = λ h number p. (base.receipts h number p.0, spans-still h (receipted number h) p.0.0.1.0 refl refl (refl, (refl, (refl, refl))) (λ block unmarked. unmarked) p.1);
+      receipts = λ h number p. (
+        base.receipts h number p.0,
+        spans-still h (receipted number h) p.0.0.1.0 refl refl (refl, (refl, (refl, refl))) (λ block unmarked. unmarked) p.1,
+      );
     }
 
 -- and every release
@@ -292,14 +341,23 @@ pub spans-released : (settings : Settings) → IsKeptByReleases (Spanned setting
 spans-released settings =
     let base = both-released settings in
     record {
-      writes = λ h number waiting p q. (base.writes h number waiting p.0 q.0, spans-releasing settings h (with_outcome number OnDisk h) (done-releases h number p.0.0.1.1.0.0) p.0.0 q.0.0 q.1);
-      confirms = λ h number size standing begun turn p q. (base.confirms h number size standing begun turn p.0 q.0, spans-releasing settings h (with_outward (with_frame (Ok (BarrierAckFrame number size))) h) (confirmed-releases settings h number size standing p.0.0) p.0.0 q.0.0 q.1);
+      writes = λ h number waiting p q. (
+        base.writes h number waiting p.0 q.0,
+        spans-releasing settings h (with_outcome number OnDisk h) (done-releases h number p.0.0.1.1.0.0) p.0.0 q.0.0 q.1,
+      );
+      confirms = λ h number size standing begun turn p q. (
+        base.confirms h number size standing begun turn p.0 q.0,
+        spans-releasing settings h (with_outward (with_frame (Ok (BarrierAckFrame number size))) h) (confirmed-releases settings h number size standing p.0.0)
+            p.0.0 q.0.0 q.1,
+      );
     }
 
 -- In every run of a primary each connection whose stream began has its span.
-pub spans-run : (settings : Settings) (disk : BlockMap) (tuple : Tuple) (marks : ℕ → Bool) (events : List PrimaryEvent) → IsInRange settings → ((block : ℕ) → block < settings.blocks → is_some (disk block) ≡ true)
+pub spans-run : (settings : Settings) (disk : BlockMap) (tuple : Tuple) (marks : ℕ → Bool) (events : List PrimaryEvent) → IsInRange settings
+    → ((block : ℕ) → block < settings.blocks → is_some (disk block) ≡ true)
     → Spanned settings (primary_run events (primary_opening settings disk tuple marks))
 spans-run settings disk tuple marks events range sized =
     let opening = ordered-opening settings disk tuple marks sized in
-    keeps-run (Spanned settings) (SpannedAfter settings) (spans-kept settings range.max_epoch.0) (spans-released settings) events (primary_opening settings disk tuple marks)
+    keeps-run (Spanned settings) (SpannedAfter settings) (spans-kept settings (takes-writes settings range)) (spans-released settings) events
+    (primary_opening settings disk tuple marks)
     ((opening, accounted-opening settings disk tuple marks opening.0), record { spans = λ k c at. absurd (cc); quiet = λ none bitmap. refl })

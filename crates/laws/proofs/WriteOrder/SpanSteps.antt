@@ -1,15 +1,17 @@
 -- The moves that accept a write, do one, begin a stream or read a block of a resync keep the spans; so does every run.
-use Rattle.std.proofs.Common.{ℕ, suc, ◌≡◌, inl, inr, Bool, true, false, not, ◌&&◌, ◌==◌, List, [], ◌∷◌, length, take, map, Option, Some, None, slice_get, refl, sym, ◌∙◌, ap, subst, arith}
+use Rattle.std.proofs.Common.{ℕ, suc, ◌≡◌, inl, inr, Bool, true, false, not, ◌&&◌, ◌==◌, List, [], ◌∷◌, length, take, map, Option, Some, None, slice_get, refl}
+use Rattle.std.proofs.Common.{sym, ◌∙◌, ap, subst, arith}
 use Rattle.std.specs.Prelude.{if◌then◌else◌}
-use Rattle.std.proofs.lemmas.Bool.{both_ways, and_parts, and_cases, or_parts, not-false, eqb-true}
+use Rattle.std.proofs.lemmas.Bool.{both_ways, and_parts, and_cases, not-false, eqb-true}
 use Rattle.std.proofs.lemmas.Option.{slice_get-map}
 use Rattle.std.proofs.lemmas.List.{take-map}
 use Rattle.blocks.specs.declared.settings.Settings.{Settings}
-use Rattle.model.specs.Contents.{BlockMap, Layer, Write, covers, block_under, overlay}
+use Rattle.model.specs.Contents.{BlockMap, Layer, Write, block_under, overlay}
 use Rattle.model.specs.Stream.{WriteItem, within}
 use Rattle.model.specs.Marks.{marking, releasing, is_cleared}
 use Rattle.model.specs.Primary.{LocalOutcome, Waiting, OnDisk, Failed, Accepted, Outward, PrimaryHistory, outward, change_last, is_waiting, is_failed}
 use Rattle.model.specs.PrimarySteps.{set_outcome, with_outcome, is_unfinished, accepted_at, faulted}
+use Rattle.laws.proofs.Rules.Marking.{unmarked-by}
 use Rattle.laws.proofs.Lists.Beginnings.{begins-self}
 use Rattle.laws.proofs.Lists.Elements.{same-at}
 use Rattle.laws.proofs.Lists.Last.{change-none}
@@ -28,11 +30,14 @@ use Rattle.laws.proofs.WriteOrder.SpanKept.{spans-end}
 -- The local disk does or fails a write.
 
 -- the layers of the writes do not depend on it
-over-outcome : (number : ℕ) (outcome : LocalOutcome) (base : BlockMap) (count block : ℕ) (ws : List Accepted) → writes_over base count (map (set_outcome number outcome) ws) block ≡ writes_over base count ws block
+over-outcome : (number : ℕ) (outcome : LocalOutcome) (base : BlockMap) (count block : ℕ) (ws : List Accepted)
+    → writes_over base count (map (set_outcome number outcome) ws) block ≡ writes_over base count ws block
 over-outcome number outcome base count block ws =
     ap (λ (l : List Accepted). overlay base (map full_layer l) block) (take-map (set_outcome number outcome) count ws)
     ∙ (ap (λ (l : List Layer). overlay base l block) (map-twice (take count ws))
-    ∙ overlay-agrees (λ a. full_layer (set_outcome number outcome a)) full_layer base (take count ws) block (λ i a at v. ap (λ (w : Write). block_under (record { first = w.first; contents = w.contents; laid = λ offset. true }) block v) (outcome-write number outcome a)))
+    ∙ overlay-agrees (λ a. full_layer (set_outcome number outcome a)) full_layer base (take count ws) block
+    (λ i a at v. ap (λ (w : Write). block_under (record { first = w.first; contents = w.contents; laid = λ offset. true }) block v)
+    (outcome-write number outcome a)))
   where
     map-twice : (xs : List Accepted) → map full_layer (map (set_outcome number outcome) xs) ≡ map (λ a. full_layer (set_outcome number outcome a)) xs
     map-twice [] = refl
@@ -43,13 +48,15 @@ outcome-length : (number : ℕ) (outcome : LocalOutcome) (ws : List Accepted) �
 outcome-length number outcome [] = refl
 outcome-length number outcome (w ∷ ws) = ap suc (outcome-length number outcome ws)
 
-passes-outcome : (h later : PrimaryHistory) (number : ℕ) (outcome : LocalOutcome) → later.connections ≡ h.connections → later.writes ≡ map (set_outcome number outcome) h.writes → SameOpening h later → (NoneFailed later → NoneFailed h) → Passes h later
+passes-outcome : (h later : PrimaryHistory) (number : ℕ) (outcome : LocalOutcome) → later.connections ≡ h.connections
+    → later.writes ≡ map (set_outcome number outcome) h.writes → SameOpening h later → (NoneFailed later → NoneFailed h) → Passes h later
 passes-outcome h later number outcome connections writes opening fine = record {
   map = opening.0;
   tuple = opening.1.0;
   marks = opening.1.1.0;
   settings = opening.1.1.1;
-  over = λ count block within. ap (λ (l : List Accepted). writes_over h.opening_map count l block) writes ∙ over-outcome number outcome h.opening_map count block h.writes;
+  over = λ count block within. ap (λ (l : List Accepted). writes_over h.opening_map count l block) writes
+      ∙ over-outcome number outcome h.opening_map count block h.writes;
   writes = λ i b less at.
       let was = pick-image (set_outcome number outcome) h.writes i b (subst (λ (l : List Accepted). slice_get l i ≡ Some b) writes at) in (
         was.0,
@@ -61,14 +68,20 @@ passes-outcome h later number outcome connections writes opening fine = record {
   fine = fine;
   front = λ j c less at. subst (λ (l : List Outward). slice_get l j ≡ Some c) (sym connections) at;
   back = λ j c less at. subst (λ (l : List Outward). slice_get l j ≡ Some c) connections at;
-  first = λ decided. first-carries h later decided (record { forward = λ k c at begun. (c, subst (λ (l : List Outward). slice_get l k ≡ Some c) (sym connections) at, begun, begins-self c.taken); back = λ k d at. inl (d, subst (λ (l : List Outward). slice_get l k ≡ Some d) connections at, refl) }) opening.1.0;
+  first = λ decided. first-carries h later decided
+      (record {
+        forward = λ k c at begun. (c, subst (λ (l : List Outward). slice_get l k ≡ Some c) (sym connections) at, begun, begins-self c.taken);
+        back = λ k d at. inl (d, subst (λ (l : List Outward). slice_get l k ≡ Some d) connections at, refl);
+      }) opening.1.0;
 }
 
-spans-outcome : (h later : PrimaryHistory) (number : ℕ) (outcome : LocalOutcome) → IsLastOpen h → later.connections ≡ h.connections → later.writes ≡ map (set_outcome number outcome) h.writes → SameOpening h later → (NoneFailed later → NoneFailed h)
+spans-outcome : (h later : PrimaryHistory) (number : ℕ) (outcome : LocalOutcome) → IsLastOpen h → later.connections ≡ h.connections
+    → later.writes ≡ map (set_outcome number outcome) h.writes → SameOpening h later → (NoneFailed later → NoneFailed h)
     → ((block : ℕ) → later.marks block ≡ false → h.marks block ≡ false) → HasSpans h → HasSpans later
 spans-outcome h later number outcome last connections writes opening fine marks t =
     let same : later.connections ≡ change_last (λ (c : Outward). c) h.connections = connections ∙ sym (change-none h.connections) in
-    spans-change h later (λ c. c) last (passes-outcome h later number outcome connections writes opening fine) same (ap length writes ∙ outcome-length number outcome h.writes)
+    spans-change h later (λ c. c) last (passes-outcome h later number outcome connections writes opening fine) same (ap length writes
+    ∙ outcome-length number outcome h.writes)
     (keeps-quiet h later (outward h) refl (λ k at. grows-self (outward h)) (λ is. is) refl (λ unshut block unmarked. marks block unmarked)) t
 
 -- a write that is done had not failed, since it waited
@@ -76,7 +89,8 @@ none-failed-done : (h : PrimaryHistory) (number : ℕ) → HasHomes h → is_unf
 none-failed-done h number homes waiting fine n a at = go (a.write.number == number) refl
   where
     there : slice_get (map (set_outcome number OnDisk) h.writes) n ≡ Some (set_outcome number OnDisk a)
-    there = slice_get-map (set_outcome number OnDisk) h.writes n ∙ ap (λ (v : Option Accepted). elim v as (λ _. Option Accepted) [ None ↦ None | Some x ↦ Some (set_outcome number OnDisk x) ]) at
+    there = slice_get-map (set_outcome number OnDisk) h.writes n
+        ∙ ap (λ (v : Option Accepted). elim v as (λ _. Option Accepted) [ None ↦ None | Some x ↦ Some (set_outcome number OnDisk x) ]) at
 
     waits-not-failed : (o : LocalOutcome) → is_waiting o ≡ true → is_failed o ≡ false
     waits-not-failed Waiting is = refl
@@ -97,28 +111,41 @@ none-failed-done h number homes waiting fine n a at = go (a.write.number == numb
         waits-not-failed a.outcome (subst (λ (x : Accepted). is_waiting x.outcome ≡ true) same parts.1)
 
 -- The local disk does a write.
-pub spans-done : (h : PrimaryHistory) (number : ℕ) → HasHomes h → IsLastOpen h → is_unfinished h number ≡ true → HasSpans h → HasSpans (with_outcome number OnDisk h)
-spans-done h number homes last waiting t = spans-outcome h (with_outcome number OnDisk h) number OnDisk last refl refl (refl, (refl, (refl, refl))) (none-failed-done h number homes waiting) (λ block unmarked. unmarked) t
+pub spans-done : (h : PrimaryHistory) (number : ℕ) → HasHomes h → IsLastOpen h → is_unfinished h number ≡ true → HasSpans h
+    → HasSpans (with_outcome number OnDisk h)
+spans-done h number homes last waiting t = spans-outcome h (with_outcome number OnDisk h) number OnDisk last refl refl (
+  refl,
+  (refl, (refl, refl)),
+) (none-failed-done h number homes waiting) (λ block unmarked. unmarked) t
 
 -- It fails one: that is no history without a failed write.
 pub spans-faults : (h : PrimaryHistory) (number : ℕ) (offsets : List ℕ) → IsLastOpen h → HasSpans h → HasSpans (faulted number offsets h)
 spans-faults h number offsets last t = go (accepted_at h number) refl
   where
-    go : (v : Option Accepted) → accepted_at h number ≡ v → HasSpans (elim v as (λ _. PrimaryHistory) [ None ↦ h | Some accepted ↦ with_outcome number (Failed (within (length accepted.write.contents) offsets)) (record h { marks = marking accepted.write h.marks }) ])
+    go : (v : Option Accepted) → accepted_at h number ≡ v
+        → HasSpans (elim v as (λ _. PrimaryHistory) [
+          | None ↦ h
+          | Some accepted ↦ with_outcome number (Failed (within (length accepted.write.contents) offsets))
+              (record h { marks = marking accepted.write h.marks })
+        ])
     go None is = t
     go (Some accepted) is =
         let failed : LocalOutcome = Failed (within (length accepted.write.contents) offsets) in
         let later : PrimaryHistory = with_outcome number failed (record h { marks = marking accepted.write h.marks }) in
         spans-outcome h later number failed last refl refl (refl, (refl, (refl, refl))) (λ fine.
         let found = pick-found (λ (x : Accepted). x.write.number == number) h.writes accepted is in
-        let there : slice_get (map (set_outcome number failed) h.writes) found.0 ≡ Some (set_outcome number failed accepted) = slice_get-map (set_outcome number failed) h.writes found.0 ∙ ap (λ (v : Option Accepted). elim v as (λ _. Option Accepted) [ None ↦ None | Some x ↦ Some (set_outcome number failed x) ]) found.1 in
+        let there : slice_get (map (set_outcome number failed) h.writes) found.0 ≡ Some (set_outcome number failed accepted) =
+        slice_get-map (set_outcome number failed) h.writes found.0
+        ∙ ap (λ (v : Option Accepted). elim v as (λ _. Option Accepted) [ None ↦ None | Some x ↦ Some (set_outcome number failed x) ]) found.1 in
         let not_so = fine found.0 (set_outcome number failed accepted) there in
-        let so : is_failed (set_outcome number failed accepted).outcome ≡ true = ap (λ b. is_failed (if b then record accepted { outcome = failed } else accepted).outcome) found.2 in
+        let so : is_failed (set_outcome number failed accepted).outcome ≡ true =
+        ap (λ b. is_failed (if b then record accepted { outcome = failed } else accepted).outcome) found.2 in
         absurd (both_ways (is_failed (set_outcome number failed accepted).outcome) not_so so))
-        (λ block unmarked. (or_parts (h.marks block) (covers accepted.write block) unmarked).0) t
+        (λ block unmarked. (unmarked-by accepted.write h.marks block unmarked).0) t
 
 -- A step releases writes: a block that it clears has a word of the peer.
-pub spans-releasing : (settings : Settings) (h later : PrimaryHistory) → IsRelease h later → Ordered settings h → OrderedAfter settings later → HasSpans later → HasSpans (releasing h later)
+pub spans-releasing : (settings : Settings) (h later : PrimaryHistory) → IsRelease h later → Ordered settings h → OrderedAfter settings later → HasSpans later
+    → HasSpans (releasing h later)
 spans-releasing settings h later release p q t =
     let same : (releasing h later).connections ≡ change_last (λ (c : Outward). c) later.connections = sym (change-none later.connections) in
     spans-end later (releasing h later) (λ c. c) q.1.0 same refl (refl, (refl, (refl, refl))) refl (begins-self (outward later).taken) (record {

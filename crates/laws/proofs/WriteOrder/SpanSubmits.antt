@@ -1,7 +1,9 @@
 -- A write that is accepted goes to the span of the connection that stands.
-use Rattle.std.proofs.Common.{ℕ, suc, ◌≡◌, ◌-◌, ◌+◌, inl, inr, Bool, true, false, not, ◌&&◌, ◌==◌, List, [], ◌∷◌, ◌++◌, length, map, Option, Some, None, slice_get, refl, sym, ◌∙◌, ap, subst, arith, length-append}
+use Rattle.std.proofs.Common.{ℕ, suc, ◌≡◌, ◌-◌, ◌+◌, inl, inr, Bool, true, false, not, ◌&&◌, ◌==◌, List, [], ◌∷◌, ◌++◌, length, map, Option, Some, None}
+use Rattle.std.proofs.Common.{slice_get, refl, sym, ◌∙◌, ap, subst, arith, length-append}
 use Rattle.std.proofs.lemmas.Bool.{cases_Bool, both_ways, and_from, eq-eqb}
 use Rattle.std.proofs.lemmas.Option.{slice_get_within}
+use Rattle.blocks.specs.Positions.{StreamPosition}
 use Rattle.blocks.specs.declared.tuple.Tuple.{Tuple}
 use Rattle.model.specs.Contents.{Write, overlay}
 use Rattle.model.specs.Stream.{WriteItem, ResyncItem, UuidsItem}
@@ -25,7 +27,15 @@ use Rattle.laws.proofs.WriteOrder.SpanKept.{grows-item}
 
 -- over a stream that stands it gets the next place
 submits-connected : (h : PrimaryHistory) (write : Write) → HasHomes h → IsLastOpen h → stands (outward h) ≡ true → HasSpans h
-    → HasSpans (appending (WriteItem write) (record h { writes = h.writes ++ record { write = write; journal_length = length h.journal; home = Some (last_index h.connections, length (outward h).stream); outcome = Waiting } ∷ [] }))
+    → HasSpans (appending (WriteItem write)
+    (record h {
+      writes = h.writes ++ record {
+        write = write;
+        journal_length = length h.journal;
+        home = Some (record { index = last_index h.connections; place = length (outward h).stream });
+        outcome = Waiting;
+      } ∷ [];
+    }))
 submits-connected h write homes last stood t = record {
   spans = spans-with h later last passes (λ n k other b from there early home. elim (get-more h.writes new n b there) [
     | inl old ↦ let within = slice_get_within h.writes n b old in omega arith
@@ -41,7 +51,13 @@ submits-connected h write homes last stood t = record {
 }
   where
     new : Accepted
-    new = record { write = write; journal_length = length h.journal; home = Some (last_index h.connections, length (outward h).stream); outcome = Waiting }
+    new = record {
+      write = write;
+      journal_length = length h.journal;
+      home =
+          Some (record { index = last_index h.connections; place = length (outward h).stream });
+      outcome = Waiting;
+    }
 
     f : Outward → Outward
     f c = record c { stream = c.stream ++ WriteItem write ∷ [] }
@@ -52,15 +68,21 @@ submits-connected h write homes last stood t = record {
     standing : (outward h).closed ≡ false
     standing = (stands-parts (outward h) stood).0
 
-    home-is : (k other : ℕ) (v : Option (ℕ × ℕ)) → v ≡ Some (last_index h.connections, length (outward h).stream) → v ≡ Some (k, other) → (last_index h.connections ≡ k) × (length (outward h).stream ≡ other)
+    home-is : (k other : ℕ) (v : Option StreamPosition) → v ≡ Some (record { index = last_index h.connections; place = length (outward h).stream })
+        → v ≡ Some (record { index = k; place = other })
+        → (last_index h.connections ≡ k) × (length (outward h).stream ≡ other)
     home-is k other v is also =
-        let here : ℕ × ℕ = (last_index h.connections, length (outward h).stream) in
-        let there : ℕ × ℕ = (k, other) in
+        let here : StreamPosition = record { index = last_index h.connections; place = length (outward h).stream } in
+        let there : StreamPosition = record { index = k; place = other } in
         let same : here ≡ there = let e : Some here ≡ Some there = sym is ∙ also in cc in
-        (ap (λ (x : ℕ × ℕ). x.0) same, ap (λ (x : ℕ × ℕ). x.1) same)
+        (ap (λ (x : StreamPosition). x.index) same, ap (λ (x : StreamPosition). x.place) same)
 
     front : Passes h (appending (WriteItem write) h)
-    front = passes-change h (appending (WriteItem write) h) f refl refl (refl, (refl, (refl, refl))) (λ decided. first-carries h (appending (WriteItem write) h) decided (begun-change h (appending (WriteItem write) h) f refl refl (begins-self (outward h).taken)) refl)
+    front = passes-change h (appending (WriteItem write) h) f refl refl (
+      refl,
+      (refl, (refl, refl)),
+    ) (λ decided. first-carries h (appending (WriteItem write) h) decided
+        (begun-change h (appending (WriteItem write) h) f refl refl (begins-self (outward h).taken)) refl)
 
     passes : Passes h later
     passes = record {
@@ -68,7 +90,8 @@ submits-connected h write homes last stood t = record {
       tuple = refl;
       marks = refl;
       settings = refl;
-      over = λ count block within. ap (λ (l : List Accepted). overlay h.opening_map (map full_layer l) block) (sym (take-begins count h.writes (h.writes ++ new ∷ []) within (new ∷ [], refl)));
+      over = λ count block within. ap (λ (l : List Accepted). overlay h.opening_map (map full_layer l) block)
+          (sym (take-begins count h.writes (h.writes ++ new ∷ []) within (new ∷ [], refl)));
       writes = λ i b less at. elim (get-more h.writes new i b at) [ inl old ↦ (b, old, refl, refl) | inr added ↦ absurd (let end = added.0 in omega arith) ];
       count = let size = length-append h.writes (new ∷ []) in omega arith;
       fine = λ fine n a at. fine n a (get-left h.writes (new ∷ []) n a at);
@@ -77,7 +100,8 @@ submits-connected h write homes last stood t = record {
       first = λ decided. first-carries h later decided (begun-change h later f refl refl (begins-self (outward h).taken)) refl;
     }
 
-    one : (k older newer : ℕ) → slice_get h.connections k ≡ Some (outward h) → IsSpan h k (outward h) older newer → IsSpan later k (f (outward h)) older (suc newer)
+    one : (k older newer : ℕ) → slice_get h.connections k ≡ Some (outward h) → IsSpan h k (outward h) older newer
+        → IsSpan later k (f (outward h)) older (suc newer)
     one k older newer at s =
         let size : length (h.writes ++ new ∷ []) ≡ length h.writes + 1 = length-append h.writes (new ∷ []) in
         let still = s.still standing in
@@ -92,38 +116,50 @@ submits-connected h write homes last stood t = record {
           own = λ n b from less there. elim (get-more h.writes new n b there) [
             | inl old ↦ absurd (let inside = slice_get_within h.writes n b old in omega arith)
             | inr added ↦
-                let places = last-place k (outward h) at in
-                (length (outward h).stream, ap (λ (x : Accepted). x.home) added.1 ∙ ap (λ (m : ℕ). let pair : ℕ × ℕ = (m, length (outward h).stream) in Some pair) places)
+                let places = last-place k (outward h) at in (
+                  length (outward h).stream,
+                  ap (λ (x : Accepted). x.home) added.1
+                      ∙ ap (λ (m : ℕ). let pair : StreamPosition = record { index = m; place = length (outward h).stream } in Some pair) places,
+                )
           ];
           past = λ n place b from there home. let inside = slice_get_within (h.writes ++ new ∷ []) n b there in omega arith;
           behind = λ n other b from there home. elim (get-more h.writes new n b there) [
             | inl old ↦ absurd (let inside = slice_get_within h.writes n b old in omega arith)
             | inr added ↦ let place = (home-is k other b.home (ap (λ (x : Accepted). x.home) added.1) home).1 in omega arith
           ];
-        }) (λ fine unshut block inside unmarked. inl unmarked) (λ fine place block contents there. elim (get-more (outward h).stream (WriteItem write) place (ResyncItem block contents) there) [ inl old ↦ inl old | inr added ↦ absurd (let e = added.1 in cc) ])
-        (λ n tuple there. elim (get-more (outward h).stream (WriteItem write) n (UuidsItem tuple) there) [ inl old ↦ inl old | inr added ↦ absurd (let e = added.1 in cc) ]) s
+        }) (λ fine unshut block inside unmarked. inl unmarked)
+        (λ fine place block contents there. elim (get-more (outward h).stream (WriteItem write) place (ResyncItem block contents) there)
+        [ inl old ↦ inl old | inr added ↦ absurd (let e = added.1 in cc) ])
+        (λ n tuple there. elim (get-more (outward h).stream (WriteItem write) n (UuidsItem tuple) there)
+        [ inl old ↦ inl old | inr added ↦ absurd (let e = added.1 in cc) ]) s
       where
         last-place : (k : ℕ) (c : Outward) → slice_get h.connections k ≡ Some (outward h) → last_index h.connections ≡ k
         last-place k c at = sym (open-is-last h k (outward h) last at standing).0
 
 -- without one it has no place
-submits-alone : (h : PrimaryHistory) (write : Write) → IsLastOpen h → IsAccounted h → stands (outward h) ≡ false → (not (stands (outward h)) && (h.tuple.bitmap == 0)) ≡ false → HasSpans h
-    → HasSpans (record h { writes = h.writes ++ record { write = write; journal_length = length h.journal; home = None; outcome = Waiting } ∷ []; marks = marking write h.marks })
+submits-alone : (h : PrimaryHistory) (write : Write) → IsLastOpen h → IsAccounted h → stands (outward h) ≡ false
+    → (not (stands (outward h)) && (h.tuple.bitmap == 0)) ≡ false → HasSpans h
+    → HasSpans (record h {
+      writes = h.writes ++ record { write = write; journal_length = length h.journal; home = None; outcome = Waiting } ∷ [];
+      marks = marking write h.marks;
+    })
 submits-alone h write last accounted rests connected t = record {
   spans = λ k c at begun.
       let s = t.spans k c at begun in (
         s.0,
         s.1,
-        span-shut h later k c s.0 s.1 passes at (shut k c at begun) (λ j e less there. there) (λ n other b from there home. elim (get-more h.writes new n b there) [
-          | inl old ↦ let within = slice_get_within h.writes n b old in omega arith
-          | inr added ↦ let e : None ≡ Some (k, other) = ap (λ (x : Accepted). x.home) (sym added.1) ∙ home in cc
-        ]) s.2,
+        span-shut h later k c s.0 s.1 passes at (shut k c at begun) (λ j e less there. there)
+            (λ n other b from there home. elim (get-more h.writes new n b there) [
+              | inl old ↦ let within = slice_get_within h.writes n b old in omega arith
+              | inr added ↦ let e : None ≡ Some (record { index = k; place = other }) = ap (λ (x : Accepted). x.home) (sym added.1) ∙ home in cc
+            ]) s.2,
       );
   quiet = λ none bitmap. absurd (elim accounted.began [
     | inr first ↦ both_ways first.1.end.begun (none first.1.connection first.1.end first.1.at) first.1.begun
     | inl nothing ↦
         let zero_bitmap : h.tuple.bitmap ≡ 0 = ap (λ (x : Tuple). x.bitmap) nothing.tuple ∙ bitmap in
-        both_ways (not (stands (outward h)) && (h.tuple.bitmap == 0)) connected (and_from (not (stands (outward h))) (h.tuple.bitmap == 0) (ap not rests) (eq-eqb h.tuple.bitmap 0 zero_bitmap))
+        both_ways (not (stands (outward h)) && (h.tuple.bitmap == 0)) connected
+        (and_from (not (stands (outward h))) (h.tuple.bitmap == 0) (ap not rests) (eq-eqb h.tuple.bitmap 0 zero_bitmap))
   ]);
 }
   where
@@ -139,13 +175,15 @@ submits-alone h write last accounted rests connected t = record {
       tuple = refl;
       marks = refl;
       settings = refl;
-      over = λ count block within. ap (λ (l : List Accepted). overlay h.opening_map (map full_layer l) block) (sym (take-begins count h.writes (h.writes ++ new ∷ []) within (new ∷ [], refl)));
+      over = λ count block within. ap (λ (l : List Accepted). overlay h.opening_map (map full_layer l) block)
+          (sym (take-begins count h.writes (h.writes ++ new ∷ []) within (new ∷ [], refl)));
       writes = λ i b less at. elim (get-more h.writes new i b at) [ inl old ↦ (b, old, refl, refl) | inr added ↦ absurd (let end = added.0 in omega arith) ];
       count = let size = length-append h.writes (new ∷ []) in omega arith;
       fine = λ fine n a at. fine n a (get-left h.writes (new ∷ []) n a at);
       front = λ j c less at. at;
       back = λ j c less at. at;
-      first = λ decided. first-carries h later decided (record { forward = λ k c at begun. (c, at, begun, begins-self c.taken); back = λ k d at. inl (d, at, refl) }) refl;
+      first = λ decided. first-carries h later decided
+          (record { forward = λ k c at begun. (c, at, begun, begins-self c.taken); back = λ k d at. inl (d, at, refl) }) refl;
     }
 
     shut : (k : ℕ) (c : Outward) → slice_get h.connections k ≡ Some c → c.begun ≡ true → c.closed ≡ true
@@ -157,12 +195,29 @@ submits-alone h write last accounted rests connected t = record {
     ]
 
 -- either way the spans are kept
-pub spans-submits : (h : PrimaryHistory) (first : ℕ) (contents : List (List ℕ)) → MaySubmit h first contents → HasHomes h → IsLastOpen h → IsAccounted h → HasSpans h → HasSpans (submitted h first contents)
+pub spans-submits : (h : PrimaryHistory) (first : ℕ) (contents : List (List ℕ)) → MaySubmit h first contents → HasHomes h → IsLastOpen h → IsAccounted h
+    → HasSpans h → HasSpans (submitted h first contents)
 spans-submits h first contents may homes last accounted t = go (stands (outward h)) refl
   where
     go : (b : Bool) → stands (outward h) ≡ b → HasSpans (elim b as (λ _. PrimaryHistory) [
-      | true ↦ appending (WriteItem (submission h first contents)) (record h { writes = h.writes ++ record { write = submission h first contents; journal_length = length h.journal; home = Some (last_index h.connections, length (outward h).stream); outcome = Waiting } ∷ [] })
-      | false ↦ record h { writes = h.writes ++ record { write = submission h first contents; journal_length = length h.journal; home = None; outcome = Waiting } ∷ []; marks = marking (submission h first contents) h.marks }
+      | true ↦ appending (WriteItem (submission h first contents))
+          (record h {
+            writes = h.writes ++ record {
+              write = submission h first contents;
+              journal_length = length h.journal;
+              home = Some (record { index = last_index h.connections; place = length (outward h).stream });
+              outcome = Waiting;
+            } ∷ [];
+          })
+      | false ↦ record h {
+        writes = h.writes ++ record {
+          write = submission h first contents;
+          journal_length = length h.journal;
+          home = None;
+          outcome = Waiting;
+        } ∷ [];
+        marks = marking (submission h first contents) h.marks;
+      }
     ])
     go true is = submits-connected h (submission h first contents) homes last is t
     go false is = submits-alone h (submission h first contents) last accounted is may.connected t

@@ -1,6 +1,7 @@
 -- The writes of a connection whose stream began: those accepted before, those of its own, and those after. What its resync
 -- blocks have, and why the peer holds the earlier writes on a block that is not marked any more.
-use Rattle.std.proofs.Common.{ℕ, suc, ◌≡◌, ◌<◌, ◌≤◌, ◌⊎◌, inl, inr, Bool, true, false, ◌&&◌, nat_lt, List, length, Option, Some, slice_get, sym, ◌∙◌, ap, subst, arith}
+use Rattle.std.proofs.Common.{ℕ, suc, ◌≡◌, ◌<◌, ◌≤◌, ◌⊎◌, inl, inr, Bool, true, false, ◌&&◌, nat_lt, List, length, Option, Some, slice_get, sym, ◌∙◌, ap, subst}
+use Rattle.std.proofs.Common.{arith}
 use Rattle.std.proofs.lemmas.Bool.{cases_lt}
 use Rattle.std.proofs.lemmas.Option.{slice_get_within}
 use Rattle.blocks.specs.declared.settings.Settings.{Settings}
@@ -47,13 +48,15 @@ pub record FromBelow (h : PrimaryHistory) (k older block : ℕ) : Type 0 where
   pub touched : touches item block ≡ true
   pub sure : is_sure end place item ≡ true
   pub content : content_at item block ≡ left_by h older block
-  pub later : (other next : ℕ) (c : Outward) (i : Item) → other < k → slice_get h.connections other ≡ Some c → slice_get c.stream next ≡ Some i → touches i block ≡ true → IsLater connection place other next → content_at i block ≡ left_by h older block
+  pub later : (other next : ℕ) (c : Outward) (i : Item) → other < k → slice_get h.connections other ≡ Some c → slice_get c.stream next ≡ Some i
+      → touches i block ≡ true → IsLater connection place other next → content_at i block ≡ left_by h older block
 
 -- Or the block stands as at the opening, where it was not marked and no full resync began.
 pub record OpeningBelow (h : PrimaryHistory) (k older block : ℕ) : Type 0 where
   pub content : h.opening_map block ≡ left_by h older block
   pub unmarked : opening_marked h block ≡ false
-  pub items : (other next : ℕ) (c : Outward) (i : Item) → other < k → slice_get h.connections other ≡ Some c → slice_get c.stream next ≡ Some i → touches i block ≡ true → content_at i block ≡ left_by h older block
+  pub items : (other next : ℕ) (c : Outward) (i : Item) → other < k → slice_get h.connections other ≡ Some c → slice_get c.stream next ≡ Some i
+      → touches i block ≡ true → content_at i block ≡ left_by h older block
   pub began : (decided : Decision) × FirstBegan h decided × (decided ≡ FullSync → ⊥)
 
 -- so the peer held what the earlier writes leave there when this connection opened
@@ -66,13 +69,15 @@ pub record IsSpan (h : PrimaryHistory) (k : ℕ) (c : Outward) (older newer : �
   pub rising : older ≤ newer
   pub bound : newer ≤ length h.writes
   pub still : c.closed ≡ false → newer ≡ length h.writes
-  pub low : (n place : ℕ) (a : Accepted) → n < older → slice_get h.writes n ≡ Some a → a.home ≡ Some (k, place) → ⊥
-  pub own : (n : ℕ) (a : Accepted) → older ≤ n → n < newer → slice_get h.writes n ≡ Some a → (place : ℕ) × (a.home ≡ Some (k, place))
-  pub past : (n place : ℕ) (a : Accepted) → newer ≤ n → slice_get h.writes n ≡ Some a → a.home ≡ Some (k, place) → ⊥
-  pub reads : NoneFailed h → (place block : ℕ) (contents : List ℕ) → slice_get c.stream place ≡ Some (ResyncItem block contents) → IsRead h k c older place block contents
+  pub low : (n place : ℕ) (a : Accepted) → n < older → slice_get h.writes n ≡ Some a → a.home ≡ Some (record { index = k; place = place }) → ⊥
+  pub own : (n : ℕ) (a : Accepted) → older ≤ n → n < newer → slice_get h.writes n ≡ Some a → (place : ℕ) × (a.home ≡ Some (record { index = k; place = place }))
+  pub past : (n place : ℕ) (a : Accepted) → newer ≤ n → slice_get h.writes n ≡ Some a → a.home ≡ Some (record { index = k; place = place }) → ⊥
+  pub reads : NoneFailed h → (place block : ℕ) (contents : List ℕ) → slice_get c.stream place ≡ Some (ResyncItem block contents)
+      → IsRead h k c older place block contents
   pub first : ((j : ℕ) (d : Outward) → j < k → slice_get h.connections j ≡ Some d → d.begun ≡ false) → h.opening_tuple.bitmap ≡ 0 → older ≡ 0
   pub clean : NoneFailed h → c.closed ≡ false → (block : ℕ) → block < h.settings.blocks → h.marks block ≡ false → IsTold c block ⊎ WasBelow h k older block
-  pub synced : NoneFailed h → (n : ℕ) (tuple : Tuple) → slice_get c.stream n ≡ Some (UuidsItem tuple) → (block : ℕ) → block < h.settings.blocks → IsTold c block ⊎ WasBelow h k older block
+  pub synced : NoneFailed h → (n : ℕ) (tuple : Tuple) → slice_get c.stream n ≡ Some (UuidsItem tuple) → (block : ℕ) → block < h.settings.blocks
+      → IsTold c block ⊎ WasBelow h k older block
 
 -- What every move keeps: the opening, the writes but for what the local disk did, and the connections before the last one.
 pub record Passes (h later : PrimaryHistory) : Type 0 where
@@ -81,7 +86,8 @@ pub record Passes (h later : PrimaryHistory) : Type 0 where
   pub marks : later.opening_marks ≡ h.opening_marks
   pub settings : later.settings ≡ h.settings
   pub over : (count block : ℕ) → count ≤ length h.writes → writes_over h.opening_map count later.writes block ≡ writes_over h.opening_map count h.writes block
-  pub writes : (i : ℕ) (b : Accepted) → i < length h.writes → slice_get later.writes i ≡ Some b → (a : Accepted) × (slice_get h.writes i ≡ Some a) × (b.write ≡ a.write) × (b.home ≡ a.home)
+  pub writes : (i : ℕ) (b : Accepted) → i < length h.writes → slice_get later.writes i ≡ Some b
+      → (a : Accepted) × (slice_get h.writes i ≡ Some a) × (b.write ≡ a.write) × (b.home ≡ a.home)
   pub count : length h.writes ≤ length later.writes
   pub fine : NoneFailed later → NoneFailed h
   pub front : (j : ℕ) (c : Outward) → suc j < length h.connections → slice_get h.connections j ≡ Some c → slice_get later.connections j ≡ Some c
@@ -93,18 +99,23 @@ left-same : (h later : PrimaryHistory) → Passes h later → (count block : ℕ
 left-same h later p count block within = ap (λ (m : BlockMap). writes_over m count later.writes block) p.map ∙ p.over count block within
 
 -- a block that stands as at the opening still does
-pub opening-below : (h later : PrimaryHistory) (k older block : ℕ) → Passes h later → k < length h.connections → older ≤ length h.writes → h.opening_map block ≡ left_by h older block → opening_marked h block ≡ false
-    → ((other next : ℕ) (c : Outward) (i : Item) → other < k → slice_get h.connections other ≡ Some c → slice_get c.stream next ≡ Some i → touches i block ≡ true → content_at i block ≡ left_by h older block)
+pub opening-below : (h later : PrimaryHistory) (k older block : ℕ) → Passes h later → k < length h.connections → older ≤ length h.writes
+    → h.opening_map block ≡ left_by h older block → opening_marked h block ≡ false
+    → ((other next : ℕ) (c : Outward) (i : Item) → other < k → slice_get h.connections other ≡ Some c → slice_get c.stream next ≡ Some i
+    → touches i block ≡ true → content_at i block ≡ left_by h older block)
     → ((decided : Decision) × FirstBegan later decided × (decided ≡ FullSync → ⊥)) → OpeningBelow later k older block
 opening-below h later k older block p within few content unmarked items began = record {
   content = ap (λ (m : BlockMap). m block) p.map ∙ (content ∙ sym (left-same h later p older block few));
-  unmarked = subst (λ (m : ℕ → Bool). (nat_lt block later.settings.blocks && m block) ≡ false) (sym p.marks) (subst (λ (s : Settings). (nat_lt block s.blocks && h.opening_marks block) ≡ false) (sym p.settings) unmarked);
-  items = λ other next c i less at there touched. items other next c i less (p.back other c (omega arith) at) there touched ∙ sym (left-same h later p older block few);
+  unmarked = subst (λ (m : ℕ → Bool). (nat_lt block later.settings.blocks && m block) ≡ false) (sym p.marks)
+      (subst (λ (s : Settings). (nat_lt block s.blocks && h.opening_marks block) ≡ false) (sym p.settings) unmarked);
+  items = λ other next c i less at there touched. items other next c i less (p.back other c (omega arith) at) there touched
+      ∙ sym (left-same h later p older block few);
   began = began;
 }
 
 -- and so does why the peer held it
-pub below-passes : (h later : PrimaryHistory) (k older block : ℕ) → Passes h later → k < length h.connections → older ≤ length h.writes → WasBelow h k older block → WasBelow later k older block
+pub below-passes : (h later : PrimaryHistory) (k older block : ℕ) → Passes h later → k < length h.connections → older ≤ length h.writes
+    → WasBelow h k older block → WasBelow later k older block
 below-passes h later k older block p within few (inl b) = inl (record {
   connection = b.connection;
   place = b.place;
@@ -116,17 +127,28 @@ below-passes h later k older block p within few (inl b) = inl (record {
   touched = b.touched;
   sure = b.sure;
   content = b.content ∙ sym (left-same h later p older block few);
-  later = λ other next c i less at there touched after. b.later other next c i less (p.back other c (omega arith) at) there touched after ∙ sym (left-same h later p older block few);
+  later = λ other next c i less at there touched after. b.later other next c i less (p.back other c (omega arith) at) there touched after
+      ∙ sym (left-same h later p older block few);
 })
-below-passes h later k older block p within few (inr b) = inr (opening-below h later k older block p within few b.content b.unmarked b.items (b.began.0, p.first b.began.0 b.began.1, b.began.2))
+below-passes h later k older block p within few (inr b) =
+    inr (opening-below h later k older block p within few b.content b.unmarked b.items (b.began.0, p.first b.began.0 b.began.1, b.began.2))
 
 -- what the peer has said stays said
 told-grows : (c d : Outward) (block : ℕ) → Grows c d → IsTold c block → IsTold d block
-told-grows c d block g t = record { place = t.place; item = t.item; there = get-beginning c.stream d.stream t.place t.item g.stream t.there; touched = t.touched; sure = sure-grows c d t.place t.item g t.there t.sure }
+told-grows c d block g t = record {
+  place = t.place;
+  item = t.item;
+  there = get-beginning c.stream d.stream t.place t.item g.stream t.there;
+  touched = t.touched;
+  sure = sure-grows c d t.place t.item g t.there t.sure;
+}
 
 -- what a block of a resync has stays as its stream grows
-pub read-passes : (h later : PrimaryHistory) (k : ℕ) (c d : Outward) (older place block : ℕ) (contents : List ℕ) → Passes h later → IsBeginning c.stream d.stream → place < length c.stream
-    → ((n other : ℕ) (b : Accepted) → length h.writes ≤ n → slice_get later.writes n ≡ Some b → b.home ≡ Some (k, other) → length c.stream ≤ other) → IsRead h k c older place block contents → IsRead later k d older place block contents
+pub read-passes : (h later : PrimaryHistory) (k : ℕ) (c d : Outward) (older place block : ℕ) (contents : List ℕ) → Passes h later
+    → IsBeginning c.stream d.stream → place < length c.stream
+    → ((n other : ℕ) (b : Accepted) → length h.writes ≤ n → slice_get later.writes n ≡ Some b → b.home ≡ Some (record { index = k; place = other })
+    → length c.stream ≤ other)
+    → IsRead h k c older place block contents → IsRead later k d older place block contents
 read-passes h later k c d older place block contents p grows within added r = record {
   count = r.count;
   more = r.more;
@@ -154,16 +176,21 @@ pub record Extends (h later : PrimaryHistory) (k : ℕ) (c d : Outward) (newer u
   pub rising : newer ≤ upto
   pub bound : upto ≤ length later.writes
   pub still : d.closed ≡ false → upto ≡ length later.writes
-  pub own : (n : ℕ) (b : Accepted) → newer ≤ n → n < upto → slice_get later.writes n ≡ Some b → (place : ℕ) × (b.home ≡ Some (k, place))
-  pub past : (n place : ℕ) (b : Accepted) → upto ≤ n → slice_get later.writes n ≡ Some b → b.home ≡ Some (k, place) → ⊥
-  pub behind : (n other : ℕ) (b : Accepted) → length h.writes ≤ n → slice_get later.writes n ≡ Some b → b.home ≡ Some (k, other) → length c.stream ≤ other
+  pub own : (n : ℕ) (b : Accepted) → newer ≤ n → n < upto → slice_get later.writes n ≡ Some b → (place : ℕ)
+      × (b.home ≡ Some (record { index = k; place = place }))
+  pub past : (n place : ℕ) (b : Accepted) → upto ≤ n → slice_get later.writes n ≡ Some b → b.home ≡ Some (record { index = k; place = place }) → ⊥
+  pub behind : (n other : ℕ) (b : Accepted) → length h.writes ≤ n → slice_get later.writes n ≡ Some b → b.home ≡ Some (record { index = k; place = other })
+      → length c.stream ≤ other
 
 -- A span stays as its end goes on, where new blocks of a resync are what they are to be, and no mark goes away without a word of
 -- the peer, nor a resync ends with one.
-pub span-passes : (h later : PrimaryHistory) (k : ℕ) (c d : Outward) (older newer upto : ℕ) → Passes h later → slice_get h.connections k ≡ Some c → Extends h later k c d newer upto
+pub span-passes : (h later : PrimaryHistory) (k : ℕ) (c d : Outward) (older newer upto : ℕ) → Passes h later → slice_get h.connections k ≡ Some c
+    → Extends h later k c d newer upto
     → (NoneFailed later → d.closed ≡ false → (block : ℕ) → block < h.settings.blocks → later.marks block ≡ false → (h.marks block ≡ false) ⊎ IsTold d block)
-    → (NoneFailed later → (place block : ℕ) (contents : List ℕ) → slice_get d.stream place ≡ Some (ResyncItem block contents) → (slice_get c.stream place ≡ Some (ResyncItem block contents)) ⊎ IsRead later k d older place block contents)
-    → ((n : ℕ) (tuple : Tuple) → slice_get d.stream n ≡ Some (UuidsItem tuple) → (slice_get c.stream n ≡ Some (UuidsItem tuple)) ⊎ ((c.closed ≡ false) × ((block : ℕ) → block < h.settings.blocks → h.marks block ≡ false)))
+    → (NoneFailed later → (place block : ℕ) (contents : List ℕ) → slice_get d.stream place ≡ Some (ResyncItem block contents)
+    → (slice_get c.stream place ≡ Some (ResyncItem block contents)) ⊎ IsRead later k d older place block contents)
+    → ((n : ℕ) (tuple : Tuple) → slice_get d.stream n ≡ Some (UuidsItem tuple)
+    → (slice_get c.stream n ≡ Some (UuidsItem tuple)) ⊎ ((c.closed ≡ false) × ((block : ℕ) → block < h.settings.blocks → h.marks block ≡ false)))
     → IsSpan h k c older newer → IsSpan later k d older upto
 span-passes h later k c d older newer upto p at e unmarks reads ends s =
     let within = slice_get_within h.connections k c at in
@@ -184,13 +211,22 @@ span-passes h later k c d older newer upto p at e unmarks reads ends s =
       past = e.past;
       reads = λ fine place block contents there. elim (reads fine place block contents there) [
         | inr new ↦ new
-        | inl old ↦ read-passes h later k c d older place block contents p e.grows.stream (slice_get_within c.stream place (ResyncItem block contents) old) e.behind (s.reads (p.fine fine) place block contents old)
+        | inl old ↦ read-passes h later k c d older place block contents p e.grows.stream (slice_get_within c.stream place (ResyncItem block contents) old)
+            e.behind (s.reads (p.fine fine) place block contents old)
       ];
       first = λ none bitmap. s.first (λ j x less there. none j x less (e.earlier j x less there)) (sym (ap (λ (t : Tuple). t.bitmap) p.tuple) ∙ bitmap);
       clean = λ fine unshut block inside unmarked.
           let here : block < h.settings.blocks = subst (λ (x : Settings). block < x.blocks) p.settings inside in
-          elim (unmarks fine unshut block here unmarked) [ inl was ↦ carried block (s.clean (p.fine fine) (e.unshut unshut) block here was) | inr told ↦ inl told ];
+          elim (unmarks fine unshut block here unmarked) [
+            | inl was ↦ carried block (s.clean (p.fine fine) (e.unshut unshut) block here was)
+            | inr told ↦ inl
+                told
+          ];
       synced = λ fine n tuple there block inside.
           let here : block < h.settings.blocks = subst (λ (x : Settings). block < x.blocks) p.settings inside in
-          elim (ends n tuple there) [ inl old ↦ carried block (s.synced (p.fine fine) n tuple old block here) | inr over ↦ carried block (s.clean (p.fine fine) over.0 block here (over.1 block here)) ];
+          elim (ends n tuple there) [
+            | inl old ↦ carried block (s.synced (p.fine fine) n tuple old block here)
+            | inr over ↦ carried block
+                (s.clean (p.fine fine) over.0 block here (over.1 block here))
+          ];
     }

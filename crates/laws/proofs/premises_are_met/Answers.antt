@@ -1,5 +1,6 @@
 -- By computation.
-use Rattle.laws.proofs.Theorems.PremisesAreMet.{openings_are_met, one_write_is_met, cover_is_met, reflection_is_met, rest_is_met, order_is_met, whole_epoch_is_met, refused_frames_are_met, releases_are_met}
+use Rattle.laws.proofs.Theorems.PremisesAreMet.{openings_are_met, one_write_is_met, cover_is_met, reflection_is_met, rest_is_met, order_is_met}
+use Rattle.laws.proofs.Theorems.PremisesAreMet.{whole_epoch_is_met, refused_frames_are_met, releases_are_met}
 use Rattle.laws.proofs.premises_are_met.Goals as goal
 
 pub returns-clause-openings : goal.returns-clause-openings

@@ -1,5 +1,6 @@
 -- Refusals of the pair, event by event.
-use Rattle.laws.proofs.Theorems.Refusals.{refused_steps_change_nothing, refused_frames_close, refused_frames_close_the_primary, refused_frames_close_the_secondary, refused_frames_leave_the_items, refused_frames_lose_the_connection}
+use Rattle.laws.proofs.Theorems.Refusals.{refused_steps_change_nothing, refused_frames_close, refused_frames_close_the_primary}
+use Rattle.laws.proofs.Theorems.Refusals.{refused_frames_close_the_secondary, refused_frames_leave_the_items, refused_frames_lose_the_connection}
 use Rattle.laws.proofs.refusals.Goals as goal
 
 pub returns-clause-unchanged : goal.returns-clause-unchanged

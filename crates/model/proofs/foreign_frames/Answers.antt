@@ -9,7 +9,15 @@ pub returns-clause-to_primary : goal.returns-clause-to_primary
 returns-clause-to_primary c = record { answers = refl; closed = refl; marks = refl; identifiers = refl; too_early = refl }
 
 pub returns-clause-after_one_write : goal.returns-clause-after_one_write
-returns-clause-after_one_write c = record { wrong_size = refl; repeated = refl; marks = refl; closed = refl; identifiers = refl; marks_too = refl; identifiers_too = refl }
+returns-clause-after_one_write c = record {
+  wrong_size = refl;
+  repeated = refl;
+  marks = refl;
+  closed = refl;
+  identifiers = refl;
+  marks_too = refl;
+  identifiers_too = refl;
+}
 
 pub returns-clause-acknowledged_once : goal.returns-clause-acknowledged_once
 returns-clause-acknowledged_once c = record { first = refl; second = refl; closed = refl; marks = refl; identifiers = refl }

@@ -9,7 +9,16 @@ pub returns-clause-never_opened : goal.returns-clause-never_opened
 returns-clause-never_opened c = record { number = refl; stands = refl; first = refl; unseen = refl; untaken = refl; there = refl; beyond = refl }
 
 pub returns-clause-settlements : goal.returns-clause-settlements
-returns-clause-settlements c = record { through = refl; failed = refl; twice = refl; strange = refl; faulty = refl; unfinished = refl; larger = refl; smaller = refl }
+returns-clause-settlements c = record {
+  through = refl;
+  failed = refl;
+  twice = refl;
+  strange = refl;
+  faulty = refl;
+  unfinished = refl;
+  larger = refl;
+  smaller = refl;
+}
 
 pub returns-clause-unanswered : goal.returns-clause-unanswered
 returns-clause-unanswered c = record { unsent = refl; sent = refl; one_of_two = refl }

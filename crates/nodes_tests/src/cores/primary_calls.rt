@@ -5,7 +5,7 @@ use crate::cores::primary_tables::{
 use blocks::{Block, Decision, Done, Refusal, Tuple, What};
 use bytes::Bytes;
 use packets::{Acknowledgement, Packet};
-use primary_core::PrimaryCore;
+use primary_core::{Fate, PrimaryCore};
 use std::alloc::Global;
 use std::process::Abort;
 use std::test::Fail;
@@ -94,7 +94,11 @@ fn resync(core: &mut PrimaryCore, alloc: Global, byte: u8) -> Answer {
 
 fn receipt(core: &mut PrimaryCore, number: u64) -> Answer {
     let entry = core.take_completed(number)?;
-    Ok(Said::Receipt(entry.first(), entry.count(), entry.fate()))
+    let Fate::Completed { linked, home } = entry.fate() else {
+        return Err(Refusal::NotCompleted);
+    };
+    let home = home.map(|home| (home.connection(), home.place()));
+    Ok(Said::Receipt(entry.first(), entry.count(), linked, home))
 }
 
 fn given(core: &PrimaryCore, alloc: Global, number: u64, fill: (u8, u8)) -> Answer {

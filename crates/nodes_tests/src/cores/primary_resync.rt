@@ -4,7 +4,6 @@ use crate::cores::primary_tables::{
     CONNECTED, Case, DONE, Fact, Frame, OWN, PARTED, Part, Row, SETTINGS, START, Said, Start, Step,
 };
 use blocks::{Block, Command, Decision, Refusal, Settings, Tuple, What};
-use primary_core::Fate;
 use std::test::Fail;
 
 /// What the disk has while the resync goes on.
@@ -48,17 +47,7 @@ const ALONE: [Row; 8] = [
         Step::Local(2),
         Ok(Said::More(What::Nothing, Some(2), None, false)),
     ),
-    (
-        Step::Receipt(1),
-        Ok(Said::Receipt(
-            3,
-            1,
-            Fate::Completed {
-                linked: false,
-                home: None,
-            },
-        )),
-    ),
+    (Step::Receipt(1), Ok(Said::Receipt(3, 1, false, None))),
     (Step::Receipt(1), Err(Refusal::UnknownJob)),
 ];
 
@@ -187,14 +176,7 @@ const WRITTEN: [Row; 7] = [
     ),
     (
         Step::Receipt(3),
-        Ok(Said::Receipt(
-            3,
-            1,
-            Fate::Completed {
-                linked: true,
-                home: Some((1, 1)),
-            },
-        )),
+        Ok(Said::Receipt(3, 1, true, Some((2, 1)))),
     ),
 ];
 

@@ -4,7 +4,6 @@ use crate::cores::primary_tables::{
     CONNECTED, Case, DONE, Fact, Frame, OWN, PARTED, Part, Row, SETTINGS, START, Said, Start, Step,
 };
 use blocks::{Command, Protocol, Refusal, Settings, What};
-use primary_core::Fate;
 use std::test::Fail;
 
 const BARRIER: Row = (
@@ -38,14 +37,7 @@ const WRITTEN: [Row; 13] = [
     ),
     (
         Step::Receipt(1),
-        Ok(Said::Receipt(
-            2,
-            1,
-            Fate::Completed {
-                linked: true,
-                home: Some((0, 0)),
-            },
-        )),
+        Ok(Said::Receipt(2, 1, true, Some((1, 0)))),
     ),
     (Step::Receipt(1), Err(Refusal::UnknownJob)),
     (Step::Receipt(2), Err(Refusal::UnknownJob)),

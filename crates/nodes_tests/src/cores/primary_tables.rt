@@ -1,6 +1,5 @@
 //! What is done to a primary's core, as tables have it.
 use blocks::{Command, Decision, Protocol, Refusal, Settings, Tuple, What};
-use primary_core::Fate;
 
 /// A frame, or the fault that stands in its place.
 #[derive(Clone, Copy)]
@@ -72,8 +71,9 @@ pub(crate) enum Said {
     More(What, Option<u64>, Option<u32>, bool),
     /// Another packet was due.
     Other(Command),
-    /// The first block of a write, how many it has, and its fate.
-    Receipt(u64, u64, Fate),
+    /// The first block of a completed write, how many it has, whether the peer answered it, and its connection
+    /// and its place there.
+    Receipt(u64, u64, bool, Option<(u32, u32)>),
 }
 
 /// What a step says, or why it is refused.

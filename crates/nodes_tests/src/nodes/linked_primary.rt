@@ -143,11 +143,12 @@ fn state_of(node: &Linked) -> State {
 
 fn receipt(node: &mut Linked) -> Result<Told, Refusal> {
     let receipt = node.take_completed(1)?;
+    let home = receipt.home();
     Ok((
         receipt.kind(),
         receipt.first().0,
         receipt.count(),
-        receipt.home(),
+        home.map(|home| (home.connection(), home.place())),
     ))
 }
 

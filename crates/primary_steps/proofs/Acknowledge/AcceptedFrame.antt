@@ -12,11 +12,14 @@ use Rattle.primary_steps.proofs.Acknowledge.WriteAnswered.{any-frame}
 use Rattle.primary_steps.proofs.Common.Filters.{filter-at}
 
 -- what is under way stays so where no block is acknowledged
-pub way-framed : (v : Option UnderWay) (c : Outward) (frame : Received) → ((place : ℕ) (item : Item) → was_resynced (with_frame frame c) place item ≡ was_resynced c place item) → UnderWayLeft v c → UnderWayLeft v (with_frame frame c)
+pub way-framed : (v : Option UnderWay) (c : Outward) (frame : Received)
+    → ((place : ℕ) (item : Item) → was_resynced (with_frame frame c) place item ≡ was_resynced c place item) → UnderWayLeft v c
+    → UnderWayLeft v (with_frame frame c)
 way-framed v c frame same left = go v left
   where
     ways : under_way (with_frame frame c) ≡ under_way c
-    ways = filter-at (λ (entry : ℕ × Item). is_resync entry.1 && not (was_resynced (with_frame frame c) entry.0 entry.1)) (λ (entry : ℕ × Item). is_resync entry.1 && not (was_resynced c entry.0 entry.1)) (placed c.stream)
+    ways = filter-at (λ (entry : ℕ × Item). is_resync entry.1 && not (was_resynced (with_frame frame c) entry.0 entry.1))
+        (λ (entry : ℕ × Item). is_resync entry.1 && not (was_resynced c entry.0 entry.1)) (placed c.stream)
         (λ i entry at. ap (λ b. is_resync entry.1 && not b) (same entry.0 entry.1))
 
     go : (v : Option UnderWay) → UnderWayLeft v c → UnderWayLeft v (with_frame frame c)
@@ -29,7 +32,8 @@ pub record NamesNone (c : Outward) (frame : Received) : Type 0 where
   pub written : (place : ℕ) (item : Item) → length c.stream ≤ place → is_write_ack (naming place item) frame ≡ false
   pub resynced : (place : ℕ) (item : Item) → length c.stream ≤ place → is_rs_write_ack (naming place item) frame ≡ false
 
-pub end-framed : (e : EndState) (c : Outward) (frame : Received) (way : Option UnderWay) → LeavesEnd e c → c.begun ≡ true → 2 < length c.taken → NamesNone c frame → UnderWayLeft way (with_frame frame c) → LeavesEnd (record e { under_way = way }) (with_frame frame c)
+pub end-framed : (e : EndState) (c : Outward) (frame : Received) (way : Option UnderWay) → LeavesEnd e c → c.begun ≡ true → 2 < length c.taken
+    → NamesNone c frame → UnderWayLeft way (with_frame frame c) → LeavesEnd (record e { under_way = way }) (with_frame frame c)
 end-framed e c frame way l begun long none left = record {
   stands = l.stands;
   plain = l.plain;
@@ -53,7 +57,8 @@ end-framed e c frame way l begun long none left = record {
 
 -- a name of another place
 pub other-place : (ack : Acknowledged) (place : ℕ) (item : Item) → (place == ack.place) ≡ false → same_naming (naming place item) ack ≡ false
-other-place ack place item other = go ((naming place item).first == ack.first) ((naming place item).number == ack.number) ((naming place item).count == ack.count) (place == ack.place) other
+other-place ack place item other = go ((naming place item).first == ack.first) ((naming place item).number == ack.number)
+    ((naming place item).count == ack.count) (place == ack.place) other
   where
     go : (a b c d : Bool) → d ≡ false → ((a && b) && (c && d)) ≡ false
     go true true true d is = is

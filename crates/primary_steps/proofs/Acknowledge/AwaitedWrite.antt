@@ -3,10 +3,12 @@ use Rattle.std.proofs.Common.{ℕ, ◌≡◌, inl, inr, Bool, true, false, not, 
 use Rattle.std.specs.Prelude.{find, is_some, option_map}
 use Rattle.std.specs.List.{list_any}
 use Rattle.std.proofs.lemmas.Bool.{both_ways, and_parts, or_cases, not-true, eqb-true, eq-eqb, false_from_ne_true}
+use Rattle.blocks.specs.Positions.{StreamPosition}
 use Rattle.model.specs.Contents.{Write}
 use Rattle.model.specs.Stream.{Item, WriteItem, ResyncItem, BarrierItem, SyncUuidItem, UuidsItem, is_write}
 use Rattle.model.specs.Frames.{Acknowledged, naming}
-use Rattle.model.specs.Primary.{Accepted, Outward, PrimaryHistory, outward, last_index, stands, items_sent, same_naming, is_answered_by, is_answered, is_alone, is_confirmed, is_released, is_waiting, unreleased}
+use Rattle.model.specs.Primary.{Accepted, Outward, PrimaryHistory, outward, last_index, stands, items_sent, same_naming, is_answered_by, is_answered, is_alone}
+use Rattle.model.specs.Primary.{is_confirmed, is_released, is_waiting, unreleased}
 use Rattle.model.specs.Acknowledgements.{names_sent, was_named}
 use Rattle.transferlog.specs.Log.{awaits_in}
 use Rattle.transferlog.specs.Ring.{write_at}
@@ -23,15 +25,26 @@ use Rattle.primary_steps.proofs.Common.Releasing.{IsHere, not-alone, confirmed-a
 use Rattle.primary_steps.proofs.LocalDisk.Writes.{one, found-is}
 
 -- whether a write at a place of the last connection is answered, and sent
-pub answered-here : (h : PrimaryHistory) (a : Accepted) (place : ℕ) → a.home ≡ Some (last_index h.connections, place) → slice_get h.connections (last_index h.connections) ≡ Some (outward h)
+pub answered-here : (h : PrimaryHistory) (a : Accepted) (place : ℕ) → a.home ≡ Some (record { index = last_index h.connections; place = place })
+    → slice_get h.connections (last_index h.connections) ≡ Some (outward h)
     → is_answered h a ≡ is_answered_by h.settings.protocol (outward h) place (WriteItem a.write)
 answered-here h a place home there =
-    ap (λ (v : Option (ℕ × ℕ)). elim v as (λ _. Bool) [ None ↦ false | Some home ↦ elim (slice_get h.connections home.0) as (λ _. Bool) [ None ↦ false | Some c ↦ is_answered_by h.settings.protocol c home.1 (WriteItem a.write) ] ]) home
+    ap (λ (v : Option StreamPosition). elim v as
+    (λ _. Bool) [
+      | None ↦ false
+      | Some home ↦ elim (slice_get h.connections home.index) as
+          (λ _. Bool) [ None ↦ false | Some c ↦ is_answered_by h.settings.protocol c home.place (WriteItem a.write) ]
+    ]) home
     ∙ ap (λ (v : Option Outward). elim v as (λ _. Bool) [ None ↦ false | Some c ↦ is_answered_by h.settings.protocol c place (WriteItem a.write) ]) there
 
-pub sent-here : (h : PrimaryHistory) (a : Accepted) (place : ℕ) → a.home ≡ Some (last_index h.connections, place) → slice_get h.connections (last_index h.connections) ≡ Some (outward h) → is_sent h a ≡ nat_lt place (items_sent (outward h))
+pub sent-here : (h : PrimaryHistory) (a : Accepted) (place : ℕ) → a.home ≡ Some (record { index = last_index h.connections; place = place })
+    → slice_get h.connections (last_index h.connections) ≡ Some (outward h) → is_sent h a ≡ nat_lt place (items_sent (outward h))
 sent-here h a place home there =
-    ap (λ (v : Option (ℕ × ℕ)). elim v as (λ _. Bool) [ None ↦ false | Some home ↦ elim (slice_get h.connections home.0) as (λ _. Bool) [ None ↦ false | Some c ↦ nat_lt home.1 (items_sent c) ] ]) home
+    ap (λ (v : Option StreamPosition). elim v as
+    (λ _. Bool) [
+      | None ↦ false
+      | Some home ↦ elim (slice_get h.connections home.index) as (λ _. Bool) [ None ↦ false | Some c ↦ nat_lt home.place (items_sent c) ]
+    ]) home
     ∙ ap (λ (v : Option Outward). elim v as (λ _. Bool) [ None ↦ false | Some c ↦ nat_lt place (items_sent c) ]) there
 
 -- The write that an acknowledgement names.
@@ -39,12 +52,13 @@ pub record Names (h : PrimaryHistory) (ack : Acknowledged) : Type 0 where
   pub index : ℕ
   pub accepted : Accepted
   pub at : slice_get h.writes index ≡ Some accepted
-  pub home : accepted.home ≡ Some (last_index h.connections, ack.place)
+  pub home : accepted.home ≡ Some (record { index = last_index h.connections; place = ack.place })
   pub there : slice_get (outward h).stream ack.place ≡ Some (WriteItem accepted.write)
   pub naming_is : same_naming (naming ack.place (WriteItem accepted.write)) ack ≡ true
   pub sent : nat_lt ack.place (items_sent (outward h)) ≡ true
 
-module _ (s : PrimaryState) (h : PrimaryHistory) (left : Leaves s h) (homes : HasHomes h) (last : IsLastOpen h) (on : stands (outward h) ≡ true) (ack : Acknowledged) where
+module _ (s : PrimaryState) (h : PrimaryHistory) (left : Leaves s h) (homes : HasHomes h) (last : IsLastOpen h) (on : stands (outward h) ≡ true)
+    (ack : Acknowledged) where
   last-there : slice_get h.connections (last_index h.connections) ≡ Some (outward h)
   last-there = open-at h (stands-parts (outward h) on).0
 
@@ -60,7 +74,11 @@ module _ (s : PrimaryState) (h : PrimaryHistory) (left : Leaves s h) (homes : Ha
   names sent_so = go (slice_get (outward h).stream ack.place) refl sent_so
     where
       go : (v : Option Item) → slice_get (outward h).stream ack.place ≡ v
-          → elim v as (λ _. Bool) [ None ↦ false | Some item ↦ (is_write item && same_naming (naming ack.place item) ack) && nat_lt ack.place (items_sent (outward h)) ] ≡ true → Names h ack
+          → elim v as (λ _. Bool) [
+            | None ↦ false
+            | Some item ↦ (is_write item && same_naming (naming ack.place item) ack)
+                && nat_lt ack.place (items_sent (outward h))
+          ] ≡ true → Names h ack
       go None is so = absurd (cc)
       go (Some (WriteItem write)) is so =
           let parts = and_parts (true && same_naming (naming ack.place (WriteItem write)) ack) (nat_lt ack.place (items_sent (outward h))) so in
@@ -79,56 +97,79 @@ module _ (s : PrimaryState) (h : PrimaryHistory) (left : Leaves s h) (homes : Ha
       go (Some (SyncUuidItem word)) is so = absurd (cc)
       go (Some (UuidsItem tuple)) is so = absurd (cc)
 
-  named-is : (item : Item) → slice_get (outward h).stream ack.place ≡ Some item → was_named (is_answered_by h.settings.protocol) ack (outward h) ≡ is_answered_by h.settings.protocol (outward h) ack.place item
-  named-is item at = ap (λ (v : Option Item). elim v as (λ _. Bool) [ None ↦ false | Some item ↦ is_answered_by h.settings.protocol (outward h) ack.place item ]) at
+  named-is : (item : Item) → slice_get (outward h).stream ack.place ≡ Some item
+      → was_named (is_answered_by h.settings.protocol) ack (outward h) ≡ is_answered_by h.settings.protocol (outward h) ack.place item
+  named-is item at = ap (λ (v : Option Item). elim v as
+      (λ _. Bool) [ None ↦ false | Some item ↦ is_answered_by h.settings.protocol (outward h) ack.place item ]) at
 
   -- where the history awaits it, the log does
-  back : (names_sent is_write ack (outward h) && not (was_named (is_answered_by h.settings.protocol) ack (outward h))) ≡ true → awaits_in (write_at ack.number s.log.writes) (named ack) ≡ true
+  back : (names_sent is_write ack (outward h) && not (was_named (is_answered_by h.settings.protocol) ack (outward h))) ≡ true
+      → awaits_in (write_at ack.number s.log.writes) (named ack) ≡ true
   back wants =
       let parts = and_parts (names_sent is_write ack (outward h)) (not (was_named (is_answered_by h.settings.protocol) ack (outward h))) wants in
       by-name (names parts.0) (not-true (was_named (is_answered_by h.settings.protocol) ack (outward h)) parts.1)
     where
-      by-name : Names h ack → was_named (is_answered_by h.settings.protocol) ack (outward h) ≡ false → awaits_in (write_at ack.number s.log.writes) (named ack) ≡ true
+      by-name : Names h ack → was_named (is_answered_by h.settings.protocol) ack (outward h) ≡ false
+          → awaits_in (write_at ack.number s.log.writes) (named ack) ≡ true
       by-name n unnamed =
           let a : Accepted = n.accepted in
-          let same = and_parts ((n.accepted.write.first == ack.first) && (n.accepted.write.number == ack.number)) ((length n.accepted.write.contents == ack.count) && (ack.place == ack.place)) n.naming_is in
+          let same = and_parts ((n.accepted.write.first == ack.first) && (n.accepted.write.number == ack.number))
+          ((length n.accepted.write.contents == ack.count) && (ack.place == ack.place)) n.naming_is in
           let front = and_parts (n.accepted.write.first == ack.first) (n.accepted.write.number == ack.number) same.0 in
           let count = and_parts (length n.accepted.write.contents == ack.count) (ack.place == ack.place) same.1 in
-          let unanswered : is_answered h n.accepted ≡ false = answered-here h n.accepted ack.place n.home last-there ∙ (sym (named-is (WriteItem n.accepted.write) n.there) ∙ unnamed) in
-          let linked : is_alone h n.accepted ≡ false = alone-at h n.accepted (last_index h.connections, ack.place) (outward h) n.home last-there ∙ (stands-parts (outward h) on).0 in
+          let unanswered : is_answered h n.accepted ≡ false = answered-here h n.accepted ack.place n.home last-there
+          ∙ (sym (named-is (WriteItem n.accepted.write) n.there) ∙ unnamed) in
+          let linked : is_alone h n.accepted ≡ false =
+          alone-at h n.accepted (record { index = last_index h.connections; place = ack.place }) (outward h) n.home last-there
+          ∙ (stands-parts (outward h) on).0 in
           let held : is_released h n.accepted ≡ false = false_from_ne_true (is_released h n.accepted) (λ rel.
           let told = (and_parts (not (is_waiting n.accepted.outcome)) (is_confirmed h n.accepted || is_alone h n.accepted) rel).1 in
-          let confirmed : is_confirmed h n.accepted ≡ true = elim (or_cases (is_confirmed h n.accepted) (is_alone h n.accepted) told) [ inl is ↦ is | inr alone ↦ absurd (both_ways (is_alone h n.accepted) linked alone) ] in
-          both_ways (is_answered h n.accepted) unanswered (confirmed-answered h s.log homes last left.rest.log.protocol left.stream.on n.index n.accepted n.at linked confirmed)) in
+          let confirmed : is_confirmed h n.accepted ≡ true =
+          elim (or_cases (is_confirmed h n.accepted) (is_alone h n.accepted) told)
+          [ inl is ↦ is | inr alone ↦ absurd (both_ways (is_alone h n.accepted) linked alone) ] in
+          both_ways (is_answered h n.accepted) unanswered
+          (confirmed-answered h s.log homes last left.rest.log.protocol left.stream.on n.index n.accepted n.at linked confirmed)) in
           let kept = filtered-pick (λ x. not (is_released h x)) h.writes n.index n.accepted n.at (ap not held) in
-          let some : list_any (λ (x : Accepted). x.write.number == ack.number) (unreleased h) ≡ true = any-pick (λ (x : Accepted). x.write.number == ack.number) (unreleased h) kept.0 n.accepted kept.1 front.1 in
+          let some : list_any (λ (x : Accepted). x.write.number == ack.number) (unreleased h) ≡ true = any-pick (λ (x : Accepted). x.write.number == ack.number)
+          (unreleased h) kept.0 n.accepted kept.1 front.1 in
           ap (λ v. awaits_in v (named ack)) (found-is s h ack.number left homes)
-          ∙ (by-found (find (λ (x : Accepted). x.write.number == ack.number) (unreleased h)) refl some n.accepted n.index n.at (eqb-true n.accepted.write.number ack.number front.1)
-          ∙ ((λ i. (is_at ack.place (n.home i) && (front.0 i && count.0 i)) && (not (linked i) && ((sent-here h n.accepted ack.place n.home last-there ∙ n.sent) i && not (unanswered i))))
+          ∙ (by-found (find (λ (x : Accepted). x.write.number == ack.number) (unreleased h)) refl some n.accepted n.index n.at
+          (eqb-true n.accepted.write.number ack.number front.1)
+          ∙ ((λ i. (is_at ack.place (n.home i) && (front.0 i && count.0 i))
+          && (not (linked i) && ((sent-here h n.accepted ack.place n.home last-there ∙ n.sent) i && not (unanswered i))))
           ∙ ap (λ b. (b && true) && true) place-same))
         where
           place-same : (ack.place == ack.place) ≡ true
           place-same = eq-eqb ack.place ack.place refl
 
-          by-found : (v : Option Accepted) → find (λ (x : Accepted). x.write.number == ack.number) (unreleased h) ≡ v → list_any (λ (x : Accepted). x.write.number == ack.number) (unreleased h) ≡ true
-              → (a : Accepted) (i : ℕ) → slice_get h.writes i ≡ Some a → a.write.number ≡ ack.number → awaits_in (option_map (logged_of h) v) (named ack) ≡ awaits (named ack) (logged_of h a)
-          by-found None none some a i at number = absurd (both_ways (list_any (λ (x : Accepted). x.write.number == ack.number) (unreleased h)) (any-some (λ (x : Accepted). x.write.number == ack.number) (unreleased h) ∙ ap is_some none) some)
+          by-found : (v : Option Accepted) → find (λ (x : Accepted). x.write.number == ack.number) (unreleased h) ≡ v
+              → list_any (λ (x : Accepted). x.write.number == ack.number) (unreleased h) ≡ true
+              → (a : Accepted) (i : ℕ) → slice_get h.writes i ≡ Some a → a.write.number ≡ ack.number
+              → awaits_in (option_map (logged_of h) v) (named ack) ≡ awaits (named ack) (logged_of h a)
+          by-found None none some a i at number =
+              absurd (both_ways (list_any (λ (x : Accepted). x.write.number == ack.number) (unreleased h))
+              (any-some (λ (x : Accepted). x.write.number == ack.number) (unreleased h) ∙ ap is_some none) some)
           by-found (Some b) found some a i at number =
               let there = pick-found (λ (x : Accepted). x.write.number == ack.number) (unreleased h) b found in
               let stood = pick-filtered (λ x. not (is_released h x)) h.writes there.0 b there.1 in
-              ap (λ (x : Accepted). awaits (named ack) (logged_of h x)) (one s h ack.number left homes stood.0 i b a stood.1 at (eqb-true b.write.number ack.number there.2 ∙ sym number))
+              ap (λ (x : Accepted). awaits (named ack) (logged_of h x))
+              (one s h ack.number left homes stood.0 i b a stood.1 at (eqb-true b.write.number ack.number there.2 ∙ sym number))
 
   -- where the log awaits it, the history does
-  forth : awaits_in (write_at ack.number s.log.writes) (named ack) ≡ true → (names_sent is_write ack (outward h) && not (was_named (is_answered_by h.settings.protocol) ack (outward h))) ≡ true
-  forth awaited = by-found (find (λ (x : Accepted). x.write.number == ack.number) (unreleased h)) refl (sym (ap (λ v. awaits_in v (named ack)) (found-is s h ack.number left homes)) ∙ awaited)
+  forth : awaits_in (write_at ack.number s.log.writes) (named ack) ≡ true
+      → (names_sent is_write ack (outward h) && not (was_named (is_answered_by h.settings.protocol) ack (outward h))) ≡ true
+  forth awaited = by-found (find (λ (x : Accepted). x.write.number == ack.number) (unreleased h)) refl
+      (sym (ap (λ v. awaits_in v (named ack)) (found-is s h ack.number left homes)) ∙ awaited)
     where
-      by-found : (v : Option Accepted) → find (λ (x : Accepted). x.write.number == ack.number) (unreleased h) ≡ v → awaits_in (option_map (logged_of h) v) (named ack) ≡ true
+      by-found : (v : Option Accepted) → find (λ (x : Accepted). x.write.number == ack.number) (unreleased h) ≡ v
+          → awaits_in (option_map (logged_of h) v) (named ack) ≡ true
           → (names_sent is_write ack (outward h) && not (was_named (is_answered_by h.settings.protocol) ack (outward h))) ≡ true
       by-found None none waits = absurd (cc)
       by-found (Some a) found waits =
           let there = pick-found (λ (x : Accepted). x.write.number == ack.number) (unreleased h) a found in
           let stood = pick-filtered (λ x. not (is_released h x)) h.writes there.0 a there.1 in
-          let outer = and_parts (is_at ack.place a.home && ((a.write.first == ack.first) && (length a.write.contents == ack.count))) (not (is_alone h a) && (is_sent h a && not (is_answered h a))) waits in
+          let outer = and_parts (is_at ack.place a.home && ((a.write.first == ack.first) && (length a.write.contents == ack.count)))
+          (not (is_alone h a) && (is_sent h a && not (is_answered h a))) waits in
           let named_so = and_parts (is_at ack.place a.home) ((a.write.first == ack.first) && (length a.write.contents == ack.count)) outer.0 in
           let ranges = and_parts (a.write.first == ack.first) (length a.write.contents == ack.count) named_so.1 in
           let states = and_parts (not (is_alone h a)) (is_sent h a && not (is_answered h a)) outer.1 in
@@ -137,19 +178,30 @@ module _ (s : PrimaryState) (h : PrimaryHistory) (left : Leaves s h) (homes : Ha
           let place : here.place ≡ ack.place = eqb-true here.place ack.place (sym (ap (is_at ack.place) here.home) ∙ named_so.0) in
           at-place a here place ranges.0 there.2 ranges.1 rest.0 (not-true (is_answered h a) rest.1)
         where
-          at-place : (a : Accepted) (here : IsHere h a) → here.place ≡ ack.place → (a.write.first == ack.first) ≡ true → (a.write.number == ack.number) ≡ true → (length a.write.contents == ack.count) ≡ true → is_sent h a ≡ true → is_answered h a ≡ false
+          at-place : (a : Accepted) (here : IsHere h a) → here.place ≡ ack.place → (a.write.first == ack.first) ≡ true → (a.write.number == ack.number) ≡ true
+              → (length a.write.contents == ack.count) ≡ true → is_sent h a ≡ true → is_answered h a ≡ false
               → (names_sent is_write ack (outward h) && not (was_named (is_answered_by h.settings.protocol) ack (outward h))) ≡ true
           at-place a here place first number count sent unanswered =
               let there : slice_get (outward h).stream ack.place ≡ Some (WriteItem a.write) = ap (slice_get (outward h).stream) (sym place) ∙ here.there in
-              let home : a.home ≡ Some (last_index h.connections, ack.place) = here.home ∙ ap (λ n. Some (last_index h.connections, n)) place in
-              (λ i. (elim (there i) as (λ _. Bool) [ None ↦ false | Some item ↦ (is_write item && same_naming (naming ack.place item) ack) && nat_lt ack.place (items_sent (outward h)) ]) && not ((named-is (WriteItem a.write) there ∙ (sym (answered-here h a ack.place home last-there) ∙ unanswered)) i))
-              ∙ λ i. ((true && ((first i && number i) && (count i && eq-eqb ack.place ack.place refl i))) && (sym (sent-here h a ack.place home last-there) ∙ sent) i) && true
+              let home : a.home ≡ Some (record { index = last_index h.connections; place = ack.place }) = here.home
+              ∙ ap (λ n. let at : StreamPosition = record { index = last_index h.connections; place = n } in Some at) place in
+              (λ i. (elim (there i) as (λ _. Bool) [
+                | None ↦ false
+                | Some item ↦ (is_write item && same_naming (naming ack.place item) ack)
+                    && nat_lt ack.place (items_sent (outward h))
+              ])
+              && not ((named-is (WriteItem a.write) there ∙ (sym (answered-here h a ack.place home last-there) ∙ unanswered)) i))
+              ∙ λ i. ((true && ((first i && number i) && (count i && eq-eqb ack.place ack.place refl i))) && (sym (sent-here h a ack.place home last-there)
+              ∙ sent) i) && true
 
   -- The log awaits an acknowledgement exactly where the history does.
-  pub awaits-same : awaits_in (write_at ack.number s.log.writes) (named ack) ≡ (names_sent is_write ack (outward h) && not (was_named (is_answered_by h.settings.protocol) ack (outward h)))
-  awaits-same = go (awaits_in (write_at ack.number s.log.writes) (named ack)) (names_sent is_write ack (outward h) && not (was_named (is_answered_by h.settings.protocol) ack (outward h))) refl refl
+  pub awaits-same : awaits_in (write_at ack.number s.log.writes) (named ack) ≡
+      (names_sent is_write ack (outward h) && not (was_named (is_answered_by h.settings.protocol) ack (outward h)))
+  awaits-same = go (awaits_in (write_at ack.number s.log.writes) (named ack))
+      (names_sent is_write ack (outward h) && not (was_named (is_answered_by h.settings.protocol) ack (outward h))) refl refl
     where
-      go : (b d : Bool) → awaits_in (write_at ack.number s.log.writes) (named ack) ≡ b → (names_sent is_write ack (outward h) && not (was_named (is_answered_by h.settings.protocol) ack (outward h))) ≡ d → b ≡ d
+      go : (b d : Bool) → awaits_in (write_at ack.number s.log.writes) (named ack) ≡ b
+          → (names_sent is_write ack (outward h) && not (was_named (is_answered_by h.settings.protocol) ack (outward h))) ≡ d → b ≡ d
       go true d is so = sym (forth is) ∙ so
       go false true is so = absurd (both_ways (awaits_in (write_at ack.number s.log.writes) (named ack)) is (back so))
       go false false is so = refl

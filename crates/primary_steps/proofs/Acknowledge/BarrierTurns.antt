@@ -1,25 +1,30 @@
 -- A BARRIER_ACK: the log takes it exactly where the history finds it in its turn.
-use Rattle.std.proofs.Common.{ℕ, zero, suc, ◌≡◌, ◌+◌, ◌-◌, ◌<◌, inl, inr, Bool, true, false, not, ◌&&◌, ◌||◌, List, [], ◌∷◌, length, map, take, drop, Option, Some, None, slice_get, refl, sym, ◌∙◌, ap, subst, arith, nat_lt, nat_le, ◌==◌}
-use Rattle.std.specs.List.{list_any, list_all}
-use Rattle.std.proofs.lemmas.Bool.{cases_Bool, cases_lt, both_ways, and_parts, not-true, eqb-true, eq-eqb, ltb-true, lt-ltb, le-leb, lt-leb, leb-true, leb-false, false_from_ne_true}
+use Rattle.std.proofs.Common.{ℕ, zero, suc, ◌≡◌, ◌+◌, ◌-◌, ◌<◌, ◌⊎◌, inl, inr, Bool, true, false, not, ◌&&◌, ◌||◌, List, [], ◌∷◌, length, map, take, drop}
+use Rattle.std.proofs.Common.{Option, Some, None, slice_get, refl, sym, ◌∙◌, ap, subst, arith, nat_lt, nat_le, ◌==◌}
+use Rattle.std.specs.List.{list_any}
+use Rattle.std.proofs.lemmas.Bool.{cases_Bool, cases_lt, both_ways, and_parts, not-true, eqb-true, eq-eqb, ltb-true, lt-ltb, le-leb, lt-leb, leb-true}
+use Rattle.std.proofs.lemmas.Bool.{leb-false, false_from_ne_true}
 use Rattle.std.proofs.lemmas.Option.{slice_get_within}
 use Rattle.blocks.specs.declared.settings.Settings.{Settings}
 use Rattle.blocks.specs.declared.settings.Protocol.{Protocol}
 use Rattle.blocks.specs.declared.settings.Protocol.TheVariants as protocol
 use Rattle.blocks.specs.Ranges.{is_between}
 use Rattle.model.specs.Contents.{Write}
-use Rattle.model.specs.Stream.{Item, WriteItem, ResyncItem, BarrierItem, SyncUuidItem, UuidsItem, barriers_in, epoch_of, epoch_size, items_of_epoch, placed, IsLawful}
-use Rattle.model.specs.Primary.{Accepted, Outward, PrimaryHistory, outward, last_index, stands, items_sent, is_answered_by, is_answered, is_alone, is_confirmed, is_released, is_waiting, unreleased, barrier_acknowledged, is_resync, was_resynced, under_way}
-use Rattle.model.specs.Acknowledgements.{is_acknowledged, is_unacknowledged, oldest_barrier, is_barrier_of, is_in_turn}
+use Rattle.model.specs.Stream.{Item, WriteItem, ResyncItem, BarrierItem, SyncUuidItem, UuidsItem, barriers_in, epoch_of, epoch_size, placed}
+use Rattle.model.specs.Stream.{IsLawful}
+use Rattle.model.specs.Primary.{Accepted, Outward, PrimaryHistory, outward, last_index, stands, items_sent, is_answered_by, is_answered, is_alone, is_confirmed}
+use Rattle.model.specs.Primary.{is_released, is_waiting, unreleased, barrier_acknowledged, is_resync, was_resynced, under_way}
+use Rattle.model.specs.Acknowledgements.{is_in_turn}
 use Rattle.transferlog.specs.Log.{LogState, may_confirm, lacks_answer, asks_answers}
 use Rattle.epochs.specs.Epochs.{is_awaited, begins_with}
+use Rattle.laws.proofs.Rules.AckTurns.{IsTurn, turn-has, turn-by}
+use Rattle.laws.proofs.Rules.EpochEnds.{most_writes}
 use Rattle.laws.proofs.Lists.Elements.{same-at}
-use Rattle.laws.proofs.Lists.Fronts.{get-front, front-get, find-first, all-get}
-use Rattle.laws.proofs.Lists.Picks.{pick-any, any-pick, pick-found, pick-filtered, filtered-pick}
+use Rattle.laws.proofs.Lists.Picks.{pick-any, any-pick, pick-filtered, filtered-pick}
 use Rattle.laws.proofs.Primary.Homes.{open-at, alone-at, confirmed-at}
 use Rattle.laws.proofs.Releases.InOrderMoves.{Ordered, earlier-said}
 use Rattle.laws.proofs.Streams.Barriers.{barrier-of, behind-barrier}
-use Rattle.laws.proofs.Streams.Places.{placed-at, placed-back}
+use Rattle.laws.proofs.Streams.Places.{placed-at}
 use Rattle.primary_steps.specs.Core.{UnderWay, EndState, PrimaryState}
 use Rattle.primary_steps.specs.Taking.{is_unsent, is_in_epoch}
 use Rattle.primary_steps.specs.Leaves.{numbers_after, total, logged_of, LeavesEpochs, LeavesEnd, UnderWayLeft, Leaves}
@@ -39,35 +44,36 @@ behind-get zero xs k x at = ap (slice_get xs) (omega arith) ∙ at
 behind-get (suc n) [] k x at = absurd (cc)
 behind-get (suc n) (y ∷ xs) k x at = let index : suc (n + k) ≡ suc n + k = omega arith in behind-get n xs k x (ap (slice_get (y ∷ xs)) index ∙ at)
 
-all-at : {X : Type 0} (p : X → Bool) (xs : List X) → list_all p xs ≡ true → (k : ℕ) (x : X) → slice_get xs k ≡ Some x → p x ≡ true
-all-at p [] all k x at = absurd (cc)
-all-at p (y ∷ xs) all zero x at = let same : y ≡ x = cc in ap p (sym same) ∙ (and_parts (p y) (list_all p xs) all).0
-all-at p (y ∷ xs) all (suc k) x at = all-at p xs (and_parts (p y) (list_all p xs) all).1 k x at
-
 -- The oldest epoch that is not acknowledged, and its size.
-first-size : (l : LogState) (c : Outward) (e : LeavesEpochs l c) (size : ℕ) → begins_with size l.epochs.sizes ≡ true → (e.acked < barriers_in c.stream) × (size ≡ epoch_size c.stream (suc e.acked))
+first-size : (l : LogState) (c : Outward) (e : LeavesEpochs l c) (size : ℕ) → begins_with size l.epochs.sizes ≡ true
+    → (e.acked < barriers_in c.stream) × (size ≡ epoch_size c.stream (suc e.acked))
 first-size l c e size begins = go (barriers_in c.stream - e.acked) refl (ap (begins_with size) (sym e.sizes) ∙ begins)
   where
-    go : (n : ℕ) → barriers_in c.stream - e.acked ≡ n → begins_with size (map (epoch_size c.stream) (numbers_after e.acked n)) ≡ true → (e.acked < barriers_in c.stream) × (size ≡ epoch_size c.stream (suc e.acked))
+    go : (n : ℕ) → barriers_in c.stream - e.acked ≡ n → begins_with size (map (epoch_size c.stream) (numbers_after e.acked n)) ≡ true
+        → (e.acked < barriers_in c.stream) × (size ≡ epoch_size c.stream (suc e.acked))
     go zero none so = absurd (cc)
     go (suc n) some so = (omega arith, eqb-true size (epoch_size c.stream (suc e.acked)) so)
 
-sizes-first : (l : LogState) (c : Outward) (e : LeavesEpochs l c) → e.acked < barriers_in c.stream → begins_with (epoch_size c.stream (suc e.acked)) l.epochs.sizes ≡ true
+sizes-first : (l : LogState) (c : Outward) (e : LeavesEpochs l c) → e.acked < barriers_in c.stream
+    → begins_with (epoch_size c.stream (suc e.acked)) l.epochs.sizes ≡ true
 sizes-first l c e some = ap (begins_with (epoch_size c.stream (suc e.acked))) e.sizes ∙ go (barriers_in c.stream - e.acked) refl
   where
-    go : (n : ℕ) → barriers_in c.stream - e.acked ≡ n → begins_with (epoch_size c.stream (suc e.acked)) (map (epoch_size c.stream) (numbers_after e.acked n)) ≡ true
+    go : (n : ℕ) → barriers_in c.stream - e.acked ≡ n
+        → begins_with (epoch_size c.stream (suc e.acked)) (map (epoch_size c.stream) (numbers_after e.acked n)) ≡ true
     go zero none = absurd (omega arith)
     go (suc n) more = eq-eqb (epoch_size c.stream (suc e.acked)) (epoch_size c.stream (suc e.acked)) refl
 
 -- what the first of the sizes adds up to
-pub first-total : (l : LogState) (c : Outward) (e : LeavesEpochs l c) → e.acked < barriers_in c.stream → (0 < length l.epochs.sizes) × (total (take 1 l.epochs.sizes) ≡ epoch_size c.stream (suc e.acked))
+pub first-total : (l : LogState) (c : Outward) (e : LeavesEpochs l c) → e.acked < barriers_in c.stream
+    → (0 < length l.epochs.sizes) × (total (take 1 l.epochs.sizes) ≡ epoch_size c.stream (suc e.acked))
 first-total l c e some = (let many = sizes-many l c e in omega arith, ap (λ xs. total (take 1 xs)) e.sizes ∙ go (barriers_in c.stream - e.acked) refl)
   where
     go : (n : ℕ) → barriers_in c.stream - e.acked ≡ n → total (take 1 (map (epoch_size c.stream) (numbers_after e.acked n))) ≡ epoch_size c.stream (suc e.acked)
     go zero none = absurd (omega arith)
     go (suc n) more = omega arith
 
-module _ (settings : Settings) (s : PrimaryState) (h : PrimaryHistory) (e : EndState) (left : Leaves s h) (ordered : Ordered settings h) (end : LeavesEnd e (outward h)) (begun : (outward h).begun ≡ true) (number size : ℕ) where
+module _ (settings : Settings) (s : PrimaryState) (h : PrimaryHistory) (e : EndState) (left : Leaves s h) (ordered : Ordered settings h)
+    (end : LeavesEnd e (outward h)) (begun : (outward h).begun ≡ true) (number size : ℕ) where
   on : stands (outward h) ≡ true
   on = λ i. not (end.stands i) && begun i
 
@@ -77,7 +83,7 @@ module _ (settings : Settings) (s : PrimaryState) (h : PrimaryHistory) (e : EndS
   there : slice_get h.connections (last_index h.connections) ≡ Some (outward h)
   there = open-at h end.stands
 
-  lawful : IsLawful settings.max_epoch (outward h).stream
+  lawful : IsLawful (most_writes settings) (outward h).stream
   lawful = ordered.1.1.0.1.streams.lawful (last_index h.connections) (outward h) there
 
   sent : ℕ
@@ -89,19 +95,6 @@ module _ (settings : Settings) (s : PrimaryState) (h : PrimaryHistory) (e : EndS
   -- the core's test
   abbrev takes : Bool
   takes = not (is_unsent number e.unsent || is_in_epoch number e.under_way) && may_confirm number size s.log
-
-  -- an item of an epoch, at its place
-  listed : (place : ℕ) (item : Item) (epoch : ℕ) → slice_get (outward h).stream place ≡ Some item → epoch_of (outward h).stream place ≡ epoch → (n : ℕ) × (slice_get (items_of_epoch (outward h).stream epoch) n ≡ Some (place, item))
-  listed place item epoch at is =
-      let zero_more : 0 + place ≡ place = omega arith in
-      filtered-pick (λ (x : ℕ × Item). epoch_of (outward h).stream x.0 == epoch) (placed (outward h).stream) place (place, item) (placed-at 0 (outward h).stream place item at ∙ ap (λ m. Some (m, item)) zero_more) (eq-eqb (epoch_of (outward h).stream place) epoch is)
-
-  unlisted : (n : ℕ) (entry : ℕ × Item) (epoch : ℕ) → slice_get (items_of_epoch (outward h).stream epoch) n ≡ Some entry → (slice_get (outward h).stream entry.0 ≡ Some entry.1) × (epoch_of (outward h).stream entry.0 ≡ epoch)
-  unlisted n entry epoch at =
-      let stood = pick-filtered (λ (x : ℕ × Item). epoch_of (outward h).stream x.0 == epoch) (placed (outward h).stream) n entry at in
-      let was = placed-back 0 (outward h).stream stood.0 entry stood.1 in
-      let index : stood.0 ≡ entry.0 = let p = was.0 in omega arith in
-      (subst (λ m. slice_get (outward h).stream m ≡ Some entry.1) index was.1, eqb-true (epoch_of (outward h).stream entry.0) epoch stood.2)
 
   -- where the log takes it
   module _ (unsent : is_unsent number e.unsent ≡ false) (elsewhere : is_in_epoch number e.under_way ≡ false) (may : may_confirm number size s.log ≡ true) where
@@ -115,7 +108,8 @@ module _ (settings : Settings) (s : PrimaryState) (h : PrimaryHistory) (e : EndS
     sized = first-size s.log (outward h) epochs size awaited.1
 
     number_is : number ≡ suc epochs.acked
-    number_is = let eq = eqb-true (number + length s.log.epochs.sizes) (s.log.epochs.ended + 1) awaited.0 in let many = sizes-many s.log (outward h) epochs in let ended = epochs.ended in omega arith
+    number_is = let eq = eqb-true (number + length s.log.epochs.sizes) (s.log.epochs.ended + 1) awaited.0 in let many =
+        sizes-many s.log (outward h) epochs in let ended = epochs.ended in omega arith
 
     the-barrier : (place : ℕ) × (slice_get (outward h).stream place ≡ Some (BarrierItem number)) × (epoch_of (outward h).stream place ≡ number)
     the-barrier =
@@ -130,62 +124,73 @@ module _ (settings : Settings) (s : PrimaryState) (h : PrimaryHistory) (e : EndS
       | inr late ↦ absurd (
           let k : ℕ = the-barrier.0 - items_sent (outward h) in
           let index : items_sent (outward h) + k ≡ the-barrier.0 = omega arith in
-          let at : slice_get (drop (items_sent (outward h)) (outward h).stream) k ≡ Some (BarrierItem number) = behind-get (items_sent (outward h)) (outward h).stream k (BarrierItem number) (ap (slice_get (outward h).stream) index ∙ the-barrier.1) in
-          both_ways (is_unsent number e.unsent) unsent (any-pick (λ item. elim item as (λ _. Bool) [ BarrierItem epoch ↦ epoch == number | _ ↦ false ]) e.unsent k (BarrierItem number) (subst (λ (l : List Item). slice_get l k ≡ Some (BarrierItem number)) (sym end.unsent) at) (eq-eqb number number refl)))
+          let at : slice_get (drop (items_sent (outward h)) (outward h).stream) k ≡ Some (BarrierItem number) =
+          behind-get (items_sent (outward h)) (outward h).stream k (BarrierItem number) (ap (slice_get (outward h).stream) index ∙ the-barrier.1) in
+          both_ways (is_unsent number e.unsent) unsent
+          (any-pick (λ item. elim item as (λ _. Bool) [ BarrierItem epoch ↦ epoch == number | _ ↦ false ]) e.unsent k (BarrierItem number)
+          (subst (λ (l : List Item). slice_get l k ≡ Some (BarrierItem number)) (sym end.unsent) at) (eq-eqb number number refl)))
     ]
 
-    oldest-is : oldest_barrier (outward h) ≡ Some (BarrierItem number)
-    oldest-is = find-first (is_unacknowledged (outward h)) (take (items_sent (outward h)) (outward h).stream) the-barrier.0 (BarrierItem number) (front-get (items_sent (outward h)) (outward h).stream the-barrier.0 (BarrierItem number) early the-barrier.1)
-        (ap not (epochs.acknowledged number (let is = number_is in omega arith) ∙ lt-leb number epochs.acked (let is = number_is in omega arith))) earlier
-      where
-        earlier : (j : ℕ) (y : Item) → j < the-barrier.0 → slice_get (take (items_sent (outward h)) (outward h).stream) j ≡ Some y → is_unacknowledged (outward h) y ≡ false
-        earlier j (BarrierItem epoch) before at =
-            let was = (get-front (items_sent (outward h)) (outward h).stream j (BarrierItem epoch) at).1 in
-            let lawful_so = lawful.barriers j epoch was in
-            let within = slice_get_within (outward h).stream the-barrier.0 (BarrierItem number) the-barrier.1 in
-            let rises = behind-barrier (outward h).stream j the-barrier.0 epoch before (omega arith) was in
-            let at_epoch = the-barrier.2 in
-            ap not (epochs.acknowledged epoch (omega arith) ∙ le-leb epoch epochs.acked (let is = number_is in omega arith))
-        earlier j (WriteItem write) before at = refl
-        earlier j (ResyncItem block contents) before at = refl
-        earlier j (SyncUuidItem word) before at = refl
-        earlier j (UuidsItem tuple) before at = refl
+    earlier : (j epoch : ℕ) → j < the-barrier.0 → slice_get (outward h).stream j ≡ Some (BarrierItem epoch)
+        → barrier_acknowledged (outward h) epoch ≡ true
+    earlier j epoch before at =
+        let lawful_so = lawful.barriers j epoch at in
+        let within = slice_get_within (outward h).stream the-barrier.0 (BarrierItem number) the-barrier.1 in
+        let rises = behind-barrier (outward h).stream j the-barrier.0 epoch before (omega arith) at in
+        let at_epoch = the-barrier.2 in
+        epochs.acknowledged epoch (omega arith) ∙ le-leb epoch epochs.acked (let is = number_is in omega arith)
 
     -- each item of the epoch has its answer
-    acknowledged-at : (place : ℕ) (item : Item) → slice_get (outward h).stream place ≡ Some item → epoch_of (outward h).stream place ≡ number → is_acknowledged h.settings.protocol (outward h) (place, item) ≡ true
-    acknowledged-at place (BarrierItem epoch) at is = refl
-    acknowledged-at place (SyncUuidItem word) at is = refl
-    acknowledged-at place (UuidsItem tuple) at is = refl
-    acknowledged-at place (ResyncItem block contents) at is = go (was_resynced (outward h) place (ResyncItem block contents)) refl e.under_way refl end.under_way
+    block-acknowledged : (place block : ℕ) (contents : List ℕ) → slice_get (outward h).stream place ≡ Some (ResyncItem block contents)
+        → epoch_of (outward h).stream place ≡ number → was_resynced (outward h) place (ResyncItem block contents) ≡ true
+    block-acknowledged place block contents at is = go (was_resynced (outward h) place (ResyncItem block contents)) refl e.under_way refl end.under_way
       where
         zero_more : 0 + place ≡ place
         zero_more = omega arith
 
-        go : (b : Bool) → was_resynced (outward h) place (ResyncItem block contents) ≡ b → (v : Option UnderWay) → e.under_way ≡ v → UnderWayLeft v (outward h) → was_resynced (outward h) place (ResyncItem block contents) ≡ true
+        go : (b : Bool) → was_resynced (outward h) place (ResyncItem block contents) ≡ b → (v : Option UnderWay) → e.under_way ≡ v → UnderWayLeft v (outward h)
+            → was_resynced (outward h) place (ResyncItem block contents) ≡ true
         go true so v way left_so = so
         go false not_yet v way left_so =
-            let waits = filtered-pick (λ (x : ℕ × Item). is_resync x.1 && not (was_resynced (outward h) x.0 x.1)) (placed (outward h).stream) place (place, ResyncItem block contents) (placed-at 0 (outward h).stream place (ResyncItem block contents) at ∙ ap (λ m. Some (m, ResyncItem block contents)) zero_more) (ap not not_yet) in
+            let waits = filtered-pick (λ (x : ℕ × Item). is_resync x.1 && not (was_resynced (outward h) x.0 x.1)) (placed (outward h).stream) place (
+              place,
+              ResyncItem block contents,
+            ) (placed-at 0 (outward h).stream place (ResyncItem block contents) at
+            ∙ ap (λ m. Some (m, ResyncItem block contents)) zero_more) (ap not not_yet) in
             by-way v way left_so waits.0 waits.1
           where
-            by-way : (v : Option UnderWay) → e.under_way ≡ v → UnderWayLeft v (outward h) → (n : ℕ) → slice_get (under_way (outward h)) n ≡ Some (place, ResyncItem block contents) → was_resynced (outward h) place (ResyncItem block contents) ≡ true
-            by-way None way none n there_so = absurd (let empty : slice_get [] n ≡ Some (place, ResyncItem block contents) = subst (λ (l : List (ℕ × Item)). slice_get l n ≡ Some (place, ResyncItem block contents)) none there_so in cc)
+            by-way : (v : Option UnderWay) → e.under_way ≡ v → UnderWayLeft v (outward h) → (n : ℕ)
+                → slice_get (under_way (outward h)) n ≡ Some (place, ResyncItem block contents)
+                → was_resynced (outward h) place (ResyncItem block contents) ≡ true
+            by-way None way none n there_so =
+                absurd (let empty : slice_get [] n ≡ Some (place, ResyncItem block contents) =
+                subst (λ (l : List (ℕ × Item)). slice_get l n ≡ Some (place, ResyncItem block contents)) none there_so in cc)
             by-way (Some w) way one zero there_so = absurd (
-                let first : Some (w.place, ResyncItem w.block one.0) ≡ Some (place, ResyncItem block contents) = ap (λ (l : List (ℕ × Item)). slice_get l 0) (sym one.1) ∙ there_so in
+                let first : Some (w.place, ResyncItem w.block one.0) ≡ Some (place, ResyncItem block contents) = ap (λ (l : List (ℕ × Item)). slice_get l 0)
+                (sym one.1) ∙ there_so in
                 let same : (w.place, ResyncItem w.block one.0) ≡ (place, ResyncItem block contents) = cc in
                 let place_is : w.place ≡ place = ap (λ (x : ℕ × Item). x.0) same in
                 let epoch_is : w.epoch ≡ number = sym one.2 ∙ (ap (epoch_of (outward h).stream) place_is ∙ is) in
                 both_ways (is_in_epoch number e.under_way) elsewhere (ap (is_in_epoch number) way ∙ eq-eqb w.epoch number epoch_is))
-            by-way (Some w) way one (suc n) there_so = absurd (let none : slice_get ((w.place, ResyncItem w.block one.0) ∷ []) (suc n) ≡ Some (place, ResyncItem block contents) = subst (λ (l : List (ℕ × Item)). slice_get l (suc n) ≡ Some (place, ResyncItem block contents)) one.1 there_so in cc)
-    acknowledged-at place (WriteItem write) at is = by-protocol h.settings.protocol refl
+            by-way (Some w) way one (suc n) there_so =
+                absurd (let none : slice_get ((w.place, ResyncItem w.block one.0) ∷ []) (suc n) ≡ Some (place, ResyncItem block contents) =
+                subst (λ (l : List (ℕ × Item)). slice_get l (suc n) ≡ Some (place, ResyncItem block contents)) one.1 there_so in cc)
+
+    write-acknowledged : (place : ℕ) (write : Write) → slice_get (outward h).stream place ≡ Some (WriteItem write) → epoch_of (outward h).stream place ≡ number
+        → (h.settings.protocol ≡ protocol.A) ⊎ (is_answered_by h.settings.protocol (outward h) place (WriteItem write) ≡ true)
+    write-acknowledged place write at is = by-protocol h.settings.protocol refl
       where
-        found : (i : ℕ) × (a : Accepted) × (slice_get h.writes i ≡ Some a) × (a.write ≡ write) × (a.home ≡ Some (last_index h.connections, place))
+        found : (i : ℕ) × (a : Accepted) × (slice_get h.writes i ≡ Some a) × (a.write ≡ write)
+            × (a.home ≡ Some (record { index = last_index h.connections; place = place }))
         found = ordered.1.1.0.0.homed (last_index h.connections) place (outward h) write there at
 
         unconfirmed : is_confirmed h found.1 ≡ false
-        unconfirmed = confirmed-at h found.1 (last_index h.connections, place) (outward h) found.4 there ∙ (epochs.acknowledged (epoch_of (outward h).stream place) (omega arith) ∙ lt-leb (epoch_of (outward h).stream place) epochs.acked (let n = number_is in omega arith))
+        unconfirmed = confirmed-at h found.1 (record { index = last_index h.connections; place = place }) (outward h) found.4 there
+            ∙ (epochs.acknowledged (epoch_of (outward h).stream place) (omega arith)
+            ∙ lt-leb (epoch_of (outward h).stream place) epochs.acked (let n = number_is in omega arith))
 
         linked : is_alone h found.1 ≡ false
-        linked = alone-at h found.1 (last_index h.connections, place) (outward h) found.4 there ∙ end.stands
+        linked = alone-at h found.1 (record { index = last_index h.connections; place = place }) (outward h) found.4 there ∙ end.stands
 
         held : is_released h found.1 ≡ false
         held = (λ i. not (is_waiting found.1.outcome) && (unconfirmed i || linked i)) ∙ and-false (not (is_waiting found.1.outcome))
@@ -199,8 +204,11 @@ module _ (settings : Settings) (s : PrimaryState) (h : PrimaryHistory) (e : EndS
         between =
             let number_of : found.1.write.number ≡ write.number = ap (λ (w : Write). w.number) found.3 in
             let some = first-total s.log (outward h) epochs sized.0 in
-            let low : nat_le write.number (s.log.confirmed + 0) ≡ false = epochs.upto 0 place write (omega arith) at ∙ lt-leb (epoch_of (outward h).stream place) (epochs.acked + 0) (let n = number_is in omega arith) in
-            let high : nat_le write.number (s.log.confirmed + total (take 1 s.log.epochs.sizes)) ≡ true = epochs.upto 1 place write (let many = some.0 in omega arith) at ∙ le-leb (epoch_of (outward h).stream place) (epochs.acked + 1) (let n = number_is in omega arith) in
+            let low : nat_le write.number (s.log.confirmed + 0) ≡ false = epochs.upto 0 place write (omega arith) at
+            ∙ lt-leb (epoch_of (outward h).stream place) (epochs.acked + 0) (let n = number_is in omega arith) in
+            let high : nat_le write.number (s.log.confirmed + total (take 1 s.log.epochs.sizes)) ≡ true =
+            epochs.upto 1 place write (let many = some.0 in omega arith) at
+            ∙ le-leb (epoch_of (outward h).stream place) (epochs.acked + 1) (let n = number_is in omega arith) in
             let above = leb-false write.number (s.log.confirmed + 0) low in
             let upto = leb-true write.number (s.log.confirmed + total (take 1 s.log.epochs.sizes)) high in
             let sum = some.1 in
@@ -212,50 +220,46 @@ module _ (settings : Settings) (s : PrimaryState) (h : PrimaryHistory) (e : EndS
           | inl so ↦ so
           | inr not_yet ↦ absurd (
               let kept = filtered-pick (λ x. not (is_released h x)) h.writes found.0 found.1 found.2 (ap not held) in
-              let lacks : lacks_answer size s.log ≡ true = ap (list_any (λ w. is_between (s.log.confirmed + 1) size w.number && not w.answered)) left.rest.log.writes
+              let lacks : lacks_answer size s.log ≡ true = ap (list_any (λ w. is_between (s.log.confirmed + 1) size w.number && not w.answered))
+              left.rest.log.writes
               ∙ (any-map (λ w. is_between (s.log.confirmed + 1) size w.number && not w.answered) (logged_of h) (unreleased h)
-              ∙ any-pick (λ a. is_between (s.log.confirmed + 1) size a.write.number && not (is_answered h a)) (unreleased h) kept.0 found.1 kept.1 (λ i. between i && not (not_yet i))) in
-              both_ways (asks_answers s.log.protocol && lacks_answer size s.log) (not-true (asks_answers s.log.protocol && lacks_answer size s.log) parts.1) (λ i. asks i && lacks i))
+              ∙ any-pick (λ a. is_between (s.log.confirmed + 1) size a.write.number && not (is_answered h a)) (unreleased h) kept.0 found.1 kept.1
+              (λ i. between i && not (not_yet i))) in
+              both_ways (asks_answers s.log.protocol && lacks_answer size s.log) (not-true (asks_answers s.log.protocol && lacks_answer size s.log) parts.1)
+              (λ i. asks i && lacks i))
         ]
 
         here : is_answered h found.1 ≡ is_answered_by h.settings.protocol (outward h) place (WriteItem write)
         here = answered-here h found.1 place found.4 there ∙ ap (λ (w : Write). is_answered_by h.settings.protocol (outward h) place (WriteItem w)) found.3
 
-        by-protocol : (p : Protocol) → h.settings.protocol ≡ p → is_acknowledged h.settings.protocol (outward h) (place, WriteItem write) ≡ true
-        by-protocol protocol.A asked = ap (λ (p : Protocol). is_acknowledged p (outward h) (place, WriteItem write)) asked
-        by-protocol protocol.B asked = ap (λ (p : Protocol). is_acknowledged p (outward h) (place, WriteItem write)) asked ∙ (ap (λ (p : Protocol). is_answered_by p (outward h) place (WriteItem write)) (sym asked) ∙ (sym here ∙ answered (ap asks_answers (left.rest.log.protocol ∙ asked))))
-        by-protocol protocol.C asked = ap (λ (p : Protocol). is_acknowledged p (outward h) (place, WriteItem write)) asked ∙ (ap (λ (p : Protocol). is_answered_by p (outward h) place (WriteItem write)) (sym asked) ∙ (sym here ∙ answered (ap asks_answers (left.rest.log.protocol ∙ asked))))
+        by-protocol : (p : Protocol) → h.settings.protocol ≡ p
+            → (h.settings.protocol ≡ protocol.A) ⊎ (is_answered_by h.settings.protocol (outward h) place (WriteItem write) ≡ true)
+        by-protocol protocol.A asked = inl asked
+        by-protocol protocol.B asked = inr (sym here ∙ answered (ap asks_answers (left.rest.log.protocol ∙ asked)))
+        by-protocol protocol.C asked = inr (sym here ∙ answered (ap asks_answers (left.rest.log.protocol ∙ asked)))
 
     -- so it is in its turn
     pub turn-forth : is_in_turn h number size ≡ true
-    turn-forth = λ i. ((ap (is_barrier_of number) oldest-is ∙ eq-eqb number number refl) i && eq-eqb size (epoch_size (outward h).stream number) (sized.1 ∙ ap (epoch_size (outward h).stream) (sym number_is)) i)
-        && all-get (is_acknowledged h.settings.protocol (outward h)) (items_of_epoch (outward h).stream number) (λ n entry at. let stood = unlisted n entry number at in acknowledged-at entry.0 entry.1 stood.0 stood.1) i
+    turn-forth = turn-by h number size (record {
+      place = the-barrier.0;
+      sent = early;
+      there = the-barrier.1;
+      first = epochs.acknowledged number (let is = number_is in omega arith) ∙ lt-leb number epochs.acked (let is = number_is in omega arith);
+      before = earlier;
+      sized = sized.1 ∙ ap (epoch_size (outward h).stream) (sym number_is);
+      blocks = block-acknowledged;
+      writes = write-acknowledged;
+    })
 
   -- where it is in its turn
   module _ (turn : is_in_turn h number size ≡ true) where
-    turns : ((is_barrier_of number (oldest_barrier (outward h)) && (size == epoch_size (outward h).stream number)) ≡ true) × (list_all (is_acknowledged h.settings.protocol (outward h)) (items_of_epoch (outward h).stream number) ≡ true)
-    turns = and_parts (is_barrier_of number (oldest_barrier (outward h)) && (size == epoch_size (outward h).stream number)) (list_all (is_acknowledged h.settings.protocol (outward h)) (items_of_epoch (outward h).stream number)) turn
-
-    firsts : (is_barrier_of number (oldest_barrier (outward h)) ≡ true) × ((size == epoch_size (outward h).stream number) ≡ true)
-    firsts = and_parts (is_barrier_of number (oldest_barrier (outward h))) (size == epoch_size (outward h).stream number) turns.0
+    its : IsTurn h number size
+    its = turn-has h number size turn
 
     -- the barrier, sent and not acknowledged
-    pub its-barrier : (place : ℕ) × (place < items_sent (outward h)) × (slice_get (outward h).stream place ≡ Some (BarrierItem number)) × (epoch_of (outward h).stream place ≡ number) × (barrier_acknowledged (outward h) number ≡ false)
-    its-barrier = go (oldest_barrier (outward h)) refl firsts.0
-      where
-        go : (v : Option Item) → oldest_barrier (outward h) ≡ v → is_barrier_of number v ≡ true
-            → (place : ℕ) × (place < items_sent (outward h)) × (slice_get (outward h).stream place ≡ Some (BarrierItem number)) × (epoch_of (outward h).stream place ≡ number) × (barrier_acknowledged (outward h) number ≡ false)
-        go None is so = absurd (cc)
-        go (Some (WriteItem write)) is so = absurd (cc)
-        go (Some (ResyncItem block contents)) is so = absurd (cc)
-        go (Some (SyncUuidItem word)) is so = absurd (cc)
-        go (Some (UuidsItem tuple)) is so = absurd (cc)
-        go (Some (BarrierItem epoch)) is so =
-            let same : number ≡ epoch = eqb-true number epoch so in
-            let found = pick-found (is_unacknowledged (outward h)) (take (items_sent (outward h)) (outward h).stream) (BarrierItem epoch) is in
-            let front = get-front (items_sent (outward h)) (outward h).stream found.0 (BarrierItem epoch) found.1 in
-            let at : slice_get (outward h).stream found.0 ≡ Some (BarrierItem number) = front.1 ∙ ap (λ n. Some (BarrierItem n)) (sym same) in
-            (found.0, front.0, at, sym (lawful.barriers found.0 number at), ap (barrier_acknowledged (outward h)) same ∙ not-true (barrier_acknowledged (outward h) epoch) found.2)
+    pub its-barrier : (place : ℕ) × (place < items_sent (outward h)) × (slice_get (outward h).stream place ≡ Some (BarrierItem number))
+        × (epoch_of (outward h).stream place ≡ number) × (barrier_acknowledged (outward h) number ≡ false)
+    its-barrier = (its.place, its.sent, its.there, sym (lawful.barriers its.place number its.there), its.first)
 
     some : 0 < number
     some = let is = its-barrier.3 in omega arith
@@ -266,7 +270,8 @@ module _ (settings : Settings) (s : PrimaryState) (h : PrimaryHistory) (e : EndS
         let late = leb-false number epochs.acked (sym (epochs.acknowledged number some) ∙ its-barrier.4) in
         elim (cases_lt (suc epochs.acked) number) [
           | inl later ↦ absurd (
-              let said = earlier-said settings.max_epoch (outward h) number lawful firsts.0 (suc epochs.acked) (omega arith) later in
+              let said = earlier-said (most_writes settings) (outward h) number its.place lawful its.there its.before (suc epochs.acked) (omega arith)
+              later in
               let early = leb-true (suc epochs.acked) epochs.acked (sym (epochs.acknowledged (suc epochs.acked) (omega arith)) ∙ said) in
               omega arith)
           | inr upto ↦ omega arith
@@ -276,7 +281,8 @@ module _ (settings : Settings) (s : PrimaryState) (h : PrimaryHistory) (e : EndS
     ended-one =
         let within = slice_get_within (outward h).stream its-barrier.0 (BarrierItem number) its-barrier.2 in
         let behind = behind-barrier (outward h).stream its-barrier.0 (length (outward h).stream) number within (omega arith) its-barrier.2 in
-        let whole : barriers_in (take (length (outward h).stream) (outward h).stream) ≡ barriers_in (outward h).stream = ap barriers_in (take-whole (outward h).stream) in
+        let whole : barriers_in (take (length (outward h).stream) (outward h).stream) ≡ barriers_in (outward h).stream =
+        ap barriers_in (take-whole (outward h).stream) in
         let epoch = its-barrier.3 in
         let is = next-is in
         omega arith
@@ -286,19 +292,22 @@ module _ (settings : Settings) (s : PrimaryState) (h : PrimaryHistory) (e : EndS
         take-whole (x ∷ xs) = ap (λ (l : List _). x ∷ l) (take-whole xs)
 
     pub size-is : size ≡ epoch_size (outward h).stream (suc epochs.acked)
-    size-is = eqb-true size (epoch_size (outward h).stream number) firsts.1 ∙ ap (epoch_size (outward h).stream) next-is
+    size-is = its.sized ∙ ap (epoch_size (outward h).stream) next-is
 
-    -- an item of the epoch has its answer
-    pub its-answer : (place : ℕ) (item : Item) → slice_get (outward h).stream place ≡ Some item → epoch_of (outward h).stream place ≡ number → is_acknowledged h.settings.protocol (outward h) (place, item) ≡ true
-    its-answer place item at is = let in_list = listed place item number at is in all-at (is_acknowledged h.settings.protocol (outward h)) (items_of_epoch (outward h).stream number) turns.1 in_list.0 (place, item) in_list.1
+    -- a write of the epoch has its answer, where the protocol asks for one
+    pub its-answer : (place : ℕ) (write : Write) → slice_get (outward h).stream place ≡ Some (WriteItem write) → epoch_of (outward h).stream place ≡ number
+        → (h.settings.protocol ≡ protocol.A) ⊎ (is_answered_by h.settings.protocol (outward h) place (WriteItem write) ≡ true)
+    its-answer = its.writes
 
     none-unsent : is_unsent number e.unsent ≡ false
     none-unsent = false_from_ne_true (is_unsent number e.unsent) (λ waits.
         let some_one = pick-any (λ item. elim item as (λ _. Bool) [ BarrierItem epoch ↦ epoch == number | _ ↦ false ]) e.unsent waits in
-        let at = get-behind (items_sent (outward h)) (outward h).stream some_one.0 some_one.1 (subst (λ (l : List Item). slice_get l some_one.0 ≡ Some some_one.1) end.unsent some_one.2) in
+        let at = get-behind (items_sent (outward h)) (outward h).stream some_one.0 some_one.1
+        (subst (λ (l : List Item). slice_get l some_one.0 ≡ Some some_one.1) end.unsent some_one.2) in
         by-item some_one.0 some_one.1 at some_one.3)
       where
-        by-item : (k : ℕ) (item : Item) → slice_get (outward h).stream (items_sent (outward h) + k) ≡ Some item → elim item as (λ _. Bool) [ BarrierItem epoch ↦ epoch == number | _ ↦ false ] ≡ true → ⊥
+        by-item : (k : ℕ) (item : Item) → slice_get (outward h).stream (items_sent (outward h) + k) ≡ Some item
+            → elim item as (λ _. Bool) [ BarrierItem epoch ↦ epoch == number | _ ↦ false ] ≡ true → ⊥
         by-item k (BarrierItem epoch) at is =
             let same = eqb-true epoch number is in
             let within = slice_get_within (outward h).stream (items_sent (outward h) + k) (BarrierItem epoch) at in
@@ -319,20 +328,28 @@ module _ (settings : Settings) (s : PrimaryState) (h : PrimaryHistory) (e : EndS
         go None none = refl
         go (Some way) one = false_from_ne_true (way.epoch == number) (λ same.
             let at = under-way-at (outward h) way.place (ResyncItem way.block one.0) [] one.1 in
-            let answered = its-answer way.place (ResyncItem way.block one.0) at (one.2 ∙ eqb-true way.epoch number same) in
-            let first : slice_get (under_way (outward h)) 0 ≡ Some (way.place, ResyncItem way.block one.0) = ap (λ (l : List (ℕ × Item)). slice_get l 0) one.1 in
-            let waits = (pick-filtered (λ (x : ℕ × Item). is_resync x.1 && not (was_resynced (outward h) x.0 x.1)) (placed (outward h).stream) 0 (way.place, ResyncItem way.block one.0) first).2 in
-            both_ways (was_resynced (outward h) way.place (ResyncItem way.block one.0)) (not-true (was_resynced (outward h) way.place (ResyncItem way.block one.0)) waits) answered)
+            let answered = its.blocks way.place way.block one.0 at (one.2 ∙ eqb-true way.epoch number same) in
+            let first : slice_get (under_way (outward h)) 0 ≡ Some (way.place, ResyncItem way.block one.0) =
+            ap (λ (l : List (ℕ × Item)). slice_get l 0) one.1 in
+            let waits = (pick-filtered (λ (x : ℕ × Item). is_resync x.1 && not (was_resynced (outward h) x.0 x.1)) (placed (outward h).stream) 0 (
+              way.place,
+              ResyncItem way.block one.0,
+            ) first).2 in
+            both_ways (was_resynced (outward h) way.place (ResyncItem way.block one.0))
+            (not-true (was_resynced (outward h) way.place (ResyncItem way.block one.0)) waits) answered)
 
     none-lacks : (asks_answers s.log.protocol && lacks_answer size s.log) ≡ false
     none-lacks = false_from_ne_true (asks_answers s.log.protocol && lacks_answer size s.log) (λ both.
         let halves = and_parts (asks_answers s.log.protocol) (lacks_answer size s.log) both in
         let some_one = pick-any (λ a. is_between (s.log.confirmed + 1) size a.write.number && not (is_answered h a)) (unreleased h)
-        (sym (ap (list_any (λ w. is_between (s.log.confirmed + 1) size w.number && not w.answered)) left.rest.log.writes ∙ any-map (λ w. is_between (s.log.confirmed + 1) size w.number && not w.answered) (logged_of h) (unreleased h)) ∙ halves.1) in
+        (sym (ap (list_any (λ w. is_between (s.log.confirmed + 1) size w.number && not w.answered)) left.rest.log.writes
+        ∙ any-map (λ w. is_between (s.log.confirmed + 1) size w.number && not w.answered) (logged_of h) (unreleased h)) ∙ halves.1) in
         let stood = pick-filtered (λ x. not (is_released h x)) h.writes some_one.0 some_one.1 some_one.2 in
-        by-write some_one.1 stood.0 stood.1 (and_parts (is_between (s.log.confirmed + 1) size some_one.1.write.number) (not (is_answered h some_one.1)) some_one.3) halves.0)
+        by-write some_one.1 stood.0 stood.1
+        (and_parts (is_between (s.log.confirmed + 1) size some_one.1.write.number) (not (is_answered h some_one.1)) some_one.3) halves.0)
       where
-        by-write : (a : Accepted) (i : ℕ) → slice_get h.writes i ≡ Some a → (is_between (s.log.confirmed + 1) size a.write.number ≡ true) × (not (is_answered h a) ≡ true) → asks_answers s.log.protocol ≡ true → ⊥
+        by-write : (a : Accepted) (i : ℕ) → slice_get h.writes i ≡ Some a
+            → (is_between (s.log.confirmed + 1) size a.write.number ≡ true) × (not (is_answered h a) ≡ true) → asks_answers s.log.protocol ≡ true → ⊥
         by-write a i at halves asks =
             let bounds = and_parts (nat_le (s.log.confirmed + 1) a.write.number) (nat_lt a.write.number (s.log.confirmed + 1 + size)) halves.0 in
             let low = leb-true (s.log.confirmed + 1) a.write.number bounds.0 in
@@ -340,24 +357,26 @@ module _ (settings : Settings) (s : PrimaryState) (h : PrimaryHistory) (e : EndS
             let place = left.stream.here on i a at (omega arith) in
             let housed = ordered.1.1.0.0.housed i (last_index h.connections) place.0 a at place.1 in
             let same : housed.0 ≡ outward h = same-at h.connections (last_index h.connections) housed.0 (outward h) housed.1 there in
-            let item : slice_get (outward h).stream place.0 ≡ Some (WriteItem a.write) = subst (λ (c : Outward). slice_get c.stream place.0 ≡ Some (WriteItem a.write)) same housed.2 in
+            let item : slice_get (outward h).stream place.0 ≡ Some (WriteItem a.write) =
+            subst (λ (c : Outward). slice_get c.stream place.0 ≡ Some (WriteItem a.write)) same housed.2 in
             let sums = first-total s.log (outward h) epochs ended-one in
-            let over : nat_le (epoch_of (outward h).stream place.0) (epochs.acked + 0) ≡ false = sym (epochs.upto 0 place.0 a.write (omega arith) item) ∙ lt-leb a.write.number (s.log.confirmed + 0) (omega arith) in
-            let under : nat_le (epoch_of (outward h).stream place.0) (epochs.acked + 1) ≡ true = sym (epochs.upto 1 place.0 a.write (let many = sums.0 in omega arith) item) ∙ le-leb a.write.number (s.log.confirmed + total (take 1 s.log.epochs.sizes)) (let sum = sums.1 in let is = size-is in omega arith) in
+            let over : nat_le (epoch_of (outward h).stream place.0) (epochs.acked + 0) ≡ false = sym (epochs.upto 0 place.0 a.write (omega arith) item)
+            ∙ lt-leb a.write.number (s.log.confirmed + 0) (omega arith) in
+            let under : nat_le (epoch_of (outward h).stream place.0) (epochs.acked + 1) ≡ true =
+            sym (epochs.upto 1 place.0 a.write (let many = sums.0 in omega arith) item)
+            ∙ le-leb a.write.number (s.log.confirmed + total (take 1 s.log.epochs.sizes)) (let sum = sums.1 in let is = size-is in omega arith) in
             let above = leb-false (epoch_of (outward h).stream place.0) (epochs.acked + 0) over in
             let upto = leb-true (epoch_of (outward h).stream place.0) (epochs.acked + 1) under in
             let n = next-is in
-            let answer = its-answer place.0 (WriteItem a.write) item (omega arith) in
-            by-protocol h.settings.protocol refl place.0 (answered-here h a place.0 place.1 there) answer
-          where
-            by-protocol : (p : Protocol) → h.settings.protocol ≡ p → (place : ℕ) → is_answered h a ≡ is_answered_by h.settings.protocol (outward h) place (WriteItem a.write) → is_acknowledged h.settings.protocol (outward h) (place, WriteItem a.write) ≡ true → ⊥
-            by-protocol protocol.A asked place here answer = absurd (let no_answers : asks_answers s.log.protocol ≡ false = ap asks_answers (left.rest.log.protocol ∙ asked) in both_ways (asks_answers s.log.protocol) no_answers asks)
-            by-protocol protocol.B asked place here answer = both_ways (is_answered h a) (not-true (is_answered h a) halves.1) (here ∙ (ap (λ (p : Protocol). is_answered_by p (outward h) place (WriteItem a.write)) asked ∙ (ap (λ (p : Protocol). is_acknowledged p (outward h) (place, WriteItem a.write)) (sym asked) ∙ answer)))
-            by-protocol protocol.C asked place here answer = both_ways (is_answered h a) (not-true (is_answered h a) halves.1) (here ∙ (ap (λ (p : Protocol). is_answered_by p (outward h) place (WriteItem a.write)) asked ∙ (ap (λ (p : Protocol). is_acknowledged p (outward h) (place, WriteItem a.write)) (sym asked) ∙ answer)))
+            elim (its-answer place.0 a.write item (omega arith)) [
+              | inl none ↦ both_ways (asks_answers s.log.protocol) (ap asks_answers (left.rest.log.protocol ∙ none)) asks
+              | inr answer ↦ both_ways (is_answered h a) (not-true (is_answered h a) halves.1) (answered-here h a place.0 place.1 there ∙ answer)
+            ]
 
     pub turn-back : ((is_unsent number e.unsent || is_in_epoch number e.under_way) ≡ false) × (may_confirm number size s.log ≡ true)
     turn-back = (
       λ i. none-unsent i || none-way i,
-      λ i. (eq-eqb (number + length s.log.epochs.sizes) (s.log.epochs.ended + 1) (let many = sizes-many s.log (outward h) epochs in let ended = epochs.ended in let n = next-is in omega arith) i
+      λ i. (eq-eqb (number + length s.log.epochs.sizes) (s.log.epochs.ended + 1) (let many = sizes-many s.log (outward h) epochs in let ended =
+          epochs.ended in let n = next-is in omega arith) i
           && (ap (λ n. begins_with n s.log.epochs.sizes) size-is ∙ sizes-first s.log (outward h) epochs ended-one) i) && not (none-lacks i),
     )

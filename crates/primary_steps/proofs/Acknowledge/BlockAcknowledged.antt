@@ -1,31 +1,35 @@
 -- The peer has the block under way: what that leaves, before what follows.
-use Rattle.std.proofs.Common.{ℕ, zero, suc, ◌≡◌, ◌+◌, ◌-◌, ◌<◌, ◌≤◌, Bool, true, false, not, ◌&&◌, ◌||◌, List, [], ◌∷◌, ◌++◌, length, map, filter, Option, Some, None, slice_get, Ok, refl, sym, ◌∙◌, ap, subst, arith, nat_lt, nat_le, ◌==◌}
+use Rattle.std.proofs.Common.{ℕ, zero, suc, ◌≡◌, ◌+◌, ◌-◌, ◌<◌, ◌≤◌, Bool, true, false, not, ◌&&◌, ◌||◌, List, [], ◌∷◌, ◌++◌, length, map, filter, Option, Some}
+use Rattle.std.proofs.Common.{None, slice_get, Ok, refl, sym, ◌∙◌, ap, subst, arith, nat_lt, ◌==◌}
 use Rattle.std.proofs.Math.Bool.{or-false}
 use Rattle.std.specs.Prelude.{set, if◌then◌else◌}
 use Rattle.std.specs.List.{list_any}
-use Rattle.std.proofs.lemmas.Bool.{both_ways, and_parts, or_parts, not-true, eqb-true, eq-eqb, lt-leb, false_from_ne_true}
+use Rattle.std.proofs.lemmas.Bool.{both_ways, and_parts, not-true, eqb-true, eq-eqb, false_from_ne_true}
 use Rattle.std.proofs.lemmas.List.Elements.{filter-append}
 use Rattle.std.proofs.lemmas.Option.{slice_get_within}
+use Rattle.blocks.specs.Positions.{StreamPosition}
 use Rattle.blocks.specs.declared.settings.Settings.{Settings}
 use Rattle.blocks.specs.declared.settings.Protocol.{Protocol}
 use Rattle.blocks.specs.declared.settings.Protocol.TheVariants as protocol
 use Rattle.blocks.specs.Ranges.{below}
 use Rattle.epochs.specs.Epochs.{EpochsState, ended_if}
 use Rattle.model.specs.Contents.{Write}
-use Rattle.model.specs.Stream.{Item, WriteItem, ResyncItem, BarrierItem, barriers_in, epoch_of, last_epoch, epoch_size, items_of_epoch, placed}
+use Rattle.model.specs.Stream.{Item, WriteItem, ResyncItem, BarrierItem, SyncUuidItem, UuidsItem, barriers_in, epoch_of, last_epoch, items_of_epoch, placed}
 use Rattle.model.specs.Frames.{RsWriteAckFrame, Acknowledged, Received, naming}
 use Rattle.model.specs.Marks.{clearing}
-use Rattle.model.specs.Primary.{Accepted, Outward, PrimaryHistory, no_outward, outward, last_index, change_last, stands, items_sent, is_resync, is_recv_ack, is_write_ack, is_rs_write_ack, is_barrier_ack, same_naming, was_resynced, is_answered_by, is_answered, is_alone, is_confirmed, is_waiting, is_open, open_writes, barrier_acknowledged, under_way}
-use Rattle.model.specs.PrimarySteps.{with_completions, is_settled, epoch_is_over, appending}
+use Rattle.model.specs.Primary.{Accepted, Outward, PrimaryHistory, no_outward, outward, last_index, change_last, stands, items_sent, is_resync, is_recv_ack}
+use Rattle.model.specs.Primary.{is_write_ack, is_rs_write_ack, is_barrier_ack, same_naming, was_resynced, is_answered_by, is_answered, is_alone, is_confirmed}
+use Rattle.model.specs.Primary.{is_waiting, is_open, open_writes, barrier_acknowledged, under_way}
+use Rattle.model.specs.PrimarySteps.{with_completions, epoch_is_over, appending}
 use Rattle.overlap.specs.Holdings.{Holding, without}
 use Rattle.transferlog.specs.Log as log
 use Rattle.transferlog.specs.Log.{LogState}
 use Rattle.transferlog.specs.Writes.{completed_of}
+use Rattle.laws.proofs.Rules.EpochEnds.{TakesWrites, GoesOn, goes-on, not-over, over-by-block}
 use Rattle.laws.proofs.Lists.Last.{length-change}
-use Rattle.laws.proofs.Lists.Picks.{pick-filtered, pick-none}
+use Rattle.laws.proofs.Lists.Picks.{pick-any, pick-filtered, pick-none}
 use Rattle.laws.proofs.Primary.Homes.{open-at}
 use Rattle.laws.proofs.Releases.InOrderMoves.{Ordered, OrderedAfter, in-order-kept}
-use Rattle.laws.proofs.Primary.LastEpoch.{IsEndOpen, end-open}
 use Rattle.laws.proofs.Primary.LawfulMoves.{last-changed}
 use Rattle.laws.proofs.Streams.Lawful.{barrier-empties}
 use Rattle.laws.proofs.Primary.Moves.{with_frame}
@@ -36,7 +40,7 @@ use Rattle.primary_steps.specs.Taking.{without_block}
 use Rattle.primary_steps.proofs.Acknowledge.WriteAnswered.{any-frame}
 use Rattle.primary_steps.proofs.Common.Connections.{SeesSame, look}
 use Rattle.primary_steps.proofs.Common.Epochs.{epochs-same, epochs-barrier}
-use Rattle.primary_steps.proofs.Common.Filters.{any-at, map-at, filter-map, filter-all, filter-none}
+use Rattle.primary_steps.proofs.Common.Filters.{map-at, filter-map, filter-all, filter-none}
 use Rattle.primary_steps.proofs.Common.Following.{IsDue, parted, barrier_of}
 use Rattle.primary_steps.proofs.Acknowledge.AcceptedFrame.{end-framed, other-place}
 use Rattle.primary_steps.proofs.Common.Reached.{outward-of}
@@ -51,7 +55,9 @@ or-true false = refl
 
 -- the mark of a block goes
 pub set-marks : (blocks : ℕ) (marks : ℕ → Bool) (block : ℕ) → set (marks_in blocks marks) block false ≡ marks_in blocks (clearing block marks)
-set-marks blocks marks block = go 0 block (below blocks) (omega arith) (λ i x at. let is = sym (get-below blocks i (let within = slice_get_within (below blocks) i x at in let size = length-below blocks in omega arith)) ∙ at in let same : i ≡ x = cc in omega arith)
+set-marks blocks marks block = go 0 block (below blocks) (omega arith)
+    (λ i x at. let is = sym (get-below blocks i (let within = slice_get_within (below blocks) i x at in let size = length-below blocks in omega arith))
+    ∙ at in let same : i ≡ x = cc in omega arith)
   where
     and-true : (b : Bool) → (b && true) ≡ b
     and-true true = refl
@@ -64,16 +70,19 @@ set-marks blocks marks block = go 0 block (below blocks) (omega arith) (λ i x a
     kept : (x : ℕ) → (x ≡ block → ⊥) → marks x ≡ (marks x && not (x == block))
     kept x other = sym (ap (λ b. marks x && not b) (false_from_ne_true (x == block) (λ same. other (eqb-true x block same))) ∙ and-true (marks x))
 
-    go : (from k : ℕ) (xs : List ℕ) → block ≡ from + k → ((i x : ℕ) → slice_get xs i ≡ Some x → x ≡ from + i) → set (map marks xs) k false ≡ map (clearing block marks) xs
+    go : (from k : ℕ) (xs : List ℕ) → block ≡ from + k → ((i x : ℕ) → slice_get xs i ≡ Some x → x ≡ from + i)
+        → set (map marks xs) k false ≡ map (clearing block marks) xs
     go from k [] is rising = refl
     go from zero (x ∷ xs) is rising =
         let first : x ≡ block = let at = rising 0 x refl in omega arith in
-        (λ i. (sym (ap (λ b. marks x && not b) (eq-eqb x block first) ∙ and-false (marks x)) i) ∷ map-at marks (clearing block marks) xs (λ j y at. kept y (λ same. let place = rising (suc j) y at in omega arith)) i)
+        (λ i. (sym (ap (λ b. marks x && not b) (eq-eqb x block first) ∙ and-false (marks x)) i) ∷ map-at marks (clearing block marks) xs
+        (λ j y at. kept y (λ same. let place = rising (suc j) y at in omega arith)) i)
     go from (suc k) (x ∷ xs) is rising =
         let place : x ≡ from = let at = rising 0 x refl in omega arith in
         (λ i. kept x (λ same. omega arith) i ∷ go (suc from) k xs (omega arith) (λ j y at. let so = rising (suc j) y at in omega arith) i)
 
-module _ (settings : Settings) (bound : 0 < settings.max_epoch) (s : PrimaryState) (h : PrimaryHistory) (e : EndState) (left : Leaves s h) (ordered : Ordered settings h) (end : LeavesEnd e (outward h)) (begun : (outward h).begun ≡ true)
+module _ (settings : Settings) (bound : TakesWrites settings) (s : PrimaryState) (h : PrimaryHistory) (e : EndState) (left : Leaves s h)
+    (ordered : Ordered settings h) (end : LeavesEnd e (outward h)) (begun : (outward h).begun ≡ true)
     (long : 2 < length (outward h).taken) (ack : Acknowledged) (names : NamesBlock (outward h) ack) where
   abbrev frame : Received
   frame = Ok (RsWriteAckFrame ack)
@@ -85,17 +94,21 @@ module _ (settings : Settings) (bound : 0 < settings.max_epoch) (s : PrimaryStat
   on = λ i. not (end.stands i) && begun i
 
   after : OrderedAfter settings later
-  after = (in-order-kept settings bound).clears h ack end.stands begun (record { names = block-sent (outward h) ack names; first = block-fresh (outward h) ack names }) ordered
+  after = (in-order-kept settings bound).clears h ack end.stands begun
+      (record { names = block-sent (outward h) ack names; first = block-fresh (outward h) ack names }) ordered
 
   out : outward later ≡ with_frame frame (outward h)
   out = outward-of (with_frame frame) h later refl end.stands
 
   -- No write sees the frame.
 
-  answers : (asked : Protocol) (place : ℕ) (item : Item) → is_answered_by asked (with_frame frame (outward h)) place item ≡ is_answered_by asked (outward h) place item
+  answers : (asked : Protocol) (place : ℕ) (item : Item)
+      → is_answered_by asked (with_frame frame (outward h)) place item ≡ is_answered_by asked (outward h) place item
   answers protocol.A place item = refl
-  answers protocol.B place item = any-frame (is_recv_ack (naming place item)) (outward h) frame end.plain ∙ or-false (is_answered_by protocol.B (outward h) place item)
-  answers protocol.C place item = any-frame (is_write_ack (naming place item)) (outward h) frame end.plain ∙ or-false (is_answered_by protocol.C (outward h) place item)
+  answers protocol.B place item = any-frame (is_recv_ack (naming place item)) (outward h) frame end.plain
+      ∙ or-false (is_answered_by protocol.B (outward h) place item)
+  answers protocol.C place item = any-frame (is_write_ack (naming place item)) (outward h) frame end.plain
+      ∙ or-false (is_answered_by protocol.C (outward h) place item)
 
   acknowledged : (epoch : ℕ) → barrier_acknowledged (with_frame frame (outward h)) epoch ≡ barrier_acknowledged (outward h) epoch
   acknowledged epoch = any-frame (is_barrier_ack epoch) (outward h) frame end.plain ∙ or-false (barrier_acknowledged (outward h) epoch)
@@ -106,9 +119,11 @@ module _ (settings : Settings) (bound : 0 < settings.max_epoch) (s : PrimaryStat
       see : Option Outward → Bool
       see v = elim v as (λ _. Bool) [ None ↦ true | Some c ↦ c.closed ]
 
-      go : (v : Option (ℕ × ℕ)) → elim v as (λ _. Bool) [ None ↦ true | Some home ↦ see (slice_get (change_last (with_frame frame) h.connections) home.0) ] ≡ elim v as (λ _. Bool) [ None ↦ true | Some home ↦ see (slice_get h.connections home.0) ]
+      go : (v : Option StreamPosition)
+          → elim v as (λ _. Bool) [ None ↦ true | Some home ↦ see (slice_get (change_last (with_frame frame) h.connections) home.index) ] ≡
+          elim v as (λ _. Bool) [ None ↦ true | Some home ↦ see (slice_get h.connections home.index) ]
       go None = refl
-      go (Some home) = look see (with_frame frame) (no_outward h.tuple) h.connections home.0 refl
+      go (Some home) = look see (with_frame frame) (no_outward h.tuple) h.connections home.index refl
 
   sent-framed : (a : Accepted) → is_sent later a ≡ is_sent h a
   sent-framed a = go a.home
@@ -116,9 +131,11 @@ module _ (settings : Settings) (bound : 0 < settings.max_epoch) (s : PrimaryStat
       see : ℕ → Option Outward → Bool
       see place v = elim v as (λ _. Bool) [ None ↦ false | Some c ↦ nat_lt place (items_sent c) ]
 
-      go : (v : Option (ℕ × ℕ)) → elim v as (λ _. Bool) [ None ↦ false | Some home ↦ see home.1 (slice_get (change_last (with_frame frame) h.connections) home.0) ] ≡ elim v as (λ _. Bool) [ None ↦ false | Some home ↦ see home.1 (slice_get h.connections home.0) ]
+      go : (v : Option StreamPosition) → elim v as
+          (λ _. Bool) [ None ↦ false | Some home ↦ see home.place (slice_get (change_last (with_frame frame) h.connections) home.index) ] ≡ elim v as
+          (λ _. Bool) [ None ↦ false | Some home ↦ see home.place (slice_get h.connections home.index) ]
       go None = refl
-      go (Some home) = look (see home.1) (with_frame frame) (no_outward h.tuple) h.connections home.0 refl
+      go (Some home) = look (see home.place) (with_frame frame) (no_outward h.tuple) h.connections home.index refl
 
   answered-framed : (a : Accepted) → is_answered later a ≡ is_answered h a
   answered-framed a = go a.home
@@ -126,9 +143,12 @@ module _ (settings : Settings) (bound : 0 < settings.max_epoch) (s : PrimaryStat
       see : ℕ → Option Outward → Bool
       see place v = elim v as (λ _. Bool) [ None ↦ false | Some c ↦ is_answered_by h.settings.protocol c place (WriteItem a.write) ]
 
-      go : (v : Option (ℕ × ℕ)) → elim v as (λ _. Bool) [ None ↦ false | Some home ↦ see home.1 (slice_get (change_last (with_frame frame) h.connections) home.0) ] ≡ elim v as (λ _. Bool) [ None ↦ false | Some home ↦ see home.1 (slice_get h.connections home.0) ]
+      go : (v : Option StreamPosition) → elim v as
+          (λ _. Bool) [ None ↦ false | Some home ↦ see home.place (slice_get (change_last (with_frame frame) h.connections) home.index) ] ≡ elim v as
+          (λ _. Bool) [ None ↦ false | Some home ↦ see home.place (slice_get h.connections home.index) ]
       go None = refl
-      go (Some home) = look (see home.1) (with_frame frame) (no_outward h.tuple) h.connections home.0 (answers h.settings.protocol home.1 (WriteItem a.write))
+      go (Some home) =
+          look (see home.place) (with_frame frame) (no_outward h.tuple) h.connections home.index (answers h.settings.protocol home.place (WriteItem a.write))
 
   confirmed-framed : (a : Accepted) → is_confirmed later a ≡ is_confirmed h a
   confirmed-framed a = go a.home
@@ -136,9 +156,12 @@ module _ (settings : Settings) (bound : 0 < settings.max_epoch) (s : PrimaryStat
       see : ℕ → Option Outward → Bool
       see place v = elim v as (λ _. Bool) [ None ↦ false | Some c ↦ barrier_acknowledged c (epoch_of c.stream place) ]
 
-      go : (v : Option (ℕ × ℕ)) → elim v as (λ _. Bool) [ None ↦ false | Some home ↦ see home.1 (slice_get (change_last (with_frame frame) h.connections) home.0) ] ≡ elim v as (λ _. Bool) [ None ↦ false | Some home ↦ see home.1 (slice_get h.connections home.0) ]
+      go : (v : Option StreamPosition) → elim v as
+          (λ _. Bool) [ None ↦ false | Some home ↦ see home.place (slice_get (change_last (with_frame frame) h.connections) home.index) ] ≡ elim v as
+          (λ _. Bool) [ None ↦ false | Some home ↦ see home.place (slice_get h.connections home.index) ]
       go None = refl
-      go (Some home) = look (see home.1) (with_frame frame) (no_outward h.tuple) h.connections home.0 (acknowledged (epoch_of (outward h).stream home.1))
+      go (Some home) =
+          look (see home.place) (with_frame frame) (no_outward h.tuple) h.connections home.index (acknowledged (epoch_of (outward h).stream home.place))
 
   unseen : IsUnseen h (turned (with_frame frame) h.tuple h.peer (clearing ack.first h.marks) h)
   unseen = record {
@@ -149,40 +172,56 @@ module _ (settings : Settings) (bound : 0 < settings.max_epoch) (s : PrimaryStat
   -- Nothing is under way then.
 
   -- a block of the stream is acknowledged now
-  acked : (i : ℕ) (entry : ℕ × Item) → slice_get (placed (outward h).stream) i ≡ Some entry → is_resync entry.1 ≡ true → was_resynced (with_frame frame (outward h)) entry.0 entry.1 ≡ true
+  acked : (i : ℕ) (entry : ℕ × Item) → slice_get (placed (outward h).stream) i ≡ Some entry → is_resync entry.1 ≡ true
+      → was_resynced (with_frame frame (outward h)) entry.0 entry.1 ≡ true
   acked i entry at block = any-frame (is_rs_write_ack (naming entry.0 entry.1)) (outward h) frame end.plain ∙ go (was_resynced (outward h) entry.0 entry.1) refl
     where
-      go : (b : Bool) → was_resynced (outward h) entry.0 entry.1 ≡ b → (was_resynced (outward h) entry.0 entry.1 || same_naming (naming entry.0 entry.1) ack) ≡ true
+      go : (b : Bool) → was_resynced (outward h) entry.0 entry.1 ≡ b
+          → (was_resynced (outward h) entry.0 entry.1 || same_naming (naming entry.0 entry.1) ack) ≡ true
       go true is = ap (λ b. b || same_naming (naming entry.0 entry.1) ack) is
       go false is =
           let behind = placed-back 0 (outward h).stream i entry at in
           let index : i ≡ entry.0 = let p = behind.0 in omega arith in
           let there = block-waits (outward h) entry.0 entry.1 (ap (slice_get (outward h).stream) (sym index) ∙ behind.1) block is in
-          let same : (ack.place, ResyncItem ack.first names.contents) ≡ (entry.0, entry.1) = only-one (ack.place, ResyncItem ack.first names.contents) (entry.0, entry.1) (under_way (outward h)) there.0 names.alone there.1 in
-          ap (λ b. was_resynced (outward h) entry.0 entry.1 || b) (ap (λ (x : ℕ × Item). same_naming (naming x.0 x.1) ack) (sym same) ∙ names.naming_is) ∙ or-true (was_resynced (outward h) entry.0 entry.1)
+          let same : (ack.place, ResyncItem ack.first names.contents) ≡ (entry.0, entry.1) = only-one (ack.place, ResyncItem ack.first names.contents) (
+            entry.0,
+            entry.1,
+          ) (under_way (outward h)) there.0 names.alone there.1 in
+          ap (λ b. was_resynced (outward h) entry.0 entry.1 || b) (ap (λ (x : ℕ × Item). same_naming (naming x.0 x.1) ack) (sym same) ∙ names.naming_is)
+          ∙ or-true (was_resynced (outward h) entry.0 entry.1)
 
   none-way : under_way (with_frame frame (outward h)) ≡ []
-  none-way = filter-none (λ (entry : ℕ × Item). is_resync entry.1 && not (was_resynced (with_frame frame (outward h)) entry.0 entry.1)) (placed (outward h).stream) (λ i entry at.
+  none-way = filter-none (λ (entry : ℕ × Item). is_resync entry.1 && not (was_resynced (with_frame frame (outward h)) entry.0 entry.1))
+      (placed (outward h).stream) (λ i entry at.
       false_from_ne_true (is_resync entry.1 && not (was_resynced (with_frame frame (outward h)) entry.0 entry.1)) (λ so.
       let parts = and_parts (is_resync entry.1) (not (was_resynced (with_frame frame (outward h)) entry.0 entry.1)) so in
-      both_ways (was_resynced (with_frame frame (outward h)) entry.0 entry.1) (not-true (was_resynced (with_frame frame (outward h)) entry.0 entry.1) parts.1) (acked i entry at parts.0)))
+      both_ways (was_resynced (with_frame frame (outward h)) entry.0 entry.1) (not-true (was_resynced (with_frame frame (outward h)) entry.0 entry.1) parts.1)
+      (acked i entry at parts.0)))
 
   later-place : (place : ℕ) → length (outward h).stream ≤ place → (place == ack.place) ≡ false
-  later-place place past = false_from_ne_true (place == ack.place) (λ same. let is_it = eqb-true place ack.place same in let within = slice_get_within (outward h).stream ack.place (ResyncItem ack.first names.contents) names.there in omega arith)
+  later-place place past = false_from_ne_true (place == ack.place) (λ same. let is_it = eqb-true place ack.place same in let within =
+      slice_get_within (outward h).stream ack.place (ResyncItem ack.first names.contents) names.there in omega arith)
 
   pub cleared-end : LeavesEnd (record e { under_way = None }) (with_frame frame (outward h))
-  cleared-end = end-framed e (outward h) frame None end begun long (record { received = λ place item past. refl; written = λ place item past. refl; resynced = λ place item past. other-place ack place item (later-place place past) }) none-way
+  cleared-end = end-framed e (outward h) frame None end begun long
+      (record {
+        received = λ place item past. refl;
+        written = λ place item past. refl;
+        resynced = λ place item past. other-place ack place item (later-place place past);
+      }) none-way
 
   -- what is held, without the block
   held-is : without 0 s.held ≡ held_of later
   held-is =
       ap (without 0) left.rest.held
-      ∙ (filter-append (λ (x : Holding). not (x.number == 0)) (map holding_item (if stands (outward h) then under_way (outward h) else [])) (map holding_write (open_writes h))
+      ∙ (filter-append (λ (x : Holding). not (x.number == 0)) (map holding_item (if stands (outward h) then under_way (outward h) else []))
+      (map holding_write (open_writes h))
       ∙ ((λ i. zeros (if stands (outward h) then under_way (outward h) else []) i ++ rest i)
       ∙ sym (λ i. map holding_item (if (ap stands out ∙ on) i then (ap under_way out ∙ none-way) i else []) ++ map holding_write (open_writes h))))
     where
       zeros : (entries : List (ℕ × Item)) → filter (λ (x : Holding). not (x.number == 0)) (map holding_item entries) ≡ []
-      zeros entries = filter-map (λ (x : Holding). not (x.number == 0)) holding_item entries ∙ ap (map holding_item) (filter-none (λ entry. not (0 == 0)) entries (λ i entry at. refl))
+      zeros entries = filter-map (λ (x : Holding). not (x.number == 0)) holding_item entries
+          ∙ ap (map holding_item) (filter-none (λ entry. not (0 == 0)) entries (λ i entry at. refl))
 
       rest : filter (λ (x : Holding). not (x.number == 0)) (map holding_write (open_writes h)) ≡ map holding_write (open_writes h)
       rest =
@@ -194,27 +233,44 @@ module _ (settings : Settings) (bound : 0 < settings.max_epoch) (s : PrimaryStat
 
   -- The last epoch is over where it has a block: none of them was acknowledged before.
 
-  going : IsEndOpen h (outward h)
-  going = end-open h on ordered.1.1.0.1.on
+  going : GoesOn h (outward h)
+  going = goes-on h on ordered.1.1.0.1.on
 
-  settled : list_any (is_settled h (with_frame frame (outward h))) (items_of_epoch (outward h).stream (last_epoch (outward h).stream)) ≡ list_any (λ (entry : ℕ × Item). is_resync entry.1) (items_of_epoch (outward h).stream (last_epoch (outward h).stream))
-  settled = any-at (is_settled h (with_frame frame (outward h))) (λ (entry : ℕ × Item). is_resync entry.1) (items_of_epoch (outward h).stream (last_epoch (outward h).stream)) (λ j entry at.
-      let before = or_parts _ _ (pick-none (is_settled h (outward h)) (items_of_epoch (outward h).stream (last_epoch (outward h).stream)) j entry going.unsettled at) in
-      let stood = pick-filtered (λ (x : ℕ × Item). epoch_of (outward h).stream x.0 == last_epoch (outward h).stream) (placed (outward h).stream) j entry at in
-      ap (λ b. b || (is_resync entry.1 && was_resynced (with_frame frame (outward h)) entry.0 entry.1)) before.0 ∙ block stood.0 entry stood.1 (is_resync entry.1) refl)
-    where
-      block : (i : ℕ) (entry : ℕ × Item) → slice_get (placed (outward h).stream) i ≡ Some entry → (b : Bool) → is_resync entry.1 ≡ b → (is_resync entry.1 && was_resynced (with_frame frame (outward h)) entry.0 entry.1) ≡ is_resync entry.1
-      block i entry at true is = (λ j. is j && acked i entry at is j) ∙ sym is
-      block i entry at false is = ap (λ b. b && was_resynced (with_frame frame (outward h)) entry.0 entry.1) is ∙ sym is
+  -- the blocks of the last epoch
+  abbrev blocks : Bool
+  blocks = list_any (λ (entry : ℕ × Item). is_resync entry.1) (items_of_epoch (outward h).stream (last_epoch (outward h).stream))
 
   over-is : epoch_is_over later ≡ s.log.epochs.resync
-  over-is =
-      ap over out
-      ∙ ((λ j. on j && (settled j || lt-leb h.settings.max_epoch (epoch_size (outward h).stream (last_epoch (outward h).stream)) going.room j))
-      ∙ (or-false (list_any (λ (entry : ℕ × Item). is_resync entry.1) (items_of_epoch (outward h).stream (last_epoch (outward h).stream))) ∙ sym (left.stream.on on).resync))
+  over-is = go blocks refl ∙ sym (left.stream.on on).resync
     where
-      over : Outward → Bool
-      over c = stands c && (list_any (is_settled h c) (items_of_epoch c.stream (last_epoch c.stream)) || nat_le h.settings.max_epoch (epoch_size c.stream (last_epoch c.stream)))
+      by-item : (j place : ℕ) (item : Item) → slice_get (items_of_epoch (outward h).stream (last_epoch (outward h).stream)) j ≡ Some (place, item)
+          → is_resync item ≡ true → epoch_is_over later ≡ true
+      by-item j place (ResyncItem block contents) at is =
+          let stood = pick-filtered (λ (x : ℕ × Item). epoch_of (outward h).stream x.0 == last_epoch (outward h).stream) (placed (outward h).stream) j (
+            place,
+            ResyncItem block contents,
+          ) at in
+          over-by-block later (with_frame frame (outward h)) out on j place block contents at (acked stood.0 (place, ResyncItem block contents) stood.1 refl)
+      by-item j place (WriteItem write) at is = absurd (cc)
+      by-item j place (BarrierItem epoch) at is = absurd (cc)
+      by-item j place (SyncUuidItem word) at is = absurd (cc)
+      by-item j place (UuidsItem tuple) at is = absurd (cc)
+
+      go : (b : Bool) → blocks ≡ b → epoch_is_over later ≡ blocks
+      go true some =
+          let found = pick-any (λ (entry : ℕ × Item). is_resync entry.1) (items_of_epoch (outward h).stream (last_epoch (outward h).stream)) some in
+          by-item found.0 found.1.0 found.1.1 found.2 found.3 ∙ sym some
+      go false none = not-over later (with_frame frame (outward h)) out (record {
+        unsettled = record {
+          writes = going.unsettled.writes;
+          blocks = λ j place block contents at. absurd
+              (let no = pick-none (λ (entry : ℕ × Item). is_resync entry.1) (items_of_epoch (outward h).stream (last_epoch (outward h).stream)) j (
+                place,
+                ResyncItem block contents,
+              ) none at in cc);
+        };
+        room = going.room;
+      }) ∙ sym none
 
   journal : with_completions later ≡ later
   journal = journal-stays later (quiet-same s h left (with_frame frame) h.tuple h.peer (clearing ack.first h.marks) unseen)
@@ -228,50 +284,69 @@ module _ (settings : Settings) (bound : 0 < settings.max_epoch) (s : PrimaryStat
       go true is =
           let more : s.log.epochs.ended + 1 ≡ suc (barriers_in (outward h).stream) = let x = (left.stream.on on).ended in omega arith in
           ap (λ b. (ended_if b s.log.epochs).0) is
-          ∙ (ap (λ m. Some m) (more ∙ ap (λ (c : Outward). last_epoch c.stream) (sym out)) ∙ sym (ap (λ b. if b then Some (last_epoch (outward later).stream) else None) is))
+          ∙ (ap (λ m. Some m) (more ∙ ap (λ (c : Outward). last_epoch c.stream) (sym out))
+          ∙ sym (ap (λ b. if b then Some (last_epoch (outward later).stream) else None) is))
 
   index : last_index later.connections ≡ last_index h.connections
   index = ap (λ m. m - 1) (length-change (with_frame frame) h.connections)
 
   -- the epochs before a barrier
-  before : (l : LogState) → l.protocol ≡ s.log.protocol → l.confirmed ≡ s.log.confirmed → l.accepted ≡ s.log.accepted → l.epochs ≡ s.log.epochs → LeavesEpochs l (outward later)
+  before : (l : LogState) → l.protocol ≡ s.log.protocol → l.confirmed ≡ s.log.confirmed → l.accepted ≡ s.log.accepted → l.epochs ≡ s.log.epochs
+      → LeavesEpochs l (outward later)
   before l protocol confirmed accepted epochs =
       subst (LeavesEpochs l) (sym out)
-      (epochs-same s.log l (outward h) (with_frame frame (outward h)) (left.stream.on on) refl acknowledged (λ asked place item so. answers asked place item ∙ so) protocol confirmed accepted epochs)
+      (epochs-same s.log l (outward h) (with_frame frame (outward h)) (left.stream.on on) refl acknowledged (λ asked place item so. answers asked place item
+      ∙ so) protocol confirmed accepted epochs)
 
   -- The log's epochs are left, with the barrier.
   stream-then : LeavesStream (log.resync_acked s.log).1 (parted later)
   stream-then = go (epoch_is_over later) refl (ap (λ b. (ended_if b s.log.epochs).1) (sym over-is))
     where
       go : (b : Bool) → epoch_is_over later ≡ b → (log.resync_acked s.log).1.epochs ≡ (ended_if (epoch_is_over later) s.log.epochs).1
-          → LeavesStream (log.resync_acked s.log).1 (elim b as (λ _. PrimaryHistory) [ true ↦ appending (BarrierItem (last_epoch (outward later).stream)) later | false ↦ later ])
+          → LeavesStream (log.resync_acked s.log).1
+          (elim b as (λ _. PrimaryHistory) [ true ↦ appending (BarrierItem (last_epoch (outward later).stream)) later | false ↦ later ])
       go false is so =
           let epochs : (log.resync_acked s.log).1.epochs ≡ s.log.epochs = so ∙ ap (λ b. (ended_if b s.log.epochs).1) is in
           record {
             max_epoch = ap (λ (x : EpochsState). x.max_epoch) epochs ∙ left.stream.max_epoch;
             on = λ so. before (log.resync_acked s.log).1 refl refl refl epochs;
-            here = λ so i a at behind. let place = left.stream.here on i a at behind in (place.0, place.1 ∙ ap (λ m. Some (m, place.0)) (sym index));
+            here = λ so i a at behind. let place = left.stream.here on i a at behind in
+                (place.0, place.1 ∙ ap (λ m. let at : StreamPosition = record { index = m; place = place.0 } in Some at) (sym index));
             off = λ none. absurd (both_ways (stands (outward later)) none (ap stands out ∙ on));
           }
       go true is so =
           let epochs : (log.resync_acked s.log).1.epochs ≡ (ended_if true s.log.epochs).1 = so ∙ ap (λ b. (ended_if b s.log.epochs).1) is in
           record {
             max_epoch = ap (λ (x : EpochsState). x.max_epoch) epochs ∙ left.stream.max_epoch;
-            on = λ so. epochs-barrier s.log (log.resync_acked s.log).1 (outward later) (outward (appending (BarrierItem (last_epoch (outward later).stream)) later)) (BarrierItem (last_epoch (outward later).stream))
-                (before s.log refl refl refl refl) (subst (SeesSame (outward later)) (sym longer) (record { closed = refl; pushed = refl; taken = refl; refused = refl })) (ap (λ (x : Outward). x.stream) longer) refl refl refl refl
-                (ap (λ (x : List Item). items_of_epoch x (last_epoch x)) (ap (λ (x : Outward). x.stream) longer) ∙ barrier-empties (outward later).stream (last_epoch (outward later).stream)) refl epochs few;
+            on = λ so. epochs-barrier s.log (log.resync_acked s.log).1 (outward later)
+                (outward (appending (BarrierItem (last_epoch (outward later).stream)) later)) (BarrierItem (last_epoch (outward later).stream))
+                (before s.log refl refl refl refl)
+                (subst (SeesSame (outward later)) (sym longer) (record { closed = refl; pushed = refl; taken = refl; refused = refl }))
+                (ap (λ (x : Outward). x.stream) longer) refl refl refl refl
+                (ap (λ (x : List Item). items_of_epoch x (last_epoch x)) (ap (λ (x : Outward). x.stream) longer)
+                ∙ barrier-empties (outward later).stream (last_epoch (outward later).stream)) refl epochs few;
             here = λ so i a at behind.
-                let place = left.stream.here on i a at behind in
-                (place.0, place.1 ∙ ap (λ m. Some (m, place.0)) (sym (ap (λ m. m - 1) (length-change (λ (x : Outward). record x { stream = x.stream ++ BarrierItem (last_epoch (outward later).stream) ∷ [] }) later.connections) ∙ index)));
-            off = λ none. absurd (both_ways (stands (outward (appending (BarrierItem (last_epoch (outward later).stream)) later))) none (ap stands longer ∙ (ap stands out ∙ on)));
+                let place = left.stream.here on i a at behind in (
+                  place.0,
+                  place.1 ∙ ap (λ m. let at : StreamPosition = record { index = m; place = place.0 } in Some at)
+                      (sym (ap (λ m. m - 1) (length-change
+                      (λ (x : Outward). record x { stream = x.stream ++ BarrierItem (last_epoch (outward later).stream) ∷ [] }) later.connections) ∙ index)),
+                );
+            off = λ none. absurd (both_ways (stands (outward (appending (BarrierItem (last_epoch (outward later).stream)) later))) none (ap stands longer
+                ∙ (ap stands out ∙ on)));
           }
         where
-          longer : outward (appending (BarrierItem (last_epoch (outward later).stream)) later) ≡ record (outward later) { stream = (outward later).stream ++ BarrierItem (last_epoch (outward later).stream) ∷ [] }
-          longer = last-changed later (λ (x : Outward). record x { stream = x.stream ++ BarrierItem (last_epoch (outward later).stream) ∷ [] }) (no_outward later.tuple) (ap (λ (x : Outward). x.closed) out ∙ end.stands)
+          longer : outward (appending (BarrierItem (last_epoch (outward later).stream)) later) ≡ record (outward later) {
+            stream =
+                (outward later).stream ++ BarrierItem (last_epoch (outward later).stream) ∷ [];
+          }
+          longer = last-changed later (λ (x : Outward). record x { stream = x.stream ++ BarrierItem (last_epoch (outward later).stream) ∷ [] })
+              (no_outward later.tuple) (ap (λ (x : Outward). x.closed) out ∙ end.stands)
 
           few : (place : ℕ) (write : Write) → slice_get (outward later).stream place ≡ Some (WriteItem write) → write.number ≤ s.log.accepted
           few place write at =
-              let found = ordered.1.1.0.0.homed (last_index h.connections) place (outward h) write (open-at h end.stands) (subst (λ (x : Outward). slice_get x.stream place ≡ Some (WriteItem write)) out at) in
+              let found = ordered.1.1.0.0.homed (last_index h.connections) place (outward h) write (open-at h end.stands)
+              (subst (λ (x : Outward). slice_get x.stream place ≡ Some (WriteItem write)) out at) in
               let number = ordered.1.1.0.0.numbered found.0 found.1 found.2 in
               let same : found.1.write.number ≡ write.number = ap (λ (w : Write). w.number) found.3 in
               let within = slice_get_within h.writes found.0 found.1 found.2 in
@@ -295,7 +370,8 @@ module _ (settings : Settings) (bound : 0 < settings.max_epoch) (s : PrimaryStat
       writes = writes-same s h left (with_frame frame) h.tuple h.peer (clearing ack.first h.marks) unseen;
       latest = left.rest.log.latest;
     };
-    completed = sym (ap (map (λ a. completed_of (logged_of later a))) (quiet-none later (quiet-same s h left (with_frame frame) h.tuple h.peer (clearing ack.first h.marks) unseen)));
+    completed = sym (ap (map (λ a. completed_of (logged_of later a)))
+        (quiet-none later (quiet-same s h left (with_frame frame) h.tuple h.peer (clearing ack.first h.marks) unseen)));
     barrier_is = barrier-is ∙ sym (ap barrier_of journal);
     stream = subst (LeavesStream (log.resync_acked s.log).1) (sym (ap parted journal)) stream-then;
     entries = left.rest.entries.entries;
@@ -303,7 +379,8 @@ module _ (settings : Settings) (bound : 0 < settings.max_epoch) (s : PrimaryStat
     held = held-is;
     marks =
         ap (λ m. unmarking [] s.log.latest (set m ack.first false)) left.rest.marks
-        ∙ (ap (unmarking [] s.log.latest) (set-marks h.settings.blocks h.marks ack.first) ∙ unmarking-none [] s.log.latest h.settings.blocks (clearing ack.first h.marks) (λ n r at. absurd (cc)));
+        ∙ (ap (unmarking [] s.log.latest) (set-marks h.settings.blocks h.marks ack.first)
+        ∙ unmarking-none [] s.log.latest h.settings.blocks (clearing ack.first h.marks) (λ n r at. absurd (cc)));
     activity = activity-same s h left (with_frame frame) h.tuple h.peer (clearing ack.first h.marks) unseen;
     end = subst (LeavesEnd (record e { under_way = None })) (sym out) cleared-end;
   }

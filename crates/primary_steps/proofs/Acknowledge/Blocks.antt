@@ -10,6 +10,7 @@ use Rattle.model.specs.Marks.{clearing}
 use Rattle.model.specs.Primary.{PrimaryHistory, outward, with_outward, items_sent, is_resync, was_resynced}
 use Rattle.model.specs.Acknowledgements as model
 use Rattle.model.specs.Acknowledgements.{names_sent, was_named}
+use Rattle.laws.proofs.Rules.EpochEnds.{TakesWrites}
 use Rattle.laws.proofs.Releases.InOrderMoves.{Ordered}
 use Rattle.laws.proofs.Primary.Moves.{with_frame}
 use Rattle.primary_steps.specs.Core.{EndState, PrimaryState}
@@ -25,7 +26,8 @@ use Rattle.primary_steps.proofs.Send.Due.{place-is}
 use Rattle.primary_steps.proofs.Acknowledge.Writes.{peer-same}
 use Rattle.primary_steps.proofs.Common.TakenAlike.{TakenAlike}
 
-module _ (settings : Settings) (bound : 0 < settings.max_epoch) (s : PrimaryState) (h : PrimaryHistory) (e : EndState) (left : Leaves s h) (ordered : Ordered settings h) (is : s.end ≡ Some e) (end : LeavesEnd e (outward h)) (begun : (outward h).begun ≡ true)
+module _ (settings : Settings) (bound : TakesWrites settings) (s : PrimaryState) (h : PrimaryHistory) (e : EndState) (left : Leaves s h)
+    (ordered : Ordered settings h) (is : s.end ≡ Some e) (end : LeavesEnd e (outward h)) (begun : (outward h).begun ≡ true)
     (long : 2 < length (outward h).taken) (ack : Acknowledged) where
   -- the core's answer, by whether the end awaits it, and the history's
   abbrev core-by : Bool → core.Taken
@@ -44,12 +46,14 @@ module _ (settings : Settings) (bound : 0 < settings.max_epoch) (s : PrimaryStat
   judged-same = sent-same ∙ awaits-block e.under_way (outward h) ack end.under_way
 
   -- An RS_WRITE_ACK is taken alike.
-  pub block-agrees : TakenAlike (Ok (RsWriteAckFrame ack)) s h (core.taking_ack (RsWriteAckFrame ack) e s) (model.taking_ack (RsWriteAckFrame ack) h (with_outward (with_frame (Ok (RsWriteAckFrame ack))) h))
+  pub block-agrees : TakenAlike (Ok (RsWriteAckFrame ack)) s h (core.taking_ack (RsWriteAckFrame ack) e s)
+      (model.taking_ack (RsWriteAckFrame ack) h (with_outward (with_frame (Ok (RsWriteAckFrame ack))) h))
   block-agrees =
       subst (λ b. TakenAlike (Ok (RsWriteAckFrame ack)) s h (core-by (names_block ack (next_place e s) e.under_way)) (model-by b)) judged-same
       (go (names_block ack (next_place e s) e.under_way) refl)
     where
       go : (b : Bool) → names_block ack (next_place e s) e.under_way ≡ b → TakenAlike (Ok (RsWriteAckFrame ack)) s h (core-by b) (model-by b)
       go true so =
-          from-follow _ _ (follow _ _ _ (cleared-due settings bound s h e left ordered end begun long ack (named-block e.under_way (outward h) ack end.under_way (sym sent-same ∙ so))) (what.Frame command.RsWriteAck None))
+          from-follow _ _ (follow _ _ _ (cleared-due settings bound s h e left ordered end begun long ack
+          (named-block e.under_way (outward h) ack end.under_way (sym sent-same ∙ so))) (what.Frame command.RsWriteAck None))
       go false so = peer-same (Ok (RsWriteAckFrame ack)) s h UnknownAck left

@@ -1,27 +1,32 @@
 -- The peer acknowledges an epoch: what that leaves, before what follows.
-use Rattle.std.proofs.Common.{ℕ, zero, suc, ◌≡◌, ◌+◌, ◌-◌, ◌<◌, ◌≤◌, ◌⊎◌, inl, inr, Bool, true, false, not, ◌&&◌, ◌||◌, List, [], ◌∷◌, ◌++◌, length, map, filter, take, drop, Option, Some, None, slice_get, Result, Ok, Err, refl, sym, ◌∙◌, ap, subst, arith, nat_lt, nat_le, ◌==◌}
+use Rattle.std.proofs.Common.{ℕ, zero, suc, ◌≡◌, ◌+◌, ◌-◌, ◌<◌, ◌≤◌, ◌⊎◌, inl, inr, Bool, true, false, not, ◌&&◌, ◌||◌, List, [], ◌∷◌, ◌++◌, length, map}
+use Rattle.std.proofs.Common.{filter, take, drop, Option, Some, None, slice_get, Result, Ok, Err, refl, sym, ◌∙◌, ap, subst, arith, nat_lt, nat_le, ◌==◌}
 use Rattle.std.proofs.Math.Bool.{or-false}
 use Rattle.std.proofs.lemmas.List.{append-nil}
 use Rattle.std.specs.Prelude.{if◌then◌else◌}
-use Rattle.std.specs.List.{list_any}
 use Rattle.std.proofs.lemmas.Bool.{cases_lt, both_ways, and_parts, or_cases, eqb-true, eq-eqb, lt-ltb, le-leb, lt-leb, leb-true, false_from_ne_true}
 use Rattle.std.proofs.lemmas.Option.{slice_get_within}
+use Rattle.blocks.specs.Positions.{StreamPosition}
 use Rattle.blocks.specs.declared.settings.Settings.{Settings}
 use Rattle.blocks.specs.declared.settings.Protocol.{Protocol}
 use Rattle.blocks.specs.declared.settings.Protocol.TheVariants as protocol
 use Rattle.model.specs.Contents.{Write}
-use Rattle.model.specs.Stream.{Item, WriteItem, BarrierItem, is_write, number_of, placed, barriers_in, epoch_of, last_epoch, epoch_size, items_of_epoch}
+use Rattle.model.specs.Stream.{Item, WriteItem, BarrierItem, placed, barriers_in, epoch_of, last_epoch, epoch_size}
 use Rattle.model.specs.Frames.{BarrierAckFrame, Received, naming}
 use Rattle.model.specs.Marks.{releasing}
-use Rattle.model.specs.Primary.{Accepted, Completion, Outward, PrimaryHistory, no_outward, outward, last_index, change_last, with_outward, stands, items_sent, is_answered_by, is_answered, is_alone, is_confirmed, is_released, is_waiting, is_on_disk, is_failed, is_recv_ack, is_write_ack, is_rs_write_ack, is_barrier_ack, barrier_acknowledged, was_resynced, unreleased, open_writes, under_way, is_resync}
-use Rattle.model.specs.PrimarySteps.{newly_completed, completion_of, with_completions, is_settled, epoch_is_over, appending}
-use Rattle.model.specs.Acknowledgements.{is_in_turn, is_acknowledged}
+use Rattle.model.specs.Primary.{Accepted, Outward, PrimaryHistory, no_outward, outward, last_index, change_last, with_outward, stands, items_sent}
+use Rattle.model.specs.Primary.{is_answered_by, is_answered, is_alone, is_confirmed, is_released, is_waiting, is_recv_ack, is_write_ack}
+use Rattle.model.specs.Primary.{is_rs_write_ack, is_barrier_ack, barrier_acknowledged, was_resynced, unreleased, open_writes, under_way, is_resync}
+use Rattle.model.specs.PrimarySteps.{newly_completed, completion_of, with_completions, epoch_is_over, appending}
+use Rattle.model.specs.Acknowledgements.{is_in_turn}
 use Rattle.blocks.specs.declared.refusal.Refusal.{Refusal}
 use Rattle.blocks.specs.declared.refusal.Refusal.TheVariants.{BadBarrierAck}
 use Rattle.transferlog.specs.Log.{LogState, confirming, asks_answers, lacks_answer}
 use Rattle.transferlog.specs.Writes as writes
 use Rattle.transferlog.specs.Writes.{LogWrite, completed_of, released_of}
 use Rattle.epochs.specs.Epochs.{EpochsState, is_awaited, acknowledging}
+use Rattle.laws.proofs.Rules.Completions.{completes-same}
+use Rattle.laws.proofs.Rules.EpochEnds.{TakesWrites, over-same}
 use Rattle.laws.proofs.Lists.Last.{length-change, get-change, get-last-changed}
 use Rattle.laws.proofs.Primary.Homes.{HasHomes}
 use Rattle.laws.proofs.Releases.InOrderMoves.{Ordered, OrderedAfter, in-order-kept}
@@ -30,10 +35,11 @@ use Rattle.laws.proofs.Releases.Cleared.{confirmed-releases}
 use Rattle.laws.proofs.Streams.Barriers.{behind-barrier}
 use Rattle.laws.proofs.Releases.Runs.{ordered-release}
 use Rattle.primary_steps.specs.Core.{EndState, PrimaryState, unmarking, leaving}
-use Rattle.primary_steps.specs.Leaves.{numbers_after, total, is_sent, logged_of, held_of, holding_item, holding_write, LeavesLog, LeavesStream, LeavesEpochs, LeavesActivity, LeavesEnd, EndLeft, IsQuiet, Leaves}
+use Rattle.primary_steps.specs.Leaves.{numbers_after, total, is_sent, logged_of, held_of, holding_item, holding_write, LeavesLog, LeavesStream, LeavesEpochs}
+use Rattle.primary_steps.specs.Leaves.{LeavesActivity, LeavesEnd, EndLeft, IsQuiet, Leaves}
 use Rattle.primary_steps.proofs.Acknowledge.WriteAnswered.{any-frame}
 use Rattle.primary_steps.proofs.Common.Connections.{look}
-use Rattle.primary_steps.proofs.Common.Filters.{filter-at, any-at}
+use Rattle.primary_steps.proofs.Common.Filters.{filter-at}
 use Rattle.primary_steps.proofs.Common.Following.{IsDue, parted}
 use Rattle.primary_steps.proofs.Acknowledge.AcceptedFrame.{end-framed, way-framed}
 use Rattle.primary_steps.proofs.Common.Reached.{outward-of}
@@ -45,7 +51,8 @@ use Rattle.primary_steps.proofs.Common.NothingFollows.{quiet-none}
 use Rattle.primary_steps.proofs.Common.WriteStates.{settled-seen, not-not}
 use Rattle.primary_steps.proofs.Acknowledge.BarrierTurns.{turn-back, epochs, first-total, next-is, ended-one, size-is, its-barrier, its-answer}
 
-module _ (settings : Settings) (bound : 0 < settings.max_epoch) (s : PrimaryState) (h : PrimaryHistory) (e : EndState) (left : Leaves s h) (ordered : Ordered settings h) (is : s.end ≡ Some e) (end : LeavesEnd e (outward h)) (begun : (outward h).begun ≡ true)
+module _ (settings : Settings) (bound : TakesWrites settings) (s : PrimaryState) (h : PrimaryHistory) (e : EndState) (left : Leaves s h)
+    (ordered : Ordered settings h) (is : s.end ≡ Some e) (end : LeavesEnd e (outward h)) (begun : (outward h).begun ≡ true)
     (long : 2 < length (outward h).taken) (number size : ℕ) (turn : is_in_turn h number size ≡ true) where
   homes : HasHomes h
   homes = ordered.1.1.0.0
@@ -89,7 +96,8 @@ module _ (settings : Settings) (bound : 0 < settings.max_epoch) (s : PrimaryStat
   -- What is acknowledged then.
 
   said : (epoch : ℕ) → 0 < epoch → barrier_acknowledged (with_frame frame (outward h)) epoch ≡ nat_le epoch (suc e0.acked)
-  said epoch some = any-frame (is_barrier_ack epoch) (outward h) frame end.plain ∙ ((λ i. e0.acknowledged epoch some i || (number == epoch)) ∙ go (cases_lt e0.acked epoch))
+  said epoch some = any-frame (is_barrier_ack epoch) (outward h) frame end.plain
+      ∙ ((λ i. e0.acknowledged epoch some i || (number == epoch)) ∙ go (cases_lt e0.acked epoch))
     where
       go : (e0.acked < epoch) ⊎ (epoch ≤ e0.acked) → (nat_le epoch e0.acked || (number == epoch)) ≡ nat_le epoch (suc e0.acked)
       go (inr early) = (λ i. le-leb epoch e0.acked early i || (number == epoch)) ∙ sym (le-leb epoch (suc e0.acked) (omega arith))
@@ -97,41 +105,68 @@ module _ (settings : Settings) (bound : 0 < settings.max_epoch) (s : PrimaryStat
         where
           by-number : (b : Bool) → (number == epoch) ≡ b → b ≡ nat_le epoch (suc e0.acked)
           by-number true same = sym (le-leb epoch (suc e0.acked) (let one = eqb-true number epoch same in let n = next in omega arith))
-          by-number false other = sym (false_from_ne_true (nat_le epoch (suc e0.acked)) (λ upto. let few = leb-true epoch (suc e0.acked) upto in let n = next in both_ways (number == epoch) other (eq-eqb number epoch (omega arith))))
+          by-number false other = sym (false_from_ne_true (nat_le epoch (suc e0.acked)) (λ upto. let few = leb-true epoch (suc e0.acked) upto in let n =
+              next in both_ways (number == epoch) other (eq-eqb number epoch (omega arith))))
 
   block-same : (place : ℕ) (item : Item) → was_resynced (with_frame frame (outward h)) place item ≡ was_resynced (outward h) place item
   block-same place item = any-frame (is_rs_write_ack (naming place item)) (outward h) frame end.plain ∙ or-false (was_resynced (outward h) place item)
 
-  answered-by : (asked : Protocol) (place : ℕ) (item : Item) → is_answered_by asked (with_frame frame (outward h)) place item ≡ is_answered_by asked (outward h) place item
+  answered-by : (asked : Protocol) (place : ℕ) (item : Item)
+      → is_answered_by asked (with_frame frame (outward h)) place item ≡ is_answered_by asked (outward h) place item
   answered-by protocol.A place item = refl
-  answered-by protocol.B place item = any-frame (is_recv_ack (naming place item)) (outward h) frame end.plain ∙ or-false (is_answered_by protocol.B (outward h) place item)
-  answered-by protocol.C place item = any-frame (is_write_ack (naming place item)) (outward h) frame end.plain ∙ or-false (is_answered_by protocol.C (outward h) place item)
+  answered-by protocol.B place item = any-frame (is_recv_ack (naming place item)) (outward h) frame end.plain
+      ∙ or-false (is_answered_by protocol.B (outward h) place item)
+  answered-by protocol.C place item = any-frame (is_write_ack (naming place item)) (outward h) frame end.plain
+      ∙ or-false (is_answered_by protocol.C (outward h) place item)
 
   -- What a write sees.
 
   alone-same : (a : Accepted) → is_alone later a ≡ is_alone h a
   alone-same a = go a.home
     where
-      go : (v : Option (ℕ × ℕ)) → elim v as (λ _. Bool) [ None ↦ true | Some home ↦ elim (slice_get (change_last (with_frame frame) h.connections) home.0) as (λ _. Bool) [ None ↦ true | Some c ↦ c.closed ] ]
-          ≡ elim v as (λ _. Bool) [ None ↦ true | Some home ↦ elim (slice_get h.connections home.0) as (λ _. Bool) [ None ↦ true | Some c ↦ c.closed ] ]
+      go : (v : Option StreamPosition) → elim v as (λ _. Bool) [
+        | None ↦ true
+        | Some home ↦ elim (slice_get (change_last (with_frame frame) h.connections) home.index) as
+            (λ _. Bool) [ None ↦ true | Some c ↦ c.closed ]
+      ]
+          ≡ elim v as (λ _. Bool) [ None ↦ true | Some home ↦ elim (slice_get h.connections home.index) as (λ _. Bool) [ None ↦ true | Some c ↦ c.closed ] ]
       go None = refl
-      go (Some home) = look (λ v. elim v as (λ _. Bool) [ None ↦ true | Some c ↦ c.closed ]) (with_frame frame) (no_outward h.tuple) h.connections home.0 refl
+      go (Some home) =
+          look (λ v. elim v as (λ _. Bool) [ None ↦ true | Some c ↦ c.closed ]) (with_frame frame) (no_outward h.tuple) h.connections home.index refl
 
   sent-same : (a : Accepted) → is_sent later a ≡ is_sent h a
   sent-same a = go a.home
     where
-      go : (v : Option (ℕ × ℕ)) → elim v as (λ _. Bool) [ None ↦ false | Some home ↦ elim (slice_get (change_last (with_frame frame) h.connections) home.0) as (λ _. Bool) [ None ↦ false | Some c ↦ nat_lt home.1 (items_sent c) ] ]
-          ≡ elim v as (λ _. Bool) [ None ↦ false | Some home ↦ elim (slice_get h.connections home.0) as (λ _. Bool) [ None ↦ false | Some c ↦ nat_lt home.1 (items_sent c) ] ]
+      go : (v : Option StreamPosition) → elim v as (λ _. Bool) [
+        | None ↦ false
+        | Some home ↦ elim (slice_get (change_last (with_frame frame) h.connections) home.index) as
+            (λ _. Bool) [ None ↦ false | Some c ↦ nat_lt home.place (items_sent c) ]
+      ]
+          ≡ elim v as (λ _. Bool) [
+            | None ↦ false
+            | Some home ↦ elim (slice_get h.connections home.index) as
+                (λ _. Bool) [ None ↦ false | Some c ↦ nat_lt home.place (items_sent c) ]
+          ]
       go None = refl
-      go (Some home) = look (λ v. elim v as (λ _. Bool) [ None ↦ false | Some c ↦ nat_lt home.1 (items_sent c) ]) (with_frame frame) (no_outward h.tuple) h.connections home.0 refl
+      go (Some home) = look (λ v. elim v as (λ _. Bool) [ None ↦ false | Some c ↦ nat_lt home.place (items_sent c) ]) (with_frame frame)
+          (no_outward h.tuple) h.connections home.index refl
 
   answered-same : (a : Accepted) → is_answered later a ≡ is_answered h a
   answered-same a = go a.home
     where
-      go : (v : Option (ℕ × ℕ)) → elim v as (λ _. Bool) [ None ↦ false | Some home ↦ elim (slice_get (change_last (with_frame frame) h.connections) home.0) as (λ _. Bool) [ None ↦ false | Some c ↦ is_answered_by h.settings.protocol c home.1 (WriteItem a.write) ] ]
-          ≡ elim v as (λ _. Bool) [ None ↦ false | Some home ↦ elim (slice_get h.connections home.0) as (λ _. Bool) [ None ↦ false | Some c ↦ is_answered_by h.settings.protocol c home.1 (WriteItem a.write) ] ]
+      go : (v : Option StreamPosition) → elim v as (λ _. Bool) [
+        | None ↦ false
+        | Some home ↦ elim (slice_get (change_last (with_frame frame) h.connections) home.index) as
+            (λ _. Bool) [ None ↦ false | Some c ↦ is_answered_by h.settings.protocol c home.place (WriteItem a.write) ]
+      ]
+          ≡ elim v as (λ _. Bool) [
+            | None ↦ false
+            | Some home ↦ elim (slice_get h.connections home.index) as
+                (λ _. Bool) [ None ↦ false | Some c ↦ is_answered_by h.settings.protocol c home.place (WriteItem a.write) ]
+          ]
       go None = refl
-      go (Some home) = look (λ v. elim v as (λ _. Bool) [ None ↦ false | Some c ↦ is_answered_by h.settings.protocol c home.1 (WriteItem a.write) ]) (with_frame frame) (no_outward h.tuple) h.connections home.0 (answered-by h.settings.protocol home.1 (WriteItem a.write))
+      go (Some home) = look (λ v. elim v as (λ _. Bool) [ None ↦ false | Some c ↦ is_answered_by h.settings.protocol c home.place (WriteItem a.write) ])
+          (with_frame frame) (no_outward h.tuple) h.connections home.index (answered-by h.settings.protocol home.place (WriteItem a.write))
 
   seen : (a : Accepted) → logged_of later a ≡ logged_of h a
   seen a = λ j. record (logged_of h a) { linked = not (alone-same a j); sent = sent-same a j; answered = answered-same a j }
@@ -145,10 +180,16 @@ module _ (settings : Settings) (bound : 0 < settings.max_epoch) (s : PrimaryStat
       let here = not-alone h homes ordered.1.0 i a at linked in
       let sum : s.log.confirmed + total (take 1 s.log.epochs.sizes) ≡ upto = let t = first.1 in let z = sized in omega arith in
       let one : e0.acked + 1 ≡ suc e0.acked = omega arith in
-      ap (λ (v : Option (ℕ × ℕ)). elim v as (λ _. Bool) [ None ↦ false | Some home ↦ elim (slice_get (change_last (with_frame frame) h.connections) home.0) as (λ _. Bool) [ None ↦ false | Some c ↦ barrier_acknowledged c (epoch_of c.stream home.1) ] ]) here.home
-      ∙ (ap (λ (v : Option Outward). elim v as (λ _. Bool) [ None ↦ false | Some c ↦ barrier_acknowledged c (epoch_of c.stream here.place) ]) (get-last-changed (with_frame frame) (no_outward h.tuple) h.connections (outward h) here.connected refl)
+      ap (λ (v : Option StreamPosition). elim v as (λ _. Bool) [
+        | None ↦ false
+        | Some home ↦ elim (slice_get (change_last (with_frame frame) h.connections) home.index) as
+            (λ _. Bool) [ None ↦ false | Some c ↦ barrier_acknowledged c (epoch_of c.stream home.place) ]
+      ]) here.home
+      ∙ (ap (λ (v : Option Outward). elim v as (λ _. Bool) [ None ↦ false | Some c ↦ barrier_acknowledged c (epoch_of c.stream here.place) ])
+      (get-last-changed (with_frame frame) (no_outward h.tuple) h.connections (outward h) here.connected refl)
       ∙ (said (epoch_of (outward h).stream here.place) (omega arith)
-      ∙ (ap (nat_le (epoch_of (outward h).stream here.place)) (sym one) ∙ (sym (e0.upto 1 here.place a.write (let many = first.0 in omega arith) here.there) ∙ ap (nat_le a.write.number) sum))))
+      ∙ (ap (nat_le (epoch_of (outward h).stream here.place)) (sym one)
+      ∙ (sym (e0.upto 1 here.place a.write (let many = first.0 in omega arith) here.there) ∙ ap (nat_le a.write.number) sum))))
 
   confirmed-stays : (i : ℕ) (a : Accepted) → slice_get h.writes i ≡ Some a → is_confirmed h a ≡ true → is_confirmed later a ≡ true
   confirmed-stays i a at was = go a.home refl was
@@ -156,17 +197,23 @@ module _ (settings : Settings) (bound : 0 < settings.max_epoch) (s : PrimaryStat
       see : ℕ → Option Outward → Bool
       see place v = elim v as (λ _. Bool) [ None ↦ false | Some c ↦ barrier_acknowledged c (epoch_of c.stream place) ]
 
-      go : (v : Option (ℕ × ℕ)) → a.home ≡ v → elim v as (λ _. Bool) [ None ↦ false | Some home ↦ see home.1 (slice_get h.connections home.0) ] ≡ true → elim v as (λ _. Bool) [ None ↦ false | Some home ↦ see home.1 (slice_get (change_last (with_frame frame) h.connections) home.0) ] ≡ true
+      go : (v : Option StreamPosition) → a.home ≡ v
+          → elim v as (λ _. Bool) [ None ↦ false | Some home ↦ see home.place (slice_get h.connections home.index) ] ≡ true
+          → elim v as (λ _. Bool) [ None ↦ false | Some home ↦ see home.place (slice_get (change_last (with_frame frame) h.connections) home.index) ] ≡ true
       go None so confirmed = absurd (cc)
       go (Some home) so confirmed =
-          let housed = homes.housed i home.0 home.1 a at so in
-          elim (get-change (with_frame frame) (no_outward h.tuple) h.connections home.0 housed.0 housed.1) [
-            | inl stays ↦ ap (see home.1) (stays ∙ sym housed.1) ∙ confirmed
+          let housed = homes.housed i home.index home.place a at so in
+          elim (get-change (with_frame frame) (no_outward h.tuple) h.connections home.index housed.0 housed.1) [
+            | inl stays ↦ ap (see home.place) (stays ∙ sym housed.1) ∙ confirmed
             | inr changed ↦
-                let its : barrier_acknowledged housed.0 (epoch_of housed.0.stream home.1) ≡ true = ap (see home.1) (sym housed.1) ∙ confirmed in
-                let last : barrier_acknowledged (outward h) (epoch_of (outward h).stream home.1) ≡ true = ap (λ (c : Outward). barrier_acknowledged c (epoch_of c.stream home.1)) (sym changed.1) ∙ its in
-                let early = leb-true (epoch_of (outward h).stream home.1) e0.acked (sym (e0.acknowledged (epoch_of (outward h).stream home.1) (omega arith)) ∙ last) in
-                ap (see home.1) changed.0 ∙ (ap (λ (c : Outward). barrier_acknowledged (with_frame frame c) (epoch_of c.stream home.1)) changed.1 ∙ (said (epoch_of (outward h).stream home.1) (omega arith) ∙ le-leb (epoch_of (outward h).stream home.1) (suc e0.acked) (omega arith)))
+                let its : barrier_acknowledged housed.0 (epoch_of housed.0.stream home.place) ≡ true = ap (see home.place) (sym housed.1) ∙ confirmed in
+                let last : barrier_acknowledged (outward h) (epoch_of (outward h).stream home.place) ≡ true =
+                ap (λ (c : Outward). barrier_acknowledged c (epoch_of c.stream home.place)) (sym changed.1) ∙ its in
+                let early =
+                leb-true (epoch_of (outward h).stream home.place) e0.acked (sym (e0.acknowledged (epoch_of (outward h).stream home.place) (omega arith))
+                ∙ last) in
+                ap (see home.place) changed.0 ∙ (ap (λ (c : Outward). barrier_acknowledged (with_frame frame c) (epoch_of c.stream home.place)) changed.1
+                ∙ (said (epoch_of (outward h).stream home.place) (omega arith) ∙ le-leb (epoch_of (outward h).stream home.place) (suc e0.acked) (omega arith)))
           ]
 
   confirmed-moved : IsMoved h later (λ w. w) (λ a. a) upto
@@ -176,7 +223,8 @@ module _ (settings : Settings) (bound : 0 < settings.max_epoch) (s : PrimaryStat
     writes = same-list h.writes;
     write = λ a. refl;
     logged = λ i a at. seen a;
-    released = λ i a at. (λ j. settled-seen a.outcome j && (not-not (is_alone h a) j || nat_le a.write.number upto)) ∙ (by-alone i a at (is_alone h a) refl ∙ λ j. not (is_waiting a.outcome) && (is_confirmed later a || sym (alone-same a) j));
+    released = λ i a at. (λ j. settled-seen a.outcome j && (not-not (is_alone h a) j || nat_le a.write.number upto))
+        ∙ (by-alone i a at (is_alone h a) refl ∙ λ j. not (is_waiting a.outcome) && (is_confirmed later a || sym (alone-same a) j));
     stays = λ i a at so.
         let parts = and_parts (not (is_waiting a.outcome)) (is_confirmed h a || is_alone h a) so in
         λ j. parts.0 j && stays-told i a at parts.1 j;
@@ -191,13 +239,19 @@ module _ (settings : Settings) (bound : 0 < settings.max_epoch) (s : PrimaryStat
       or-true true = refl
       or-true false = refl
 
-      by-alone : (i : ℕ) (a : Accepted) → slice_get h.writes i ≡ Some a → (b : Bool) → is_alone h a ≡ b → (not (is_waiting a.outcome) && (is_alone h a || nat_le a.write.number upto)) ≡ (not (is_waiting a.outcome) && (is_confirmed later a || is_alone h a))
-      by-alone i a at true alone = (λ j. not (is_waiting a.outcome) && (alone j || nat_le a.write.number upto)) ∙ (ap (λ b. not (is_waiting a.outcome) && b) (sym (or-true (is_confirmed later a))) ∙ λ j. not (is_waiting a.outcome) && (is_confirmed later a || sym alone j))
+      by-alone : (i : ℕ) (a : Accepted) → slice_get h.writes i ≡ Some a → (b : Bool) → is_alone h a ≡ b
+          → (not (is_waiting a.outcome) && (is_alone h a || nat_le a.write.number upto)) ≡
+          (not (is_waiting a.outcome) && (is_confirmed later a || is_alone h a))
+      by-alone i a at true alone = (λ j. not (is_waiting a.outcome) && (alone j || nat_le a.write.number upto))
+          ∙ (ap (λ b. not (is_waiting a.outcome) && b) (sym (or-true (is_confirmed later a)))
+          ∙ λ j. not (is_waiting a.outcome) && (is_confirmed later a || sym alone j))
       by-alone i a at false linked =
           (λ j. not (is_waiting a.outcome) && (linked j || nat_le a.write.number upto))
-          ∙ (ap (λ b. not (is_waiting a.outcome) && b) (sym (confirmed-number i a at linked) ∙ sym (or-false (is_confirmed later a))) ∙ λ j. not (is_waiting a.outcome) && (is_confirmed later a || sym linked j))
+          ∙ (ap (λ b. not (is_waiting a.outcome) && b) (sym (confirmed-number i a at linked) ∙ sym (or-false (is_confirmed later a)))
+          ∙ λ j. not (is_waiting a.outcome) && (is_confirmed later a || sym linked j))
 
-      stays-told : (i : ℕ) (a : Accepted) → slice_get h.writes i ≡ Some a → (is_confirmed h a || is_alone h a) ≡ true → (is_confirmed later a || is_alone later a) ≡ true
+      stays-told : (i : ℕ) (a : Accepted) → slice_get h.writes i ≡ Some a → (is_confirmed h a || is_alone h a) ≡ true
+          → (is_confirmed later a || is_alone later a) ≡ true
       stays-told i a at told = elim (or_cases (is_confirmed h a) (is_alone h a) told) [
         | inl confirmed ↦ λ j. confirmed-stays i a at confirmed j || is_alone later a
         | inr alone ↦ (λ j. is_confirmed later a || (alone-same a ∙ alone) j) ∙ or-true (is_confirmed later a)
@@ -213,13 +267,15 @@ module _ (settings : Settings) (bound : 0 < settings.max_epoch) (s : PrimaryStat
   map-none (w ∷ ws) = ap (λ (l : List LogWrite). w ∷ l) (map-none ws)
 
   writes-left : l1.writes ≡ map (logged_of later) (unreleased later)
-  writes-left = ap (filter (λ w. not (writes.is_released upto w))) (sym (map-none s.log.writes)) ∙ left-then s h later (λ w. w) (λ a. a) upto left homes ordered.1.0 confirmed-moved
+  writes-left = ap (filter (λ w. not (writes.is_released upto w))) (sym (map-none s.log.writes))
+      ∙ left-then s h later (λ w. w) (λ a. a) upto left homes ordered.1.0 confirmed-moved
 
   released-left : l1.released ≡ map (λ a. released_of (logged_of later a)) (filter (λ a. not (is_released h a) && is_released later a) h.writes)
-  released-left = ap (λ ws. map released_of (filter (writes.is_released upto) ws)) (sym (map-none s.log.writes)) ∙ moved-released s h later (λ w. w) (λ a. a) upto left homes ordered.1.0 confirmed-moved
+  released-left = ap (λ ws. map released_of (filter (writes.is_released upto) ws)) (sym (map-none s.log.writes))
+      ∙ moved-released s h later (λ w. w) (λ a. a) upto left homes ordered.1.0 confirmed-moved
 
   quiet : IsQuiet later
-  quiet i a at = left.rest.quiet i a at ∙ λ j. is_on_disk a.outcome && (sym (answered-same a) j || sym (alone-same a) j)
+  quiet i a at = left.rest.quiet i a at ∙ sym (completes-same h later a (answered-same a) (alone-same a))
 
   none-new : newly_completed later ≡ []
   none-new = quiet-none later quiet
@@ -240,7 +296,8 @@ module _ (settings : Settings) (bound : 0 < settings.max_epoch) (s : PrimaryStat
   -- The epochs then.
 
   awaited : is_awaited number size s.log.epochs ≡ true
-  awaited = (and_parts (is_awaited number size s.log.epochs) (not (asks_answers s.log.protocol && lacks_answer size s.log)) (turn-back settings s h e left ordered end begun number size turn).1).0
+  awaited = (and_parts (is_awaited number size s.log.epochs) (not (asks_answers s.log.protocol && lacks_answer size s.log))
+      (turn-back settings s h e left ordered end begun number size turn).1).0
 
   rest-is : (acknowledging number size s.log.epochs).1 ≡ record s.log.epochs { sizes = drop 1 s.log.epochs.sizes }
   rest-is = ap (λ b. (by b).1) awaited
@@ -249,13 +306,17 @@ module _ (settings : Settings) (bound : 0 < settings.max_epoch) (s : PrimaryStat
       by b = if b then (Ok tt, record s.log.epochs { sizes = drop 1 s.log.epochs.sizes }) else (Err BadBarrierAck, s.log.epochs)
 
   -- the oldest size goes
-  sizes-split : (s.log.epochs.sizes ≡ size ∷ drop 1 s.log.epochs.sizes) × (drop 1 s.log.epochs.sizes ≡ map (epoch_size (outward h).stream) (numbers_after (suc e0.acked) (barriers_in (outward h).stream - suc e0.acked)))
+  sizes-split : (s.log.epochs.sizes ≡ size ∷ drop 1 s.log.epochs.sizes)
+      × (drop 1 s.log.epochs.sizes ≡ map (epoch_size (outward h).stream) (numbers_after (suc e0.acked) (barriers_in (outward h).stream - suc e0.acked)))
   sizes-split = go (barriers_in (outward h).stream - e0.acked) refl
     where
-      go : (n : ℕ) → barriers_in (outward h).stream - e0.acked ≡ n → (s.log.epochs.sizes ≡ size ∷ drop 1 s.log.epochs.sizes) × (drop 1 s.log.epochs.sizes ≡ map (epoch_size (outward h).stream) (numbers_after (suc e0.acked) (barriers_in (outward h).stream - suc e0.acked)))
+      go : (n : ℕ) → barriers_in (outward h).stream - e0.acked ≡ n
+          → (s.log.epochs.sizes ≡ size ∷ drop 1 s.log.epochs.sizes)
+          × (drop 1 s.log.epochs.sizes ≡ map (epoch_size (outward h).stream) (numbers_after (suc e0.acked) (barriers_in (outward h).stream - suc e0.acked)))
       go zero none = absurd (let some = ended in omega arith)
       go (suc n) more =
-          let all : s.log.epochs.sizes ≡ epoch_size (outward h).stream (suc e0.acked) ∷ map (epoch_size (outward h).stream) (numbers_after (suc e0.acked) n) = e0.sizes ∙ ap (λ m. map (epoch_size (outward h).stream) (numbers_after e0.acked m)) more in
+          let all : s.log.epochs.sizes ≡ epoch_size (outward h).stream (suc e0.acked) ∷ map (epoch_size (outward h).stream) (numbers_after (suc e0.acked) n) =
+          e0.sizes ∙ ap (λ m. map (epoch_size (outward h).stream) (numbers_after e0.acked m)) more in
           let fewer : n ≡ barriers_in (outward h).stream - suc e0.acked = omega arith in
           let behind : drop 1 s.log.epochs.sizes ≡ map (epoch_size (outward h).stream) (numbers_after (suc e0.acked) n) = ap (drop 1) all in
           (all ∙ λ i. sym sized i ∷ sym behind i, behind ∙ ap (λ m. map (epoch_size (outward h).stream) (numbers_after (suc e0.acked) m)) fewer)
@@ -263,13 +324,19 @@ module _ (settings : Settings) (bound : 0 < settings.max_epoch) (s : PrimaryStat
   sum-split : (k : ℕ) → total (take (suc k) s.log.epochs.sizes) ≡ size + total (take k (drop 1 s.log.epochs.sizes))
   sum-split k = ap (λ (l : List ℕ). total (take (suc k) l)) sizes-split.0
 
-  answered-then : (place : ℕ) (write : Write) → slice_get (outward h).stream place ≡ Some (WriteItem write) → epoch_of (outward h).stream place ≤ suc e0.acked → is_answered_by s.log.protocol (with_frame frame (outward h)) place (WriteItem write) ≡ true
+  answered-then : (place : ℕ) (write : Write) → slice_get (outward h).stream place ≡ Some (WriteItem write) → epoch_of (outward h).stream place ≤ suc e0.acked
+      → is_answered_by s.log.protocol (with_frame frame (outward h)) place (WriteItem write) ≡ true
   answered-then place write at few = answered-by s.log.protocol place (WriteItem write) ∙ elim (cases_lt e0.acked (epoch_of (outward h).stream place)) [
     | inr early ↦ e0.answered place write at early
-    | inl late ↦ newly s.log.protocol refl (its-answer settings s h e left ordered end begun number size turn place (WriteItem write) at (let n = next in omega arith))
+    | inl late ↦ elim (its-answer settings s h e left ordered end begun number size turn place write at (let n = next in omega arith)) [
+      | inl none ↦ ap (λ (p : Protocol). is_answered_by p (outward h) place (WriteItem write)) (left.rest.log.protocol ∙ none)
+          ∙ lt-ltb place (items_sent (outward h)) (sent (let n = next in omega arith))
+      | inr answer ↦ ap (λ (p : Protocol). is_answered_by p (outward h) place (WriteItem write)) left.rest.log.protocol ∙ answer
+    ]
   ]
     where
-      barrier : (place : ℕ) × (place < items_sent (outward h)) × (slice_get (outward h).stream place ≡ Some (BarrierItem number)) × (epoch_of (outward h).stream place ≡ number) × (barrier_acknowledged (outward h) number ≡ false)
+      barrier : (place : ℕ) × (place < items_sent (outward h)) × (slice_get (outward h).stream place ≡ Some (BarrierItem number))
+          × (epoch_of (outward h).stream place ≡ number) × (barrier_acknowledged (outward h) number ≡ false)
       barrier = its-barrier settings s h e left ordered end begun number size turn
 
       -- a write of the epoch stands before its barrier, so it was sent
@@ -278,14 +345,10 @@ module _ (settings : Settings) (bound : 0 < settings.max_epoch) (s : PrimaryStat
           let within = slice_get_within (outward h).stream place (WriteItem write) at in
           let early = barrier.1 in
           elim (cases_lt barrier.0 place) [
-            | inl behind ↦ absurd (let rises = behind-barrier (outward h).stream barrier.0 place number behind (omega arith) barrier.2 in let own = barrier.3 in omega arith)
+            | inl behind ↦ absurd (let rises = behind-barrier (outward h).stream barrier.0 place number behind (omega arith) barrier.2 in let own =
+                barrier.3 in omega arith)
             | inr upto ↦ omega arith
           ]
-
-      newly : (p : Protocol) → s.log.protocol ≡ p → is_acknowledged h.settings.protocol (outward h) (place, WriteItem write) ≡ true → is_answered_by s.log.protocol (outward h) place (WriteItem write) ≡ true
-      newly protocol.A asked said_so = ap (λ (p : Protocol). is_answered_by p (outward h) place (WriteItem write)) asked ∙ lt-ltb place (items_sent (outward h)) (sent (let n = next in omega arith))
-      newly protocol.B asked said_so = ap (λ (p : Protocol). is_answered_by p (outward h) place (WriteItem write)) asked ∙ (ap (λ (p : Protocol). is_acknowledged p (outward h) (place, WriteItem write)) (sym (sym left.rest.log.protocol ∙ asked)) ∙ said_so)
-      newly protocol.C asked said_so = ap (λ (p : Protocol). is_answered_by p (outward h) place (WriteItem write)) asked ∙ (ap (λ (p : Protocol). is_acknowledged p (outward h) (place, WriteItem write)) (sym (sym left.rest.log.protocol ∙ asked)) ∙ said_so)
 
   e1 : LeavesEpochs l1 (with_frame frame (outward h))
   e1 = record {
@@ -299,15 +362,19 @@ module _ (settings : Settings) (bound : 0 < settings.max_epoch) (s : PrimaryStat
     resync = ap (λ (x : EpochsState). x.resync) rest-is ∙ e0.resync;
     upto = λ k place write few at.
         let sum = sum-split k in
-        let same : s.log.confirmed + size + total (take k (drop 1 s.log.epochs.sizes)) ≡ s.log.confirmed + total (take (suc k) s.log.epochs.sizes) = omega arith in
+        let same : s.log.confirmed + size + total (take k (drop 1 s.log.epochs.sizes)) ≡ s.log.confirmed + total (take (suc k) s.log.epochs.sizes) =
+        omega arith in
         let count : e0.acked + suc k ≡ suc e0.acked + k = omega arith in
         let many : length s.log.epochs.sizes ≡ suc (length (drop 1 s.log.epochs.sizes)) = ap length sizes-split.0 in
         let within : k ≤ length (drop 1 s.log.epochs.sizes) = subst (λ (x : EpochsState). k ≤ length x.sizes) rest-is few in
         (λ i. nat_le write.number (s.log.confirmed + size + total (take k (rest-is i).sizes)))
         ∙ (ap (nat_le write.number) same ∙ (e0.upto (suc k) place write (omega arith) at ∙ ap (nat_le (epoch_of (outward h).stream place)) count));
-    newest = (λ i. s.log.confirmed + size + total (rest-is i).sizes + (rest-is i).size) ∙ (let all : total s.log.epochs.sizes ≡ size + total (drop 1 s.log.epochs.sizes) = ap total sizes-split.0 in let n = e0.newest in omega arith);
+    newest = (λ i. s.log.confirmed + size + total (rest-is i).sizes + (rest-is i).size)
+        ∙ (let all : total s.log.epochs.sizes ≡ size + total (drop 1 s.log.epochs.sizes) = ap total sizes-split.0 in let n = e0.newest in omega arith);
     first = λ some. ap (λ (x : EpochsState). x.first) rest-is ∙ (e0.first (subst (λ (x : EpochsState). 0 < x.size) rest-is some)
-        ∙ ((let all : total s.log.epochs.sizes ≡ size + total (drop 1 s.log.epochs.sizes) = ap total sizes-split.0 in let is : suc (s.log.confirmed + total s.log.epochs.sizes) ≡ suc (s.log.confirmed + size + total (drop 1 s.log.epochs.sizes)) = omega arith in is) ∙ sym (λ i. suc (s.log.confirmed + size + total (rest-is i).sizes))));
+        ∙ ((let all : total s.log.epochs.sizes ≡ size + total (drop 1 s.log.epochs.sizes) = ap total sizes-split.0 in let is : suc
+        (s.log.confirmed + total s.log.epochs.sizes) ≡ suc (s.log.confirmed + size + total (drop 1 s.log.epochs.sizes)) = omega arith in is)
+        ∙ sym (λ i. suc (s.log.confirmed + size + total (rest-is i).sizes))));
     answered = answered-then;
   }
 
@@ -315,25 +382,28 @@ module _ (settings : Settings) (bound : 0 < settings.max_epoch) (s : PrimaryStat
   journal-same = ap (λ (l : List Accepted). h.journal ++ map (completion_of later) l) none-new ∙ append-nil h.journal
 
   on-still : epoch_is_over (with_completions later) ≡ false
-  on-still =
-      ap (λ (c : Outward). stands c && (list_any (is_settled (with_completions later) c) (items_of_epoch c.stream (last_epoch c.stream)) || nat_le h.settings.max_epoch (epoch_size c.stream (last_epoch c.stream)))) out
-      ∙ (ap (λ b. stands (outward h) && (b || nat_le h.settings.max_epoch (epoch_size (outward h).stream (last_epoch (outward h).stream))))
-      (any-at (is_settled (with_completions later) (with_frame frame (outward h))) (is_settled h (outward h)) (items_of_epoch (outward h).stream (last_epoch (outward h).stream))
-      (λ i entry at. λ j. list_any (λ accepted. (is_write entry.1 && (accepted.write.number == number_of entry.1)) && not (not (list_any (λ (x : Completion). x.write.number == accepted.write.number) (journal-same j)) && not (is_failed accepted.outcome))) h.writes || (is_resync entry.1 && block-same entry.0 entry.1 j)))
-      ∙ ordered.1.1.0.1.on)
+  on-still = over-same h (with_completions later) (outward h) (with_frame frame (outward h)) refl out refl refl refl refl journal-same block-same
+      ∙ ordered.1.1.0.1.on
 
   stream-left : LeavesStream l1 (parted (with_completions later))
-  stream-left = subst (LeavesStream l1) (sym (ap (λ b. elim b as (λ _. PrimaryHistory) [ true ↦ appending (BarrierItem (last_epoch (outward (with_completions later)).stream)) (with_completions later) | false ↦ with_completions later ]) on-still)) (record {
-    max_epoch = ap (λ (x : EpochsState). x.max_epoch) rest-is ∙ left.stream.max_epoch;
-    on = λ so. subst (LeavesEpochs l1) (sym out) e1;
-    here = λ so i a at behind. let place = left.stream.here on i a at (omega arith) in (place.0, place.1 ∙ ap (λ m. Some (m, place.0)) (sym index-then));
-    off = λ none. absurd (both_ways (stands (outward later)) none (ap stands out ∙ on));
-  })
+  stream-left = subst (LeavesStream l1)
+      (sym (ap (λ b. elim b as (λ _. PrimaryHistory) [
+        | true ↦ appending (BarrierItem (last_epoch (outward (with_completions later)).stream))
+            (with_completions later)
+        | false ↦ with_completions later
+      ]) on-still)) (record {
+        max_epoch = ap (λ (x : EpochsState). x.max_epoch) rest-is ∙ left.stream.max_epoch;
+        on = λ so. subst (LeavesEpochs l1) (sym out) e1;
+        here = λ so i a at behind. let place = left.stream.here on i a at (omega arith) in
+            (place.0, place.1 ∙ ap (λ m. let at : StreamPosition = record { index = m; place = place.0 } in Some at) (sym index-then));
+        off = λ none. absurd (both_ways (stands (outward later)) none (ap stands out ∙ on));
+      })
 
   held-left : s.held ≡ held_of later
   held-left = left.rest.held ∙ sym (ap (λ (c : Outward). map holding_item (if stands c then under_way c else []) ++ map holding_write (open_writes h)) out
       ∙ ap (λ (l : List (ℕ × Item)). map holding_item (if stands (outward h) then l else []) ++ map holding_write (open_writes h))
-      (filter-at (λ (entry : ℕ × Item). is_resync entry.1 && not (was_resynced (with_frame frame (outward h)) entry.0 entry.1)) (λ (entry : ℕ × Item). is_resync entry.1 && not (was_resynced (outward h) entry.0 entry.1)) (placed (outward h).stream)
+      (filter-at (λ (entry : ℕ × Item). is_resync entry.1 && not (was_resynced (with_frame frame (outward h)) entry.0 entry.1))
+      (λ (entry : ℕ × Item). is_resync entry.1 && not (was_resynced (outward h) entry.0 entry.1)) (placed (outward h).stream)
       (λ i entry at. ap (λ b. is_resync entry.1 && not b) (block-same entry.0 entry.1))))
 
   same-list : h.writes ≡ map (λ a. a) h.writes
@@ -344,7 +414,8 @@ module _ (settings : Settings) (bound : 0 < settings.max_epoch) (s : PrimaryStat
       go (a ∷ ws) = ap (λ (l : List Accepted). a ∷ l) (go ws)
 
   -- All is there for what follows.
-  pub confirmed-due : IsDue (record s { log = confirming number size s.log }) None (releasing h (with_outward (with_frame (Ok (BarrierAckFrame number size))) h))
+  pub confirmed-due : IsDue (record s { log = confirming number size s.log }) None
+      (releasing h (with_outward (with_frame (Ok (BarrierAckFrame number size))) h))
   confirmed-due = record {
     homes = after-releasing.1.1.0.0;
     done = λ i a at completed. sym (quiet i a at) ∙ completed;
@@ -363,6 +434,11 @@ module _ (settings : Settings) (bound : 0 < settings.max_epoch) (s : PrimaryStat
         ap (unmarking l1.released l1.latest) left.rest.marks
         ∙ unmarking-is settings h taken l1.released l1.latest ordered after.1.1.0.0 after.1.0 (confirmed-releases settings h number size end.stands ordered)
         (reports-of h taken (λ a. a) l1.released released-left same-list (λ a. refl)) h.settings.blocks h.marks log-left.latest;
-    activity = subst (λ rs. LeavesActivity (leaving rs s.activity) h.settings.slots (unreleased later)) (ap (λ ws. map released_of (filter (writes.is_released upto) ws)) (map-none s.log.writes)) (moved-activity s h later (λ w. w) (λ a. a) upto left homes ordered.1.0 confirmed-moved);
-    end = subst (λ v. EndLeft v (outward later)) (sym is) (subst (LeavesEnd e) (sym out) (end-framed e (outward h) frame e.under_way end begun long (record { received = λ place item later_place. refl; written = λ place item later_place. refl; resynced = λ place item later_place. refl }) (way-framed e.under_way (outward h) frame block-same end.under_way)));
+    activity = subst (λ rs. LeavesActivity (leaving rs s.activity) h.settings.slots (unreleased later))
+        (ap (λ ws. map released_of (filter (writes.is_released upto) ws)) (map-none s.log.writes))
+        (moved-activity s h later (λ w. w) (λ a. a) upto left homes ordered.1.0 confirmed-moved);
+    end = subst (λ v. EndLeft v (outward later)) (sym is)
+        (subst (LeavesEnd e) (sym out) (end-framed e (outward h) frame e.under_way end begun long
+        (record { received = λ place item later_place. refl; written = λ place item later_place. refl; resynced = λ place item later_place. refl })
+        (way-framed e.under_way (outward h) frame block-same end.under_way)));
   }

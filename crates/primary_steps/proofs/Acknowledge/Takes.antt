@@ -1,5 +1,6 @@
 -- The primary takes a frame.
-use Rattle.std.proofs.Common.{ℕ, ◌≡◌, ◌-◌, ◌<◌, Bool, true, false, not, ◌&&◌, ◌||◌, [], ◌∷◌, length, Option, Some, None, is_none, Result, Ok, Err, refl, sym, ◌∙◌, ap, subst}
+use Rattle.std.proofs.Common.{ℕ, ◌≡◌, ◌-◌, ◌<◌, Bool, true, false, not, ◌&&◌, ◌||◌, [], ◌∷◌, length, Option, Some, None, is_none, Result, Ok, Err, refl, sym}
+use Rattle.std.proofs.Common.{◌∙◌, ap, subst}
 use Rattle.std.specs.Prelude.{if◌then◌else◌}
 use Rattle.std.proofs.lemmas.Bool.{both_ways, or_parts}
 use Rattle.blocks.specs.declared.settings.Settings.{Settings}
@@ -10,13 +11,15 @@ use Rattle.blocks.specs.declared.outcome.Reply.{Reply}
 use Rattle.blocks.specs.declared.outcome.Reply.TheVariants as reply
 use Rattle.blocks.specs.declared.outcome.What.TheVariants as what
 use Rattle.blocks.specs.declared.command.Command.TheVariants as command
-use Rattle.model.specs.Frames.{Packet, DataFrame, RsDataReplyFrame, BarrierFrame, ProtocolFrame, UuidsFrame, SizesFrame, SyncUuidFrame, RecvAckFrame, WriteAckFrame, RsWriteAckFrame, BarrierAckFrame, Received}
+use Rattle.model.specs.Frames.{Packet, DataFrame, RsDataReplyFrame, BarrierFrame, ProtocolFrame, UuidsFrame, SizesFrame, SyncUuidFrame, RecvAckFrame}
+use Rattle.model.specs.Frames.{WriteAckFrame, RsWriteAckFrame, BarrierAckFrame, Received}
 use Rattle.model.specs.Marks.{releasing}
 use Rattle.model.specs.Primary.{PrimaryHistory, outward, with_outward}
 use Rattle.model.specs.PrimarySteps as step
 use Rattle.model.specs.Acknowledgements as model
 use Rattle.model.specs.Acknowledgements.{is_in_turn}
 use Rattle.transferlog.specs.Log.{LogState, may_confirm, confirming}
+use Rattle.laws.proofs.Rules.EpochEnds.{TakesWrites, takes-writes}
 use Rattle.laws.proofs.Lists.Each.{each-get}
 use Rattle.laws.proofs.Primary.Homes.{open-at}
 use Rattle.laws.proofs.Releases.InOrderMoves.{Ordered}
@@ -42,7 +45,8 @@ use Rattle.primary_steps.proofs.Acknowledge.BarrierTurns.{turn-forth, turn-back}
 
 -- Acknowledgements.
 
-module _ (settings : Settings) (bound : 0 < settings.max_epoch) (s : PrimaryState) (h : PrimaryHistory) (e : EndState) (left : Leaves s h) (ordered : Ordered settings h) (is : s.end ≡ Some e) (end : LeavesEnd e (outward h)) (begun : (outward h).begun ≡ true)
+module _ (settings : Settings) (bound : TakesWrites settings) (s : PrimaryState) (h : PrimaryHistory) (e : EndState) (left : Leaves s h)
+    (ordered : Ordered settings h) (is : s.end ≡ Some e) (end : LeavesEnd e (outward h)) (begun : (outward h).begun ≡ true)
     (long : 2 < length (outward h).taken) where
   module _ (number size : ℕ) where
     -- the core's answer, by its two tests, and the history's
@@ -58,23 +62,31 @@ module _ (settings : Settings) (bound : 0 < settings.max_epoch) (s : PrimaryStat
         else Err (BadBarrierAck, with_outward (with_frame (Ok (BarrierAckFrame number size))) h)
 
     refuse : (got : core.Taken) → got ≡ Err (BadBarrierAck, s) → TakenAlike (Ok (BarrierAckFrame number size)) s h got (model-by false)
-    refuse got so = subst (λ x. TakenAlike (Ok (BarrierAckFrame number size)) s h x (model-by false)) (sym so) (peer-same (Ok (BarrierAckFrame number size)) s h BadBarrierAck left)
+    refuse got so = subst (λ x. TakenAlike (Ok (BarrierAckFrame number size)) s h x (model-by false)) (sym so)
+        (peer-same (Ok (BarrierAckFrame number size)) s h BadBarrierAck left)
 
     -- A BARRIER_ACK is taken alike.
-    confirms-agree : TakenAlike (Ok (BarrierAckFrame number size)) s h (core.taking_ack (BarrierAckFrame number size) e s) (model.taking_ack (BarrierAckFrame number size) h (with_outward (with_frame (Ok (BarrierAckFrame number size))) h))
+    confirms-agree : TakenAlike (Ok (BarrierAckFrame number size)) s h (core.taking_ack (BarrierAckFrame number size) e s)
+        (model.taking_ack (BarrierAckFrame number size) h (with_outward (with_frame (Ok (BarrierAckFrame number size))) h))
     confirms-agree = go (is_in_turn h number size) refl
       where
-        go : (b : Bool) → is_in_turn h number size ≡ b → TakenAlike (Ok (BarrierAckFrame number size)) s h (core-by (is_unsent number e.unsent || is_in_epoch number e.under_way) (may_confirm number size s.log)) (model-by (is_in_turn h number size))
+        go : (b : Bool) → is_in_turn h number size ≡ b
+            → TakenAlike (Ok (BarrierAckFrame number size)) s h
+            (core-by (is_unsent number e.unsent || is_in_epoch number e.under_way) (may_confirm number size s.log)) (model-by (is_in_turn h number size))
         go true turn =
             let back = turn-back settings s h e left ordered end begun number size turn in
-            subst (λ b. TakenAlike (Ok (BarrierAckFrame number size)) s h (core-by (is_unsent number e.unsent || is_in_epoch number e.under_way) (may_confirm number size s.log)) (model-by b)) (sym turn)
+            subst (λ b. TakenAlike (Ok (BarrierAckFrame number size)) s h
+            (core-by (is_unsent number e.unsent || is_in_epoch number e.under_way) (may_confirm number size s.log)) (model-by b)) (sym turn)
             (subst (λ (x : core.Taken). TakenAlike (Ok (BarrierAckFrame number size)) s h x (model-by true)) (sym (λ i. core-by (back.0 i) (back.1 i)))
-            (from-follow _ _ (follow _ _ _ (confirmed-due settings bound s h e left ordered is end begun long number size turn) (what.Frame command.BarrierAck None))))
+            (from-follow _ _ (follow _ _ _ (confirmed-due settings bound s h e left ordered is end begun long number size turn)
+            (what.Frame command.BarrierAck None))))
         go false not_so =
-            subst (λ b. TakenAlike (Ok (BarrierAckFrame number size)) s h (core-by (is_unsent number e.unsent || is_in_epoch number e.under_way) (may_confirm number size s.log)) (model-by b)) (sym not_so)
+            subst (λ b. TakenAlike (Ok (BarrierAckFrame number size)) s h
+            (core-by (is_unsent number e.unsent || is_in_epoch number e.under_way) (may_confirm number size s.log)) (model-by b)) (sym not_so)
             (refuse _ (by (is_unsent number e.unsent || is_in_epoch number e.under_way) refl (may_confirm number size s.log) refl))
           where
-            by : (b : Bool) → (is_unsent number e.unsent || is_in_epoch number e.under_way) ≡ b → (d : Bool) → may_confirm number size s.log ≡ d → core-by b d ≡ Err (BadBarrierAck, s)
+            by : (b : Bool) → (is_unsent number e.unsent || is_in_epoch number e.under_way) ≡ b → (d : Bool) → may_confirm number size s.log ≡ d
+                → core-by b d ≡ Err (BadBarrierAck, s)
             by true early d so = refl
             by false late false so = refl
             by false late true so =
@@ -100,10 +112,12 @@ module _ (settings : Settings) (bound : 0 < settings.max_epoch) (s : PrimaryStat
 -- once its stream has begun, an open end has taken the whole hello
 heard-all : (h : PrimaryHistory) → IsReached h → (outward h).closed ≡ false → (outward h).begun ≡ true → 2 < length (outward h).taken
 heard-all h r standing begun =
-    let fit : HasFitEnds r.settings h = subst (HasFitEnds r.settings) r.is (primary_fit r.settings r.disk r.tuple r.marks r.events r.ranges.max_epoch.0) in
+    let fit : HasFitEnds r.settings h =
+    subst (HasFitEnds r.settings) r.is (primary_fit r.settings r.disk r.tuple r.marks r.events (takes-writes r.settings r.ranges)) in
     (each-get _ h.connections (length h.connections - 1) (outward h) fit.ends (open-at h standing)).late begun
 
-module _ (s : PrimaryState) (h : PrimaryHistory) (e : EndState) (reached : IsReached h) (left : Leaves s h) (is : s.end ≡ Some e) (end : LeavesEnd e (outward h)) where
+module _ (s : PrimaryState) (h : PrimaryHistory) (e : EndState) (reached : IsReached h) (left : Leaves s h) (is : s.end ≡ Some e)
+    (end : LeavesEnd e (outward h)) where
   known : IsOrdered h
   known = reached-ordered h reached
 
@@ -185,11 +199,14 @@ takes-agree frame starved s h reached left = by-end s.end refl left.rest.end
         subst (λ v. Agrees reply.Ok (core-by v) (model-by (outward h).closed)) (sym is)
         (subst (λ b. Agrees reply.Ok (core-by (Some e)) (model-by b)) (sym end.stands)
         (tested-agrees reply.Ok s h _ ((not (outward h).begun && starved, NoMemory) ∷ (is_none frame, NothingThere) ∷ []) (λ u. core-rest s u e) model-rest
-        (λ i. (not ((stands-same s h left ∙ λ j. not (end.stands j) && (outward h).begun) i) && starved, NoMemory) ∷ (is_none frame, NothingThere) ∷ []) left (λ none. rest frame)))
+        (λ i. (not ((stands-same s h left ∙ λ j. not (end.stands j) && (outward h).begun) i) && starved, NoMemory) ∷ (is_none frame, NothingThere) ∷ []) left
+        (λ none. rest frame)))
       where
         answer : Received → Option EndState → Result Done Refusal × PrimaryState
         answer taken v = elim v [ None ↦ (Err NotConnected, s) | Some e ↦ core.taken_by e (core.taking taken e s) ]
 
-        rest : (v : Option Received) → Agrees reply.Ok (elim v as (λ _. Result Done Refusal × PrimaryState) [ None ↦ (Err NothingThere, s) | Some taken ↦ core.take_at taken s ]) (elim v as (λ _. Reply × PrimaryHistory) [ None ↦ (reply.Refused NothingThere, h) | Some taken ↦ model.take_frame taken h ])
+        rest : (v : Option Received) → Agrees reply.Ok
+            (elim v as (λ _. Result Done Refusal × PrimaryState) [ None ↦ (Err NothingThere, s) | Some taken ↦ core.take_at taken s ])
+            (elim v as (λ _. Reply × PrimaryHistory) [ None ↦ (reply.Refused NothingThere, h) | Some taken ↦ model.take_frame taken h ])
         rest None = record { reply = refl; leaves = left }
         rest (Some taken) = subst (λ v. Agrees reply.Ok (answer taken v) (model.take_frame taken h)) (sym is) (frame-agrees s h e reached left is end taken)

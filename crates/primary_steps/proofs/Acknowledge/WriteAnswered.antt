@@ -1,20 +1,25 @@
 -- The peer answers a write: what that leaves, before what follows.
-use Rattle.std.proofs.Common.{ℕ, ◌≡◌, inl, inr, Bool, true, false, not, ◌&&◌, ◌||◌, List, [], ◌∷◌, ◌++◌, length, map, filter, Option, Some, None, slice_get, refl, sym, ◌∙◌, ap, subst, nat_lt, ◌==◌}
+use Rattle.std.proofs.Common.{ℕ, ◌≡◌, inl, inr, Bool, true, false, not, ◌&&◌, ◌||◌, List, [], ◌∷◌, ◌++◌, length, map, filter, Option, Some, None, slice_get}
+use Rattle.std.proofs.Common.{refl, sym, ◌∙◌, ap, subst, nat_lt, ◌==◌}
 use Rattle.std.proofs.Math.Bool.{or-false}
 use Rattle.std.specs.Prelude.{if◌then◌else◌}
 use Rattle.std.specs.List.{list_any}
 use Rattle.std.proofs.lemmas.Bool.{both_ways, and_parts, eqb-true}
 use Rattle.std.proofs.lemmas.List.Folds.{list_any-append}
+use Rattle.blocks.specs.Positions.{StreamPosition}
 use Rattle.blocks.specs.declared.settings.Settings.{Settings}
 use Rattle.blocks.specs.declared.settings.Protocol.{Protocol}
 use Rattle.model.specs.Stream.{Item, WriteItem, epoch_of}
 use Rattle.model.specs.Frames.{Acknowledged, Received, naming, counting}
-use Rattle.model.specs.Primary.{Accepted, Outward, PrimaryHistory, no_outward, outward, last_index, change_last, with_outward, stands, items_sent, same_naming, accepted_frames, is_answered_by, is_answered, is_alone, is_confirmed, is_released, is_waiting, is_on_disk, barrier_acknowledged, was_resynced, completes}
+use Rattle.model.specs.Primary.{Accepted, Outward, PrimaryHistory, no_outward, outward, last_index, change_last, with_outward, stands, items_sent, same_naming}
+use Rattle.model.specs.Primary.{accepted_frames, is_answered_by, is_answered, is_alone, is_confirmed, is_released, is_waiting, is_on_disk, barrier_acknowledged}
+use Rattle.model.specs.Primary.{was_resynced, completes}
 use Rattle.transferlog.specs.Log.{changing}
 use Rattle.transferlog.specs.Ring.{on}
 use Rattle.transferlog.specs.Writes as writes
 use Rattle.transferlog.specs.Writes.{LogWrite, released_of}
 use Rattle.transferlog.specs.declared.report.Released.{Released}
+use Rattle.laws.proofs.Rules.Completions.{completes-parts}
 use Rattle.laws.proofs.Lists.Last.{get-change, get-last-changed}
 use Rattle.laws.proofs.Lists.Picks.{pick-filtered, pick-image}
 use Rattle.laws.proofs.Primary.Ends.{stands-parts}
@@ -38,21 +43,29 @@ use Rattle.primary_steps.proofs.LocalDisk.Writes.{one}
 pub frames-more : (c : Outward) (frame : Received) → c.refused ≡ false → accepted_frames (with_frame frame c) ≡ accepted_frames c ++ frame ∷ []
 frames-more c frame plain = ap (λ b. counting b (c.taken ++ frame ∷ [])) plain ∙ sym (ap (λ b. counting b c.taken ++ frame ∷ []) plain)
 
-pub any-frame : (p : Received → Bool) (c : Outward) (frame : Received) → c.refused ≡ false → list_any p (accepted_frames (with_frame frame c)) ≡ (list_any p (accepted_frames c) || p frame)
-any-frame p c frame plain = ap (list_any p) (frames-more c frame plain) ∙ (list_any-append p (accepted_frames c) (frame ∷ []) ∙ ap (λ b. list_any p (accepted_frames c) || b) (or-false (p frame)))
+pub any-frame : (p : Received → Bool) (c : Outward) (frame : Received) → c.refused ≡ false
+    → list_any p (accepted_frames (with_frame frame c)) ≡ (list_any p (accepted_frames c) || p frame)
+any-frame p c frame plain = ap (list_any p) (frames-more c frame plain)
+    ∙ (list_any-append p (accepted_frames c) (frame ∷ []) ∙ ap (λ b. list_any p (accepted_frames c) || b) (or-false (p frame)))
 
 -- what a write sees of its connection, which is the same but for the last one
-pub looked : {X : Type 0} (see : Option Outward → X) (f : Outward → Outward) (h : PrimaryHistory) (k : ℕ) (c : Outward) → slice_get h.connections k ≡ Some c → (c ≡ outward h → see (Some (f (outward h))) ≡ see (Some (outward h)))
+pub looked : {X : Type 0} (see : Option Outward → X) (f : Outward → Outward) (h : PrimaryHistory) (k : ℕ) (c : Outward) → slice_get h.connections k ≡ Some c
+    → (c ≡ outward h → see (Some (f (outward h))) ≡ see (Some (outward h)))
     → see (slice_get (change_last f h.connections) k) ≡ see (slice_get h.connections k)
 looked see f h k c at same = elim (get-change f (no_outward h.tuple) h.connections k c at) [
   | inl stays ↦ ap see (stays ∙ sym at)
-  | inr changed ↦ ap see changed.0 ∙ (ap (λ (x : Outward). see (Some (f x))) changed.1 ∙ (same changed.1 ∙ (ap (λ (x : Outward). see (Some x)) (sym changed.1) ∙ ap see (sym at))))
+  | inr changed ↦ ap see changed.0
+      ∙ (ap (λ (x : Outward). see (Some (f x))) changed.1 ∙ (same changed.1 ∙ (ap (λ (x : Outward). see (Some x)) (sym changed.1) ∙ ap see (sym at))))
 ]
 
-module _ (settings : Settings) (s : PrimaryState) (h : PrimaryHistory) (e : EndState) (ack : Acknowledged) (frame : Received) (left : Leaves s h) (ordered : Ordered settings h) (after : OrderedAfter settings (with_outward (with_frame frame) h))
+module _ (settings : Settings) (s : PrimaryState) (h : PrimaryHistory) (e : EndState) (ack : Acknowledged) (frame : Received) (left : Leaves s h)
+    (ordered : Ordered settings h) (after : OrderedAfter settings (with_outward (with_frame frame) h))
     (standing : stands (outward h) ≡ true) (names : Names h ack) (is : s.end ≡ Some e) (end : LeavesEnd e (with_frame frame (outward h)))
-    (answers : (place : ℕ) (item : Item) → is_answered_by h.settings.protocol (with_frame frame (outward h)) place item ≡ (is_answered_by h.settings.protocol (outward h) place item || same_naming (naming place item) ack))
-    (answered-mono : (asked : Protocol) (place : ℕ) (item : Item) → is_answered_by asked (outward h) place item ≡ true → is_answered_by asked (with_frame frame (outward h)) place item ≡ true)
+    (answers : (place : ℕ) (item : Item)
+    → is_answered_by h.settings.protocol (with_frame frame (outward h)) place item ≡
+    (is_answered_by h.settings.protocol (outward h) place item || same_naming (naming place item) ack))
+    (answered-mono : (asked : Protocol) (place : ℕ) (item : Item) → is_answered_by asked (outward h) place item ≡ true
+    → is_answered_by asked (with_frame frame (outward h)) place item ≡ true)
     (no_barrier : (epoch : ℕ) → barrier_acknowledged (with_frame frame (outward h)) epoch ≡ barrier_acknowledged (outward h) epoch)
     (no_block : (place : ℕ) (item : Item) → was_resynced (with_frame frame (outward h)) place item ≡ was_resynced (outward h) place item) where
   homes : HasHomes h
@@ -73,26 +86,49 @@ module _ (settings : Settings) (s : PrimaryState) (h : PrimaryHistory) (e : EndS
   alone-framed : (a : Accepted) → is_alone later a ≡ is_alone h a
   alone-framed a = go a.home
     where
-      go : (v : Option (ℕ × ℕ)) → elim v as (λ _. Bool) [ None ↦ true | Some home ↦ elim (slice_get (change_last (with_frame frame) h.connections) home.0) as (λ _. Bool) [ None ↦ true | Some c ↦ c.closed ] ]
-          ≡ elim v as (λ _. Bool) [ None ↦ true | Some home ↦ elim (slice_get h.connections home.0) as (λ _. Bool) [ None ↦ true | Some c ↦ c.closed ] ]
+      go : (v : Option StreamPosition) → elim v as (λ _. Bool) [
+        | None ↦ true
+        | Some home ↦ elim (slice_get (change_last (with_frame frame) h.connections) home.index) as
+            (λ _. Bool) [ None ↦ true | Some c ↦ c.closed ]
+      ]
+          ≡ elim v as (λ _. Bool) [ None ↦ true | Some home ↦ elim (slice_get h.connections home.index) as (λ _. Bool) [ None ↦ true | Some c ↦ c.closed ] ]
       go None = refl
-      go (Some home) = look (λ v. elim v as (λ _. Bool) [ None ↦ true | Some c ↦ c.closed ]) (with_frame frame) (no_outward h.tuple) h.connections home.0 refl
+      go (Some home) =
+          look (λ v. elim v as (λ _. Bool) [ None ↦ true | Some c ↦ c.closed ]) (with_frame frame) (no_outward h.tuple) h.connections home.index refl
 
   sent-framed : (a : Accepted) → is_sent later a ≡ is_sent h a
   sent-framed a = go a.home
     where
-      go : (v : Option (ℕ × ℕ)) → elim v as (λ _. Bool) [ None ↦ false | Some home ↦ elim (slice_get (change_last (with_frame frame) h.connections) home.0) as (λ _. Bool) [ None ↦ false | Some c ↦ nat_lt home.1 (items_sent c) ] ]
-          ≡ elim v as (λ _. Bool) [ None ↦ false | Some home ↦ elim (slice_get h.connections home.0) as (λ _. Bool) [ None ↦ false | Some c ↦ nat_lt home.1 (items_sent c) ] ]
+      go : (v : Option StreamPosition) → elim v as (λ _. Bool) [
+        | None ↦ false
+        | Some home ↦ elim (slice_get (change_last (with_frame frame) h.connections) home.index) as
+            (λ _. Bool) [ None ↦ false | Some c ↦ nat_lt home.place (items_sent c) ]
+      ]
+          ≡ elim v as (λ _. Bool) [
+            | None ↦ false
+            | Some home ↦ elim (slice_get h.connections home.index) as
+                (λ _. Bool) [ None ↦ false | Some c ↦ nat_lt home.place (items_sent c) ]
+          ]
       go None = refl
-      go (Some home) = look (λ v. elim v as (λ _. Bool) [ None ↦ false | Some c ↦ nat_lt home.1 (items_sent c) ]) (with_frame frame) (no_outward h.tuple) h.connections home.0 refl
+      go (Some home) = look (λ v. elim v as (λ _. Bool) [ None ↦ false | Some c ↦ nat_lt home.place (items_sent c) ]) (with_frame frame)
+          (no_outward h.tuple) h.connections home.index refl
 
   confirmed-framed : (a : Accepted) → is_confirmed later a ≡ is_confirmed h a
   confirmed-framed a = go a.home
     where
-      go : (v : Option (ℕ × ℕ)) → elim v as (λ _. Bool) [ None ↦ false | Some home ↦ elim (slice_get (change_last (with_frame frame) h.connections) home.0) as (λ _. Bool) [ None ↦ false | Some c ↦ barrier_acknowledged c (epoch_of c.stream home.1) ] ]
-          ≡ elim v as (λ _. Bool) [ None ↦ false | Some home ↦ elim (slice_get h.connections home.0) as (λ _. Bool) [ None ↦ false | Some c ↦ barrier_acknowledged c (epoch_of c.stream home.1) ] ]
+      go : (v : Option StreamPosition) → elim v as (λ _. Bool) [
+        | None ↦ false
+        | Some home ↦ elim (slice_get (change_last (with_frame frame) h.connections) home.index) as
+            (λ _. Bool) [ None ↦ false | Some c ↦ barrier_acknowledged c (epoch_of c.stream home.place) ]
+      ]
+          ≡ elim v as (λ _. Bool) [
+            | None ↦ false
+            | Some home ↦ elim (slice_get h.connections home.index) as
+                (λ _. Bool) [ None ↦ false | Some c ↦ barrier_acknowledged c (epoch_of c.stream home.place) ]
+          ]
       go None = refl
-      go (Some home) = look (λ v. elim v as (λ _. Bool) [ None ↦ false | Some c ↦ barrier_acknowledged c (epoch_of c.stream home.1) ]) (with_frame frame) (no_outward h.tuple) h.connections home.0 (no_barrier (epoch_of (outward h).stream home.1))
+      go (Some home) = look (λ v. elim v as (λ _. Bool) [ None ↦ false | Some c ↦ barrier_acknowledged c (epoch_of c.stream home.place) ]) (with_frame frame)
+          (no_outward h.tuple) h.connections home.index (no_barrier (epoch_of (outward h).stream home.place))
 
   -- the logged write, by what is answered of it
   framed-as : (a : Accepted) (answered : Bool) → is_answered later a ≡ answered → logged_of later a ≡ record (logged_of h a) { answered = answered }
@@ -105,27 +141,43 @@ module _ (settings : Settings) (s : PrimaryState) (h : PrimaryHistory) (e : EndS
       see place v = elim v as (λ _. Bool) [ None ↦ false | Some c ↦ is_answered_by h.settings.protocol c place (WriteItem a.write) ]
 
       unnamed : (place : ℕ) → same_naming (naming place (WriteItem a.write)) ack ≡ false
-      unnamed place = ap (λ b. ((a.write.first == ack.first) && b) && ((length a.write.contents == ack.count) && (place == ack.place))) other ∙ go2 (a.write.first == ack.first)
+      unnamed place = ap (λ b. ((a.write.first == ack.first) && b) && ((length a.write.contents == ack.count) && (place == ack.place))) other
+          ∙ go2 (a.write.first == ack.first)
         where
           go2 : (b : Bool) → ((b && false) && ((length a.write.contents == ack.count) && (place == ack.place))) ≡ false
           go2 true = refl
           go2 false = refl
 
-      go : (v : Option (ℕ × ℕ)) → a.home ≡ v → elim v as (λ _. Bool) [ None ↦ false | Some home ↦ see home.1 (slice_get (change_last (with_frame frame) h.connections) home.0) ] ≡ elim v as (λ _. Bool) [ None ↦ false | Some home ↦ see home.1 (slice_get h.connections home.0) ]
+      go : (v : Option StreamPosition) → a.home ≡ v
+          → elim v as (λ _. Bool) [ None ↦ false | Some home ↦ see home.place (slice_get (change_last (with_frame frame) h.connections) home.index) ]
+          ≡ elim v as
+          (λ _. Bool) [ None ↦ false | Some home ↦ see home.place (slice_get h.connections home.index) ]
       go None so = refl
       go (Some home) so =
-          let was = homes.housed i home.0 home.1 a at so in
-          looked (see home.1) (with_frame frame) h home.0 was.0 was.1 (λ last. answers home.1 (WriteItem a.write) ∙ (ap (λ b. is_answered_by h.settings.protocol (outward h) home.1 (WriteItem a.write) || b) (unnamed home.1) ∙ or-false (is_answered_by h.settings.protocol (outward h) home.1 (WriteItem a.write))))
+          let was = homes.housed i home.index home.place a at so in
+          looked (see home.place) (with_frame frame) h home.index was.0 was.1 (λ last. answers home.place (WriteItem a.write)
+          ∙ (ap (λ b. is_answered_by h.settings.protocol (outward h) home.place (WriteItem a.write) || b) (unnamed home.place)
+          ∙ or-false (is_answered_by h.settings.protocol (outward h) home.place (WriteItem a.write))))
 
   answered-its : (i : ℕ) (a : Accepted) → slice_get h.writes i ≡ Some a → (a.write.number == ack.number) ≡ true → is_answered later a ≡ true
   answered-its i a at same =
-      let parts = and_parts ((names.accepted.write.first == ack.first) && (names.accepted.write.number == ack.number)) ((length names.accepted.write.contents == ack.count) && (ack.place == ack.place)) names.naming_is in
+      let parts = and_parts ((names.accepted.write.first == ack.first) && (names.accepted.write.number == ack.number))
+      ((length names.accepted.write.contents == ack.count) && (ack.place == ack.place)) names.naming_is in
       let number = and_parts (names.accepted.write.first == ack.first) (names.accepted.write.number == ack.number) parts.0 in
-      let equal : names.accepted ≡ a = one s h ack.number left homes names.index i names.accepted a names.at at (eqb-true names.accepted.write.number ack.number number.1 ∙ sym (eqb-true a.write.number ack.number same)) in
+      let equal : names.accepted ≡ a = one s h ack.number left homes names.index i names.accepted a names.at at
+      (eqb-true names.accepted.write.number ack.number number.1 ∙ sym (eqb-true a.write.number ack.number same)) in
       ap (is_answered later) (sym equal)
-      ∙ (ap (λ (v : Option (ℕ × ℕ)). elim v as (λ _. Bool) [ None ↦ false | Some home ↦ elim (slice_get (change_last (with_frame frame) h.connections) home.0) as (λ _. Bool) [ None ↦ false | Some c ↦ is_answered_by h.settings.protocol c home.1 (WriteItem names.accepted.write) ] ]) names.home
-      ∙ (ap (λ (v : Option Outward). elim v as (λ _. Bool) [ None ↦ false | Some c ↦ is_answered_by h.settings.protocol c ack.place (WriteItem names.accepted.write) ]) there-then
-      ∙ (answers ack.place (WriteItem names.accepted.write) ∙ (ap (λ b. is_answered_by h.settings.protocol (outward h) ack.place (WriteItem names.accepted.write) || b) names.naming_is ∙ or-true (is_answered_by h.settings.protocol (outward h) ack.place (WriteItem names.accepted.write))))))
+      ∙ (ap (λ (v : Option StreamPosition). elim v as
+      (λ _. Bool) [
+        | None ↦ false
+        | Some home ↦ elim (slice_get (change_last (with_frame frame) h.connections) home.index) as
+            (λ _. Bool) [ None ↦ false | Some c ↦ is_answered_by h.settings.protocol c home.place (WriteItem names.accepted.write) ]
+      ]) names.home
+      ∙ (ap (λ (v : Option Outward). elim v as
+      (λ _. Bool) [ None ↦ false | Some c ↦ is_answered_by h.settings.protocol c ack.place (WriteItem names.accepted.write) ]) there-then
+      ∙ (answers ack.place (WriteItem names.accepted.write)
+      ∙ (ap (λ b. is_answered_by h.settings.protocol (outward h) ack.place (WriteItem names.accepted.write) || b) names.naming_is
+      ∙ or-true (is_answered_by h.settings.protocol (outward h) ack.place (WriteItem names.accepted.write))))))
     where
       or-true : (b : Bool) → (b || true) ≡ true
       or-true true = refl
@@ -140,7 +192,7 @@ module _ (settings : Settings) (s : PrimaryState) (h : PrimaryHistory) (e : EndS
 
   completes-still : (i : ℕ) (a : Accepted) → slice_get h.writes i ≡ Some a → completes h a ≡ true → completes later a ≡ true
   completes-still i a at done =
-      let parts = and_parts (is_on_disk a.outcome) (is_answered h a || is_alone h a) done in
+      let parts = completes-parts h a done in
       sym (completes-seen later a) ∙ (ap writes.is_completed (sees i a at) ∙ by-number (a.write.number == ack.number) parts.0)
     where
       by-number : (b : Bool) → is_on_disk a.outcome ≡ true → writes.is_completed (if b then writes.answering (logged_of h a) else logged_of h a) ≡ true
@@ -177,7 +229,8 @@ module _ (settings : Settings) (s : PrimaryState) (h : PrimaryHistory) (e : EndS
   clears-none : (n : ℕ) (r : Released) → slice_get (changing ack.number writes.answering s.log).1.released n ≡ Some r → r.clears ≡ false
   clears-none n r at =
       let of = pick-image (λ a. released_of (logged_of later a)) (filter (λ a. not (is_released h a) && is_released later a) h.writes) n r
-      (subst (λ (rs : List Released). slice_get rs n ≡ Some r) (released-is s h later ack.number writes.answering (λ a. a) (with_frame frame) left homes ordered.1.0 answered-change) at) in
+      (subst (λ (rs : List Released). slice_get rs n ≡ Some r)
+      (released-is s h later ack.number writes.answering (λ a. a) (with_frame frame) left homes ordered.1.0 answered-change) at) in
       let stood = pick-filtered (λ a. not (is_released h a) && is_released later a) h.writes n of.0 of.1 in
       let parts = and_parts (not (is_released h of.0)) (is_released later of.0) stood.2 in
       let same : is_released later of.0 ≡ is_released h of.0 = λ j. not (is_waiting of.0.outcome) && (confirmed-framed of.0 j || alone-framed of.0 j) in
@@ -187,8 +240,11 @@ module _ (settings : Settings) (s : PrimaryState) (h : PrimaryHistory) (e : EndS
   answered-due =
       change-due s h later ack.number writes.answering (λ a. a) (with_frame frame) left homes ordered.1.0 ordered.1.1.0.1.on after.1.1.0.0 answered-change
       s.entries s.held s.marks s.end refl refl refl
-      (entries-stay s h later ack.number writes.answering (λ a. a) (with_frame frame) left homes ordered.1.0 ordered.1.1.0.1.on after.1.1.0.0 answered-change (λ i a at. refl) refl)
-      (held-stays s h later ack.number writes.answering (λ a. a) (with_frame frame) left homes ordered.1.0 ordered.1.1.0.1.on after.1.1.0.0 answered-change (λ i a at. refl))
+      (entries-stay s h later ack.number writes.answering (λ a. a) (with_frame frame) left homes ordered.1.0 ordered.1.1.0.1.on after.1.1.0.0 answered-change
+      (λ i a at. refl) refl)
+      (held-stays s h later ack.number writes.answering (λ a. a) (with_frame frame) left homes ordered.1.0 ordered.1.1.0.1.on after.1.1.0.0 answered-change
+      (λ i a at. refl))
       (ap (core.unmarking (changing ack.number writes.answering s.log).1.released (changing ack.number writes.answering s.log).1.latest) left.rest.marks
-      ∙ unmarking-none (changing ack.number writes.answering s.log).1.released (changing ack.number writes.answering s.log).1.latest h.settings.blocks h.marks clears-none)
+      ∙ unmarking-none (changing ack.number writes.answering s.log).1.released (changing ack.number writes.answering s.log).1.latest h.settings.blocks h.marks
+      clears-none)
       (subst (λ v. EndLeft v (outward later)) (sym is) (subst (LeavesEnd e) (sym out) end))

@@ -42,7 +42,8 @@ closes-agree s h reached left = by-end s.end refl left.rest.end
     core-by v = elim v [ None ↦ (Err NotConnected, s) | Some e ↦ let after = transition.closing e s in (Ok after.0, after.1) ]
 
     model-by : Bool → Reply × PrimaryHistory
-    model-by closed = step.tested h ((closed, NotConnected) ∷ []) (λ _. let after = follows (closing h) in (reply.Closed (length after.completed), after.history))
+    model-by closed = step.tested h ((closed, NotConnected) ∷ [])
+        (λ _. let after = follows (closing h) in (reply.Closed (length after.completed), after.history))
 
     by-end : (v : Option EndState) → s.end ≡ v → EndLeft v (outward h) → Agrees reply.Closed (core-by s.end) (step.close_primary h)
     by-end None none shut = refused-agrees reply.Closed s h NotConnected (core-by s.end) (step.close_primary h) (ap core-by none) (ap model-by shut) left
@@ -52,6 +53,8 @@ closes-agree s h reached left = by-end s.end refl left.rest.end
         let shut = close-is h end.stands in
         subst (λ v. Agrees reply.Closed (core-by v) (step.close_primary h)) (sym is)
         (subst (λ b. Agrees reply.Closed (core-by (Some e)) (model-by b)) (sym end.stands) (record {
-          reply = ap reply.Closed (close-count s h (closing h) (λ c. record c { closed = true }) e left known.ordered.1.1.0.0 known.ordered.1.0 homes1 shut is end s.peer (sym left.rest.peer));
-          leaves = close-leaves s h (closing h) (λ c. record c { closed = true }) e left known.ordered.1.1.0.0 known.ordered.1.0 homes1 shut is end s.peer (sym left.rest.peer);
+          reply = ap reply.Closed (close-count s h (closing h) (λ c. record c { closed = true }) e left known.ordered.1.1.0.0 known.ordered.1.0 homes1 shut is
+              end s.peer (sym left.rest.peer));
+          leaves = close-leaves s h (closing h) (λ c. record c { closed = true }) e left known.ordered.1.1.0.0 known.ordered.1.0 homes1 shut is end s.peer
+              (sym left.rest.peer);
         }))

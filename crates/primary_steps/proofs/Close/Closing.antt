@@ -1,10 +1,12 @@
 -- An end closes, by a call or by a protocol error: what that leaves.
-use Rattle.std.proofs.Common.{ℕ, ◌≡◌, ◌-◌, ◌≤◌, inl, inr, Bool, true, false, not, ◌&&◌, ◌||◌, List, [], ◌∷◌, ◌++◌, length, map, filter, Option, Some, None, slice_get, refl, sym, ◌∙◌, ap, subst, arith, nat_lt, ◌==◌}
+use Rattle.std.proofs.Common.{ℕ, ◌≡◌, ◌-◌, ◌≤◌, inl, inr, Bool, true, false, not, ◌&&◌, ◌||◌, List, [], ◌∷◌, ◌++◌, length, map, filter, Option, Some, None}
+use Rattle.std.proofs.Common.{slice_get, refl, sym, ◌∙◌, ap, subst, arith, nat_lt, ◌==◌}
 use Rattle.std.specs.Prelude.{find, is_some, if◌then◌else◌}
 use Rattle.std.specs.List.{list_any}
 use Rattle.std.proofs.lemmas.Bool.{both_ways, and_parts, eqb-true, false_from_ne_true}
 use Rattle.std.proofs.lemmas.List.{length-map}
 use Rattle.std.proofs.lemmas.List.Elements.{filter-append}
+use Rattle.blocks.specs.Positions.{StreamPosition}
 use Rattle.blocks.specs.declared.tuple.Tuple.{Tuple}
 use Rattle.blocks.specs.declared.settings.Settings.{Settings}
 use Rattle.blocks.specs.declared.settings.Protocol.{Protocol}
@@ -12,32 +14,36 @@ use Rattle.blocks.specs.declared.settings.Protocol.TheVariants as protocol
 use Rattle.blocks.specs.declared.outcome.What.TheVariants as what
 use Rattle.blocks.specs.Identifiers.{lost}
 use Rattle.blocks.specs.Ranges.{below, is_between}
-use Rattle.model.specs.Contents.{covers}
 use Rattle.model.specs.Stream.{Item, WriteItem, BarrierItem, last_epoch}
 use Rattle.model.specs.Frames.{naming}
 use Rattle.model.specs.Marks.{marking_unreleased}
-use Rattle.model.specs.Primary.{Accepted, Completion, Outward, PrimaryHistory, no_outward, outward, last_index, change_last, stands, items_sent, accepted_frames, is_recv_ack, is_write_ack, is_answered_by, is_answered, is_alone, is_on_disk, is_failed, is_waiting, is_confirmed, is_released, is_completed, is_open, open_writes, completes, unreleased, under_way}
+use Rattle.model.specs.Primary.{Accepted, Completion, Outward, PrimaryHistory, no_outward, outward, last_index, change_last, stands, items_sent}
+use Rattle.model.specs.Primary.{accepted_frames, is_recv_ack, is_write_ack, is_answered_by, is_answered, is_alone, is_failed, is_waiting}
+use Rattle.model.specs.Primary.{is_confirmed, is_released, is_completed, is_open, open_writes, completes, unreleased, under_way}
 use Rattle.model.specs.PrimarySteps.{Followed, newly_completed, with_completions, appending, resync_is_over, ending_resync, follows}
 use Rattle.transferlog.specs.Log.{draining}
 use Rattle.transferlog.specs.Writes as writes
-use Rattle.transferlog.specs.Writes.{LogWrite, completed_of, released_of}
+use Rattle.transferlog.specs.Writes.{completed_of, released_of}
 use Rattle.transferlog.specs.declared.report.Released.{Released}
 use Rattle.epochs.specs.Epochs.{empty}
 use Rattle.overlap.specs.Holdings.{Holding, without}
 use Rattle.bitmap.specs.Marks as bits
+use Rattle.laws.proofs.Rules.Completions.{completes-parts, completes-by}
+use Rattle.laws.proofs.Rules.CloseMarks.{has_block, close-marks}
+use Rattle.laws.proofs.Rules.EpochEnds.{most_writes, down-on}
 use Rattle.laws.proofs.Lists.Last.{length-change, get-change, get-last-changed}
 use Rattle.laws.proofs.Lists.Picks.{pick-image, pick-filtered}
 use Rattle.laws.proofs.Primary.Homes.{HasHomes, open-at, alone-at, alone-homeless}
 use Rattle.laws.proofs.Primary.LastOpen.{IsLastOpen, open-is-last}
 use Rattle.primary_steps.specs.Core.{Fate, Failed, EndState, PrimaryState, unmarking}
 use Rattle.primary_steps.specs.Transitions as transition
-use Rattle.primary_steps.specs.Leaves.{local_of, is_sent, logged_of, entry_of, fate_in, latest_in, holding_item, holding_write, held_of, marks_in, LeavesLog, LeavesStream, LeavesEnd, Leaves}
+use Rattle.primary_steps.specs.Leaves.{local_of, is_sent, logged_of, entry_of, fate_in, latest_in, holding_item, holding_write, held_of, marks_in, LeavesLog}
+use Rattle.primary_steps.specs.Leaves.{LeavesStream, LeavesEnd, Leaves}
 use Rattle.primary_steps.proofs.Common.Connections.{look}
 use Rattle.primary_steps.proofs.Common.Filters.{filter-map, filter-all, filter-none, map-at, any-map}
 use Rattle.primary_steps.proofs.Common.Following.{IsDue, follow, parted, barrier_of}
 use Rattle.primary_steps.proofs.Common.Marks.{unmarking-none, marking-in, marks-same}
 use Rattle.primary_steps.proofs.Common.WritesChange.{IsMoved, left-then, moved-released, moved-completed, moved-activity}
-use Rattle.primary_steps.proofs.Common.NothingFollows.{down-on}
 use Rattle.primary_steps.proofs.Common.WriteStates.{settled-seen}
 
 -- What a close does: the last end is closed, and nothing that a write sees of it changes but that; unreleased writes are marked, and
@@ -55,7 +61,8 @@ pub record IsClose (h h1 : PrimaryHistory) (k : Outward → Outward) : Type 0 wh
   pub pushed : (k (outward h)).pushed ≡ (outward h).pushed
   pub frames : accepted_frames (k (outward h)) ≡ accepted_frames (outward h)
 
-module _ (s : PrimaryState) (h h1 : PrimaryHistory) (k : Outward → Outward) (e : EndState) (left : Leaves s h) (homes : HasHomes h) (last : IsLastOpen h) (homes1 : HasHomes h1) (c : IsClose h h1 k)
+module _ (s : PrimaryState) (h h1 : PrimaryHistory) (k : Outward → Outward) (e : EndState) (left : Leaves s h) (homes : HasHomes h) (last : IsLastOpen h)
+    (homes1 : HasHomes h1) (c : IsClose h h1 k)
     (is : s.end ≡ Some e) (end : LeavesEnd e (outward h)) (peer : Option Tuple) (peer_is : h1.peer ≡ peer) where
   there : (i : ℕ) → slice_get h1.connections i ≡ slice_get (change_last k h.connections) i
   there i = ap (λ (l : List Outward). slice_get l i) c.connections
@@ -67,30 +74,42 @@ module _ (s : PrimaryState) (h h1 : PrimaryHistory) (k : Outward → Outward) (e
   all-alone : (i : ℕ) (a : Accepted) → slice_get h.writes i ≡ Some a → is_alone h1 a ≡ true
   all-alone i a at = go a.home refl
     where
-      go : (v : Option (ℕ × ℕ)) → a.home ≡ v → is_alone h1 a ≡ true
+      go : (v : Option StreamPosition) → a.home ≡ v → is_alone h1 a ≡ true
       go None none = alone-homeless h1 a none
       go (Some home) so =
-          let was = homes.housed i home.0 home.1 a at so in
+          let was = homes.housed i home.index home.place a at so in
           by-closed home was.0 was.1 so was.0.closed refl
         where
-          by-closed : (home : ℕ × ℕ) (d : Outward) → slice_get h.connections home.0 ≡ Some d → a.home ≡ Some home → (b : Bool) → d.closed ≡ b → is_alone h1 a ≡ true
-          by-closed home d atd so true shut = elim (get-change k (no_outward h.tuple) h.connections home.0 d atd) [
-            | inl stays ↦ alone-at h1 a home d so (there home.0 ∙ stays) ∙ shut
-            | inr changed ↦ alone-at h1 a home (k d) so (there home.0 ∙ changed.0) ∙ (ap (λ (x : Outward). (k x).closed) changed.1 ∙ c.closed)
+          by-closed : (home : StreamPosition) (d : Outward) → slice_get h.connections home.index ≡ Some d → a.home ≡ Some home → (b : Bool) → d.closed ≡ b
+              → is_alone h1 a ≡ true
+          by-closed home d atd so true shut = elim (get-change k (no_outward h.tuple) h.connections home.index d atd) [
+            | inl stays ↦ alone-at h1 a home d so (there home.index ∙ stays) ∙ shut
+            | inr changed ↦ alone-at h1 a home (k d) so (there home.index ∙ changed.0) ∙ (ap (λ (x : Outward). (k x).closed) changed.1 ∙ c.closed)
           ]
           by-closed home d atd so false unshut =
-              let ends = open-is-last h home.0 d last atd unshut in
-              alone-at h1 a home (k (outward h)) so (there home.0 ∙ (ap (slice_get (change_last k h.connections)) ends.0 ∙ get-last-changed k (no_outward h.tuple) h.connections (outward h) last-at refl)) ∙ c.closed
+              let ends = open-is-last h home.index d last atd unshut in
+              alone-at h1 a home (k (outward h)) so (there home.index
+              ∙ (ap (slice_get (change_last k h.connections)) ends.0 ∙ get-last-changed k (no_outward h.tuple) h.connections (outward h) last-at refl))
+              ∙ c.closed
 
   sent-same : (a : Accepted) → is_sent h1 a ≡ is_sent h a
   sent-same a = go a.home
     where
-      go : (v : Option (ℕ × ℕ)) → elim v as (λ _. Bool) [ None ↦ false | Some home ↦ elim (slice_get h1.connections home.0) as (λ _. Bool) [ None ↦ false | Some d ↦ nat_lt home.1 (items_sent d) ] ]
-          ≡ elim v as (λ _. Bool) [ None ↦ false | Some home ↦ elim (slice_get h.connections home.0) as (λ _. Bool) [ None ↦ false | Some d ↦ nat_lt home.1 (items_sent d) ] ]
+      go : (v : Option StreamPosition) → elim v as
+          (λ _. Bool) [
+            | None ↦ false
+            | Some home ↦ elim (slice_get h1.connections home.index) as
+                (λ _. Bool) [ None ↦ false | Some d ↦ nat_lt home.place (items_sent d) ]
+          ]
+          ≡ elim v as (λ _. Bool) [
+            | None ↦ false
+            | Some home ↦ elim (slice_get h.connections home.index) as
+                (λ _. Bool) [ None ↦ false | Some d ↦ nat_lt home.place (items_sent d) ]
+          ]
       go None = refl
       go (Some home) =
-          let see : Option Outward → Bool = λ v. elim v as (λ _. Bool) [ None ↦ false | Some d ↦ nat_lt home.1 (items_sent d) ] in
-          ap see (there home.0) ∙ look see k (no_outward h.tuple) h.connections home.0 (ap (λ n. nat_lt home.1 (n - 3)) c.pushed)
+          let see : Option Outward → Bool = λ v. elim v as (λ _. Bool) [ None ↦ false | Some d ↦ nat_lt home.place (items_sent d) ] in
+          ap see (there home.index) ∙ look see k (no_outward h.tuple) h.connections home.index (ap (λ n. nat_lt home.place (n - 3)) c.pushed)
 
   answered-by : (asked : Protocol) (place : ℕ) (item : Item) → is_answered_by asked (k (outward h)) place item ≡ is_answered_by asked (outward h) place item
   answered-by protocol.A place item = ap (λ n. nat_lt place (n - 3)) c.pushed
@@ -100,13 +119,25 @@ module _ (s : PrimaryState) (h h1 : PrimaryHistory) (k : Outward → Outward) (e
   answered-same : (a : Accepted) → is_answered h1 a ≡ is_answered h a
   answered-same a = go a.home
     where
-      go : (v : Option (ℕ × ℕ)) → elim v as (λ _. Bool) [ None ↦ false | Some home ↦ elim (slice_get h1.connections home.0) as (λ _. Bool) [ None ↦ false | Some d ↦ is_answered_by h1.settings.protocol d home.1 (WriteItem a.write) ] ]
-          ≡ elim v as (λ _. Bool) [ None ↦ false | Some home ↦ elim (slice_get h.connections home.0) as (λ _. Bool) [ None ↦ false | Some d ↦ is_answered_by h.settings.protocol d home.1 (WriteItem a.write) ] ]
+      go : (v : Option StreamPosition) → elim v as
+          (λ _. Bool) [
+            | None ↦ false
+            | Some home ↦ elim (slice_get h1.connections home.index) as
+                (λ _. Bool) [ None ↦ false | Some d ↦ is_answered_by h1.settings.protocol d home.place (WriteItem a.write) ]
+          ]
+          ≡ elim v as (λ _. Bool) [
+            | None ↦ false
+            | Some home ↦ elim (slice_get h.connections home.index) as
+                (λ _. Bool) [ None ↦ false | Some d ↦ is_answered_by h.settings.protocol d home.place (WriteItem a.write) ]
+          ]
       go None = refl
       go (Some home) =
-          let see : Option Outward → Bool = λ v. elim v as (λ _. Bool) [ None ↦ false | Some d ↦ is_answered_by h1.settings.protocol d home.1 (WriteItem a.write) ] in
-          ap see (there home.0) ∙ (look see k (no_outward h.tuple) h.connections home.0 (answered-by h1.settings.protocol home.1 (WriteItem a.write))
-          ∙ ap (λ (x : Settings). elim (slice_get h.connections home.0) as (λ _. Bool) [ None ↦ false | Some d ↦ is_answered_by x.protocol d home.1 (WriteItem a.write) ]) c.settings)
+          let see : Option Outward → Bool =
+          λ v. elim v as (λ _. Bool) [ None ↦ false | Some d ↦ is_answered_by h1.settings.protocol d home.place (WriteItem a.write) ] in
+          ap see (there home.index)
+          ∙ (look see k (no_outward h.tuple) h.connections home.index (answered-by h1.settings.protocol home.place (WriteItem a.write))
+          ∙ ap (λ (x : Settings). elim (slice_get h.connections home.index) as
+          (λ _. Bool) [ None ↦ false | Some d ↦ is_answered_by x.protocol d home.place (WriteItem a.write) ]) c.settings)
 
   closed-moved : IsMoved h h1 writes.unlinking (λ a. a) s.log.confirmed
   closed-moved = record {
@@ -115,8 +146,12 @@ module _ (s : PrimaryState) (h h1 : PrimaryHistory) (k : Outward → Outward) (e
     writes = c.writes ∙ same-list h.writes;
     write = λ a. refl;
     logged = λ i a at. λ j. record (logged_of h a) { linked = not (all-alone i a at j); sent = sent-same a j; answered = answered-same a j };
-    released = λ i a at. (λ j. settled-seen a.outcome j && true) ∙ sym ((λ j. not (is_waiting a.outcome) && (is_confirmed h1 a || all-alone i a at j)) ∙ ap (λ b. not (is_waiting a.outcome) && b) (or-true (is_confirmed h1 a)));
-    stays = λ i a at so. (λ j. not (is_waiting a.outcome) && (is_confirmed h1 a || all-alone i a at j)) ∙ (ap (λ b. not (is_waiting a.outcome) && b) (or-true (is_confirmed h1 a)) ∙ (and-true (not (is_waiting a.outcome)) ∙ (and_parts (not (is_waiting a.outcome)) (is_confirmed h a || is_alone h a) so).0));
+    released = λ i a at. (λ j. settled-seen a.outcome j && true)
+        ∙ sym ((λ j. not (is_waiting a.outcome) && (is_confirmed h1 a || all-alone i a at j))
+        ∙ ap (λ b. not (is_waiting a.outcome) && b) (or-true (is_confirmed h1 a)));
+    stays = λ i a at so. (λ j. not (is_waiting a.outcome) && (is_confirmed h1 a || all-alone i a at j))
+        ∙ (ap (λ b. not (is_waiting a.outcome) && b) (or-true (is_confirmed h1 a))
+        ∙ (and-true (not (is_waiting a.outcome)) ∙ (and_parts (not (is_waiting a.outcome)) (is_confirmed h a || is_alone h a) so).0));
     failed = λ i a at so. so;
   }
     where
@@ -139,9 +174,9 @@ module _ (s : PrimaryState) (h h1 : PrimaryHistory) (k : Outward → Outward) (e
   done : (i : ℕ) (a : Accepted) → slice_get h1.writes i ≡ Some a → is_completed h1 a.write.number ≡ true → completes h1 a ≡ true
   done i a at completed =
       let ata : slice_get h.writes i ≡ Some a = subst (λ (ws : List Accepted). slice_get ws i ≡ Some a) c.writes at in
-      let was : completes h a ≡ true = sym (left.rest.quiet i a ata) ∙ (ap (list_any (λ (entry : Completion). entry.write.number == a.write.number)) (sym c.journal) ∙ completed) in
-      let disk = (and_parts (is_on_disk a.outcome) (is_answered h a || is_alone h a) was).0 in
-      (λ j. disk j && (is_answered h1 a || all-alone i a ata j)) ∙ or-true (is_answered h1 a)
+      let was : completes h a ≡ true = sym (left.rest.quiet i a ata)
+      ∙ (ap (list_any (λ (entry : Completion). entry.write.number == a.write.number)) (sym c.journal) ∙ completed) in
+      completes-by h1 a (completes-parts h a was).0 (ap (λ b. is_answered h1 a || b) (all-alone i a ata) ∙ or-true (is_answered h1 a))
     where
       or-true : (b : Bool) → (b || true) ≡ true
       or-true true = refl
@@ -155,30 +190,37 @@ module _ (s : PrimaryState) (h h1 : PrimaryHistory) (k : Outward → Outward) (e
     accepted = left.rest.log.accepted ∙ ap length (sym c.writes);
     connection = sym (ap (λ b. if b then Some (last_index h1.connections) else None) down);
     writes = left-then s h h1 writes.unlinking (λ a. a) s.log.confirmed left homes last closed-moved;
-    latest = left.rest.log.latest ∙ ((λ i. map (λ block. latest_in (sym c.writes i) block 0) (below h.settings.blocks)) ∙ ap (λ (x : Settings). map (λ block. latest_in h1.writes block 0) (below x.blocks)) (sym c.settings));
+    latest = left.rest.log.latest ∙ ((λ i. map (λ block. latest_in (sym c.writes i) block 0) (below h.settings.blocks))
+        ∙ ap (λ (x : Settings). map (λ block. latest_in h1.writes block 0) (below x.blocks)) (sym c.settings));
   }
 
   drained-stream : LeavesStream (draining s.log) (parted (with_completions h1))
   drained-stream = subst (LeavesStream (draining s.log)) (sym still_so) (record {
-    max_epoch = left.stream.max_epoch ∙ ap (λ (x : Settings). x.max_epoch) (sym c.settings);
+    max_epoch = left.stream.max_epoch ∙ ap most_writes (sym c.settings);
     on = λ so. absurd (both_ways (stands (outward h1)) down so);
     here = λ so. absurd (both_ways (stands (outward h1)) down so);
-    off = λ none. ap empty (left.stream.max_epoch ∙ ap (λ (x : Settings). x.max_epoch) (sym c.settings));
+    off = λ none. ap empty (left.stream.max_epoch ∙ ap most_writes (sym c.settings));
   })
     where
       still_so : parted (with_completions h1) ≡ with_completions h1
-      still_so = ap (λ b. elim b as (λ _. PrimaryHistory) [ true ↦ appending (BarrierItem (last_epoch (outward (with_completions h1)).stream)) (with_completions h1) | false ↦ with_completions h1 ]) (down-on (with_completions h1) down)
+      still_so = ap (λ b. elim b as (λ _. PrimaryHistory) [
+        | true ↦ appending (BarrierItem (last_epoch (outward (with_completions h1)).stream))
+            (with_completions h1)
+        | false ↦ with_completions h1
+      ]) (down-on (with_completions h1) down)
 
   -- what is held, without the block under way
   held-is : without 0 s.held ≡ held_of h1
   held-is =
       ap (without 0) left.rest.held
-      ∙ (filter-append (λ (x : Holding). not (x.number == 0)) (map holding_item (if stands (outward h) then under_way (outward h) else [])) (map holding_write (open_writes h))
+      ∙ (filter-append (λ (x : Holding). not (x.number == 0)) (map holding_item (if stands (outward h) then under_way (outward h) else []))
+      (map holding_write (open_writes h))
       ∙ ((λ i. zeros (if stands (outward h) then under_way (outward h) else []) i ++ rest i)
       ∙ sym (ap (λ b. map holding_item (if b then under_way (outward h1) else []) ++ map holding_write (open_writes h1)) down)))
     where
       zeros : (entries : List (ℕ × Item)) → filter (λ (x : Holding). not (x.number == 0)) (map holding_item entries) ≡ []
-      zeros entries = filter-map (λ (x : Holding). not (x.number == 0)) holding_item entries ∙ ap (map holding_item) (filter-none (λ entry. not (0 == 0)) entries (λ i entry at. refl))
+      zeros entries = filter-map (λ (x : Holding). not (x.number == 0)) holding_item entries
+          ∙ ap (map holding_item) (filter-none (λ entry. not (0 == 0)) entries (λ i entry at. refl))
 
       rest : filter (λ (x : Holding). not (x.number == 0)) (map holding_write (open_writes h)) ≡ map holding_write (open_writes h1)
       rest =
@@ -187,23 +229,29 @@ module _ (s : PrimaryState) (h h1 : PrimaryHistory) (k : Outward → Outward) (e
           let stood = pick-filtered (is_open h) h.writes i a at in
           let index = homes.numbered stood.0 a stood.1 in
           ap not (false_from_ne_true (a.write.number == 0) (λ e. let zero_is = eqb-true a.write.number 0 e in omega arith))))
-          ∙ ap (map holding_write) (λ i. filter (λ a. not (list_any (λ (entry : Completion). entry.write.number == a.write.number) (sym c.journal i)) && not (is_failed a.outcome)) (sym c.writes i)))
+          ∙ ap (map holding_write) (λ i. filter (λ a. not (list_any (λ (entry : Completion). entry.write.number == a.write.number) (sym c.journal i))
+          && not (is_failed a.outcome)) (sym c.writes i)))
 
-  marks-are : unmarking (draining s.log).released (draining s.log).latest (bits.marking (transition.unreleased_blocks s.log.writes) s.marks) ≡ marks_in h1.settings.blocks h1.marks
+  marks-are : unmarking (draining s.log).released (draining s.log).latest (bits.marking (transition.unreleased_blocks s.log.writes) s.marks) ≡ marks_in
+      h1.settings.blocks h1.marks
   marks-are =
       ap (λ m. unmarking (draining s.log).released (draining s.log).latest (bits.marking (transition.unreleased_blocks s.log.writes) m)) left.rest.marks
       ∙ (ap (unmarking (draining s.log).released (draining s.log).latest) (marking-in h.settings.blocks (transition.unreleased_blocks s.log.writes) h.marks)
-      ∙ (unmarking-none (draining s.log).released (draining s.log).latest h.settings.blocks (λ block. h.marks block || transition.unreleased_blocks s.log.writes block) clears_none
-      ∙ (marks-same h.settings.blocks (λ block. h.marks block || transition.unreleased_blocks s.log.writes block) h1.marks (λ block inside. ap (λ b. h.marks block || b) (covered block) ∙ sym (c.marks block))
+      ∙ (unmarking-none (draining s.log).released (draining s.log).latest h.settings.blocks
+      (λ block. h.marks block || transition.unreleased_blocks s.log.writes block) clears_none
+      ∙ (marks-same h.settings.blocks (λ block. h.marks block || transition.unreleased_blocks s.log.writes block) h1.marks
+      (λ block inside. close-marks h block (transition.unreleased_blocks s.log.writes block) (covered block) ∙ sym (c.marks block))
       ∙ ap (λ (x : Settings). marks_in x.blocks h1.marks) (sym c.settings))))
     where
-      covered : (block : ℕ) → transition.unreleased_blocks s.log.writes block ≡ list_any (λ accepted. covers accepted.write block) (unreleased h)
-      covered block = ap (list_any (λ w. is_between w.first w.count block)) left.rest.log.writes ∙ any-map (λ w. is_between w.first w.count block) (logged_of h) (unreleased h)
+      covered : (block : ℕ) → transition.unreleased_blocks s.log.writes block ≡ list_any (has_block block) (unreleased h)
+      covered block = ap (list_any (λ w. is_between w.first w.count block)) left.rest.log.writes
+          ∙ any-map (λ w. is_between w.first w.count block) (logged_of h) (unreleased h)
 
       clears_none : (n : ℕ) (r : Released) → slice_get (draining s.log).released n ≡ Some r → r.clears ≡ false
       clears_none n r at =
           let of = pick-image (λ a. released_of (logged_of h1 a)) (filter (λ a. not (is_released h a) && is_released h1 a) h.writes) n r
-          (subst (λ (rs : List Released). slice_get rs n ≡ Some r) (moved-released s h h1 writes.unlinking (λ a. a) s.log.confirmed left homes last closed-moved) at) in
+          (subst (λ (rs : List Released). slice_get rs n ≡ Some r)
+          (moved-released s h h1 writes.unlinking (λ a. a) s.log.confirmed left homes last closed-moved) at) in
           let stood = pick-filtered (λ a. not (is_released h a) && is_released h1 a) h.writes n of.0 of.1 in
           ap (λ (x : Released). x.clears) (sym of.2) ∙ λ j. not (all-alone stood.0 of.0 stood.1 j) && writes.is_on_disk (local_of of.0.outcome)
 
@@ -211,7 +259,8 @@ module _ (s : PrimaryState) (h h1 : PrimaryHistory) (k : Outward → Outward) (e
   tuple-is = (λ i. if stands_is i then lost (end.loss i) (left.rest.tuple i) else left.rest.tuple i) ∙ sym c.tuple
     where
       stands_is : is_some s.log.connection ≡ (outward h).begun
-      stands_is = ap is_some left.rest.log.connection ∙ (ap (λ b. is_some (if not b && (outward h).begun then Some (last_index h.connections) else None)) end.stands ∙ go (outward h).begun)
+      stands_is = ap is_some left.rest.log.connection
+          ∙ (ap (λ b. is_some (if not b && (outward h).begun then Some (last_index h.connections) else None)) end.stands ∙ go (outward h).begun)
         where
           go : (b : Bool) → is_some (if b then Some (last_index h.connections) else None) ≡ b
           go true = refl
@@ -223,12 +272,21 @@ module _ (s : PrimaryState) (h h1 : PrimaryHistory) (k : Outward → Outward) (e
       ∙ (map-at (entry_of h) (entry_of h1) h.writes (λ i a at. λ j. record {
         first = a.write.first;
         count = length a.write.contents;
-        fate = elim (is_failed a.outcome) as (λ _. Fate) [ true ↦ Failed | false ↦ fate_in (find (λ (entry : Completion). entry.write.number == a.write.number) (sym c.journal j)) ];
+        fate = elim (is_failed a.outcome) as
+            (λ _. Fate) [ true ↦ Failed | false ↦ fate_in (find (λ (entry : Completion). entry.write.number == a.write.number) (sym c.journal j)) ];
         taken = list_any (λ number. number == a.write.number) (sym c.receipts j);
       })
       ∙ ap (map (entry_of h1)) (sym c.writes))
 
-  close-due : IsDue (record s { peer = peer; marks = bits.marking (transition.unreleased_blocks s.log.writes) s.marks; tuple = if is_some s.log.connection then lost e.loss s.tuple else s.tuple; held = without 0 s.held; log = draining s.log; end = None }) None h1
+  close-due : IsDue (record s {
+    peer = peer;
+    marks = bits.marking (transition.unreleased_blocks s.log.writes) s.marks;
+    tuple = if is_some s.log.connection
+        then lost e.loss s.tuple else s.tuple;
+    held = without 0 s.held;
+    log = draining s.log;
+    end = None;
+  }) None h1
   close-due = record {
     homes = homes1;
     done = done;
@@ -241,7 +299,8 @@ module _ (s : PrimaryState) (h h1 : PrimaryHistory) (k : Outward → Outward) (e
     barrier_is = sym (ap (λ b. if b then Some (last_epoch (outward h1).stream) else None) (down-on (with_completions h1) down));
     stream = drained-stream;
     entries = entries-are;
-    receipts = λ i number at. subst (λ (ws : List Accepted). number ≤ length ws) (sym c.writes) (left.rest.entries.receipts i number (subst (λ (r : List ℕ). slice_get r i ≡ Some number) c.receipts at));
+    receipts = λ i number at. subst (λ (ws : List Accepted). number ≤ length ws) (sym c.writes)
+        (left.rest.entries.receipts i number (subst (λ (r : List ℕ). slice_get r i ≡ Some number) c.receipts at));
     held = held-is;
     marks = marks-are;
     activity = moved-activity s h h1 writes.unlinking (λ a. a) s.log.confirmed left homes last closed-moved;
@@ -256,11 +315,22 @@ module _ (s : PrimaryState) (h h1 : PrimaryHistory) (k : Outward → Outward) (e
   pub close-count : (transition.closing e (record s { peer = peer })).0 ≡ length (follows h1).completed
   close-count =
       ap length (moved-completed s h h1 writes.unlinking (λ a. a) s.log.confirmed left homes last closed-moved)
-      ∙ (length-map (newly_completed h1) (λ a. completed_of (logged_of h1 a)) ∙ (sym (length-map (newly_completed h1) (λ a. a.write.number)) ∙ by-end (resync_is_over (parted (with_completions h1)))))
+      ∙ (length-map (newly_completed h1) (λ a. completed_of (logged_of h1 a))
+      ∙ (sym (length-map (newly_completed h1) (λ a. a.write.number)) ∙ by-end (resync_is_over (parted (with_completions h1)))))
     where
       by-end : (b : Bool) → length (map (λ a. a.write.number) (newly_completed h1)) ≡ length (elim b as (λ _. Followed) [
-        | true ↦ record { history = ending_resync (parted (with_completions h1)); completed = map (λ accepted. accepted.write.number) (newly_completed h1); barrier = barrier_of (with_completions h1); synced = true }
-        | false ↦ record { history = parted (with_completions h1); completed = map (λ accepted. accepted.write.number) (newly_completed h1); barrier = barrier_of (with_completions h1); synced = false }
+        | true ↦ record {
+          history = ending_resync (parted (with_completions h1));
+          completed = map (λ accepted. accepted.write.number) (newly_completed h1);
+          barrier = barrier_of (with_completions h1);
+          synced = true;
+        }
+        | false ↦ record {
+          history = parted (with_completions h1);
+          completed = map (λ accepted. accepted.write.number) (newly_completed h1);
+          barrier = barrier_of (with_completions h1);
+          synced = false;
+        }
       ]).completed
       by-end true = refl
       by-end false = refl

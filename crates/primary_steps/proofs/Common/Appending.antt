@@ -1,13 +1,16 @@
 -- An item that is neither a write nor a block of a resync goes to the end of a stream that stands.
-use Rattle.std.proofs.Common.{ℕ, ◌≡◌, ◌+◌, ◌-◌, Bool, true, false, not, ◌&&◌, ◌||◌, List, [], ◌∷◌, ◌++◌, length, map, filter, Option, Some, None, slice_get, refl, sym, ◌∙◌, ap, subst, arith}
+use Rattle.std.proofs.Common.{ℕ, ◌≡◌, ◌+◌, ◌-◌, Bool, true, false, not, ◌&&◌, List, [], ◌∷◌, ◌++◌, length, map, filter, Option, Some, None, slice_get}
+use Rattle.std.proofs.Common.{refl, sym, ◌∙◌, ap, subst, arith}
 use Rattle.std.specs.Prelude.{option_map, if◌then◌else◌}
 use Rattle.std.proofs.lemmas.Bool.{both_ways}
 use Rattle.std.proofs.lemmas.List.{drop-append-le, length-append}
 use Rattle.std.proofs.lemmas.List.Elements.{filter-append}
 use Rattle.std.proofs.lemmas.Option.{slice_get_within}
 use Rattle.model.specs.Stream.{Item, ResyncItem, placed, epoch_of}
-use Rattle.model.specs.Primary.{Accepted, Outward, PrimaryHistory, no_outward, outward, stands, is_resync, was_resynced, under_way, resync_runs, is_released, is_on_disk, unreleased, open_writes}
+use Rattle.model.specs.Primary.{Accepted, Outward, PrimaryHistory, no_outward, outward, stands, is_resync, was_resynced, under_way, resync_runs, is_released}
+use Rattle.model.specs.Primary.{unreleased, open_writes}
 use Rattle.model.specs.PrimarySteps.{appending}
+use Rattle.laws.proofs.Rules.Completions.{completes-same}
 use Rattle.laws.proofs.Lists.Last.{length-change}
 use Rattle.laws.proofs.Lists.Picks.{pick-filtered}
 use Rattle.laws.proofs.Primary.Homes.{HasHomes}
@@ -26,8 +29,10 @@ under-way-more c d item same stream plain =
     ap (λ (s : List Item). filter (waits d) (placed s)) stream
     ∙ (ap (filter (waits d)) (placed-append 0 c.stream (item ∷ []))
     ∙ (filter-append (waits d) (placed c.stream) ((0 + length c.stream, item) ∷ [])
-    ∙ (ap (λ b. filter (waits d) (placed c.stream) ++ (if b && not (was_resynced d (0 + length c.stream) item) then (0 + length c.stream, item) ∷ [] else [])) plain
-    ∙ (none (filter (waits d) (placed c.stream)) ∙ filter-at (waits d) (waits c) (placed c.stream) (λ i entry at. ap (λ b. is_resync entry.1 && not b) (rw (same.taken, same.refused) refl))))))
+    ∙ (ap (λ b. filter (waits d) (placed c.stream) ++ (if b && not (was_resynced d (0 + length c.stream) item) then (0 + length c.stream, item) ∷ [] else []))
+    plain
+    ∙ (none (filter (waits d) (placed c.stream))
+    ∙ filter-at (waits d) (waits c) (placed c.stream) (λ i entry at. ap (λ b. is_resync entry.1 && not b) (rw (same.taken, same.refused) refl))))))
   where
     waits : Outward → ℕ × Item → Bool
     waits e entry = is_resync entry.1 && not (was_resynced e entry.0 entry.1)
@@ -46,17 +51,23 @@ under-way-at c place item rest is =
     subst (λ n. slice_get c.stream n ≡ Some item) index back.1
 
 -- the block under way, with one item more
-pub way-more : (v : Option UnderWay) (c d : Outward) (item : Item) → SeesSame c d → d.stream ≡ c.stream ++ item ∷ [] → is_resync item ≡ false → UnderWayLeft v c → UnderWayLeft v d
+pub way-more : (v : Option UnderWay) (c d : Outward) (item : Item) → SeesSame c d → d.stream ≡ c.stream ++ item ∷ [] → is_resync item ≡ false → UnderWayLeft v c
+    → UnderWayLeft v d
 way-more None c d item same stream plain is = under-way-more c d item same stream plain ∙ is
 way-more (Some way) c d item same stream plain left =
-    let within = slice_get_within c.stream way.place (ResyncItem way.block left.0) (under-way-at c way.place (ResyncItem way.block left.0) [] left.1) in
-    (left.0, under-way-more c d item same stream plain ∙ left.1, ap (λ (s : List Item). epoch_of s way.place) stream ∙ (epoch-grows c.stream (item ∷ []) way.place (omega arith) ∙ left.2))
+    let within = slice_get_within c.stream way.place (ResyncItem way.block left.0) (under-way-at c way.place (ResyncItem way.block left.0) [] left.1) in (
+      left.0,
+      under-way-more c d item same stream plain ∙ left.1,
+      ap (λ (s : List Item). epoch_of s way.place) stream
+          ∙ (epoch-grows c.stream (item ∷ []) way.place (omega arith) ∙ left.2),
+    )
 
 -- an end's stream goes on, which waits to be sent
 abbrev pub queued : List Item → Bool → EndState → EndState
 queued items resync e = record e { unsent = e.unsent ++ items; resync = resync }
 
-pub end-more : (e : EndState) (c d : Outward) (item : Item) → SeesSame c d → d.stream ≡ c.stream ++ item ∷ [] → d.sync ≡ c.sync → d.loss ≡ c.loss → d.hello ≡ c.hello → d.begun ≡ true → is_resync item ≡ false
+pub end-more : (e : EndState) (c d : Outward) (item : Item) → SeesSame c d → d.stream ≡ c.stream ++ item ∷ [] → d.sync ≡ c.sync → d.loss ≡ c.loss
+    → d.hello ≡ c.hello → d.begun ≡ true → is_resync item ≡ false
     → LeavesEnd e c → LeavesEnd (queued (item ∷ []) (resync_runs d) e) d
 end-more e c d item same stream sync loss hello begun plain l = record {
   stands = same.closed ∙ l.stands;
@@ -66,7 +77,8 @@ end-more e c d item same stream sync loss hello begun plain l = record {
   hello = l.hello ∙ sym hello;
   heard = rw (same.taken) l.heard;
   said = rw (same.pushed) l.said;
-  pushed = let longer : length d.stream ≡ length c.stream + 1 = ap length stream ∙ length-append c.stream (item ∷ []) in let within = l.pushed in let p = same.pushed in omega arith;
+  pushed = let longer : length d.stream ≡ length c.stream + 1 = ap length stream
+      ∙ length-append c.stream (item ∷ []) in let within = l.pushed in let p = same.pushed in omega arith;
   unsent = rw (same.pushed, stream) (ap (λ (u : List Item). u ++ item ∷ []) l.unsent ∙ sym (drop-append-le (c.pushed - 3) c.stream (item ∷ []) l.pushed));
   resync = refl;
   under_way = way-more e.under_way c d item same stream plain l.under_way;
@@ -77,7 +89,8 @@ end-more e c d item same stream sync loss hello begun plain l = record {
   unbegun = λ new epoch. absurd (both_ways d.begun new begun);
 }
 
-module _ (t : PrimaryState) (g : PrimaryHistory) (item : Item) (left : LeavesRest t g) (homes : HasHomes g) (on : stands (outward g) ≡ true) (plain : is_resync item ≡ false) where
+module _ (t : PrimaryState) (g : PrimaryHistory) (item : Item) (left : LeavesRest t g) (homes : HasHomes g) (on : stands (outward g) ≡ true)
+    (plain : is_resync item ≡ false) where
   f : Outward → Outward
   f c = record c { stream = c.stream ++ item ∷ [] }
 
@@ -97,12 +110,15 @@ module _ (t : PrimaryState) (g : PrimaryHistory) (item : Item) (left : LeavesRes
   seen = seen-same g (appending item g) (λ c. record c { stream = c.stream ++ item ∷ [] }) refl refl same
 
   pub unreleased-more : unreleased (appending item g) ≡ unreleased g
-  unreleased-more = filter-at (λ a. not (is_released (appending item g) a)) (λ a. not (is_released g a)) g.writes (λ i a at. ap not (released-same g (appending item g) (λ c. record c { stream = c.stream ++ item ∷ [] }) refl refl same homes (item ∷ []) refl i a at))
+  unreleased-more = filter-at (λ a. not (is_released (appending item g) a)) (λ a. not (is_released g a)) g.writes
+      (λ i a at. ap not (released-same g (appending item g) (λ c. record c { stream = c.stream ++ item ∷ [] }) refl refl same homes (item ∷ []) refl i a at))
 
-  ends : (v : Option EndState) → EndLeft v (outward g) → EndLeft (option_map (queued (item ∷ []) (resync_runs (outward (appending item g)))) v) (outward (appending item g))
+  ends : (v : Option EndState) → EndLeft v (outward g)
+      → EndLeft (option_map (queued (item ∷ []) (resync_runs (outward (appending item g)))) v) (outward (appending item g))
   ends None closed = absurd (both_ways (outward g).closed parts.0 closed)
   ends (Some e) l =
-      end-more e (outward g) (outward (appending item g)) item (subst (SeesSame (outward g)) (sym outward-more) same) (ap (λ (c : Outward). c.stream) outward-more) (ap (λ (c : Outward). c.sync) outward-more)
+      end-more e (outward g) (outward (appending item g)) item (subst (SeesSame (outward g)) (sym outward-more) same)
+      (ap (λ (c : Outward). c.stream) outward-more) (ap (λ (c : Outward). c.sync) outward-more)
       (ap (λ (c : Outward). c.loss) outward-more) (ap (λ (c : Outward). c.hello) outward-more) (ap (λ (c : Outward). c.begun) outward-more ∙ parts.1) plain l
 
   -- The rest of the state is left, with the item waiting to be sent.
@@ -116,8 +132,11 @@ module _ (t : PrimaryState) (g : PrimaryHistory) (item : Item) (left : LeavesRes
       protocol = left.log.protocol;
       backlog = left.log.backlog;
       accepted = left.log.accepted;
-      connection = left.log.connection ∙ sym (λ i. if stands (outward-more i) then Some (length-change (λ (c : Outward). record c { stream = c.stream ++ item ∷ [] }) g.connections i - 1) else None);
-      writes = left.log.writes ∙ sym (ap (map (logged_of (appending item g))) unreleased-more ∙ map-at (logged_of (appending item g)) (logged_of g) (unreleased g) (λ i a at. seen a));
+      connection = left.log.connection
+          ∙ sym (λ i. if stands (outward-more i) then Some (length-change (λ (c : Outward). record c { stream = c.stream ++ item ∷ [] }) g.connections i - 1)
+          else None);
+      writes = left.log.writes ∙ sym (ap (map (logged_of (appending item g))) unreleased-more
+          ∙ map-at (logged_of (appending item g)) (logged_of g) (unreleased g) (λ i a at. seen a));
       latest = left.log.latest;
     };
     entries = record { entries = left.entries.entries; receipts = left.entries.receipts };
@@ -125,8 +144,11 @@ module _ (t : PrimaryState) (g : PrimaryHistory) (item : Item) (left : LeavesRes
     held = left.held ∙ λ i. map holding_item (if stands (sym outward-more i) then ways i else []) ++ map holding_write (open_writes g);
     activity = subst (LeavesActivity t.activity g.settings.slots) (sym unreleased-more) left.activity;
     end = ends t.end left.end;
-    quiet = λ i a at. left.quiet i a at ∙ λ j. is_on_disk a.outcome && (sym (answers-same g (appending item g) (λ c. record c { stream = c.stream ++ item ∷ [] }) refl refl same a) j || sym (alone-same g (appending item g) (λ c. record c { stream = c.stream ++ item ∷ [] }) refl refl same a) j);
+    quiet = λ i a at. left.quiet i a at
+        ∙ sym (completes-same g (appending item g) a (answers-same g (appending item g) (λ c. record c { stream = c.stream ++ item ∷ [] }) refl refl same a)
+        (alone-same g (appending item g) (λ c. record c { stream = c.stream ++ item ∷ [] }) refl refl same a));
   }
     where
       ways : under_way (outward g) ≡ under_way (outward (appending item g))
-      ways = sym (under-way-more (outward g) (outward (appending item g)) item (subst (SeesSame (outward g)) (sym outward-more) same) (ap (λ (c : Outward). c.stream) outward-more) plain)
+      ways = sym (under-way-more (outward g) (outward (appending item g)) item (subst (SeesSame (outward g)) (sym outward-more) same)
+          (ap (λ (c : Outward). c.stream) outward-more) plain)

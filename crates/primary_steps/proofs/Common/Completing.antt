@@ -1,9 +1,11 @@
 -- What a step completes goes into the journal, and into the entries.
-use Rattle.std.proofs.Common.{ℕ, zero, suc, ◌≡◌, ◌+◌, ◌<◌, ◌⊎◌, inl, inr, Bool, true, false, cond, not, ◌&&◌, ◌||◌, List, [], ◌∷◌, map, Option, Some, None, slice_get, refl, sym, ◌∙◌, ap, subst, arith, ◌==◌}
+use Rattle.std.proofs.Common.{ℕ, zero, suc, ◌≡◌, ◌+◌, ◌<◌, ◌⊎◌, inl, inr, Bool, true, false, cond, not, ◌&&◌, ◌||◌, List, [], ◌∷◌, map, Option, Some, None}
+use Rattle.std.proofs.Common.{slice_get, refl, sym, ◌∙◌, ap, subst, arith, ◌==◌}
 use Rattle.std.specs.Prelude.{find, is_some, if◌then◌else◌}
 use Rattle.std.specs.List.{list_any}
 use Rattle.std.proofs.lemmas.Bool.{both_ways, and_parts, or_parts, eqb-true, eq-eqb, false_from_ne_true}
 use Rattle.std.proofs.lemmas.List.Folds.{list_any-append}
+use Rattle.blocks.specs.Positions.{StreamPosition}
 use Rattle.model.specs.Primary.{Accepted, Completion, PrimaryHistory, is_answered, completes, is_failed, is_completed, is_open, Linked, Alone}
 use Rattle.model.specs.PrimarySteps.{newly_completed, completion_of, with_completions}
 use Rattle.transferlog.specs.Writes.{completed_of}
@@ -23,7 +25,8 @@ abbrev pub entered : List report.Completed → ℕ → Entry → Entry
 entered [] number e = e
 entered (c ∷ cs) number e = entered cs number (if c.number == number then record e { fate = Completed c.linked c.home } else e)
 
-pub entering-map : (cs : List report.Completed) (f : Accepted → Entry) (xs : List Accepted) → AreNumberedFrom 1 xs → ((i : ℕ) (c : report.Completed) → slice_get cs i ≡ Some c → 0 < c.number)
+pub entering-map : (cs : List report.Completed) (f : Accepted → Entry) (xs : List Accepted) → AreNumberedFrom 1 xs
+    → ((i : ℕ) (c : report.Completed) → slice_get cs i ≡ Some c → 0 < c.number)
     → entering cs (map f xs) ≡ map (λ a. entered cs a.write.number (f a)) xs
 entering-map [] f xs numbered some = refl
 entering-map (c ∷ cs) f xs numbered some = ap (entering cs) (first c.number refl) ∙ entering-map cs f' xs numbered (λ i d at. some (suc i) d at)
@@ -34,28 +37,36 @@ entering-map (c ∷ cs) f xs numbered some = ap (entering cs) (first c.number re
     f' : Accepted → Entry
     f' a = if c.number == a.write.number then record (f a) { fate = Completed c.linked c.home } else f a
 
-    first : (m : ℕ) → c.number ≡ m → with_entry c.number (λ entry. record entry { fate = Completed c.linked c.home }) (map f xs) ≡ map (λ a. if c.number == a.write.number then record (f a) { fate = Completed c.linked c.home } else f a) xs
+    first : (m : ℕ) → c.number ≡ m → with_entry c.number (λ entry. record entry { fate = Completed c.linked c.home }) (map f xs) ≡ map
+        (λ a. if c.number == a.write.number then record (f a) { fate = Completed c.linked c.home } else f a) xs
     first zero is = absurd (let low = some 0 c refl in omega arith)
     first (suc k) is =
         ap (λ m. with_entry m (λ entry. record entry { fate = Completed c.linked c.home }) (map f xs)) is
-        ∙ with-entry-map f (λ a. if c.number == a.write.number then record (f a) { fate = Completed c.linked c.home } else f a) (λ entry. record entry { fate = Completed c.linked c.home }) 1 k xs numbered
+        ∙ with-entry-map f (λ a. if c.number == a.write.number then record (f a) { fate = Completed c.linked c.home }
+        else f a) (λ entry. record entry { fate = Completed c.linked c.home }) 1 k xs numbered
         (λ a same. sym (ap (λ b. if b then record (f a) { fate = Completed c.linked c.home } else f a) (eq-eqb c.number a.write.number (omega arith))))
-        (λ a other. sym (ap (λ b. if b then record (f a) { fate = Completed c.linked c.home } else f a) (false_from_ne_true (c.number == a.write.number) (λ e. both_ways (a.write.number == (1 + k)) other (let n = eqb-true c.number a.write.number e in eq-eqb a.write.number (1 + k) (omega arith))))))
+        (λ a other. sym (ap (λ b. if b then record (f a) { fate = Completed c.linked c.home }
+        else f a) (false_from_ne_true (c.number == a.write.number)
+        (λ e. both_ways (a.write.number == (1 + k)) other (let n = eqb-true c.number a.write.number e in eq-eqb a.write.number (1 + k) (omega arith))))))
 
-pub entered-none : (cs : List report.Completed) (number : ℕ) (e : Entry) → list_any (λ (c : report.Completed). c.number == number) cs ≡ false → entered cs number e ≡ e
+pub entered-none : (cs : List report.Completed) (number : ℕ) (e : Entry) → list_any (λ (c : report.Completed). c.number == number) cs ≡ false
+    → entered cs number e ≡ e
 entered-none [] number e none = refl
 entered-none (c ∷ cs) number e none =
     let parts = or_parts (c.number == number) (list_any (λ (c : report.Completed). c.number == number) cs) none in
     ap (λ b. entered cs number (if b then record e { fate = Completed c.linked c.home } else e)) parts.0 ∙ entered-none cs number e parts.1
 
-pub entered-some : (cs : List report.Completed) (number : ℕ) (e : Entry) (linked : Bool) (home : Option (ℕ × ℕ))
+pub entered-some : (cs : List report.Completed) (number : ℕ) (e : Entry) (linked : Bool) (home : Option StreamPosition)
     → ((i : ℕ) (c : report.Completed) → slice_get cs i ≡ Some c → (c.number == number) ≡ true → (c.linked ≡ linked) × (c.home ≡ home))
-    → (e.fate ≡ Completed linked home) ⊎ (list_any (λ (c : report.Completed). c.number == number) cs ≡ true) → entered cs number e ≡ record e { fate = Completed linked home }
+    → (e.fate ≡ Completed linked home) ⊎ (list_any (λ (c : report.Completed). c.number == number) cs ≡ true)
+    → entered cs number e ≡ record e { fate = Completed linked home }
 entered-some [] number e linked home all (inl was) = λ i. record e { fate = was i }
 entered-some [] number e linked home all (inr none) = absurd (cc)
-entered-some (c ∷ cs) number e linked home all either = go (λ f so. entered-some cs number f linked home (λ i d at. all (suc i) d at) so) (c.number == number) refl either
+entered-some (c ∷ cs) number e linked home all either = go (λ f so. entered-some cs number f linked home (λ i d at. all (suc i) d at) so)
+    (c.number == number) refl either
   where
-    go : ((f : Entry) → (f.fate ≡ Completed linked home) ⊎ (list_any (λ (c : report.Completed). c.number == number) cs ≡ true) → entered cs number f ≡ record f { fate = Completed linked home })
+    go : ((f : Entry) → (f.fate ≡ Completed linked home) ⊎ (list_any (λ (c : report.Completed). c.number == number) cs ≡ true)
+        → entered cs number f ≡ record f { fate = Completed linked home })
         → (b : Bool) → (c.number == number) ≡ b → (e.fate ≡ Completed linked home) ⊎ ((b || list_any (λ (c : report.Completed). c.number == number) cs) ≡ true)
         → entered cs number (if b then record e { fate = Completed c.linked c.home } else e) ≡ record e { fate = Completed linked home }
     go rest true is either = let same = all 0 c refl is in rest (record e { fate = Completed c.linked c.home }) (inl (λ i. Completed (same.0 i) (same.1 i)))
@@ -81,7 +92,8 @@ module _ (h : PrimaryHistory) (may : MayComplete h) where
       same-at h.writes j a b (subst (λ n. slice_get h.writes n ≡ Some a) index ata) atb
 
   -- what is completed now, by its number
-  pub any-newly : (i : ℕ) (a : Accepted) → slice_get h.writes i ≡ Some a → list_any (λ (b : Accepted). b.write.number == a.write.number) (newly_completed h) ≡ passes a
+  pub any-newly : (i : ℕ) (a : Accepted) → slice_get h.writes i ≡ Some a
+      → list_any (λ (b : Accepted). b.write.number == a.write.number) (newly_completed h) ≡ passes a
   any-newly i a at = go (passes a) refl
     where
       go : (b : Bool) → passes a ≡ b → list_any (λ (b : Accepted). b.write.number == a.write.number) (newly_completed h) ≡ b
@@ -122,7 +134,8 @@ module _ (h : PrimaryHistory) (may : MayComplete h) where
   any-report i a at = any-map (λ (c : report.Completed). c.number == a.write.number) (λ b. completed_of (logged_of h b)) (newly_completed h) ∙ any-newly i a at
 
   -- a report of the number of a write is of that write
-  report-of : (i : ℕ) (a : Accepted) → slice_get h.writes i ≡ Some a → (n : ℕ) (c : report.Completed) → slice_get reports n ≡ Some c → (c.number == a.write.number) ≡ true → c ≡ completed_of (logged_of h a)
+  report-of : (i : ℕ) (a : Accepted) → slice_get h.writes i ≡ Some a → (n : ℕ) (c : report.Completed) → slice_get reports n ≡ Some c
+      → (c.number == a.write.number) ≡ true → c ≡ completed_of (logged_of h a)
   report-of i a at n c there same =
       let of = pick-image (λ b. completed_of (logged_of h b)) (newly_completed h) n c there in
       let stood = pick-filtered passes h.writes n of.0 of.1 in
@@ -133,13 +146,16 @@ module _ (h : PrimaryHistory) (may : MayComplete h) where
   abbrev has : Accepted → Completion → Bool
   has a entry = entry.write.number == a.write.number
 
-  found-new : (i : ℕ) (a : Accepted) → slice_get h.writes i ≡ Some a → (b : Bool) → passes a ≡ b → find (has a) (map (completion_of h) (newly_completed h)) ≡ cond b (Some (completion_of h a)) None
+  found-new : (i : ℕ) (a : Accepted) → slice_get h.writes i ≡ Some a → (b : Bool) → passes a ≡ b
+      → find (has a) (map (completion_of h) (newly_completed h)) ≡ cond b (Some (completion_of h a)) None
   found-new i a at true is =
       let found = find-map (has a) (completion_of h) (newly_completed h) in
       found ∙ go (find (λ (x : Accepted). x.write.number == a.write.number) (newly_completed h)) refl
     where
-      go : (v : Option Accepted) → find (λ (x : Accepted). x.write.number == a.write.number) (newly_completed h) ≡ v → elim v as (λ _. Option Completion) [ None ↦ None | Some x ↦ Some (completion_of h x) ] ≡ Some (completion_of h a)
-      go None none = absurd (both_ways (list_any (λ (x : Accepted). x.write.number == a.write.number) (newly_completed h)) (any-some (λ (x : Accepted). x.write.number == a.write.number) (newly_completed h) ∙ ap is_some none) (any-newly i a at ∙ is))
+      go : (v : Option Accepted) → find (λ (x : Accepted). x.write.number == a.write.number) (newly_completed h) ≡ v
+          → elim v as (λ _. Option Completion) [ None ↦ None | Some x ↦ Some (completion_of h x) ] ≡ Some (completion_of h a)
+      go None none = absurd (both_ways (list_any (λ (x : Accepted). x.write.number == a.write.number) (newly_completed h))
+          (any-some (λ (x : Accepted). x.write.number == a.write.number) (newly_completed h) ∙ ap is_some none) (any-newly i a at ∙ is))
       go (Some x) found =
           let there = pick-found (λ (x : Accepted). x.write.number == a.write.number) (newly_completed h) x found in
           let stood = pick-filtered passes h.writes there.0 x there.1 in
@@ -148,9 +164,11 @@ module _ (h : PrimaryHistory) (may : MayComplete h) where
       let found = find-map (has a) (completion_of h) (newly_completed h) in
       found ∙ go (find (λ (x : Accepted). x.write.number == a.write.number) (newly_completed h)) refl
     where
-      go : (v : Option Accepted) → find (λ (x : Accepted). x.write.number == a.write.number) (newly_completed h) ≡ v → elim v as (λ _. Option Completion) [ None ↦ None | Some x ↦ Some (completion_of h x) ] ≡ None
+      go : (v : Option Accepted) → find (λ (x : Accepted). x.write.number == a.write.number) (newly_completed h) ≡ v
+          → elim v as (λ _. Option Completion) [ None ↦ None | Some x ↦ Some (completion_of h x) ] ≡ None
       go None none = refl
-      go (Some x) found = absurd (both_ways (list_any (λ (x : Accepted). x.write.number == a.write.number) (newly_completed h)) (any-newly i a at ∙ is) (any-some (λ (x : Accepted). x.write.number == a.write.number) (newly_completed h) ∙ ap is_some found))
+      go (Some x) found = absurd (both_ways (list_any (λ (x : Accepted). x.write.number == a.write.number) (newly_completed h)) (any-newly i a at
+          ∙ is) (any-some (λ (x : Accepted). x.write.number == a.write.number) (newly_completed h) ∙ ap is_some found))
 
   -- completed over the link where it is answered
   kind-is : (b : Bool) → is_linked (if b then Linked else Alone) ≡ b
@@ -160,7 +178,8 @@ module _ (h : PrimaryHistory) (may : MayComplete h) where
   entry-completed : (i : ℕ) (a : Accepted) → slice_get h.writes i ≡ Some a → entered reports a.write.number (entry_of h a) ≡ entry_of after a
   entry-completed i a at = go (passes a) refl
     where
-      found-is : find (has a) after.journal ≡ elim (find (has a) h.journal) as (λ _. Option Completion) [ None ↦ find (has a) (map (completion_of h) (newly_completed h)) | Some x ↦ Some x ]
+      found-is : find (has a) after.journal ≡ elim (find (has a) h.journal) as
+          (λ _. Option Completion) [ None ↦ find (has a) (map (completion_of h) (newly_completed h)) | Some x ↦ Some x ]
       found-is = find-append (has a) h.journal (map (completion_of h) (newly_completed h))
 
       go : (b : Bool) → passes a ≡ b → entered reports a.write.number (entry_of h a) ≡ entry_of after a
@@ -170,20 +189,27 @@ module _ (h : PrimaryHistory) (may : MayComplete h) where
           let open_parts = and_parts (not (is_completed h a.write.number)) (not (is_failed a.outcome)) parts.0 in
           let fate : fate_of after a ≡ Completed (is_answered h a) a.home = fates (find (has a) h.journal) refl unfailed open_parts.0 in
           entered-some reports a.write.number (entry_of h a) (is_answered h a) a.home
-          (λ n c there same. let of = report-of i a at n c there same in (ap (λ (x : report.Completed). x.linked) of, ap (λ (x : report.Completed). x.home) of)) (inr (any-report i a at ∙ is))
+          (λ n c there same. let of = report-of i a at n c there same in (ap (λ (x : report.Completed). x.linked) of, ap (λ (x : report.Completed). x.home) of))
+          (inr (any-report i a at ∙ is))
           ∙ λ j. record (entry_of h a) { fate = sym fate j }
         where
-          fates : (v : Option Completion) → find (has a) h.journal ≡ v → is_failed a.outcome ≡ false → not (is_completed h a.write.number) ≡ true → fate_of after a ≡ Completed (is_answered h a) a.home
-          fates (Some x) found unfailed fresh = absurd (both_ways (not (is_completed h a.write.number)) (ap not (any-some (has a) h.journal ∙ ap is_some found)) fresh)
+          fates : (v : Option Completion) → find (has a) h.journal ≡ v → is_failed a.outcome ≡ false → not (is_completed h a.write.number) ≡ true
+              → fate_of after a ≡ Completed (is_answered h a) a.home
+          fates (Some x) found unfailed fresh =
+              absurd (both_ways (not (is_completed h a.write.number)) (ap not (any-some (has a) h.journal ∙ ap is_some found)) fresh)
           fates None none unfailed fresh =
-              let new : find (has a) after.journal ≡ Some (completion_of h a) = found-is ∙ (ap (λ (v : Option Completion). elim v as (λ _. Option Completion) [ None ↦ find (has a) (map (completion_of h) (newly_completed h)) | Some x ↦ Some x ]) none ∙ found-new i a at true is) in
+              let new : find (has a) after.journal ≡ Some (completion_of h a) = found-is
+              ∙ (ap (λ (v : Option Completion). elim v as
+              (λ _. Option Completion) [ None ↦ find (has a) (map (completion_of h) (newly_completed h)) | Some x ↦ Some x ]) none
+              ∙ found-new i a at true is) in
               (λ j. elim (unfailed j) as (λ _. Fate) [ true ↦ Failed | false ↦ fate_in (new j) ]) ∙ λ j. Completed (kind-is (is_answered h a) j) a.home
       go false is =
           entered-none reports a.write.number (entry_of h a) (any-report i a at ∙ is)
           ∙ λ j. record (entry_of h a) { fate = elim (is_failed a.outcome) as (λ _. Fate) [ true ↦ Failed | false ↦ fate_in (same j) ] }
         where
           same : find (has a) h.journal ≡ find (has a) after.journal
-          same = sym (found-is ∙ (ap (λ (w : Option Completion). elim (find (has a) h.journal) as (λ _. Option Completion) [ None ↦ w | Some x ↦ Some x ]) (found-new i a at false is) ∙ go2 (find (has a) h.journal)))
+          same = sym (found-is ∙ (ap (λ (w : Option Completion). elim (find (has a) h.journal) as (λ _. Option Completion) [ None ↦ w | Some x ↦ Some x ])
+              (found-new i a at false is) ∙ go2 (find (has a) h.journal)))
             where
               go2 : (v : Option Completion) → elim v as (λ _. Option Completion) [ None ↦ None | Some x ↦ Some x ] ≡ v
               go2 None = refl

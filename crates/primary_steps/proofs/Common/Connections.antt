@@ -1,18 +1,22 @@
 -- A change of the last connection that the log does not see.
-use Rattle.std.proofs.Common.{ℕ, zero, suc, ◌≡◌, ◌≤◌, inl, inr, Bool, true, false, not, ◌&&◌, ◌||◌, List, [], ◌∷◌, ◌++◌, length, Option, Some, None, slice_get, refl, sym, ◌∙◌, ap, subst, arith, nat_lt}
+use Rattle.std.proofs.Common.{ℕ, zero, suc, ◌≡◌, ◌≤◌, inl, inr, Bool, true, false, not, ◌&&◌, ◌||◌, List, [], ◌∷◌, ◌++◌, length, Option, Some, None, slice_get}
+use Rattle.std.proofs.Common.{refl, sym, ◌∙◌, ap, subst, arith, nat_lt}
 use Rattle.std.proofs.lemmas.Option.{slice_get_within}
+use Rattle.blocks.specs.Positions.{StreamPosition}
 use Rattle.blocks.specs.declared.settings.Settings.{Settings}
 use Rattle.blocks.specs.declared.settings.Protocol.{Protocol}
 use Rattle.blocks.specs.declared.settings.Protocol.TheVariants as protocol
 use Rattle.model.specs.Stream.{Item, WriteItem, epoch_of}
-use Rattle.model.specs.Primary.{Accepted, Outward, PrimaryHistory, no_outward, last_of, outward, change_last, items_sent, is_answered_by, is_answered, is_alone, is_confirmed, barrier_acknowledged, is_waiting, is_released}
+use Rattle.model.specs.Primary.{Accepted, Outward, PrimaryHistory, no_outward, last_of, outward, change_last, items_sent, is_answered_by, is_answered, is_alone}
+use Rattle.model.specs.Primary.{is_confirmed, barrier_acknowledged, is_waiting, is_released}
 use Rattle.laws.proofs.Lists.Last.{get-change}
 use Rattle.laws.proofs.Primary.Homes.{HasHomes, confirmed-at}
 use Rattle.laws.proofs.Streams.Places.{epoch-grows}
 use Rattle.primary_steps.specs.Leaves.{is_sent, logged_of}
 
 -- what a look-up of a connection gives, where the last one changes and that cannot be told
-pub look : {X : Type 0} (see : Option Outward → X) (f : Outward → Outward) (none : Outward) (cs : List Outward) (k : ℕ) → see (Some (f (last_of none cs))) ≡ see (Some (last_of none cs))
+pub look : {X : Type 0} (see : Option Outward → X) (f : Outward → Outward) (none : Outward) (cs : List Outward) (k : ℕ)
+    → see (Some (f (last_of none cs))) ≡ see (Some (last_of none cs))
     → see (slice_get (change_last f cs) k) ≡ see (slice_get cs k)
 look see f none [] k same = refl
 look see f none (x ∷ []) zero same = same
@@ -27,7 +31,8 @@ pub record SeesSame (c d : Outward) : Type 0 where
   pub taken : d.taken ≡ c.taken
   pub refused : d.refused ≡ c.refused
 
-pub answered-same : (asked : Protocol) (c d : Outward) (place : ℕ) (item : Item) → SeesSame c d → is_answered_by asked d place item ≡ is_answered_by asked c place item
+pub answered-same : (asked : Protocol) (c d : Outward) (place : ℕ) (item : Item) → SeesSame c d
+    → is_answered_by asked d place item ≡ is_answered_by asked c place item
 answered-same protocol.A c d place item s = rw (s.pushed) refl
 answered-same protocol.B c d place item s = rw (s.taken, s.refused) refl
 answered-same protocol.C c d place item s = rw (s.taken, s.refused) refl
@@ -35,40 +40,63 @@ answered-same protocol.C c d place item s = rw (s.taken, s.refused) refl
 pub confirmed-same : (c d : Outward) (epoch : ℕ) → SeesSame c d → barrier_acknowledged d epoch ≡ barrier_acknowledged c epoch
 confirmed-same c d epoch s = rw (s.taken, s.refused) refl
 
-module _ (h later : PrimaryHistory) (f : Outward → Outward) (settings : later.settings ≡ h.settings) (connections : later.connections ≡ change_last f h.connections) (same : SeesSame (outward h) (f (outward h))) where
+module _ (h later : PrimaryHistory) (f : Outward → Outward) (settings : later.settings ≡ h.settings)
+    (connections : later.connections ≡ change_last f h.connections) (same : SeesSame (outward h) (f (outward h))) where
   there : (k : ℕ) → slice_get later.connections k ≡ slice_get (change_last f h.connections) k
   there k = ap (λ (l : List Outward). slice_get l k) connections
 
   pub alone-same : (a : Accepted) → is_alone later a ≡ is_alone h a
   alone-same a = go a.home
     where
-      go : (home : Option (ℕ × ℕ)) → elim home as (λ _. Bool) [ None ↦ true | Some home ↦ elim (slice_get later.connections home.0) as (λ _. Bool) [ None ↦ true | Some c ↦ c.closed ] ]
-          ≡ elim home as (λ _. Bool) [ None ↦ true | Some home ↦ elim (slice_get h.connections home.0) as (λ _. Bool) [ None ↦ true | Some c ↦ c.closed ] ]
+      go : (home : Option StreamPosition) → elim home as
+          (λ _. Bool) [ None ↦ true | Some home ↦ elim (slice_get later.connections home.index) as (λ _. Bool) [ None ↦ true | Some c ↦ c.closed ] ]
+          ≡ elim home as (λ _. Bool) [ None ↦ true | Some home ↦ elim (slice_get h.connections home.index) as (λ _. Bool) [ None ↦ true | Some c ↦ c.closed ] ]
       go None = refl
       go (Some home) =
           let see : Option Outward → Bool = λ v. elim v as (λ _. Bool) [ None ↦ true | Some c ↦ c.closed ] in
-          ap see (there home.0) ∙ look see f (no_outward h.tuple) h.connections home.0 same.closed
+          ap see (there home.index) ∙ look see f (no_outward h.tuple) h.connections home.index same.closed
 
   sent-same : (a : Accepted) → is_sent later a ≡ is_sent h a
   sent-same a = go a.home
     where
-      go : (home : Option (ℕ × ℕ)) → elim home as (λ _. Bool) [ None ↦ false | Some home ↦ elim (slice_get later.connections home.0) as (λ _. Bool) [ None ↦ false | Some c ↦ nat_lt home.1 (items_sent c) ] ]
-          ≡ elim home as (λ _. Bool) [ None ↦ false | Some home ↦ elim (slice_get h.connections home.0) as (λ _. Bool) [ None ↦ false | Some c ↦ nat_lt home.1 (items_sent c) ] ]
+      go : (home : Option StreamPosition) → elim home as
+          (λ _. Bool) [
+            | None ↦ false
+            | Some home ↦ elim (slice_get later.connections home.index) as
+                (λ _. Bool) [ None ↦ false | Some c ↦ nat_lt home.place (items_sent c) ]
+          ]
+          ≡ elim home as (λ _. Bool) [
+            | None ↦ false
+            | Some home ↦ elim (slice_get h.connections home.index) as
+                (λ _. Bool) [ None ↦ false | Some c ↦ nat_lt home.place (items_sent c) ]
+          ]
       go None = refl
       go (Some home) =
-          let see : Option Outward → Bool = λ v. elim v as (λ _. Bool) [ None ↦ false | Some c ↦ nat_lt home.1 (items_sent c) ] in
-          ap see (there home.0) ∙ look see f (no_outward h.tuple) h.connections home.0 (rw (same.pushed) refl)
+          let see : Option Outward → Bool = λ v. elim v as (λ _. Bool) [ None ↦ false | Some c ↦ nat_lt home.place (items_sent c) ] in
+          ap see (there home.index) ∙ look see f (no_outward h.tuple) h.connections home.index (rw (same.pushed) refl)
 
   pub answers-same : (a : Accepted) → is_answered later a ≡ is_answered h a
   answers-same a = go a.home
     where
-      go : (home : Option (ℕ × ℕ)) → elim home as (λ _. Bool) [ None ↦ false | Some home ↦ elim (slice_get later.connections home.0) as (λ _. Bool) [ None ↦ false | Some c ↦ is_answered_by later.settings.protocol c home.1 (WriteItem a.write) ] ]
-          ≡ elim home as (λ _. Bool) [ None ↦ false | Some home ↦ elim (slice_get h.connections home.0) as (λ _. Bool) [ None ↦ false | Some c ↦ is_answered_by h.settings.protocol c home.1 (WriteItem a.write) ] ]
+      go : (home : Option StreamPosition) → elim home as
+          (λ _. Bool) [
+            | None ↦ false
+            | Some home ↦ elim (slice_get later.connections home.index) as
+                (λ _. Bool) [ None ↦ false | Some c ↦ is_answered_by later.settings.protocol c home.place (WriteItem a.write) ]
+          ]
+          ≡ elim home as (λ _. Bool) [
+            | None ↦ false
+            | Some home ↦ elim (slice_get h.connections home.index) as
+                (λ _. Bool) [ None ↦ false | Some c ↦ is_answered_by h.settings.protocol c home.place (WriteItem a.write) ]
+          ]
       go None = refl
       go (Some home) =
-          let see : Option Outward → Bool = λ v. elim v as (λ _. Bool) [ None ↦ false | Some c ↦ is_answered_by later.settings.protocol c home.1 (WriteItem a.write) ] in
-          ap see (there home.0) ∙ (look see f (no_outward h.tuple) h.connections home.0 (answered-same later.settings.protocol (outward h) (f (outward h)) home.1 (WriteItem a.write) same)
-          ∙ ap (λ (s : Settings). elim (slice_get h.connections home.0) as (λ _. Bool) [ None ↦ false | Some c ↦ is_answered_by s.protocol c home.1 (WriteItem a.write) ]) settings)
+          let see : Option Outward → Bool =
+          λ v. elim v as (λ _. Bool) [ None ↦ false | Some c ↦ is_answered_by later.settings.protocol c home.place (WriteItem a.write) ] in
+          ap see (there home.index) ∙ (look see f (no_outward h.tuple) h.connections home.index
+          (answered-same later.settings.protocol (outward h) (f (outward h)) home.place (WriteItem a.write) same)
+          ∙ ap (λ (s : Settings). elim (slice_get h.connections home.index) as
+          (λ _. Bool) [ None ↦ false | Some c ↦ is_answered_by s.protocol c home.place (WriteItem a.write) ]) settings)
 
   -- the log has the same of each write
   pub seen-same : (a : Accepted) → logged_of later a ≡ logged_of h a
@@ -79,23 +107,36 @@ module _ (h later : PrimaryHistory) (f : Outward → Outward) (settings : later.
     pub acknowledged-same : (i : ℕ) (a : Accepted) → slice_get h.writes i ≡ Some a → is_confirmed later a ≡ is_confirmed h a
     acknowledged-same i a at = go a.home refl
       where
-        go : (v : Option (ℕ × ℕ)) → a.home ≡ v → is_confirmed later a ≡ is_confirmed h a
-        go None is = ap (λ (v : Option (ℕ × ℕ)). elim v as (λ _. Bool) [ None ↦ false | Some home ↦ elim (slice_get later.connections home.0) as (λ _. Bool) [ None ↦ false | Some c ↦ barrier_acknowledged c (epoch_of c.stream home.1) ] ]) is
-            ∙ sym (ap (λ (v : Option (ℕ × ℕ)). elim v as (λ _. Bool) [ None ↦ false | Some home ↦ elim (slice_get h.connections home.0) as (λ _. Bool) [ None ↦ false | Some c ↦ barrier_acknowledged c (epoch_of c.stream home.1) ] ]) is)
+        go : (v : Option StreamPosition) → a.home ≡ v → is_confirmed later a ≡ is_confirmed h a
+        go None is = ap (λ (v : Option StreamPosition). elim v as
+            (λ _. Bool) [
+              | None ↦ false
+              | Some home ↦ elim (slice_get later.connections home.index) as
+                  (λ _. Bool) [ None ↦ false | Some c ↦ barrier_acknowledged c (epoch_of c.stream home.place) ]
+            ]) is
+            ∙ sym (ap (λ (v : Option StreamPosition). elim v as
+            (λ _. Bool) [
+              | None ↦ false
+              | Some home ↦ elim (slice_get h.connections home.index) as
+                  (λ _. Bool) [ None ↦ false | Some c ↦ barrier_acknowledged c (epoch_of c.stream home.place) ]
+            ]) is)
         go (Some home) is =
-            let was = homes.housed i home.0 home.1 a at is in
-            let now = there home.0 in
-            elim (get-change f (no_outward h.tuple) h.connections home.0 was.0 was.1) [
+            let was = homes.housed i home.index home.place a at is in
+            let now = there home.index in
+            elim (get-change f (no_outward h.tuple) h.connections home.index was.0 was.1) [
               | inl stays ↦ confirmed-at later a home was.0 is (now ∙ stays) ∙ sym (confirmed-at h a home was.0 is was.1)
               | inr changed ↦
                   let last : was.0 ≡ outward h = changed.1 in
-                  let within = slice_get_within was.0.stream home.1 (WriteItem a.write) was.2 in
-                  let inside : home.1 ≤ length (outward h).stream = subst (λ (c : Outward). home.1 ≤ length c.stream) last (omega arith) in
-                  let epochs : epoch_of (f (outward h)).stream home.1 ≡ epoch_of (outward h).stream home.1 = ap (λ (s : List Item). epoch_of s home.1) stream ∙ epoch-grows (outward h).stream more home.1 inside in
+                  let within = slice_get_within was.0.stream home.place (WriteItem a.write) was.2 in
+                  let inside : home.place ≤ length (outward h).stream = subst (λ (c : Outward). home.place ≤ length c.stream) last (omega arith) in
+                  let epochs : epoch_of (f (outward h)).stream home.place ≡ epoch_of (outward h).stream home.place =
+                  ap (λ (s : List Item). epoch_of s home.place) stream
+                  ∙ epoch-grows (outward h).stream more home.place inside in
                   confirmed-at later a home (f was.0) is (now ∙ changed.0)
-                  ∙ (ap (λ (c : Outward). barrier_acknowledged (f c) (epoch_of (f c).stream home.1)) last
-                  ∙ (ap (barrier_acknowledged (f (outward h))) epochs ∙ (confirmed-same (outward h) (f (outward h)) (epoch_of (outward h).stream home.1) same
-                  ∙ (ap (λ (c : Outward). barrier_acknowledged c (epoch_of c.stream home.1)) (sym last) ∙ sym (confirmed-at h a home was.0 is was.1)))))
+                  ∙ (ap (λ (c : Outward). barrier_acknowledged (f c) (epoch_of (f c).stream home.place)) last
+                  ∙ (ap (barrier_acknowledged (f (outward h))) epochs
+                  ∙ (confirmed-same (outward h) (f (outward h)) (epoch_of (outward h).stream home.place) same
+                  ∙ (ap (λ (c : Outward). barrier_acknowledged c (epoch_of c.stream home.place)) (sym last) ∙ sym (confirmed-at h a home was.0 is was.1)))))
             ]
 
     pub released-same : (i : ℕ) (a : Accepted) → slice_get h.writes i ≡ Some a → is_released later a ≡ is_released h a

@@ -34,22 +34,28 @@ unreported connection confirmed epochs l = record l { connection = connection; c
 
 -- where nothing is completed, the journal stays
 pub journal-stays : (h : PrimaryHistory) → IsQuiet h → with_completions h ≡ h
-journal-stays h quiet = λ i. record h { journal = (ap (λ (l : List Accepted). h.journal ++ map (completion_of h) l) (quiet-none h quiet) ∙ append-nil h.journal) i }
+journal-stays h quiet = λ i. record h {
+  journal = (ap (λ (l : List Accepted). h.journal ++ map (completion_of h) l) (quiet-none h quiet)
+      ∙ append-nil h.journal) i;
+}
 
 -- No write sees the change.
 pub record IsUnseen (h later : PrimaryHistory) : Type 0 where
   pub logged : (i : ℕ) (a : Accepted) → slice_get h.writes i ≡ Some a → logged_of later a ≡ logged_of h a
   pub released : (i : ℕ) (a : Accepted) → slice_get h.writes i ≡ Some a → is_released later a ≡ is_released h a
 
-module _ (s : PrimaryState) (h : PrimaryHistory) (left : Leaves s h) (f : Outward → Outward) (tuple : Tuple) (peer : Option Tuple) (marks : ℕ → Bool) (unseen : IsUnseen h (turned f tuple peer marks h)) where
+module _ (s : PrimaryState) (h : PrimaryHistory) (left : Leaves s h) (f : Outward → Outward) (tuple : Tuple) (peer : Option Tuple) (marks : ℕ
+    → Bool) (unseen : IsUnseen h (turned f tuple peer marks h)) where
   pub unreleased-same : unreleased (turned f tuple peer marks h) ≡ unreleased h
-  unreleased-same = filter-at (λ a. not (is_released (turned f tuple peer marks h) a)) (λ a. not (is_released h a)) h.writes (λ i a at. ap not (unseen.released i a at))
+  unreleased-same = filter-at (λ a. not (is_released (turned f tuple peer marks h) a)) (λ a. not (is_released h a)) h.writes
+      (λ i a at. ap not (unseen.released i a at))
 
   pub writes-same : s.log.writes ≡ map (logged_of (turned f tuple peer marks h)) (unreleased (turned f tuple peer marks h))
   writes-same =
       left.rest.log.writes
       ∙ sym (ap (map (logged_of (turned f tuple peer marks h))) unreleased-same
-      ∙ map-at (logged_of (turned f tuple peer marks h)) (logged_of h) (unreleased h) (λ i a at. let there = pick-filtered (λ x. not (is_released h x)) h.writes i a at in unseen.logged there.0 a there.1))
+      ∙ map-at (logged_of (turned f tuple peer marks h)) (logged_of h) (unreleased h)
+      (λ i a at. let there = pick-filtered (λ x. not (is_released h x)) h.writes i a at in unseen.logged there.0 a there.1))
 
   completes-same : (i : ℕ) (a : Accepted) → slice_get h.writes i ≡ Some a → completes h a ≡ completes (turned f tuple peer marks h) a
   completes-same i a at = sym (completes-seen h a) ∙ (ap finished (sym (unseen.logged i a at)) ∙ completes-seen (turned f tuple peer marks h) a)
@@ -69,9 +75,12 @@ module _ (s : PrimaryState) (h : PrimaryHistory) (left : Leaves s h) (f : Outwar
   -- What such a change leaves where the last epoch goes on, before what follows.
   pub unseen-due : HasHomes (turned f tuple peer marks h) → epoch_is_over (turned f tuple peer marks h) ≡ false → (outward h).closed ≡ false
       → (core_tuple : Tuple) → core_tuple ≡ tuple → (core_peer : Option Tuple) → core_peer ≡ peer
-      → (connection : Option ℕ) (confirmed : ℕ) (epochs : EpochsState) → connection ≡ standing (turned f tuple peer marks h) → LeavesStream (unreported connection confirmed epochs s.log) (turned f tuple peer marks h)
-      → (bits : List Bool) → bits ≡ marks_in h.settings.blocks marks → (held : List Holding) → held ≡ held_of (turned f tuple peer marks h) → (e : EndState) → LeavesEnd e (f (outward h))
-      → IsDue (record s { tuple = core_tuple; peer = core_peer; log = unreported connection confirmed epochs s.log; marks = bits; held = held; end = Some e }) None (turned f tuple peer marks h)
+      → (connection : Option ℕ) (confirmed : ℕ) (epochs : EpochsState) → connection ≡ standing (turned f tuple peer marks h)
+      → LeavesStream (unreported connection confirmed epochs s.log) (turned f tuple peer marks h)
+      → (bits : List Bool) → bits ≡ marks_in h.settings.blocks marks → (held : List Holding) → held ≡ held_of (turned f tuple peer marks h) → (e : EndState)
+      → LeavesEnd e (f (outward h))
+      → IsDue (record s { tuple = core_tuple; peer = core_peer; log = unreported connection confirmed epochs s.log; marks = bits; held = held; end = Some e })
+      None (turned f tuple peer marks h)
   unseen-due homes on unshut core_tuple tuple_is core_peer peer_is connection confirmed epochs connection_is stream bits bits_are held held_is e end = record {
     homes = homes;
     done = λ i a at completed. sym (quiet-same i a at) ∙ completed;
@@ -105,4 +114,8 @@ module _ (s : PrimaryState) (h : PrimaryHistory) (left : Leaves s h) (f : Outwar
       last_number = last_epoch (outward (turned f tuple peer marks h)).stream
 
       parted-same : parted (turned f tuple peer marks h) ≡ turned f tuple peer marks h
-      parted-same = ap (λ b. elim b as (λ _. PrimaryHistory) [ true ↦ appending (BarrierItem (last_epoch (outward (turned f tuple peer marks h)).stream)) (turned f tuple peer marks h) | false ↦ turned f tuple peer marks h ]) on
+      parted-same = ap (λ b. elim b as (λ _. PrimaryHistory) [
+        | true ↦ appending (BarrierItem (last_epoch (outward (turned f tuple peer marks h)).stream))
+            (turned f tuple peer marks h)
+        | false ↦ turned f tuple peer marks h
+      ]) on

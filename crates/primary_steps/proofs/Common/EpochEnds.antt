@@ -1,26 +1,29 @@
 -- Where something happens to one write, the log ends the last epoch where the history does.
-use Rattle.std.proofs.Common.{ℕ, zero, suc, ◌≡◌, ◌+◌, ◌-◌, ◌<◌, ◌≤◌, ◌⊎◌, inl, inr, Bool, true, false, not, ◌&&◌, ◌||◌, List, [], ◌∷◌, ◌++◌, length, map, filter, take, Some, None, slice_get, refl, sym, ◌∙◌, ap, subst, arith, nat_lt, nat_le, ◌==◌}
-use Rattle.std.proofs.Math.Bool.{or-false}
+use Rattle.std.proofs.Common.{ℕ, zero, suc, ◌≡◌, ◌+◌, ◌-◌, ◌<◌, ◌≤◌, ◌⊎◌, inl, inr, Bool, true, false, not, ◌&&◌, List, [], ◌∷◌, ◌++◌, length, filter, take}
+use Rattle.std.proofs.Common.{Option, Some, None, slice_get, refl, sym, ◌∙◌, ap, subst, arith, nat_lt, nat_le, ◌==◌}
 use Rattle.std.specs.Prelude.{if◌then◌else◌, option_map}
 use Rattle.std.specs.List.{list_any}
-use Rattle.std.proofs.lemmas.Bool.{cases_lt, both_ways, and_parts, and_from, or_left, or_right, or_cases, not-true, false_from_ne_true, eqb-true, eq-eqb, le-leb, lt-ltb, ltb-true, leb-false, lt-leb, le-ltb}
+use Rattle.std.proofs.lemmas.Bool.{cases_lt, both_ways, and_parts, and_from, not-true, false_from_ne_true, eqb-true, eq-eqb, le-leb, lt-ltb, ltb-true}
+use Rattle.std.proofs.lemmas.Bool.{leb-false, lt-leb, le-ltb}
 use Rattle.std.proofs.lemmas.Option.{slice_get_within, slice_get-map}
+use Rattle.blocks.specs.Positions.{StreamPosition}
 use Rattle.blocks.specs.declared.settings.Settings.{Settings}
 use Rattle.model.specs.Contents.{Write}
-use Rattle.model.specs.Stream.{Item, WriteItem, ResyncItem, BarrierItem, SyncUuidItem, UuidsItem, is_write, number_of, barriers_in, epoch_of, last_epoch, epoch_size, items_of_epoch, placed}
-use Rattle.model.specs.Primary.{Accepted, Outward, PrimaryHistory, no_outward, outward, last_index, stands, is_failed, is_completed, is_open, completes, is_released, is_resync, was_resynced}
-use Rattle.model.specs.PrimarySteps.{with_completions, is_settled, epoch_is_over, appending}
+use Rattle.model.specs.Stream.{Item, WriteItem, ResyncItem, BarrierItem, barriers_in, epoch_of, last_epoch, epoch_size, items_of_epoch, placed}
+use Rattle.model.specs.Primary.{Accepted, Outward, PrimaryHistory, no_outward, outward, last_index, stands, is_failed, is_completed, is_open, completes}
+use Rattle.model.specs.Primary.{is_released, was_resynced}
+use Rattle.model.specs.PrimarySteps.{with_completions, epoch_is_over, appending}
 use Rattle.transferlog.specs.Log.{LogState, changing, closes_any, ended_by}
 use Rattle.transferlog.specs.Ring.{on}
 use Rattle.transferlog.specs.Writes as log
 use Rattle.transferlog.specs.Writes.{LogWrite}
 use Rattle.epochs.specs.Epochs.{EpochsState, empty, is_in_last, ended_if}
+use Rattle.laws.proofs.Rules.EpochEnds.{most_writes, over-standing, HasRoom, GoesOn, goes-on, not-over, down-on, over-by-write}
 use Rattle.laws.proofs.Lists.Elements.{same-at}
 use Rattle.laws.proofs.Lists.Last.{length-change}
-use Rattle.laws.proofs.Lists.Picks.{pick-any, any-pick, pick-none, pick-filtered, filtered-pick, pick-image}
+use Rattle.laws.proofs.Lists.Picks.{pick-any, any-pick, pick-filtered, filtered-pick, pick-image}
 use Rattle.laws.proofs.Primary.Ends.{stands-parts}
 use Rattle.laws.proofs.Primary.Homes.{HasHomes, open-at}
-use Rattle.laws.proofs.Primary.LastEpoch.{IsEndOpen, end-open}
 use Rattle.laws.proofs.Primary.LastOpen.{IsLastOpen}
 use Rattle.laws.proofs.Primary.LawfulMoves.{last-changed}
 use Rattle.laws.proofs.Streams.Lawful.{barrier-empties, epoch-bound}
@@ -49,27 +52,33 @@ in-last l c e place write at =
     ∙ (e.upto (length l.epochs.sizes) place write (omega arith) at ∙ ap (nat_le (epoch_of c.stream place)) (sizes-many l c e))
 
 -- the number of a write that the log places in the last epoch
-pub last-number : (l : LogState) (c : Outward) (e : LeavesEpochs l c) (n : ℕ) → 0 < n → n ≤ l.accepted → is_in_last n l.epochs ≡ nat_lt (l.confirmed + total l.epochs.sizes) n
+pub last-number : (l : LogState) (c : Outward) (e : LeavesEpochs l c) (n : ℕ) → 0 < n → n ≤ l.accepted
+    → is_in_last n l.epochs ≡ nat_lt (l.confirmed + total l.epochs.sizes) n
 last-number l c e n some few = go (n == 0) refl
   where
-    go : (b : Bool) → (n == 0) ≡ b → (if b then l.epochs.resync else nat_lt 0 l.epochs.size && nat_le l.epochs.first n) ≡ nat_lt (l.confirmed + total l.epochs.sizes) n
+    go : (b : Bool) → (n == 0) ≡ b → (if b then l.epochs.resync else nat_lt 0 l.epochs.size && nat_le l.epochs.first n) ≡ nat_lt
+        (l.confirmed + total l.epochs.sizes) n
     go true is = absurd (let none = eqb-true n 0 is in omega arith)
     go false is = by-size l.epochs.size refl
       where
         by-size : (m : ℕ) → l.epochs.size ≡ m → (nat_lt 0 l.epochs.size && nat_le l.epochs.first n) ≡ nat_lt (l.confirmed + total l.epochs.sizes) n
         by-size zero none =
-            ap (λ m. nat_lt 0 m && nat_le l.epochs.first n) none ∙ sym (false_from_ne_true (nat_lt (l.confirmed + total l.epochs.sizes) n) (λ less. let more = ltb-true (l.confirmed + total l.epochs.sizes) n less in let all = e.newest in omega arith))
+            ap (λ m. nat_lt 0 m && nat_le l.epochs.first n) none
+            ∙ sym (false_from_ne_true (nat_lt (l.confirmed + total l.epochs.sizes) n)
+            (λ less. let more = ltb-true (l.confirmed + total l.epochs.sizes) n less in let all = e.newest in omega arith))
         by-size (suc m) many =
             let first = e.first (omega arith) in
             let begun : nat_lt 0 l.epochs.size ≡ true = lt-ltb 0 l.epochs.size (omega arith) in
             ap (λ b. b && nat_le l.epochs.first n) begun ∙ (ap (λ x. nat_le x n) first ∙ both (cases_lt (l.confirmed + total l.epochs.sizes) n))
           where
-            both : ((l.confirmed + total l.epochs.sizes) < n) ⊎ (n ≤ (l.confirmed + total l.epochs.sizes)) → nat_le (suc (l.confirmed + total l.epochs.sizes)) n ≡ nat_lt (l.confirmed + total l.epochs.sizes) n
+            both : ((l.confirmed + total l.epochs.sizes) < n) ⊎ (n ≤ (l.confirmed + total l.epochs.sizes))
+                → nat_le (suc (l.confirmed + total l.epochs.sizes)) n ≡ nat_lt (l.confirmed + total l.epochs.sizes) n
             both (inl less) = le-leb (suc (l.confirmed + total l.epochs.sizes)) n (omega arith) ∙ sym (lt-ltb (l.confirmed + total l.epochs.sizes) n less)
             both (inr more) = lt-leb (suc (l.confirmed + total l.epochs.sizes)) n (omega arith) ∙ sym (le-ltb (l.confirmed + total l.epochs.sizes) n more)
 
 module _ (s : PrimaryState) (h h1 : PrimaryHistory) (n : ℕ) (f : LogWrite → LogWrite) (g : Accepted → Accepted) (k : Outward → Outward)
-    (left : Leaves s h) (homes : HasHomes h) (last : IsLastOpen h) (quiet : epoch_is_over h ≡ false) (homes1 : HasHomes h1) (done1 : (i : ℕ) (a : Accepted) → slice_get h1.writes i ≡ Some a → is_completed h1 a.write.number ≡ true → completes h1 a ≡ true)
+    (left : Leaves s h) (homes : HasHomes h) (last : IsLastOpen h) (quiet : epoch_is_over h ≡ false) (homes1 : HasHomes h1) (done1 : (i : ℕ) (a : Accepted)
+    → slice_get h1.writes i ≡ Some a → is_completed h1 a.write.number ≡ true → completes h1 a ≡ true)
     (c : IsChange h h1 n f g k) where
   g1 : PrimaryHistory
   g1 = with_completions h1
@@ -95,12 +104,15 @@ module _ (s : PrimaryState) (h h1 : PrimaryHistory) (n : ℕ) (f : LogWrite → 
       ap (list_any (λ w. log.is_open w && not (log.is_open (on n f w)))) left.rest.log.writes
       ∙ (any-map (λ w. log.is_open w && not (log.is_open (on n f w))) (logged_of h) (filter (λ a. not (is_released h a)) h.writes)
       ∙ (any-filter (λ a. log.is_open (logged_of h a) && not (log.is_open (on n f (logged_of h a)))) (λ a. not (is_released h a)) h.writes
-      ∙ any-at (λ a. not (is_released h a) && (log.is_open (logged_of h a) && not (log.is_open (on n f (logged_of h a))))) (λ a. log.is_open (logged_of h a) && not (log.is_open (on n f (logged_of h a)))) h.writes
+      ∙ any-at (λ a. not (is_released h a) && (log.is_open (logged_of h a) && not (log.is_open (on n f (logged_of h a)))))
+      (λ a. log.is_open (logged_of h a) && not (log.is_open (on n f (logged_of h a)))) h.writes
       (λ i a at. go a (is_released h a) refl (released-not-open h s.log homes last left.rest.log.protocol left.stream.on i a at))))
     where
       go : (a : Accepted) (b : Bool) → is_released h a ≡ b → (is_released h a ≡ true → log.is_open (logged_of h a) ≡ false)
-          → (not (is_released h a) && (log.is_open (logged_of h a) && not (log.is_open (on n f (logged_of h a))))) ≡ (log.is_open (logged_of h a) && not (log.is_open (on n f (logged_of h a))))
-      go a true is shut = (λ j. not (is j) && (log.is_open (logged_of h a) && not (log.is_open (on n f (logged_of h a))))) ∙ sym (ap (λ b. b && not (log.is_open (on n f (logged_of h a)))) (shut is))
+          → (not (is_released h a) && (log.is_open (logged_of h a) && not (log.is_open (on n f (logged_of h a))))) ≡
+          (log.is_open (logged_of h a) && not (log.is_open (on n f (logged_of h a))))
+      go a true is shut = (λ j. not (is j) && (log.is_open (logged_of h a) && not (log.is_open (on n f (logged_of h a)))))
+          ∙ sym (ap (λ b. b && not (log.is_open (on n f (logged_of h a)))) (shut is))
       go a false is shut = ap (λ b. not b && (log.is_open (logged_of h a) && not (log.is_open (on n f (logged_of h a))))) is
 
   -- only the write of the number changes
@@ -124,8 +136,11 @@ module _ (s : PrimaryState) (h h1 : PrimaryHistory) (n : ℕ) (f : LogWrite → 
     there : slice_get h.connections (last_index h.connections) ≡ Some (outward h)
     there = open-at h unshut
 
-    quiet-end : IsEndOpen h (outward h)
-    quiet-end = end-open h standing quiet
+    quiet-end : GoesOn h (outward h)
+    quiet-end = goes-on h standing quiet
+
+    stands-now : stands (outward h1) ≡ true
+    stands-now = stands-then s h h1 n f g k left homes last c ∙ standing
 
     stream-is : (outward h1).stream ≡ (outward h).stream
     stream-is = ap (λ (x : Outward). x.stream) c.last ∙ c.stream
@@ -134,64 +149,46 @@ module _ (s : PrimaryState) (h h1 : PrimaryHistory) (n : ℕ) (f : LogWrite → 
     items : List (ℕ × Item)
     items = items_of_epoch (outward h).stream (last_epoch (outward h).stream)
 
-    -- an item that is settled now, and was not: the write of the number, in the last epoch
-    settles : (j : ℕ) (entry : ℕ × Item) → slice_get (items_of_epoch (outward h).stream (last_epoch (outward h).stream)) j ≡ Some entry → is_settled (with_completions h1) (outward h1) entry ≡ true
+    -- a write of the last epoch that is open no more, and was: the write of the number
+    settles : (j place : ℕ) (write : Write) → slice_get (items_of_epoch (outward h).stream (last_epoch (outward h).stream)) j ≡ Some (place, WriteItem write)
+        → (i : ℕ) (a : Accepted) → slice_get h1.writes i ≡ Some a → a.write.number ≡ write.number → is_open (with_completions h1) a ≡ false
         → (closes_any (on n f) s.log && is_in_last n s.log.epochs) ≡ true
-    settles j entry at settled = elim (or_cases _ _ settled) [
-      | inr block ↦
-          let same : (is_resync entry.1 && was_resynced (outward h) entry.0 entry.1) ≡ true = ap (λ b. is_resync entry.1 && b) (sym (ap (λ (x : Outward). was_resynced x entry.0 entry.1) c.last ∙ c.resynced entry.0 entry.1)) ∙ block in
-          absurd (both_ways (is_settled h (outward h) entry) (pick-none (is_settled h (outward h)) (items_of_epoch (outward h).stream (last_epoch (outward h).stream)) j entry quiet-end.unsettled at) (or_right _ _ same))
-      | inl write ↦
-          let some = pick-any (λ (accepted : Accepted). (is_write entry.1 && (accepted.write.number == number_of entry.1)) && not (is_open (with_completions h1) accepted)) h1.writes write in
-          let at1 : slice_get (map g h.writes) some.0 ≡ Some some.1 = subst (λ (ws : List Accepted). slice_get ws some.0 ≡ Some some.1) c.writes some.2 in
-          let of = pick-image g h.writes some.0 some.1 at1 in
-          by-write some.0 of.0 of.1 (subst (λ (a : Accepted). ((is_write entry.1 && (a.write.number == number_of entry.1)) && not (is_open (with_completions h1) a)) ≡ true) (sym of.2) some.3)
-    ]
+    settles j place write at i a ati same shut =
+        let of = pick-image g h.writes i a (subst (λ (ws : List Accepted). slice_get ws i ≡ Some a) c.writes ati) in
+        by-write of.0 of.1 (ap (λ (w : Write). w.number) (sym (c.write of.0)) ∙ (ap (λ (x : Accepted). x.write.number) of.2 ∙ same))
+        (ap (is_open (with_completions h1)) of.2 ∙ shut)
       where
-        by-write : (i : ℕ) (b : Accepted) → slice_get h.writes i ≡ Some b → ((is_write entry.1 && ((g b).write.number == number_of entry.1)) && not (is_open (with_completions h1) (g b))) ≡ true
+        by-write : (b : Accepted) → slice_get h.writes i ≡ Some b → b.write.number ≡ write.number → is_open (with_completions h1) (g b) ≡ false
             → (closes_any (on n f) s.log && is_in_last n s.log.epochs) ≡ true
-        by-write i b ati passed =
-            let parts = and_parts (is_write entry.1 && ((g b).write.number == number_of entry.1)) (not (is_open (with_completions h1) (g b))) passed in
-            let named : (is_write entry.1 && (b.write.number == number_of entry.1)) ≡ true = ap (λ (w : Write). is_write entry.1 && (w.number == number_of entry.1)) (sym (c.write b)) ∙ parts.0 in
-            let shut_now : log.is_open (on n f (logged_of h b)) ≡ false = sym (open-now i b ati) ∙ not-true (is_open (with_completions h1) (g b)) parts.1 in
-            let open_then : log.is_open (logged_of h b) ≡ true = sym (open-was i b ati) ∙ was-open named in
+        by-write b ati same shut =
+            let shut_now : log.is_open (on n f (logged_of h b)) ≡ false = sym (open-now i b ati) ∙ shut in
+            let open_then : log.is_open (logged_of h b) ≡ true = sym (open-was i b ati) ∙ quiet-end.unsettled.writes j place write at i b ati same in
             let number = changed-number b open_then shut_now in
-            let closed : closes_any (on n f) s.log ≡ true = closes-is ∙ any-pick (λ a. log.is_open (logged_of h a) && not (log.is_open (on n f (logged_of h a)))) h.writes i b ati (and_from (log.is_open (logged_of h b)) (not (log.is_open (on n f (logged_of h b)))) open_then (ap not shut_now)) in
-            and_from _ _ closed (placed-last named number)
-          where
-            was-open : (is_write entry.1 && (b.write.number == number_of entry.1)) ≡ true → is_open h b ≡ true
-            was-open named = go (is_open h b) refl
-              where
-                go : (v : Bool) → is_open h b ≡ v → is_open h b ≡ true
-                go true is = is
-                go false is = absurd (both_ways (is_settled h (outward h) entry) (pick-none (is_settled h (outward h)) (items_of_epoch (outward h).stream (last_epoch (outward h).stream)) j entry quiet-end.unsettled at)
-                    (or_left _ _ (any-pick (λ (accepted : Accepted). (is_write entry.1 && (accepted.write.number == number_of entry.1)) && not (is_open h accepted)) h.writes i b ati (and_from (is_write entry.1 && (b.write.number == number_of entry.1)) (not (is_open h b)) named (ap not is)))))
+            let closed : closes_any (on n f) s.log ≡ true = closes-is
+            ∙ any-pick (λ a. log.is_open (logged_of h a) && not (log.is_open (on n f (logged_of h a)))) h.writes i b ati
+            (and_from (log.is_open (logged_of h b)) (not (log.is_open (on n f (logged_of h b)))) open_then (ap not shut_now)) in
+            let stood = pick-filtered (λ (x : ℕ × Item). epoch_of (outward h).stream x.0 == last_epoch (outward h).stream) (placed (outward h).stream) j (
+              place,
+              WriteItem write,
+            ) at in
+            let back = placed-back 0 (outward h).stream stood.0 (place, WriteItem write) stood.1 in
+            let index : stood.0 ≡ place = let p = back.0 in omega arith in
+            let here : slice_get (outward h).stream place ≡ Some (WriteItem write) = subst (λ m. slice_get (outward h).stream m ≡ Some (WriteItem write)) index
+            back.1 in
+            let epoch : epoch_of (outward h).stream place ≡ last_epoch (outward h).stream = eqb-true (epoch_of (outward h).stream place)
+            (last_epoch (outward h).stream) stood.2 in
+            let b_index = homes.numbered i b ati in
+            let within = slice_get_within h.writes i b ati in
+            let all = left.rest.log.accepted in
+            let behind : nat_le write.number (s.log.confirmed + total s.log.epochs.sizes) ≡ false = in-last s.log (outward h) e place write here
+            ∙ lt-leb (epoch_of (outward h).stream place) (barriers_in (outward h).stream) (omega arith) in
+            let more = leb-false write.number (s.log.confirmed + total s.log.epochs.sizes) behind in
+            and_from _ _ closed (last-number s.log (outward h) e n (omega arith) (omega arith)
+            ∙ lt-ltb (s.log.confirmed + total s.log.epochs.sizes) n (omega arith))
 
-            placed-last : (is_write entry.1 && (b.write.number == number_of entry.1)) ≡ true → b.write.number ≡ n → is_in_last n s.log.epochs ≡ true
-            placed-last named number =
-                let stood = pick-filtered (λ (x : ℕ × Item). epoch_of (outward h).stream x.0 == last_epoch (outward h).stream) (placed (outward h).stream) j entry at in
-                let back = placed-back 0 (outward h).stream stood.0 entry stood.1 in
-                let index : stood.0 ≡ entry.0 = let p = back.0 in omega arith in
-                let epoch : epoch_of (outward h).stream entry.0 ≡ last_epoch (outward h).stream = eqb-true (epoch_of (outward h).stream entry.0) (last_epoch (outward h).stream) stood.2 in
-                by-item entry.1 (and_parts (is_write entry.1) (b.write.number == number_of entry.1) named) (subst (λ m. slice_get (outward h).stream m ≡ Some entry.1) index back.1) epoch
-              where
-                by-item : (item : Item) → (is_write item ≡ true) × ((b.write.number == number_of item) ≡ true) → slice_get (outward h).stream entry.0 ≡ Some item → epoch_of (outward h).stream entry.0 ≡ last_epoch (outward h).stream → is_in_last n s.log.epochs ≡ true
-                by-item (WriteItem write) named here epoch =
-                    let same : b.write.number ≡ write.number = eqb-true b.write.number write.number named.1 in
-                    let b_index = homes.numbered i b ati in
-                    let within = slice_get_within h.writes i b ati in
-                    let all = left.rest.log.accepted in
-                    let behind : nat_le write.number (s.log.confirmed + total s.log.epochs.sizes) ≡ false = in-last s.log (outward h) e entry.0 write here ∙ lt-leb (epoch_of (outward h).stream entry.0) (barriers_in (outward h).stream) (omega arith) in
-                    let more = leb-false write.number (s.log.confirmed + total s.log.epochs.sizes) behind in
-                    last-number s.log (outward h) e n (omega arith) (omega arith) ∙ lt-ltb (s.log.confirmed + total s.log.epochs.sizes) n (omega arith)
-                by-item (ResyncItem block contents) named here epoch = absurd (let is : false ≡ true = named.0 in cc)
-                by-item (BarrierItem number) named here epoch = absurd (let is : false ≡ true = named.0 in cc)
-                by-item (SyncUuidItem word) named here epoch = absurd (let is : false ≡ true = named.0 in cc)
-                by-item (UuidsItem tuple) named here epoch = absurd (let is : false ≡ true = named.0 in cc)
-
-    -- the other way: where the write of the number is open no more, and is in the last epoch, its item there is settled
+    -- the other way: where the write of the number is open no more, and is in the last epoch, that epoch is over
     settled-then : closes_any (on n f) s.log ≡ true → is_in_last n s.log.epochs ≡ true
-        → list_any (is_settled (with_completions h1) (outward h1)) (items_of_epoch (outward h).stream (last_epoch (outward h).stream)) ≡ true
+        → epoch_is_over (with_completions h1) ≡ true
     settled-then closed in_it =
         let some = pick-any (λ a. log.is_open (logged_of h a) && not (log.is_open (on n f (logged_of h a)))) h.writes (sym closes-is ∙ closed) in
         let parts = and_parts (log.is_open (logged_of h some.1)) (not (log.is_open (on n f (logged_of h some.1)))) some.3 in
@@ -204,35 +201,57 @@ module _ (s : PrimaryState) (h h1 : PrimaryHistory) (n : ℕ) (f : LogWrite → 
         let place = left.stream.here standing some.0 some.1 some.2 (omega arith) in
         let housed = homes.housed some.0 (last_index h.connections) place.0 some.1 some.2 place.1 in
         let same : housed.0 ≡ outward h = same-at h.connections (last_index h.connections) housed.0 (outward h) housed.1 there in
-        let item : slice_get (outward h).stream place.0 ≡ Some (WriteItem some.1.write) = subst (λ (x : Outward). slice_get x.stream place.0 ≡ Some (WriteItem some.1.write)) same housed.2 in
-        let late : nat_le (epoch_of (outward h).stream place.0) (barriers_in (outward h).stream) ≡ false = sym (in-last s.log (outward h) e place.0 some.1.write item) ∙ lt-leb some.1.write.number (s.log.confirmed + total s.log.epochs.sizes) (omega arith) in
+        let item : slice_get (outward h).stream place.0 ≡ Some (WriteItem some.1.write) =
+        subst (λ (x : Outward). slice_get x.stream place.0 ≡ Some (WriteItem some.1.write)) same housed.2 in
+        let late : nat_le (epoch_of (outward h).stream place.0) (barriers_in (outward h).stream) ≡ false =
+        sym (in-last s.log (outward h) e place.0 some.1.write item)
+        ∙ lt-leb some.1.write.number (s.log.confirmed + total s.log.epochs.sizes) (omega arith) in
         let more = leb-false (epoch_of (outward h).stream place.0) (barriers_in (outward h).stream) late in
         let bound = epoch-bound (outward h).stream place.0 in
-        let epoch : (epoch_of (outward h).stream place.0 == last_epoch (outward h).stream) ≡ true = eq-eqb (epoch_of (outward h).stream place.0) (last_epoch (outward h).stream) (omega arith) in
+        let epoch : (epoch_of (outward h).stream place.0 == last_epoch (outward h).stream) ≡ true = eq-eqb (epoch_of (outward h).stream place.0)
+        (last_epoch (outward h).stream) (omega arith) in
         let placed_so = placed-at 0 (outward h).stream place.0 (WriteItem some.1.write) item in
         let zero_more : 0 + place.0 ≡ place.0 = omega arith in
-        let listed = filtered-pick (λ (x : ℕ × Item). epoch_of (outward h).stream x.0 == last_epoch (outward h).stream) (placed (outward h).stream) place.0 (place.0, WriteItem some.1.write) (placed_so ∙ ap (λ m. Some (m, WriteItem some.1.write)) zero_more) epoch in
-        any-pick (is_settled (with_completions h1) (outward h1)) (items_of_epoch (outward h).stream (last_epoch (outward h).stream)) listed.0 (place.0, WriteItem some.1.write) listed.1
-        (or_left _ _ (any-pick (λ (accepted : Accepted). (true && (accepted.write.number == some.1.write.number)) && not (is_open (with_completions h1) accepted)) h1.writes some.0 (g some.1) (at-then some.0 some.1 some.2)
-        (and_from (true && ((g some.1).write.number == some.1.write.number)) (not (is_open (with_completions h1) (g some.1))) (eq-eqb (g some.1).write.number some.1.write.number (ap (λ (w : Write). w.number) (c.write some.1))) (ap not (open-now some.0 some.1 some.2 ∙ shut)))))
+        let listed = filtered-pick (λ (x : ℕ × Item). epoch_of (outward h).stream x.0 == last_epoch (outward h).stream) (placed (outward h).stream) place.0
+        (place.0, WriteItem some.1.write) (placed_so ∙ ap (λ m. Some (m, WriteItem some.1.write)) zero_more) epoch in
+        over-by-write (with_completions h1) (outward h1) refl stands-now listed.0 place.0 some.1.write
+        (subst (λ (x : List Item). slice_get (items_of_epoch x (last_epoch x)) listed.0 ≡ Some (place.0, WriteItem some.1.write)) (sym stream-is) listed.1)
+        some.0 (g some.1) (at-then some.0 some.1 some.2) (ap (λ (w : Write). w.number) (c.write some.1)) (open-now some.0 some.1 some.2 ∙ shut)
 
-    over-standing : epoch_is_over (with_completions h1) ≡ (closes_any (on n f) s.log && is_in_last n s.log.epochs)
-    over-standing =
-        (λ j. (stands-then s h h1 n f g k left homes last c ∙ standing) j && (any-now j || nat_le (c.settings j).max_epoch (epoch_size (stream-is j) (last_epoch (stream-is j)))))
-        ∙ (ap (λ b. list_any (is_settled (with_completions h1) (outward h1)) (items_of_epoch (outward h).stream (last_epoch (outward h).stream)) || b) (lt-leb h.settings.max_epoch (epoch_size (outward h).stream (last_epoch (outward h).stream)) quiet-end.room)
-        ∙ (or-false (list_any (is_settled (with_completions h1) (outward h1)) (items_of_epoch (outward h).stream (last_epoch (outward h).stream))) ∙ same (closes_any (on n f) s.log) refl (is_in_last n s.log.epochs) refl))
+    -- where no write of it is open no more, it goes on
+    still-on : (closes_any (on n f) s.log && is_in_last n s.log.epochs) ≡ false → epoch_is_over (with_completions h1) ≡ false
+    still-on not_both = not-over (with_completions h1) (outward h1) refl (record {
+      unsettled = record {
+        writes = λ j place write at i a ati same. open-still i a (settles j place write (before j at) i a ati same);
+        blocks = λ j place block contents at.
+            ap (λ (x : Outward). was_resynced x place (ResyncItem block contents)) c.last
+            ∙ (c.resynced place (ResyncItem block contents) ∙ quiet-end.unsettled.blocks j place block contents (before j at));
+      };
+      room = subst (λ (x : Settings). HasRoom x (epoch_size (outward h1).stream (last_epoch (outward h1).stream))) (sym c.settings)
+          (subst (λ (x : List Item). HasRoom h.settings (epoch_size x (last_epoch x))) (sym stream-is) quiet-end.room);
+    })
       where
-        any-now : list_any (is_settled (with_completions h1) (outward h1)) (items_of_epoch (outward h1).stream (last_epoch (outward h1).stream)) ≡ list_any (is_settled (with_completions h1) (outward h1)) (items_of_epoch (outward h).stream (last_epoch (outward h).stream))
-        any-now = ap (λ (x : List Item). list_any (is_settled (with_completions h1) (outward h1)) (items_of_epoch x (last_epoch x))) stream-is
+        before : (j : ℕ) {v : Option (ℕ × Item)} → slice_get (items_of_epoch (outward h1).stream (last_epoch (outward h1).stream)) j ≡ v
+            → slice_get (items_of_epoch (outward h).stream (last_epoch (outward h).stream)) j ≡ v
+        before j at = ap (λ (x : List Item). slice_get (items_of_epoch x (last_epoch x)) j) (sym stream-is) ∙ at
 
+        open-still : (i : ℕ) (a : Accepted) → (is_open (with_completions h1) a ≡ false → (closes_any (on n f) s.log && is_in_last n s.log.epochs) ≡ true)
+            → is_open (with_completions h1) a ≡ true
+        open-still i a shuts = go (is_open (with_completions h1) a) refl
+          where
+            go : (v : Bool) → is_open (with_completions h1) a ≡ v → is_open (with_completions h1) a ≡ true
+            go true is = is
+            go false shut = absurd (both_ways (closes_any (on n f) s.log && is_in_last n s.log.epochs) not_both (shuts shut))
+
+    over-there : epoch_is_over (with_completions h1) ≡ (closes_any (on n f) s.log && is_in_last n s.log.epochs)
+    over-there = same (closes_any (on n f) s.log) refl (is_in_last n s.log.epochs) refl
+      where
         none : (closes_any (on n f) s.log && is_in_last n s.log.epochs) ≡ false
-            → list_any (is_settled (with_completions h1) (outward h1)) (items_of_epoch (outward h).stream (last_epoch (outward h).stream)) ≡ (closes_any (on n f) s.log && is_in_last n s.log.epochs)
-        none not_both = false_from_ne_true (list_any (is_settled (with_completions h1) (outward h1)) (items_of_epoch (outward h).stream (last_epoch (outward h).stream))) (λ some.
-            let entry = pick-any (is_settled (with_completions h1) (outward h1)) (items_of_epoch (outward h).stream (last_epoch (outward h).stream)) some in
-            both_ways (closes_any (on n f) s.log && is_in_last n s.log.epochs) not_both (settles entry.0 entry.1 entry.2 entry.3)) ∙ sym not_both
+            → epoch_is_over (with_completions h1) ≡ (closes_any (on n f) s.log && is_in_last n s.log.epochs)
+        none not_both = still-on not_both ∙ sym not_both
 
         same : (b : Bool) → closes_any (on n f) s.log ≡ b → (d : Bool) → is_in_last n s.log.epochs ≡ d
-            → list_any (is_settled (with_completions h1) (outward h1)) (items_of_epoch (outward h).stream (last_epoch (outward h).stream)) ≡ (closes_any (on n f) s.log && is_in_last n s.log.epochs)
+            → epoch_is_over (with_completions h1) ≡ (closes_any (on n f) s.log && is_in_last n s.log.epochs)
         same true closed true in_it = settled-then closed in_it ∙ sym (λ j. closed j && in_it j)
         same true closed false out = none (λ j. closed j && out j)
         same false stays d is = none (λ j. stays j && is_in_last n s.log.epochs)
@@ -242,10 +261,11 @@ module _ (s : PrimaryState) (h h1 : PrimaryHistory) (n : ℕ) (f : LogWrite → 
   over-is = go (stands (outward h)) refl
     where
       go : (b : Bool) → stands (outward h) ≡ b → epoch_is_over (with_completions h1) ≡ (closes_any (on n f) s.log && is_in_last n s.log.epochs)
-      go true standing = over-standing standing
+      go true standing = over-there standing
       go false down =
-          ap (λ b. b && (list_any (is_settled (with_completions h1) (outward h1)) (items_of_epoch (outward h1).stream (last_epoch (outward h1).stream)) || nat_le h1.settings.max_epoch (epoch_size (outward h1).stream (last_epoch (outward h1).stream)))) (stands-then s h h1 n f g k left homes last c ∙ down)
-          ∙ sym (ap (λ (x : EpochsState). closes_any (on n f) s.log && is_in_last n x) (left.stream.off down) ∙ (ap (λ b. closes_any (on n f) s.log && b) (by-number (n == 0)) ∙ and-false (closes_any (on n f) s.log)))
+          down-on (with_completions h1) (stands-then s h h1 n f g k left homes last c ∙ down)
+          ∙ sym (ap (λ (x : EpochsState). closes_any (on n f) s.log && is_in_last n x) (left.stream.off down)
+          ∙ (ap (λ b. closes_any (on n f) s.log && b) (by-number (n == 0)) ∙ and-false (closes_any (on n f) s.log)))
         where
           by-number : (b : Bool) → (if b then false else nat_lt 0 0 && nat_le 0 n) ≡ false
           by-number true = refl
@@ -255,7 +275,8 @@ module _ (s : PrimaryState) (h h1 : PrimaryHistory) (n : ℕ) (f : LogWrite → 
           and-false true = refl
           and-false false = refl
 
-  ends-as : (b d : Bool) → closes_any (on n f) s.log ≡ b → is_in_last n s.log.epochs ≡ d → ended_by (closes_any (on n f) s.log) n s.log.epochs ≡ ended_if (b && d) s.log.epochs
+  ends-as : (b d : Bool) → closes_any (on n f) s.log ≡ b → is_in_last n s.log.epochs ≡ d
+      → ended_by (closes_any (on n f) s.log) n s.log.epochs ≡ ended_if (b && d) s.log.epochs
   ends-as true d closed in_it = ap (λ x. ended_by x n s.log.epochs) closed ∙ (ap (λ x. ended_if x s.log.epochs) in_it ∙ ended_cases d)
     where
       ended_cases : (d : Bool) → ended_if d s.log.epochs ≡ ended_if (true && d) s.log.epochs
@@ -271,7 +292,7 @@ module _ (s : PrimaryState) (h h1 : PrimaryHistory) (n : ℕ) (f : LogWrite → 
 
   -- an end whose last epoch is over stands
   over-stood : epoch_is_over (with_completions h1) ≡ true → stands (outward h1) ≡ true
-  over-stood over = (and_parts (stands (outward h1)) _ over).0
+  over-stood over = over-standing (with_completions h1) over
 
   -- the log's answer is the history's barrier
   pub barrier-then : (changing n f s.log).0 ≡ barrier_of (with_completions h1)
@@ -290,7 +311,8 @@ module _ (s : PrimaryState) (h h1 : PrimaryHistory) (n : ℕ) (f : LogWrite → 
   stream-then = go (epoch_is_over (with_completions h1)) refl (ap (λ x. x.1) ended-is)
     where
       -- the epochs before a barrier
-      before : (l : LogState) → l.protocol ≡ s.log.protocol → l.confirmed ≡ s.log.confirmed → l.accepted ≡ s.log.accepted → l.epochs ≡ s.log.epochs → stands (outward h) ≡ true → LeavesEpochs l (outward h1)
+      before : (l : LogState) → l.protocol ≡ s.log.protocol → l.confirmed ≡ s.log.confirmed → l.accepted ≡ s.log.accepted → l.epochs ≡ s.log.epochs
+          → stands (outward h) ≡ true → LeavesEpochs l (outward h1)
       before l protocol confirmed accepted epochs standing =
           subst (LeavesEpochs l) (sym c.last)
           (epochs-same s.log l (outward h) (k (outward h)) (left.stream.on standing) c.stream c.acknowledged c.answered protocol confirmed accepted epochs)
@@ -302,7 +324,8 @@ module _ (s : PrimaryState) (h h1 : PrimaryHistory) (n : ℕ) (f : LogWrite → 
       index = ap (λ (cs : List Outward). length cs - 1) c.connections ∙ ap (λ m. m - 1) (length-change k h.connections)
 
       -- a write behind the confirmed ones has its place
-      here : stands (outward h) ≡ true → (i : ℕ) (a : Accepted) → slice_get h1.writes i ≡ Some a → s.log.confirmed < a.write.number → (place : ℕ) × (a.home ≡ Some (last_index h.connections, place))
+      here : stands (outward h) ≡ true → (i : ℕ) (a : Accepted) → slice_get h1.writes i ≡ Some a → s.log.confirmed < a.write.number
+          → (place : ℕ) × (a.home ≡ Some (record { index = last_index h.connections; place = place }))
       here standing i a at behind =
           let of = pick-image g h.writes i a (subst (λ (ws : List Accepted). slice_get ws i ≡ Some a) c.writes at) in
           let number : of.0.write.number ≡ a.write.number = ap (λ (w : Write). w.number) (sym (c.write of.0)) ∙ ap (λ (x : Accepted). x.write.number) of.2 in
@@ -310,34 +333,55 @@ module _ (s : PrimaryState) (h h1 : PrimaryHistory) (n : ℕ) (f : LogWrite → 
           (place.0, ap (λ (x : Accepted). x.home) (sym of.2) ∙ (c.home of.0 ∙ place.1))
 
       go : (b : Bool) → epoch_is_over (with_completions h1) ≡ b → (changing n f s.log).1.epochs ≡ (ended_if b s.log.epochs).1
-          → LeavesStream (changing n f s.log).1 (elim b as (λ _. PrimaryHistory) [ true ↦ appending (BarrierItem (last_epoch (outward (with_completions h1)).stream)) (with_completions h1) | false ↦ with_completions h1 ])
+          → LeavesStream (changing n f s.log).1
+          (elim b as (λ _. PrimaryHistory) [
+            | true ↦ appending (BarrierItem (last_epoch (outward (with_completions h1)).stream))
+                (with_completions h1)
+            | false ↦ with_completions h1
+          ])
       go false still epochs = record {
-        max_epoch = ap (λ (x : EpochsState). x.max_epoch) epochs ∙ (left.stream.max_epoch ∙ ap (λ (x : Settings). x.max_epoch) (sym c.settings));
+        max_epoch = ap (λ (x : EpochsState). x.max_epoch) epochs ∙ (left.stream.max_epoch ∙ ap most_writes (sym c.settings));
         on = λ so. before (changing n f s.log).1 refl refl refl epochs (stood so);
-        here = λ so i a at behind. let place = here (stood so) i a at behind in (place.0, place.1 ∙ ap (λ m. Some (m, place.0)) (sym index));
-        off = λ none. epochs ∙ (left.stream.off (sym (stands-then s h h1 n f g k left homes last c) ∙ none) ∙ ap (λ (x : Settings). empty x.max_epoch) (sym c.settings));
+        here = λ so i a at behind. let place = here (stood so) i a at behind in
+            (place.0, place.1 ∙ ap (λ m. let at : StreamPosition = record { index = m; place = place.0 } in Some at) (sym index));
+        off = λ none. epochs ∙ (left.stream.off (sym (stands-then s h h1 n f g k left homes last c) ∙ none)
+            ∙ ap (λ (x : Settings). empty (most_writes x)) (sym c.settings));
       }
       go true over epochs = record {
-        max_epoch = ap (λ (x : EpochsState). x.max_epoch) epochs ∙ (left.stream.max_epoch ∙ ap (λ (x : Settings). x.max_epoch) (sym c.settings));
-        on = λ so. epochs-barrier s.log (changing n f s.log).1 (outward h1) (outward (appending (BarrierItem (last_epoch (outward h1).stream)) (with_completions h1))) (BarrierItem (last_epoch (outward h1).stream))
-            (before s.log refl refl refl refl standing) (subst (SeesSame (outward h1)) (sym out) (record { closed = refl; pushed = refl; taken = refl; refused = refl })) (ap (λ (x : Outward). x.stream) out) refl refl refl refl
-            (ap (λ (x : List Item). items_of_epoch x (last_epoch x)) (ap (λ (x : Outward). x.stream) out) ∙ barrier-empties (outward h1).stream (last_epoch (outward h1).stream)) refl epochs few;
+        max_epoch = ap (λ (x : EpochsState). x.max_epoch) epochs ∙ (left.stream.max_epoch ∙ ap most_writes (sym c.settings));
+        on = λ so. epochs-barrier s.log (changing n f s.log).1 (outward h1)
+            (outward (appending (BarrierItem (last_epoch (outward h1).stream)) (with_completions h1))) (BarrierItem (last_epoch (outward h1).stream))
+            (before s.log refl refl refl refl standing)
+            (subst (SeesSame (outward h1)) (sym out) (record { closed = refl; pushed = refl; taken = refl; refused = refl }))
+            (ap (λ (x : Outward). x.stream) out) refl refl refl refl
+            (ap (λ (x : List Item). items_of_epoch x (last_epoch x)) (ap (λ (x : Outward). x.stream) out)
+            ∙ barrier-empties (outward h1).stream (last_epoch (outward h1).stream)) refl epochs few;
         here = λ so i a at behind.
-            let place = here standing i a at behind in
-            (place.0, place.1 ∙ ap (λ m. Some (m, place.0)) (sym (ap (λ m. m - 1) (length-change (λ (x : Outward). record x { stream = x.stream ++ BarrierItem (last_epoch (outward h1).stream) ∷ [] }) h1.connections) ∙ index)));
-        off = λ none. absurd (both_ways (stands (outward (appending (BarrierItem (last_epoch (outward h1).stream)) (with_completions h1)))) none (ap stands out ∙ over-stood over));
+            let place = here standing i a at behind in (
+              place.0,
+              place.1 ∙ ap (λ m. let at : StreamPosition = record { index = m; place = place.0 } in Some at)
+                  (sym (ap (λ m. m - 1) (length-change (λ (x : Outward). record x { stream = x.stream ++ BarrierItem (last_epoch (outward h1).stream) ∷ [] })
+                  h1.connections) ∙ index)),
+            );
+        off = λ none. absurd (both_ways (stands (outward (appending (BarrierItem (last_epoch (outward h1).stream)) (with_completions h1)))) none (ap stands out
+            ∙ over-stood over));
       }
         where
           standing : stands (outward h) ≡ true
           standing = stood (over-stood over)
 
-          out : outward (appending (BarrierItem (last_epoch (outward h1).stream)) (with_completions h1)) ≡ record (outward h1) { stream = (outward h1).stream ++ BarrierItem (last_epoch (outward h1).stream) ∷ [] }
-          out = last-changed (with_completions h1) (λ (x : Outward). record x { stream = x.stream ++ BarrierItem (last_epoch (outward h1).stream) ∷ [] }) (no_outward h1.tuple) (stands-parts (outward h1) (over-stood over)).0
+          out : outward (appending (BarrierItem (last_epoch (outward h1).stream)) (with_completions h1)) ≡ record (outward h1) {
+            stream =
+                (outward h1).stream ++ BarrierItem (last_epoch (outward h1).stream) ∷ [];
+          }
+          out = last-changed (with_completions h1) (λ (x : Outward). record x { stream = x.stream ++ BarrierItem (last_epoch (outward h1).stream) ∷ [] })
+              (no_outward h1.tuple) (stands-parts (outward h1) (over-stood over)).0
 
           few : (place : ℕ) (write : Write) → slice_get (outward h1).stream place ≡ Some (WriteItem write) → write.number ≤ s.log.accepted
           few place write at =
               let ended_at : slice_get h.connections (last_index h.connections) ≡ Some (outward h) = open-at h (stands-parts (outward h) standing).0 in
-              let found = homes.homed (last_index h.connections) place (outward h) write ended_at (subst (λ (x : List Item). slice_get x place ≡ Some (WriteItem write)) (ap (λ (x : Outward). x.stream) c.last ∙ c.stream) at) in
+              let found = homes.homed (last_index h.connections) place (outward h) write ended_at
+              (subst (λ (x : List Item). slice_get x place ≡ Some (WriteItem write)) (ap (λ (x : Outward). x.stream) c.last ∙ c.stream) at) in
               let number = homes.numbered found.0 found.1 found.2 in
               let same : found.1.write.number ≡ write.number = ap (λ (w : Write). w.number) found.3 in
               let within = slice_get_within h.writes found.0 found.1 found.2 in

@@ -7,7 +7,8 @@ use Rattle.std.specs.List.{list_any}
 
 pub filter-at : {X : Type 0} (p q : X → Bool) (xs : List X) → ((i : ℕ) (x : X) → slice_get xs i ≡ Some x → p x ≡ q x) → filter p xs ≡ filter q xs
 filter-at p q [] same = refl
-filter-at p q (x ∷ xs) same = λ i. cond (same 0 x refl i) (x ∷ filter-at p q xs (λ n y at. same (suc n) y at) i) (filter-at p q xs (λ n y at. same (suc n) y at) i)
+filter-at p q (x ∷ xs) same = λ i. cond (same 0 x refl i) (x ∷ filter-at p q xs (λ n y at. same (suc n) y at) i)
+    (filter-at p q xs (λ n y at. same (suc n) y at) i)
 
 pub map-at : {X Y : Type 0} (f g : X → Y) (xs : List X) → ((i : ℕ) (x : X) → slice_get xs i ≡ Some x → f x ≡ g x) → map f xs ≡ map g xs
 map-at f g [] same = refl
@@ -25,16 +26,18 @@ find-at p q (x ∷ xs) same = λ i. cond (same 0 x refl i) (Some x) (find-at p q
 
 pub filter-map : {X Y : Type 0} (p : Y → Bool) (f : X → Y) (xs : List X) → filter p (map f xs) ≡ map f (filter (λ x. p (f x)) xs)
 filter-map p f [] = refl
-filter-map p f (x ∷ xs) = elim (p (f x)) as (λ b. cond b (f x ∷ filter p (map f xs)) (filter p (map f xs)) ≡ map f (cond b (x ∷ filter (λ x. p (f x)) xs) (filter (λ x. p (f x)) xs))) [
-  | true ↦ ap (λ (l : List _). f x ∷ l) (filter-map p f xs)
-  | false ↦ filter-map p f xs
-]
+filter-map p f (x ∷ xs) = elim (p (f x)) as
+    (λ b. cond b (f x ∷ filter p (map f xs)) (filter p (map f xs)) ≡ map f (cond b (x ∷ filter (λ x. p (f x)) xs) (filter (λ x. p (f x)) xs))) [
+      | true ↦ ap (λ (l : List _). f x ∷ l) (filter-map p f xs)
+      | false ↦ filter-map p f xs
+    ]
 
 pub filter-twice : {X : Type 0} (p q : X → Bool) (xs : List X) → filter p (filter q xs) ≡ filter (λ x. q x && p x) xs
 filter-twice p q [] = refl
 filter-twice p q (x ∷ xs) = go (filter-twice p q xs) (q x) (p x) refl
   where
-    go : filter p (filter q xs) ≡ filter (λ x. q x && p x) xs → (b c : Bool) → p x ≡ c → filter p (cond b (x ∷ filter q xs) (filter q xs)) ≡ cond (b && c) (x ∷ filter (λ x. q x && p x) xs) (filter (λ x. q x && p x) xs)
+    go : filter p (filter q xs) ≡ filter (λ x. q x && p x) xs → (b c : Bool) → p x ≡ c
+        → filter p (cond b (x ∷ filter q xs) (filter q xs)) ≡ cond (b && c) (x ∷ filter (λ x. q x && p x) xs) (filter (λ x. q x && p x) xs)
     go rest false c is = rest
     go rest true true is = ap (λ b. cond b (x ∷ filter p (filter q xs)) (filter p (filter q xs))) is ∙ ap (λ (l : List _). x ∷ l) rest
     go rest true false is = ap (λ b. cond b (x ∷ filter p (filter q xs)) (filter p (filter q xs))) is ∙ rest
@@ -64,10 +67,11 @@ find-map p f (x ∷ xs) = elim (p (f x)) as (λ b. cond b (Some (f x)) (find p (
 -- what the second list has is found where the first has none
 pub find-append : {X : Type 0} (p : X → Bool) (xs ys : List X) → find p (xs ++ ys) ≡ elim (find p xs) as (λ _. Option X) [ None ↦ find p ys | Some x ↦ Some x ]
 find-append p [] ys = refl
-find-append {X} p (x ∷ xs) ys = elim (p x) as (λ b. cond b (Some x) (find p (xs ++ ys)) ≡ elim (cond b (Some x) (find p xs)) as (λ _. Option X) [ None ↦ find p ys | Some y ↦ Some y ]) [
-  | true ↦ refl
-  | false ↦ find-append p xs ys
-]
+find-append {X} p (x ∷ xs) ys =
+    elim (p x) as (λ b. cond b (Some x) (find p (xs ++ ys)) ≡ elim (cond b (Some x) (find p xs)) as (λ _. Option X) [ None ↦ find p ys | Some y ↦ Some y ]) [
+      | true ↦ refl
+      | false ↦ find-append p xs ys
+    ]
 
 -- what a filter lets through of what none passes
 pub filter-none : {X : Type 0} (p : X → Bool) (xs : List X) → ((i : ℕ) (x : X) → slice_get xs i ≡ Some x → p x ≡ false) → filter p xs ≡ []
@@ -76,4 +80,5 @@ filter-none p (x ∷ xs) none = ap (λ b. cond b (x ∷ filter p xs) (filter p x
 
 pub filter-all : {X : Type 0} (p : X → Bool) (xs : List X) → ((i : ℕ) (x : X) → slice_get xs i ≡ Some x → p x ≡ true) → filter p xs ≡ xs
 filter-all p [] all = refl
-filter-all p (x ∷ xs) all = ap (λ b. cond b (x ∷ filter p xs) (filter p xs)) (all 0 x refl) ∙ ap (λ (l : List _). x ∷ l) (filter-all p xs (λ n y at. all (suc n) y at))
+filter-all p (x ∷ xs) all = ap (λ b. cond b (x ∷ filter p xs) (filter p xs)) (all 0 x refl)
+    ∙ ap (λ (l : List _). x ∷ l) (filter-all p xs (λ n y at. all (suc n) y at))

@@ -1,10 +1,11 @@
 -- What follows a step's effect: the journal, then the barrier, then the end of a resync.
-use Rattle.std.proofs.Common.{ℕ, ◌≡◌, ◌-◌, ◌≤◌, Bool, true, false, not, ◌&&◌, ◌||◌, List, [], ◌∷◌, ◌++◌, length, map, filter, Option, Some, None, slice_get, refl, sym, ◌∙◌, ap, subst, arith, ◌==◌}
+use Rattle.std.proofs.Common.{ℕ, ◌≡◌, ◌-◌, ◌≤◌, Bool, true, false, not, ◌&&◌, ◌||◌, List, [], ◌∷◌, ◌++◌, length, map, Option, Some, None, slice_get}
+use Rattle.std.proofs.Common.{refl, sym, ◌∙◌, ap, subst, ◌==◌}
 use Rattle.std.proofs.Math.Bool.{or-false}
 use Rattle.std.proofs.lemmas.List.{append-nil}
 use Rattle.std.specs.Prelude.{option_map, is_none, if◌then◌else◌}
 use Rattle.std.specs.List.{list_any}
-use Rattle.std.proofs.lemmas.Bool.{both_ways, and_parts}
+use Rattle.std.proofs.lemmas.Bool.{both_ways}
 use Rattle.std.proofs.lemmas.List.Folds.{list_any-append}
 use Rattle.blocks.specs.declared.tuple.Tuple.{Tuple}
 use Rattle.blocks.specs.declared.outcome.What.{What}
@@ -14,17 +15,22 @@ use Rattle.blocks.specs.declared.outcome.Reply.TheVariants as reply
 use Rattle.blocks.specs.Identifiers.{sync_end}
 use Rattle.blocks.specs.Ranges.{below}
 use Rattle.model.specs.Stream.{Item, BarrierItem, UuidsItem, last_epoch}
-use Rattle.model.specs.Primary.{Accepted, Outward, PrimaryHistory, no_outward, last_of, outward, last_index, stands, is_completed, completes, unreleased, open_writes, in_resync, is_sync_start, is_sync_end, resync_runs, under_way, marked_blocks}
+use Rattle.model.specs.Primary.{Accepted, Outward, PrimaryHistory, no_outward, last_of, outward, last_index, stands, is_completed, completes, unreleased}
+use Rattle.model.specs.Primary.{open_writes, in_resync, is_sync_start, is_sync_end, resync_runs, under_way}
 use Rattle.model.specs.PrimarySteps.{Followed, newly_completed, with_completions, epoch_is_over, appending, resync_is_over, ending_resync, succeeding}
 use Rattle.transferlog.specs.Log as log
 use Rattle.transferlog.specs.Writes.{completed_of}
+use Rattle.laws.proofs.Rules.ResyncEnds.{over-stands, not-running, over-by}
+use Rattle.laws.proofs.Rules.EpochEnds.{over-standing}
 use Rattle.laws.proofs.Lists.Last.{length-change}
 use Rattle.laws.proofs.Primary.Homes.{HasHomes}
 use Rattle.laws.proofs.Primary.HomesFollowing.{homes-completions, homes-parting}
 use Rattle.laws.proofs.Primary.Ends.{stands-parts}
 use Rattle.primary_steps.specs.Core as core
-use Rattle.primary_steps.specs.Core.{UnderWay, EndState, PrimaryState, entering, freeing, leaving, unmarking, reporting, barrier_item, is_over, ending, done_of, following}
-use Rattle.primary_steps.specs.Leaves.{logged_of, entry_of, held_of, marks_in, standing, LeavesLog, LeavesStream, LeavesActivity, EndLeft, UnderWayLeft, LeavesRest, Leaves, holding_item, holding_write}
+use Rattle.primary_steps.specs.Core.{UnderWay, EndState, PrimaryState, entering, freeing, leaving, unmarking, reporting, barrier_item, is_over, ending, done_of}
+use Rattle.primary_steps.specs.Core.{following}
+use Rattle.primary_steps.specs.Leaves.{logged_of, entry_of, held_of, marks_in, standing, LeavesLog, LeavesStream, LeavesActivity, EndLeft, UnderWayLeft}
+use Rattle.primary_steps.specs.Leaves.{LeavesRest, Leaves, holding_item, holding_write}
 use Rattle.primary_steps.proofs.Common.Filters.{any-map}
 use Rattle.primary_steps.proofs.Common.Completing.{MayComplete, quiet-completed, entries-completed}
 use Rattle.primary_steps.proofs.Common.Freeing.{held-completed}
@@ -75,11 +81,6 @@ and-false : (b : Bool) → (b && false) ≡ false
 and-false true = refl
 and-false false = refl
 
--- nothing is let through exactly where nothing passes
-none-or-some : {X : Type 0} (p : X → Bool) (xs : List X) → (length (filter p xs) == 0) ≡ not (list_any p xs)
-none-or-some p [] = refl
-none-or-some {X} p (x ∷ xs) = elim (p x) as (λ b. (length {A = X} (if b then x ∷ filter p xs else filter p xs) == 0) ≡ not (b || list_any p xs)) [ true ↦ grind (arith) | false ↦ none-or-some p xs ]
-
 -- an end that queues nothing
 queued-none : (v : Option EndState) → option_map (λ (e : EndState). record e { unsent = e.unsent ++ [] }) v ≡ v
 queued-none None = refl
@@ -87,23 +88,21 @@ queued-none (Some e) = λ i. Some (record e { unsent = append-nil e.unsent i })
 
 -- Streams.
 
-pub runs-more : (c d : Outward) (item : Item) → d.stream ≡ c.stream ++ item ∷ [] → stands d ≡ stands c → is_sync_start item ≡ false → is_sync_end item ≡ false → resync_runs d ≡ resync_runs c
+pub runs-more : (c d : Outward) (item : Item) → d.stream ≡ c.stream ++ item ∷ [] → stands d ≡ stands c → is_sync_start item ≡ false → is_sync_end item ≡ false
+    → resync_runs d ≡ resync_runs c
 runs-more c d item stream on no_start no_end =
-    λ i. on i && (((ap (list_any is_sync_start) stream ∙ (list_any-append is_sync_start c.stream (item ∷ []) ∙ (ap (λ b. list_any is_sync_start c.stream || (b || false)) no_start ∙ or-false (list_any is_sync_start c.stream)))) i)
-    && not ((ap (list_any is_sync_end) stream ∙ (list_any-append is_sync_end c.stream (item ∷ []) ∙ (ap (λ b. list_any is_sync_end c.stream || (b || false)) no_end ∙ or-false (list_any is_sync_end c.stream)))) i))
+    λ i. on i && (((ap (list_any is_sync_start) stream
+    ∙ (list_any-append is_sync_start c.stream (item ∷ [])
+    ∙ (ap (λ b. list_any is_sync_start c.stream || (b || false)) no_start ∙ or-false (list_any is_sync_start c.stream)))) i)
+    && not ((ap (list_any is_sync_end) stream
+    ∙ (list_any-append is_sync_end c.stream (item ∷ [])
+    ∙ (ap (λ b. list_any is_sync_end c.stream || (b || false)) no_end ∙ or-false (list_any is_sync_end c.stream)))) i))
 
 pub ends-with : (d : Outward) (items : List Item) (item : Item) → d.stream ≡ items ++ item ∷ [] → is_sync_end item ≡ true → resync_runs d ≡ false
 ends-with d items item stream ends =
-    ap (λ b. stands d && (list_any is_sync_start d.stream && not b)) (ap (list_any is_sync_end) stream ∙ (list_any-append is_sync_end items (item ∷ []) ∙ (ap (λ b. list_any is_sync_end items || (b || false)) ends ∙ or-true (list_any is_sync_end items))))
+    ap (λ b. stands d && (list_any is_sync_start d.stream && not b)) (ap (list_any is_sync_end) stream
+    ∙ (list_any-append is_sync_end items (item ∷ []) ∙ (ap (λ b. list_any is_sync_end items || (b || false)) ends ∙ or-true (list_any is_sync_end items))))
     ∙ (ap (λ b. stands d && b) (and-false (list_any is_sync_start d.stream)) ∙ and-false (stands d))
-
--- a resync that is over runs on a stream that stands
-pub over-stands : (p : PrimaryHistory) → resync_is_over p ≡ true → stands (outward p) ≡ true
-over-stands p over = go (resync_runs (outward p)) refl over
-  where
-    go : (b : Bool) → resync_runs (outward p) ≡ b → elim b as (λ _. Bool) [ false ↦ false | true ↦ (length (marked_blocks p) == 0) && (length (under_way (outward p)) == 0) ] ≡ true → stands (outward p) ≡ true
-    go true runs is = (and_parts (stands (outward p)) (in_resync (outward p).stream) runs).0
-    go false runs is = absurd (cc)
 
 -- What is read off.
 
@@ -111,30 +110,20 @@ over-stands p over = go (resync_runs (outward p)) refl over
 over-same : (t : PrimaryState) (p : PrimaryHistory) → t.marks ≡ marks_in p.settings.blocks p.marks → EndLeft t.end (outward p) → is_over t ≡ resync_is_over p
 over-same t p marks end = go t.end end
   where
-    unmarked : not (list_any (λ mark. mark) t.marks) ≡ (length (marked_blocks p) == 0)
-    unmarked = ap (λ (l : List Bool). not (list_any (λ mark. mark) l)) marks ∙ (ap not (any-map (λ mark. mark) p.marks (below p.settings.blocks)) ∙ sym (none-or-some p.marks (below p.settings.blocks)))
+    unmarked : not (list_any (λ mark. mark) t.marks) ≡ not (list_any p.marks (below p.settings.blocks))
+    unmarked = ap (λ (l : List Bool). not (list_any (λ mark. mark) l)) marks ∙ ap not (any-map (λ mark. mark) p.marks (below p.settings.blocks))
 
     ways : (v : Option UnderWay) → UnderWayLeft v (outward p) → is_none v ≡ (length (under_way (outward p)) == 0)
     ways None is = sym (ap (λ (l : List (ℕ × Item)). length l == 0) is)
     ways (Some way) is = sym (ap (λ (l : List (ℕ × Item)). length l == 0) is.1)
 
-    both : (a b : Bool) → (b && a) ≡ (a && b)
-    both true true = refl
-    both true false = refl
-    both false true = refl
-    both false false = refl
-
     closed-not : (c : Outward) → c.closed ≡ true → resync_runs c ≡ false
     closed-not c shut = ap (λ b. (not b && c.begun) && in_resync c.stream) shut
 
-    go : (v : Option EndState) → EndLeft v (outward p) → elim v as (λ _. Bool) [ None ↦ false | Some e ↦ (e.resync && is_none e.under_way) && not (list_any (λ mark. mark) t.marks) ] ≡ resync_is_over p
-    go None shut = sym (ap (λ b. elim b as (λ _. Bool) [ false ↦ false | true ↦ (length (marked_blocks p) == 0) && (length (under_way (outward p)) == 0) ]) (closed-not (outward p) shut))
-    go (Some e) l =
-        (λ i. (l.resync i && ways e.under_way l.under_way i) && unmarked i) ∙ cases (resync_runs (outward p))
-      where
-        cases : (b : Bool) → ((b && (length (under_way (outward p)) == 0)) && (length (marked_blocks p) == 0)) ≡ elim b as (λ _. Bool) [ false ↦ false | true ↦ (length (marked_blocks p) == 0) && (length (under_way (outward p)) == 0) ]
-        cases true = both (length (marked_blocks p) == 0) (length (under_way (outward p)) == 0)
-        cases false = refl
+    go : (v : Option EndState) → EndLeft v (outward p)
+        → elim v as (λ _. Bool) [ None ↦ false | Some e ↦ (e.resync && is_none e.under_way) && not (list_any (λ mark. mark) t.marks) ] ≡ resync_is_over p
+    go None shut = sym (not-running p (closed-not (outward p) shut))
+    go (Some e) l = over-by p e.resync (is_none e.under_way) _ l.resync (ways e.under_way l.under_way) unmarked
 
 -- the last connection, whatever the tuple is
 pub outward-other : (p : PrimaryHistory) (tuple : Tuple) → (outward p).closed ≡ false → outward (record p { tuple = tuple }) ≡ outward p
@@ -158,7 +147,14 @@ module _ (s : PrimaryState) (barrier : Option ℕ) (h : PrimaryHistory) (due : I
     tuple = due.tuple;
     peer = due.peer;
     connections = due.connections;
-    log = record { protocol = due.log.protocol; backlog = due.log.backlog; accepted = due.log.accepted; connection = due.log.connection; writes = due.log.writes; latest = due.log.latest };
+    log = record {
+      protocol = due.log.protocol;
+      backlog = due.log.backlog;
+      accepted = due.log.accepted;
+      connection = due.log.connection;
+      writes = due.log.writes;
+      latest = due.log.latest;
+    };
     entries = record { entries = (λ i. entering (due.completed i) (due.entries i)) ∙ entries-completed h may; receipts = due.receipts };
     marks = due.marks;
     held = (λ i. freeing (due.completed i) (due.held i)) ∙ held-completed h may;
@@ -175,7 +171,12 @@ module _ (s : PrimaryState) (barrier : Option ℕ) (h : PrimaryHistory) (due : I
   rest-parted = go (epoch_is_over (with_completions h)) refl due.barrier_is
     where
       go : (b : Bool) → epoch_is_over (with_completions h) ≡ b → barrier ≡ (if b then Some (last_epoch (outward (with_completions h)).stream) else None)
-          → LeavesRest (core.appending (barrier_item barrier) (reporting s)) (elim b as (λ _. PrimaryHistory) [ true ↦ appending (BarrierItem (last_epoch (outward (with_completions h)).stream)) (with_completions h) | false ↦ with_completions h ])
+          → LeavesRest (core.appending (barrier_item barrier) (reporting s))
+          (elim b as (λ _. PrimaryHistory) [
+            | true ↦ appending (BarrierItem (last_epoch (outward (with_completions h)).stream))
+                (with_completions h)
+            | false ↦ with_completions h
+          ])
       go false on none =
           subst (λ (v : Option ℕ). LeavesRest (core.appending (barrier_item v) (reporting s)) (with_completions h)) (sym none)
           (subst (λ (v : Option EndState). LeavesRest (record (reporting s) { end = v }) (with_completions h)) (sym (queued-none s.end)) reported)
@@ -185,24 +186,37 @@ module _ (s : PrimaryState) (barrier : Option ℕ) (h : PrimaryHistory) (due : I
           let more = rest-more (reporting s) (with_completions h) (BarrierItem epoch) reported (homes-completions h due.homes) on refl in
           let out = outward-more (reporting s) (with_completions h) (BarrierItem epoch) reported (homes-completions h due.homes) on refl in
           subst (λ (v : Option ℕ). LeavesRest (core.appending (barrier_item v) (reporting s)) (appending (BarrierItem epoch) (with_completions h))) (sym some)
-          (subst (λ (v : Option EndState). LeavesRest (record (reporting s) { end = v }) (appending (BarrierItem epoch) (with_completions h))) (same s.end due.end (sym (runs-more (outward (with_completions h)) (outward (appending (BarrierItem epoch) (with_completions h))) (BarrierItem epoch) (ap (λ (c : Outward). c.stream) out) (ap stands out) refl refl))) more)
+          (subst (λ (v : Option EndState). LeavesRest (record (reporting s) { end = v }) (appending (BarrierItem epoch) (with_completions h)))
+          (same s.end due.end (sym (runs-more (outward (with_completions h)) (outward (appending (BarrierItem epoch) (with_completions h)))
+          (BarrierItem epoch) (ap (λ (c : Outward). c.stream) out) (ap stands out) refl refl))) more)
         where
           stands-over : epoch_is_over (with_completions h) ≡ true → stands (outward (with_completions h)) ≡ true
-          stands-over is = (and_parts (stands (outward (with_completions h))) _ is).0
+          stands-over is = over-standing (with_completions h) is
 
-          same : (v : Option EndState) → EndLeft v (outward h) → {r : Bool} → resync_runs (outward h) ≡ r → option_map (queued (BarrierItem (last_epoch (outward (with_completions h)).stream) ∷ []) r) v ≡ option_map (λ (e : EndState). record e { unsent = e.unsent ++ BarrierItem (last_epoch (outward (with_completions h)).stream) ∷ [] }) v
+          same : (v : Option EndState) → EndLeft v (outward h) → {r : Bool} → resync_runs (outward h) ≡ r
+              → option_map (queued (BarrierItem (last_epoch (outward (with_completions h)).stream) ∷ []) r) v ≡ option_map
+              (λ (e : EndState). record e { unsent = e.unsent ++ BarrierItem (last_epoch (outward (with_completions h)).stream) ∷ [] }) v
           same None shut is = refl
-          same (Some e) l is = λ i. Some (record e { unsent = e.unsent ++ BarrierItem (last_epoch (outward (with_completions h)).stream) ∷ []; resync = (sym is ∙ sym l.resync) i })
+          same (Some e) l is = λ i. Some (record e {
+            unsent = e.unsent ++ BarrierItem (last_epoch (outward (with_completions h)).stream) ∷ [];
+            resync = (sym is ∙ sym l.resync) i;
+          })
 
   homes-parted : HasHomes (parted (with_completions h))
   homes-parted = go (epoch_is_over (with_completions h)) refl
     where
-      go : (b : Bool) → epoch_is_over (with_completions h) ≡ b → HasHomes (elim b as (λ _. PrimaryHistory) [ true ↦ appending (BarrierItem (last_epoch (outward (with_completions h)).stream)) (with_completions h) | false ↦ with_completions h ])
+      go : (b : Bool) → epoch_is_over (with_completions h) ≡ b
+          → HasHomes (elim b as (λ _. PrimaryHistory) [
+            | true ↦ appending (BarrierItem (last_epoch (outward (with_completions h)).stream))
+                (with_completions h)
+            | false ↦ with_completions h
+          ])
       go true over = homes-parting (with_completions h) over (homes-completions h due.homes)
       go false on = homes-completions h due.homes
 
   -- A resync that is over ends.
-  ended : resync_is_over (parted (with_completions h)) ≡ true → Leaves (ending (core.appending (barrier_item barrier) (reporting s))) (ending_resync (parted (with_completions h)))
+  ended : resync_is_over (parted (with_completions h)) ≡ true
+      → Leaves (ending (core.appending (barrier_item barrier) (reporting s))) (ending_resync (parted (with_completions h)))
   ended over = record { rest = rest; stream = stream }
     where
       p : PrimaryHistory
@@ -237,7 +251,8 @@ module _ (s : PrimaryState) (barrier : Option ℕ) (h : PrimaryHistory) (due : I
       t : PrimaryState
       t = record (core.appending (barrier_item barrier) (reporting s)) { tuple = sync_end s.tuple; log = (log.uuids_placed s.log).1 }
 
-      turned : LeavesRest (record (core.appending (barrier_item barrier) (reporting s)) { tuple = sync_end s.tuple; log = (log.uuids_placed s.log).1 }) (record (parted (with_completions h)) { tuple = sync_end (parted (with_completions h)).tuple })
+      turned : LeavesRest (record (core.appending (barrier_item barrier) (reporting s)) { tuple = sync_end s.tuple; log = (log.uuids_placed s.log).1 })
+          (record (parted (with_completions h)) { tuple = sync_end (parted (with_completions h)).tuple })
       turned = record {
         settings = rest-parted.settings;
         tuple = ap sync_end rest-parted.tuple;
@@ -253,14 +268,18 @@ module _ (s : PrimaryState) (barrier : Option ℕ) (h : PrimaryHistory) (due : I
         };
         entries = record { entries = rest-parted.entries.entries; receipts = rest-parted.entries.receipts };
         marks = rest-parted.marks;
-        held = rest-parted.held ∙ sym (held-last (outward (record (parted (with_completions h)) { tuple = sync_end (parted (with_completions h)).tuple })) (outward (parted (with_completions h))) last);
+        held = rest-parted.held ∙ sym (held-last (outward (record (parted (with_completions h)) { tuple = sync_end (parted (with_completions h)).tuple }))
+            (outward (parted (with_completions h))) last);
         activity = rest-parted.activity;
         end = subst (EndLeft (core.appending (barrier_item barrier) (reporting s)).end) (sym last) rest-parted.end;
         quiet = rest-parted.quiet;
       }
         where
-          held-last : (c d : Outward) → c ≡ d → map holding_item (if stands c then under_way c else []) ++ map holding_write (open_writes (parted (with_completions h))) ≡ map holding_item (if stands d then under_way d else []) ++ map holding_write (open_writes (parted (with_completions h)))
-          held-last c d same = λ i. map holding_item (if stands (same i) then under_way (same i) else []) ++ map holding_write (open_writes (parted (with_completions h)))
+          held-last : (c d : Outward) → c ≡ d
+              → map holding_item (if stands c then under_way c else []) ++ map holding_write (open_writes (parted (with_completions h))) ≡ map holding_item
+              (if stands d then under_way d else []) ++ map holding_write (open_writes (parted (with_completions h)))
+          held-last c d same = λ i. map holding_item (if stands (same i) then under_way (same i)
+              else []) ++ map holding_write (open_writes (parted (with_completions h)))
 
       on-turned : stands (outward (record (parted (with_completions h)) { tuple = sync_end (parted (with_completions h)).tuple })) ≡ true
       on-turned = ap stands last ∙ on
@@ -268,30 +287,47 @@ module _ (s : PrimaryState) (barrier : Option ℕ) (h : PrimaryHistory) (due : I
       closing_item : Item
       closing_item = UuidsItem (sync_end (parted (with_completions h)).tuple)
 
-      out : outward (ending_resync (parted (with_completions h))) ≡ record (outward (record (parted (with_completions h)) { tuple = sync_end (parted (with_completions h)).tuple })) { stream = (outward (record (parted (with_completions h)) { tuple = sync_end (parted (with_completions h)).tuple })).stream ++ UuidsItem (sync_end (parted (with_completions h)).tuple) ∷ [] }
+      out : outward (ending_resync (parted (with_completions h))) ≡
+          record (outward (record (parted (with_completions h)) { tuple = sync_end (parted (with_completions h)).tuple })) {
+            stream =
+                (outward (record (parted (with_completions h)) { tuple = sync_end (parted (with_completions h)).tuple })).stream
+                ++ UuidsItem (sync_end (parted (with_completions h)).tuple) ∷ [];
+          }
       out = outward-more t q (UuidsItem (sync_end (parted (with_completions h)).tuple)) turned homes-turned on-turned refl
 
       over_runs : resync_runs (outward (ending_resync (parted (with_completions h)))) ≡ false
-      over_runs = ends-with (outward (ending_resync (parted (with_completions h)))) (outward (record (parted (with_completions h)) { tuple = sync_end (parted (with_completions h)).tuple })).stream (UuidsItem (sync_end (parted (with_completions h)).tuple)) (ap (λ (c : Outward). c.stream) out) refl
+      over_runs = ends-with (outward (ending_resync (parted (with_completions h))))
+          (outward (record (parted (with_completions h)) { tuple = sync_end (parted (with_completions h)).tuple })).stream
+          (UuidsItem (sync_end (parted (with_completions h)).tuple)) (ap (λ (c : Outward). c.stream) out) refl
 
       tuples : UuidsItem (sync_end s.tuple) ≡ UuidsItem (sync_end (parted (with_completions h)).tuple)
       tuples = ap (λ (x : Tuple). UuidsItem (sync_end x)) rest-parted.tuple
 
       rest : LeavesRest (ending (core.appending (barrier_item barrier) (reporting s))) (ending_resync (parted (with_completions h)))
       rest =
-          subst (λ (i : Item). LeavesRest (record t { end = option_map (queued (i ∷ []) false) t.end }) (ending_resync (parted (with_completions h)))) (sym tuples)
-          (subst (λ (b : Bool). LeavesRest (record t { end = option_map (queued (UuidsItem (sync_end (parted (with_completions h)).tuple) ∷ []) b) t.end }) (ending_resync (parted (with_completions h)))) over_runs
+          subst (λ (i : Item). LeavesRest (record t { end = option_map (queued (i ∷ []) false) t.end }) (ending_resync (parted (with_completions h))))
+          (sym tuples)
+          (subst (λ (b : Bool). LeavesRest (record t { end = option_map (queued (UuidsItem (sync_end (parted (with_completions h)).tuple) ∷ []) b) t.end })
+          (ending_resync (parted (with_completions h)))) over_runs
           (rest-more t q (UuidsItem (sync_end (parted (with_completions h)).tuple)) turned homes-turned on-turned refl))
 
       stream : LeavesStream (log.uuids_placed s.log).1 (ending_resync (parted (with_completions h)))
       stream = record {
         max_epoch = due.stream.max_epoch;
-        on = λ so. epochs-plain s.log (log.uuids_placed s.log).1 (outward (parted (with_completions h))) (outward (ending_resync (parted (with_completions h)))) (UuidsItem (sync_end (parted (with_completions h)).tuple)) (due.stream.on on)
-            (subst (SeesSame (outward (parted (with_completions h)))) (sym (out ∙ ap (λ (c : Outward). record c { stream = c.stream ++ UuidsItem (sync_end (parted (with_completions h)).tuple) ∷ [] }) last)) (record { closed = refl; pushed = refl; taken = refl; refused = refl }))
-            (ap (λ (c : Outward). c.stream) out ∙ ap (λ (c : Outward). c.stream ++ UuidsItem (sync_end (parted (with_completions h)).tuple) ∷ []) last) refl refl refl refl refl refl refl;
+        on = λ so. epochs-plain s.log (log.uuids_placed s.log).1 (outward (parted (with_completions h))) (outward (ending_resync (parted (with_completions h))))
+            (UuidsItem (sync_end (parted (with_completions h)).tuple)) (due.stream.on on)
+            (subst (SeesSame (outward (parted (with_completions h))))
+            (sym (out ∙ ap (λ (c : Outward). record c { stream = c.stream ++ UuidsItem (sync_end (parted (with_completions h)).tuple) ∷ [] }) last))
+            (record { closed = refl; pushed = refl; taken = refl; refused = refl }))
+            (ap (λ (c : Outward). c.stream) out ∙ ap (λ (c : Outward). c.stream ++ UuidsItem (sync_end (parted (with_completions h)).tuple) ∷ []) last) refl
+            refl refl refl refl refl refl;
         here = λ so i a at behind.
-            let place = due.stream.here on i a at behind in
-            (place.0, place.1 ∙ ap (λ m. Some (m - 1, place.0)) (sym (length-change (λ (c : Outward). record c { stream = c.stream ++ UuidsItem (sync_end (parted (with_completions h)).tuple) ∷ [] }) (parted (with_completions h)).connections)));
+            let place = due.stream.here on i a at behind in (
+              place.0,
+              place.1 ∙ ap (λ m. Some (record { index = m - 1; place = place.0 }))
+                  (sym (length-change (λ (c : Outward). record c { stream = c.stream ++ UuidsItem (sync_end (parted (with_completions h)).tuple) ∷ [] })
+                  (parted (with_completions h)).connections)),
+            );
         off = λ none. absurd (both_ways (stands (outward (ending_resync (parted (with_completions h))))) none (ap stands out ∙ on-turned));
       }
 
@@ -302,7 +338,8 @@ module _ (s : PrimaryState) (barrier : Option ℕ) (h : PrimaryHistory) (due : I
       first : option_map (λ c. c.number) (slice_get s.log.completed 0) ≡ slice_get (map (λ accepted. accepted.write.number) (newly_completed h)) 0
       first = ap (λ l. option_map (λ c. c.number) (slice_get l 0)) due.completed ∙ heads (newly_completed h)
         where
-          heads : (xs : List Accepted) → option_map (λ c. c.number) (slice_get (map (λ a. completed_of (logged_of h a)) xs) 0) ≡ slice_get (map (λ accepted. accepted.write.number) xs) 0
+          heads : (xs : List Accepted) → option_map (λ c. c.number) (slice_get (map (λ a. completed_of (logged_of h a)) xs) 0) ≡ slice_get
+              (map (λ accepted. accepted.write.number) xs) 0
           heads [] = refl
           heads (x ∷ xs) = refl
 
@@ -311,19 +348,45 @@ module _ (s : PrimaryState) (barrier : Option ℕ) (h : PrimaryHistory) (due : I
 
       model-by : Bool → Followed
       model-by b = elim b [
-        | true ↦ record { history = ending_resync (parted (with_completions h)); completed = map (λ accepted. accepted.write.number) (newly_completed h); barrier = barrier_of (with_completions h); synced = true }
-        | false ↦ record { history = parted (with_completions h); completed = map (λ accepted. accepted.write.number) (newly_completed h); barrier = barrier_of (with_completions h); synced = false }
+        | true ↦ record {
+          history = ending_resync (parted (with_completions h));
+          completed = map (λ accepted. accepted.write.number) (newly_completed h);
+          barrier = barrier_of (with_completions h);
+          synced = true;
+        }
+        | false ↦ record {
+          history = parted (with_completions h);
+          completed = map (λ accepted. accepted.write.number) (newly_completed h);
+          barrier = barrier_of (with_completions h);
+          synced = false;
+        }
       ]
 
       core-by : Bool → Done × PrimaryState
-      core-by b = if b then (done_of name barrier true s.log, ending (core.appending (barrier_item barrier) (reporting s))) else (done_of name barrier false s.log, core.appending (barrier_item barrier) (reporting s))
+      core-by b = if b then (done_of name barrier true s.log, ending (core.appending (barrier_item barrier) (reporting s)))
+          else (done_of name barrier false s.log, core.appending (barrier_item barrier) (reporting s))
 
       step-by : Bool → Reply × PrimaryHistory
-      step-by b = (reply.Ok (record { what = name; completed = slice_get (model-by b).completed 0; barrier = (model-by b).barrier; synced = (model-by b).synced }), (model-by b).history)
+      step-by b = (
+        reply.Ok (record {
+          what = name;
+          completed = slice_get (model-by b).completed 0;
+          barrier = (model-by b).barrier;
+          synced = (model-by b).synced;
+        }),
+        (model-by b).history,
+      )
 
       by : (b : Bool) → resync_is_over (parted (with_completions h)) ≡ b → Follows (core-by b) (step-by b)
-      by true over = record { reply = λ i. reply.Ok (record { what = name; completed = first i; barrier = due.barrier_is i; synced = true }); leaves = ended over }
-      by false on = record { reply = λ i. reply.Ok (record { what = name; completed = first i; barrier = due.barrier_is i; synced = false }); leaves = record { rest = rest-parted; stream = due.stream } }
+      by true over = record {
+        reply = λ i. reply.Ok (record { what = name; completed = first i; barrier = due.barrier_is i; synced = true });
+        leaves = ended over;
+      }
+      by false on = record {
+        reply = λ i. reply.Ok (record { what = name; completed = first i; barrier = due.barrier_is i; synced = false });
+        leaves = record { rest = rest-parted; stream = due.stream };
+      }
 
       go : (b : Bool) → resync_is_over (parted (with_completions h)) ≡ b → Follows (following name barrier s) (succeeding name h)
-      go b is = subst (λ (x : Done × PrimaryState). Follows x (succeeding name h)) (ap core-by (sym (same ∙ is))) (subst (Follows (core-by b)) (ap step-by (sym is)) (by b is))
+      go b is = subst (λ (x : Done × PrimaryState). Follows x (succeeding name h)) (ap core-by (sym (same ∙ is)))
+          (subst (Follows (core-by b)) (ap step-by (sym is)) (by b is))

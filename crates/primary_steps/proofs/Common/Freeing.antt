@@ -33,7 +33,8 @@ freeing-is [] held = sym (filter-all (stays []) held (λ i x at. refl))
 freeing-is (c ∷ cs) held =
     freeing-is cs (without c.number held)
     ∙ (filter-twice (stays cs) (λ x. not (x.number == c.number)) held
-    ∙ filter-at (λ x. not (x.number == c.number) && stays cs x) (stays (c ∷ cs)) held (λ i x at. ap (λ b. not b && stays cs x) (same-either x.number c.number) ∙ go (c.number == x.number) (list_any (λ (c : report.Completed). c.number == x.number) cs)))
+    ∙ filter-at (λ x. not (x.number == c.number) && stays cs x) (stays (c ∷ cs)) held (λ i x at. ap (λ b. not b && stays cs x) (same-either x.number c.number)
+    ∙ go (c.number == x.number) (list_any (λ (c : report.Completed). c.number == x.number) cs)))
   where
     go : (a b : Bool) → (not a && not b) ≡ not (a || b)
     go true b = refl

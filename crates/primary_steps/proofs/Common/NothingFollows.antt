@@ -1,39 +1,42 @@
 -- Between steps no resync is over, and a step that completes nothing is followed by nothing.
-use Rattle.std.proofs.Common.{ℕ, ◌≡◌, Bool, true, false, not, ◌&&◌, List, [], ◌∷◌, ◌++◌, length, map, Some, None, slice_get, refl, ◌∙◌, ap, subst, ◌==◌, ◌||◌, nat_le}
+use Rattle.std.proofs.Common.{ℕ, ◌≡◌, Bool, true, false, not, ◌&&◌, List, [], ◌∷◌, ◌++◌, map, Some, None, slice_get, refl, ◌∙◌, ap, subst}
 use Rattle.std.proofs.lemmas.List.{append-nil}
 use Rattle.std.specs.Prelude.{if◌then◌else◌}
-use Rattle.std.specs.List.{list_any}
 use Rattle.blocks.specs.declared.outcome.What.{What}
 use Rattle.blocks.specs.declared.outcome.Reply.{Reply}
 use Rattle.blocks.specs.declared.outcome.Reply.TheVariants as reply
 use Rattle.model.specs.Refusals.{done_with}
-use Rattle.model.specs.Stream.{BarrierItem, UuidsItem, last_epoch, epoch_size, items_of_epoch}
+use Rattle.model.specs.Stream.{BarrierItem, UuidsItem, last_epoch}
 use Rattle.model.specs.Identifiers.{sync_end}
-use Rattle.model.specs.Primary.{Accepted, Outward, PrimaryHistory, no_outward, outward, stands, is_failed, is_open, completes, in_resync, resync_runs, under_way, marked_blocks}
-use Rattle.model.specs.PrimarySteps.{Followed, completion_of, newly_completed, with_completions, is_settled, epoch_is_over, appending, resync_is_over, ending_resync, follows, succeeding}
+use Rattle.model.specs.Primary.{Accepted, Outward, PrimaryHistory, no_outward, outward, stands, is_failed, is_open, completes, in_resync}
+use Rattle.model.specs.PrimarySteps.{Followed, completion_of, newly_completed, with_completions, epoch_is_over, appending, resync_is_over, ending_resync}
+use Rattle.model.specs.PrimarySteps.{follows, succeeding}
+use Rattle.laws.proofs.Rules.ResyncEnds.{over-stands, not-running}
 use Rattle.laws.proofs.Primary.Ends.{stands-parts}
 use Rattle.laws.proofs.Primary.LawfulMoves.{last-changed}
 use Rattle.laws.proofs.Primary.Moves.{IsKeptByMoves, keeps-run}
 use Rattle.primary_steps.specs.Leaves.{IsQuiet}
 use Rattle.primary_steps.specs.Steps.{IsReached}
 use Rattle.primary_steps.proofs.Common.Filters.{filter-none}
-use Rattle.primary_steps.proofs.Common.Following.{parted, barrier_of, over-stands, ends-with, outward-other}
+use Rattle.primary_steps.proofs.Common.Following.{parted, barrier_of, ends-with, outward-other}
 
 -- no resync is over
 abbrev pub IsResting : PrimaryHistory → Type 0
 IsResting h = resync_is_over h ≡ false
-
-not-running : (p : PrimaryHistory) → resync_runs (outward p) ≡ false → resync_is_over p ≡ false
-not-running p none = ap (λ b. elim b as (λ _. Bool) [ false ↦ false | true ↦ (length (marked_blocks p) == 0) && (length (under_way (outward p)) == 0) ]) none
 
 ended-rests : (p : PrimaryHistory) → resync_is_over p ≡ true → IsResting (ending_resync p)
 ended-rests p over =
     let on = over-stands p over in
     let unshut = (stands-parts (outward p) on).0 in
     let turned : outward (record p { tuple = sync_end p.tuple }) ≡ outward p = outward-other p (sync_end p.tuple) unshut in
-    let last : outward (ending_resync p) ≡ record (outward (record p { tuple = sync_end p.tuple })) { stream = (outward (record p { tuple = sync_end p.tuple })).stream ++ UuidsItem (sync_end p.tuple) ∷ [] } =
-    last-changed (record p { tuple = sync_end p.tuple }) (λ (c : Outward). record c { stream = c.stream ++ UuidsItem (sync_end p.tuple) ∷ [] }) (no_outward (sync_end p.tuple)) (ap (λ (c : Outward). c.closed) turned ∙ unshut) in
-    not-running (ending_resync p) (ends-with (outward (ending_resync p)) (outward (record p { tuple = sync_end p.tuple })).stream (UuidsItem (sync_end p.tuple)) (ap (λ (c : Outward). c.stream) last) refl)
+    let last : outward (ending_resync p) ≡ record (outward (record p { tuple = sync_end p.tuple })) {
+      stream =
+          (outward (record p { tuple = sync_end p.tuple })).stream ++ UuidsItem (sync_end p.tuple) ∷ [];
+    } =
+    last-changed (record p { tuple = sync_end p.tuple }) (λ (c : Outward). record c { stream = c.stream ++ UuidsItem (sync_end p.tuple) ∷ [] })
+    (no_outward (sync_end p.tuple)) (ap (λ (c : Outward). c.closed) turned ∙ unshut) in
+    not-running (ending_resync p) (ends-with (outward (ending_resync p)) (outward (record p { tuple = sync_end p.tuple })).stream (UuidsItem (sync_end p.tuple))
+    (ap (λ (c : Outward). c.stream) last) refl)
 
 -- what follows a step leaves none
 pub follows-rest : (h : PrimaryHistory) → IsResting (follows h).history
@@ -43,8 +46,18 @@ follows-rest h = go (resync_is_over (parted (with_completions h))) refl
     numbers = map (λ accepted. accepted.write.number) (newly_completed h)
 
     go : (b : Bool) → resync_is_over (parted (with_completions h)) ≡ b → IsResting (elim b as (λ _. Followed) [
-      | true ↦ record { history = ending_resync (parted (with_completions h)); completed = map (λ accepted. accepted.write.number) (newly_completed h); barrier = barrier_of (with_completions h); synced = true }
-      | false ↦ record { history = parted (with_completions h); completed = map (λ accepted. accepted.write.number) (newly_completed h); barrier = barrier_of (with_completions h); synced = false }
+      | true ↦ record {
+        history = ending_resync (parted (with_completions h));
+        completed = map (λ accepted. accepted.write.number) (newly_completed h);
+        barrier = barrier_of (with_completions h);
+        synced = true;
+      }
+      | false ↦ record {
+        history = parted (with_completions h);
+        completed = map (λ accepted. accepted.write.number) (newly_completed h);
+        barrier = barrier_of (with_completions h);
+        synced = false;
+      }
     ]).history
     go true over = ended-rests (parted (with_completions h)) over
     go false on = on
@@ -71,11 +84,9 @@ resting-kept = record {
 
 -- so between steps no resync is over
 pub reached-rests : (h : PrimaryHistory) → IsReached h → IsResting h
-reached-rests h r = subst IsResting r.is (keeps-run IsResting (λ h. Unit {0}) resting-kept (record { writes = λ h number waiting p q. tt; confirms = λ h number size standing begun turn p q. tt }) r.events _ refl)
-
--- Where no stream stands, no epoch is over, and no resync.
-pub down-on : (h : PrimaryHistory) → stands (outward h) ≡ false → epoch_is_over h ≡ false
-down-on h none = ap (λ b. b && (list_any (is_settled h (outward h)) (items_of_epoch (outward h).stream (last_epoch (outward h).stream)) || nat_le h.settings.max_epoch (epoch_size (outward h).stream (last_epoch (outward h).stream)))) none
+reached-rests h r = subst IsResting r.is
+    (keeps-run IsResting (λ h. Unit {0}) resting-kept (record { writes = λ h number waiting p q. tt; confirms = λ h number size standing begun turn p q. tt })
+    r.events _ refl)
 
 pub down-rests : (h : PrimaryHistory) → stands (outward h) ≡ false → resync_is_over h ≡ false
 down-rests h none = not-running h (ap (λ b. b && in_resync (outward h).stream) none)
@@ -84,7 +95,8 @@ down-rests h none = not-running h (ap (λ b. b && in_resync (outward h).stream) 
 
 -- where the journal has what is to be completed, nothing is completed now
 pub quiet-none : (h : PrimaryHistory) → IsQuiet h → newly_completed h ≡ []
-quiet-none h quiet = filter-none (λ a. is_open h a && completes h a) h.writes (λ i a at. ap (λ b. (not b && not (is_failed a.outcome)) && completes h a) (quiet i a at) ∙ go (completes h a) (not (is_failed a.outcome)))
+quiet-none h quiet = filter-none (λ a. is_open h a && completes h a) h.writes
+    (λ i a at. ap (λ b. (not b && not (is_failed a.outcome)) && completes h a) (quiet i a at) ∙ go (completes h a) (not (is_failed a.outcome)))
   where
     go : (b c : Bool) → ((not b && c) && b) ≡ false
     go true c = refl
@@ -92,7 +104,8 @@ quiet-none h quiet = filter-none (λ a. is_open h a && completes h a) h.writes (
     go false false = refl
 
 -- A step that completes nothing, ends no epoch and no resync is followed by nothing.
-pub still : (h : PrimaryHistory) → IsQuiet h → epoch_is_over h ≡ false → resync_is_over h ≡ false → (name : What) → succeeding name h ≡ (reply.Ok (done_with name), h)
+pub still : (h : PrimaryHistory) → IsQuiet h → epoch_is_over h ≡ false → resync_is_over h ≡ false → (name : What)
+    → succeeding name h ≡ (reply.Ok (done_with name), h)
 still h quiet on rests name = ap answer (same-follow ∙ by-resync)
   where
     answer : Followed → Reply × PrimaryHistory

@@ -1,5 +1,6 @@
 -- Writes that are numbered from a number on, and the entries of one number.
-use Rattle.std.proofs.Common.{ℕ, zero, suc, ◌≡◌, ◌+◌, ◌-◌, ◌<◌, Bool, true, false, cond, ◌&&◌, ◌||◌, List, [], ◌∷◌, map, Some, None, slice_get, refl, sym, ◌∙◌, ap, subst, arith, ◌==◌}
+use Rattle.std.proofs.Common.{ℕ, zero, suc, ◌≡◌, ◌+◌, ◌-◌, ◌<◌, Bool, true, false, cond, ◌&&◌, ◌||◌, List, [], ◌∷◌, map, Some, None, slice_get, refl, sym, ◌∙◌}
+use Rattle.std.proofs.Common.{ap, subst, arith, ◌==◌}
 use Rattle.std.specs.Prelude.{find, is_some, option_map}
 use Rattle.std.specs.List.{list_any}
 use Rattle.std.proofs.lemmas.Bool.{eqb-true, eq-eqb, false_from_ne_true}
@@ -40,7 +41,8 @@ pub find-none : (m n : ℕ) (xs : List Accepted) → AreNumberedFrom n xs → m 
 find-none m n [] all less = refl
 find-none m n (x ∷ xs) all less =
     let first = numbered-first n x xs all in
-    let other : (x.write.number == m) ≡ false = false_from_ne_true (x.write.number == m) (λ e. let is : x.write.number ≡ m = eqb-true x.write.number m e in omega arith) in
+    let other : (x.write.number == m) ≡ false = false_from_ne_true (x.write.number == m)
+    (λ e. let is : x.write.number ≡ m = eqb-true x.write.number m e in omega arith) in
     rw other (find-none m (suc n) xs (numbered-rest n x xs all) (omega arith))
 
 -- a test of the write of a number is that of the write at its place
@@ -50,14 +52,17 @@ any-number n k p [] all = refl
 any-number n zero p (x ∷ xs) all =
     let first = numbered-first n x xs all in
     let same : (x.write.number == (n + 0)) ≡ true = eq-eqb x.write.number (n + 0) (omega arith) in
-    let none : list_any (λ (a : Accepted). (a.write.number == (n + 0)) && p a) xs ≡ false = none-behind (n + 0) (suc n) p xs (numbered-rest n x xs all) (omega arith) in
+    let none : list_any (λ (a : Accepted). (a.write.number == (n + 0)) && p a) xs ≡ false = none-behind (n + 0) (suc n) p xs (numbered-rest n x xs all)
+    (omega arith) in
     rw (same, none) (or-none (p x))
   where
-    none-behind : (m n : ℕ) (p : Accepted → Bool) (xs : List Accepted) → AreNumberedFrom n xs → m < n → list_any (λ (a : Accepted). (a.write.number == m) && p a) xs ≡ false
+    none-behind : (m n : ℕ) (p : Accepted → Bool) (xs : List Accepted) → AreNumberedFrom n xs → m < n
+        → list_any (λ (a : Accepted). (a.write.number == m) && p a) xs ≡ false
     none-behind m n p [] all less = refl
     none-behind m n p (x ∷ xs) all less =
         let first = numbered-first n x xs all in
-        let other : (x.write.number == m) ≡ false = false_from_ne_true (x.write.number == m) (λ e. let is : x.write.number ≡ m = eqb-true x.write.number m e in omega arith) in
+        let other : (x.write.number == m) ≡ false = false_from_ne_true (x.write.number == m)
+        (λ e. let is : x.write.number ≡ m = eqb-true x.write.number m e in omega arith) in
         rw other (none-behind m (suc n) p xs (numbered-rest n x xs all) (omega arith))
 
     or-none : (b : Bool) → (b || false) ≡ b
@@ -78,7 +83,8 @@ get-map f (x ∷ xs) zero = refl
 get-map f (x ∷ xs) (suc n) = get-map f xs n
 
 -- a change of the entry of one number, where a function of the writes changes so
-pub with-entry-map : (f g : Accepted → Entry) (change : Entry → Entry) (n k : ℕ) (xs : List Accepted) → AreNumberedFrom n xs → ((a : Accepted) → a.write.number ≡ n + k → change (f a) ≡ g a) → ((a : Accepted) → (a.write.number == (n + k)) ≡ false → f a ≡ g a)
+pub with-entry-map : (f g : Accepted → Entry) (change : Entry → Entry) (n k : ℕ) (xs : List Accepted) → AreNumberedFrom n xs
+    → ((a : Accepted) → a.write.number ≡ n + k → change (f a) ≡ g a) → ((a : Accepted) → (a.write.number == (n + k)) ≡ false → f a ≡ g a)
     → with_entry (suc k) change (map f xs) ≡ map g xs
 with-entry-map f g change n k [] all same others = refl
 with-entry-map f g change n zero (x ∷ xs) all same others =
@@ -92,7 +98,8 @@ with-entry-map f g change n zero (x ∷ xs) all same others =
         map-same [] m all less = refl
         map-same (y ∷ ys) m all less =
             let first = numbered-first m y ys all in
-            let other : (y.write.number == (n + 0)) ≡ false = false_from_ne_true (y.write.number == (n + 0)) (λ e. let is : y.write.number ≡ n + 0 = eqb-true y.write.number (n + 0) e in omega arith) in
+            let other : (y.write.number == (n + 0)) ≡ false = false_from_ne_true (y.write.number == (n + 0))
+            (λ e. let is : y.write.number ≡ n + 0 = eqb-true y.write.number (n + 0) e in omega arith) in
             λ i. others y other i ∷ map-same ys (suc m) (numbered-rest m y ys all) (omega arith) i
 with-entry-map f g change n (suc k) (x ∷ xs) all same others =
     let first = numbered-first n x xs all in
@@ -100,7 +107,8 @@ with-entry-map f g change n (suc k) (x ∷ xs) all same others =
     let not_first : (suc (suc k) == 1) ≡ false = grind (arith, nat_tests) in
     let on : suc n + k ≡ n + suc k = omega arith in
     let one_less : suc (suc k) - 1 ≡ suc k = omega arith in
-    rw (not_first, one_less) (λ i. others x other i ∷ with-entry-map f g change (suc n) k xs (numbered-rest n x xs all) (λ a is. same a (is ∙ on)) (λ a no_number. others a (subst (λ (m : ℕ). (a.write.number == m) ≡ false) on no_number)) i)
+    rw (not_first, one_less) (λ i. others x other i ∷ with-entry-map f g change (suc n) k xs (numbered-rest n x xs all) (λ a is. same a (is ∙ on))
+    (λ a no_number. others a (subst (λ (m : ℕ). (a.write.number == m) ≡ false) on no_number)) i)
 
 -- a test of a list finds something exactly where one passes
 pub any-some : {X : Type 0} (p : X → Bool) (xs : List X) → list_any p xs ≡ is_some (find p xs)

@@ -8,7 +8,8 @@ use Rattle.std.proofs.lemmas.List.{length-map}
 use Rattle.blocks.specs.declared.settings.Settings.{Settings}
 use Rattle.blocks.specs.Ranges.{below}
 use Rattle.model.specs.Stream.{Item}
-use Rattle.model.specs.Primary.{Accepted, Outward, PrimaryHistory, outward, last_index, change_last, stands, is_waiting, is_failed, is_alone, is_confirmed, is_released, completes, unreleased, is_answered_by, barrier_acknowledged, was_resynced}
+use Rattle.model.specs.Primary.{Accepted, Outward, PrimaryHistory, outward, last_index, change_last, stands, is_waiting, is_failed, is_alone, is_confirmed}
+use Rattle.model.specs.Primary.{is_released, completes, unreleased, is_answered_by, barrier_acknowledged, was_resynced}
 use Rattle.model.specs.PrimarySteps.{newly_completed}
 use Rattle.transferlog.specs.Log.{LogState, changing}
 use Rattle.transferlog.specs.Ring.{on}
@@ -44,7 +45,8 @@ pub record IsChange (h h1 : PrimaryHistory) (n : ℕ) (f : LogWrite → LogWrite
   pub begun : (k (outward h)).begun ≡ (outward h).begun
   pub acknowledged : (epoch : ℕ) → barrier_acknowledged (k (outward h)) epoch ≡ barrier_acknowledged (outward h) epoch
   pub resynced : (place : ℕ) (item : Item) → was_resynced (k (outward h)) place item ≡ was_resynced (outward h) place item
-  pub answered : (asked : Protocol) (place : ℕ) (item : Item) → is_answered_by asked (outward h) place item ≡ true → is_answered_by asked (k (outward h)) place item ≡ true
+  pub answered : (asked : Protocol) (place : ℕ) (item : Item) → is_answered_by asked (outward h) place item ≡ true
+      → is_answered_by asked (k (outward h)) place item ≡ true
 
 module _ (s : PrimaryState) (h h1 : PrimaryHistory) (n : ℕ) (f : LogWrite → LogWrite) (g : Accepted → Accepted) (k : Outward → Outward)
     (left : Leaves s h) (homes : HasHomes h) (last : IsLastOpen h) (c : IsChange h h1 n f g k) where
@@ -68,15 +70,20 @@ module _ (s : PrimaryState) (h h1 : PrimaryHistory) (n : ℕ) (f : LogWrite → 
       settled-then : (log.is_on_disk (logged_of h1 (g a)).local || log.has_failed (logged_of h1 (g a)).local) ≡ not (is_waiting (g a).outcome)
       settled-then = settled-seen (g a).outcome
 
-      go : (b : Bool) → is_alone h a ≡ b → (not (is_waiting (g a).outcome) && (not (not (is_alone h a)) || nat_le a.write.number s.log.confirmed)) ≡ (not (is_waiting (g a).outcome) && (is_confirmed h a || is_alone h a))
-      go true is = (λ j. not (is_waiting (g a).outcome) && (not (not (is j)) || nat_le a.write.number s.log.confirmed)) ∙ ((ap (λ b. not (is_waiting (g a).outcome) && b) (sym (or-true (is_confirmed h a)))) ∙ λ j. not (is_waiting (g a).outcome) && (is_confirmed h a || sym is j))
+      go : (b : Bool) → is_alone h a ≡ b
+          → (not (is_waiting (g a).outcome) && (not (not (is_alone h a)) || nat_le a.write.number s.log.confirmed)) ≡
+          (not (is_waiting (g a).outcome) && (is_confirmed h a || is_alone h a))
+      go true is = (λ j. not (is_waiting (g a).outcome) && (not (not (is j)) || nat_le a.write.number s.log.confirmed))
+          ∙ ((ap (λ b. not (is_waiting (g a).outcome) && b) (sym (or-true (is_confirmed h a))))
+          ∙ λ j. not (is_waiting (g a).outcome) && (is_confirmed h a || sym is j))
         where
           or-true : (b : Bool) → (b || true) ≡ true
           or-true true = refl
           or-true false = refl
       go false is =
           (λ j. not (is_waiting (g a).outcome) && (not (not (is j)) || nat_le a.write.number s.log.confirmed))
-          ∙ (ap (λ b. not (is_waiting (g a).outcome) && b) (sym (confirmed-number h s.log homes last left.rest.log.protocol left.stream.on i a at is) ∙ sym (or-false (is_confirmed h a))) ∙ λ j. not (is_waiting (g a).outcome) && (is_confirmed h a || sym is j))
+          ∙ (ap (λ b. not (is_waiting (g a).outcome) && b) (sym (confirmed-number h s.log homes last left.rest.log.protocol left.stream.on i a at is)
+          ∙ sym (or-false (is_confirmed h a))) ∙ λ j. not (is_waiting (g a).outcome) && (is_confirmed h a || sym is j))
 
   -- what was released stays so
   released-stays : (i : ℕ) (a : Accepted) → slice_get h.writes i ≡ Some a → is_released h a ≡ true → is_released h1 (g a) ≡ true
@@ -88,10 +95,20 @@ module _ (s : PrimaryState) (h h1 : PrimaryHistory) (n : ℕ) (f : LogWrite → 
 
   -- the writes are moved
   pub change-moved : IsMoved h h1 (on n f) g s.log.confirmed
-  change-moved = record { settings = c.settings; journal = c.journal; writes = c.writes; write = c.write; logged = c.logged; released = released-then; stays = released-stays; failed = c.failed }
+  change-moved = record {
+    settings = c.settings;
+    journal = c.journal;
+    writes = c.writes;
+    write = c.write;
+    logged = c.logged;
+    released = released-then;
+    stays = released-stays;
+    failed = c.failed;
+  }
 
   -- what the log reports released
-  pub released-is : (changing n f s.log).1.released ≡ map (λ a. released_of (logged_of h1 (g a))) (filter (λ a. not (is_released h a) && is_released h1 (g a)) h.writes)
+  pub released-is : (changing n f s.log).1.released ≡ map (λ a. released_of (logged_of h1 (g a)))
+      (filter (λ a. not (is_released h a) && is_released h1 (g a)) h.writes)
   released-is = moved-released s h h1 (on n f) g s.log.confirmed left homes last change-moved
 
   -- what the log reports completed
@@ -112,7 +129,9 @@ module _ (s : PrimaryState) (h h1 : PrimaryHistory) (n : ℕ) (f : LogWrite → 
     accepted = left.rest.log.accepted ∙ (sym (length-map h.writes g) ∙ ap length (sym c.writes));
     connection = left.rest.log.connection ∙ sym (λ i. if stands-then i then Some (index-then i) else None);
     writes = left-then s h h1 (on n f) g s.log.confirmed left homes last change-moved;
-    latest = left.rest.log.latest ∙ ((λ i. map (λ block. sym (latest-then s h h1 (on n f) g s.log.confirmed left homes last change-moved block 0) i) (below h.settings.blocks)) ∙ ap (λ (x : Settings). map (λ block. latest_in h1.writes block 0) (below x.blocks)) (sym c.settings));
+    latest = left.rest.log.latest ∙
+        ((λ i. map (λ block. sym (latest-then s h h1 (on n f) g s.log.confirmed left homes last change-moved block 0) i) (below h.settings.blocks))
+        ∙ ap (λ (x : Settings). map (λ block. latest_in h1.writes block 0) (below x.blocks)) (sym c.settings));
   }
 
   -- the active extents are left

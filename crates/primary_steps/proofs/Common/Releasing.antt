@@ -1,10 +1,13 @@
 -- When the log releases a write, and what a released write is.
-use Rattle.std.proofs.Common.{ℕ, ◌≡◌, ◌+◌, inl, inr, Bool, true, false, not, ◌&&◌, ◌||◌, List, Option, Some, None, slice_get, refl, sym, ◌∙◌, ap, subst, arith, nat_le}
+use Rattle.std.proofs.Common.{ℕ, ◌≡◌, ◌+◌, inl, inr, Bool, true, false, not, ◌&&◌, ◌||◌, List, Option, Some, None, slice_get, refl, sym, ◌∙◌, ap, subst, arith}
+use Rattle.std.proofs.Common.{nat_le}
 use Rattle.std.proofs.Math.Bool.{or-false}
 use Rattle.std.proofs.lemmas.Bool.{cases_Bool, both_ways, and_parts, or_cases, leb-true}
+use Rattle.blocks.specs.Positions.{StreamPosition}
 use Rattle.blocks.specs.declared.settings.Protocol.{Protocol}
 use Rattle.model.specs.Stream.{Item, WriteItem, epoch_of}
-use Rattle.model.specs.Primary.{LocalOutcome, Waiting, OnDisk, Failed, Accepted, Outward, PrimaryHistory, outward, last_index, stands, is_waiting, is_on_disk, is_failed, is_alone, is_answered, is_answered_by, is_confirmed, is_released, completes}
+use Rattle.model.specs.Primary.{LocalOutcome, Waiting, OnDisk, Failed, Accepted, Outward, PrimaryHistory, outward, last_index, stands, is_waiting, is_on_disk}
+use Rattle.model.specs.Primary.{is_failed, is_alone, is_answered, is_answered_by, is_confirmed, is_released, completes}
 use Rattle.transferlog.specs.Log.{LogState}
 use Rattle.transferlog.specs.Writes as log
 use Rattle.laws.proofs.Primary.Homes.{HasHomes, alone-at, alone-homeless, confirmed-at}
@@ -15,7 +18,7 @@ use Rattle.primary_steps.proofs.Common.WriteStates.{settled-seen, not-not, open-
 -- a write on the standing stream
 pub record IsHere (h : PrimaryHistory) (a : Accepted) : Type 0 where
   pub place : ℕ
-  pub home : a.home ≡ Some (last_index h.connections, place)
+  pub home : a.home ≡ Some (record { index = last_index h.connections; place = place })
   pub connected : slice_get h.connections (last_index h.connections) ≡ Some (outward h)
   pub there : slice_get (outward h).stream place ≡ Some (WriteItem a.write)
   pub standing : stands (outward h) ≡ true
@@ -24,29 +27,34 @@ pub record IsHere (h : PrimaryHistory) (a : Accepted) : Type 0 where
 pub not-alone : (h : PrimaryHistory) → HasHomes h → IsLastOpen h → (i : ℕ) (a : Accepted) → slice_get h.writes i ≡ Some a → is_alone h a ≡ false → IsHere h a
 not-alone h homes last i a at linked = go a.home refl
   where
-    go : (v : Option (ℕ × ℕ)) → a.home ≡ v → IsHere h a
+    go : (v : Option StreamPosition) → a.home ≡ v → IsHere h a
     go None is = absurd (both_ways (is_alone h a) linked (alone-homeless h a is))
     go (Some home) is =
-        let was = homes.housed i home.0 home.1 a at is in
+        let was = homes.housed i home.index home.place a at is in
         let unshut : was.0.closed ≡ false = sym (alone-at h a home was.0 is was.1) ∙ linked in
-        let ends = open-is-last h home.0 was.0 last was.1 unshut in
-        let there : slice_get (outward h).stream home.1 ≡ Some (WriteItem a.write) = subst (λ (c : Outward). slice_get c.stream home.1 ≡ Some (WriteItem a.write)) ends.1 was.2 in
-        let connected : slice_get h.connections (last_index h.connections) ≡ Some (outward h) = subst (λ n. slice_get h.connections n ≡ Some (outward h)) ends.0 (was.1 ∙ ap (λ (c : Outward). Some c) ends.1) in
+        let ends = open-is-last h home.index was.0 last was.1 unshut in
+        let there : slice_get (outward h).stream home.place ≡ Some (WriteItem a.write) =
+        subst (λ (c : Outward). slice_get c.stream home.place ≡ Some (WriteItem a.write)) ends.1 was.2 in
+        let connected : slice_get h.connections (last_index h.connections) ≡ Some (outward h) = subst (λ n. slice_get h.connections n ≡ Some (outward h)) ends.0
+        (was.1 ∙ ap (λ (c : Outward). Some c) ends.1) in
         let open_so : (outward h).closed ≡ false = ap (λ (c : Outward). c.closed) (sym ends.1) ∙ unshut in
         record {
-          place = home.1;
-          home = is ∙ ap (λ n. Some (n, home.1)) ends.0;
+          place = home.place;
+          home = is ∙ ap (λ n. let at : StreamPosition = record { index = n; place = home.place } in Some at) ends.0;
           connected = connected;
           there = there;
-          standing = begun (outward h).begun refl home.1 there connected open_so;
+          standing = begun (outward h).begun refl home.place there connected open_so;
         }
       where
-        begun : (b : Bool) → (outward h).begun ≡ b → (place : ℕ) → slice_get (outward h).stream place ≡ Some (WriteItem a.write) → slice_get h.connections (last_index h.connections) ≡ Some (outward h) → (outward h).closed ≡ false → stands (outward h) ≡ true
+        begun : (b : Bool) → (outward h).begun ≡ b → (place : ℕ) → slice_get (outward h).stream place ≡ Some (WriteItem a.write)
+            → slice_get h.connections (last_index h.connections) ≡ Some (outward h) → (outward h).closed ≡ false → stands (outward h) ≡ true
         begun true is place there connected open_so = λ i. not (open_so i) && is i
         begun false is place there connected open_so =
-            absurd (let none : slice_get (outward h).stream place ≡ None = ap (λ (s : List Item). slice_get s place) (homes.empty (last_index h.connections) (outward h) connected is) in cc)
+            absurd (let none : slice_get (outward h).stream place ≡ None = ap (λ (s : List Item). slice_get s place)
+            (homes.empty (last_index h.connections) (outward h) connected is) in cc)
 
-module _ (h : PrimaryHistory) (l : LogState) (homes : HasHomes h) (last : IsLastOpen h) (protocol : l.protocol ≡ h.settings.protocol) (stream : stands (outward h) ≡ true → LeavesEpochs l (outward h)) where
+module _ (h : PrimaryHistory) (l : LogState) (homes : HasHomes h) (last : IsLastOpen h) (protocol : l.protocol ≡ h.settings.protocol)
+    (stream : stands (outward h) ≡ true → LeavesEpochs l (outward h)) where
   -- its epoch is acknowledged where its number is confirmed
   pub confirmed-number : (i : ℕ) (a : Accepted) → slice_get h.writes i ≡ Some a → is_alone h a ≡ false → is_confirmed h a ≡ nat_le a.write.number l.confirmed
   confirmed-number i a at linked =
@@ -55,7 +63,7 @@ module _ (h : PrimaryHistory) (l : LogState) (homes : HasHomes h) (last : IsLast
       let epoch : ℕ = epoch_of (outward h).stream here.place in
       let none : l.confirmed + 0 ≡ l.confirmed = omega arith in
       let same : e.acked + 0 ≡ e.acked = omega arith in
-      confirmed-at h a (last_index h.connections, here.place) (outward h) here.home here.connected
+      confirmed-at h a (record { index = last_index h.connections; place = here.place }) (outward h) here.home here.connected
       ∙ (e.acknowledged epoch (omega arith)
       ∙ (ap (nat_le epoch) (sym same) ∙ (sym (e.upto 0 here.place a.write (omega arith) here.there) ∙ ap (nat_le a.write.number) none)))
 
@@ -63,15 +71,20 @@ module _ (h : PrimaryHistory) (l : LogState) (homes : HasHomes h) (last : IsLast
   pub released-seen : (i : ℕ) (a : Accepted) → slice_get h.writes i ≡ Some a → log.is_released l.confirmed (logged_of h a) ≡ is_released h a
   released-seen i a at = (λ j. settled-seen a.outcome j && (not-not (is_alone h a) j || nat_le a.write.number l.confirmed)) ∙ go (is_alone h a) refl
     where
-      go : (b : Bool) → is_alone h a ≡ b → (not (is_waiting a.outcome) && (is_alone h a || nat_le a.write.number l.confirmed)) ≡ (not (is_waiting a.outcome) && (is_confirmed h a || is_alone h a))
-      go true is = ap (λ b. not (is_waiting a.outcome) && (b || nat_le a.write.number l.confirmed)) is ∙ (ap (λ b. not (is_waiting a.outcome) && b) (sym (or-true (is_confirmed h a))) ∙ ap (λ b. not (is_waiting a.outcome) && (is_confirmed h a || b)) (sym is))
+      go : (b : Bool) → is_alone h a ≡ b
+          → (not (is_waiting a.outcome) && (is_alone h a || nat_le a.write.number l.confirmed)) ≡
+          (not (is_waiting a.outcome) && (is_confirmed h a || is_alone h a))
+      go true is = ap (λ b. not (is_waiting a.outcome) && (b || nat_le a.write.number l.confirmed)) is
+          ∙ (ap (λ b. not (is_waiting a.outcome) && b) (sym (or-true (is_confirmed h a)))
+          ∙ ap (λ b. not (is_waiting a.outcome) && (is_confirmed h a || b)) (sym is))
         where
           or-true : (b : Bool) → (b || true) ≡ true
           or-true true = refl
           or-true false = refl
       go false is =
           ap (λ b. not (is_waiting a.outcome) && (b || nat_le a.write.number l.confirmed)) is
-          ∙ (ap (λ b. not (is_waiting a.outcome) && b) (sym (confirmed-number i a at is) ∙ sym (or-false (is_confirmed h a))) ∙ ap (λ b. not (is_waiting a.outcome) && (is_confirmed h a || b)) (sym is))
+          ∙ (ap (λ b. not (is_waiting a.outcome) && b) (sym (confirmed-number i a at is) ∙ sym (or-false (is_confirmed h a)))
+          ∙ ap (λ b. not (is_waiting a.outcome) && (is_confirmed h a || b)) (sym is))
 
   -- a write that is confirmed is answered
   pub confirmed-answered : (i : ℕ) (a : Accepted) → slice_get h.writes i ≡ Some a → is_alone h a ≡ false → is_confirmed h a ≡ true → is_answered h a ≡ true
@@ -79,14 +92,24 @@ module _ (h : PrimaryHistory) (l : LogState) (homes : HasHomes h) (last : IsLast
       let here = not-alone h homes last i a at linked in
       let e = stream here.standing in
       let epoch : ℕ = epoch_of (outward h).stream here.place in
-      let within : nat_le epoch e.acked ≡ true = sym (e.acknowledged epoch (omega arith)) ∙ (sym (confirmed-at h a (last_index h.connections, here.place) (outward h) here.home here.connected) ∙ confirmed) in
+      let within : nat_le epoch e.acked ≡ true = sym (e.acknowledged epoch (omega arith))
+      ∙ (sym (confirmed-at h a (record { index = last_index h.connections; place = here.place }) (outward h) here.home here.connected) ∙ confirmed) in
       answered-here here.place here.home here.connected
-      ∙ (ap (λ (p : Protocol). is_answered_by p (outward h) here.place (WriteItem a.write)) (sym protocol) ∙ e.answered here.place a.write here.there (leb-true epoch e.acked within))
+      ∙ (ap (λ (p : Protocol). is_answered_by p (outward h) here.place (WriteItem a.write)) (sym protocol)
+      ∙ e.answered here.place a.write here.there (leb-true epoch e.acked within))
     where
-      answered-here : (place : ℕ) → a.home ≡ Some (last_index h.connections, place) → slice_get h.connections (last_index h.connections) ≡ Some (outward h) → is_answered h a ≡ is_answered_by h.settings.protocol (outward h) place (WriteItem a.write)
+      answered-here : (place : ℕ) → a.home ≡ Some (record { index = last_index h.connections; place = place })
+          → slice_get h.connections (last_index h.connections) ≡ Some (outward h)
+          → is_answered h a ≡ is_answered_by h.settings.protocol (outward h) place (WriteItem a.write)
       answered-here place home connected =
-          ap (λ (v : Option (ℕ × ℕ)). elim v as (λ _. Bool) [ None ↦ false | Some home ↦ elim (slice_get h.connections home.0) as (λ _. Bool) [ None ↦ false | Some c ↦ is_answered_by h.settings.protocol c home.1 (WriteItem a.write) ] ]) home
-          ∙ ap (λ (v : Option Outward). elim v as (λ _. Bool) [ None ↦ false | Some c ↦ is_answered_by h.settings.protocol c place (WriteItem a.write) ]) connected
+          ap (λ (v : Option StreamPosition). elim v as
+          (λ _. Bool) [
+            | None ↦ false
+            | Some home ↦ elim (slice_get h.connections home.index) as
+                (λ _. Bool) [ None ↦ false | Some c ↦ is_answered_by h.settings.protocol c home.place (WriteItem a.write) ]
+          ]) home
+          ∙ ap (λ (v : Option Outward). elim v as (λ _. Bool) [ None ↦ false | Some c ↦ is_answered_by h.settings.protocol c place (WriteItem a.write) ])
+          connected
 
   -- what is released is open no more
   pub released-not-open : (i : ℕ) (a : Accepted) → slice_get h.writes i ≡ Some a → is_released h a ≡ true → log.is_open (logged_of h a) ≡ false
@@ -99,7 +122,8 @@ module _ (h : PrimaryHistory) (l : LogState) (homes : HasHomes h) (last : IsLast
       told = elim (cases_Bool (is_alone h a)) [
         | inl alone ↦ ap (λ b. is_answered h a || b) alone ∙ or-true (is_answered h a)
         | inr linked ↦
-            let confirmed : is_confirmed h a ≡ true = elim (or_cases (is_confirmed h a) (is_alone h a) parts.1) [ inl is ↦ is | inr alone ↦ absurd (both_ways (is_alone h a) linked alone) ] in
+            let confirmed : is_confirmed h a ≡ true =
+            elim (or_cases (is_confirmed h a) (is_alone h a) parts.1) [ inl is ↦ is | inr alone ↦ absurd (both_ways (is_alone h a) linked alone) ] in
             ap (λ b. b || is_alone h a) (confirmed-answered i a at linked confirmed)
       ]
         where

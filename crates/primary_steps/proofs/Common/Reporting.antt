@@ -15,7 +15,8 @@ use Rattle.primary_steps.specs.Leaves.{logged_of}
 use Rattle.primary_steps.proofs.Common.Marks.{Reports}
 
 -- The report has the writes that the step releases, and no other.
-pub reports-of : (h later : PrimaryHistory) (g : Accepted → Accepted) (released : List Released) → released ≡ map (λ a. released_of (logged_of later (g a))) (filter (λ a. not (is_released h a) && is_released later (g a)) h.writes)
+pub reports-of : (h later : PrimaryHistory) (g : Accepted → Accepted) (released : List Released)
+    → released ≡ map (λ a. released_of (logged_of later (g a))) (filter (λ a. not (is_released h a) && is_released later (g a)) h.writes)
     → later.writes ≡ map g h.writes → ((a : Accepted) → (g a).write ≡ a.write) → Reports h later released
 reports-of h later g released is writes same = record { only = only; all = all }
   where
@@ -29,7 +30,8 @@ reports-of h later g released is writes same = record { only = only; all = all }
     at-then i a at = ap (λ (ws : List Accepted). slice_get ws i) writes ∙ (slice_get-map g h.writes i ∙ ap (option_map g) at)
 
     only : (n : ℕ) (r : Released) → slice_get released n ≡ Some r
-        → (i : ℕ) × (b : Accepted) × IsNew h later i b × (list_any (λ (was : Accepted). was.write.number == b.write.number) (unreleased h) ≡ true) × (r ≡ released_of (logged_of later b))
+        → (i : ℕ) × (b : Accepted) × IsNew h later i b × (list_any (λ (was : Accepted). was.write.number == b.write.number) (unreleased h) ≡ true)
+        × (r ≡ released_of (logged_of later b))
     only n r there =
         let of = pick-image out (filter passes h.writes) n r (subst (λ (rs : List Released). slice_get rs n ≡ Some r) is there) in
         let stood = pick-filtered passes h.writes n of.0 of.1 in
@@ -40,15 +42,22 @@ reports-of h later g released is writes same = record { only = only; all = all }
           record {
             at = at-then stood.0 of.0 stood.1;
             now = parts.1;
-            before = λ b atb. subst (λ (x : Accepted). is_released h x ≡ false) (same-at h.writes stood.0 of.0 b stood.1 atb) (not-true (is_released h of.0) parts.0);
+            before = λ b atb. subst (λ (x : Accepted). is_released h x ≡ false) (same-at h.writes stood.0 of.0 b stood.1 atb)
+                (not-true (is_released h of.0) parts.0);
           },
-          any-pick (λ (was : Accepted). was.write.number == (g of.0).write.number) (unreleased h) held.0 of.0 held.1 (eq-eqb of.0.write.number (g of.0).write.number (ap (λ (w : Write). w.number) (sym (same of.0)))),
+          any-pick (λ (was : Accepted). was.write.number == (g of.0).write.number) (unreleased h) held.0 of.0 held.1
+              (eq-eqb of.0.write.number (g of.0).write.number (ap (λ (w : Write). w.number) (sym (same of.0)))),
           sym of.2,
         )
 
     all : (i : ℕ) (b : Accepted) → IsNew h later i b → (n : ℕ) × (slice_get released n ≡ Some (released_of (logged_of later b)))
     all i b new =
         let of = pick-image g h.writes i b (subst (λ (ws : List Accepted). slice_get ws i ≡ Some b) writes new.at) in
-        let passed : passes of.0 ≡ true = and_from (not (is_released h of.0)) (is_released later (g of.0)) (ap not (new.before of.0 of.1)) (ap (is_released later) of.2 ∙ new.now) in
-        let there = filtered-pick passes h.writes i of.0 of.1 passed in
-        (there.0, ap (λ (rs : List Released). slice_get rs there.0) is ∙ (slice_get-map out (filter passes h.writes) there.0 ∙ (ap (option_map out) there.1 ∙ ap (λ (x : Accepted). Some (released_of (logged_of later x))) of.2)))
+        let passed : passes of.0 ≡ true = and_from (not (is_released h of.0)) (is_released later (g of.0)) (ap not (new.before of.0 of.1))
+        (ap (is_released later) of.2 ∙ new.now) in
+        let there = filtered-pick passes h.writes i of.0 of.1 passed in (
+          there.0,
+          ap (λ (rs : List Released). slice_get rs there.0) is
+              ∙ (slice_get-map out (filter passes h.writes) there.0
+              ∙ (ap (option_map out) there.1 ∙ ap (λ (x : Accepted). Some (released_of (logged_of later x))) of.2)),
+        )

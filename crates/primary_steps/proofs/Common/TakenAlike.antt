@@ -15,6 +15,7 @@ use Rattle.primary_steps.specs.Steps.{Agrees}
 -- before the end closes.
 abbrev pub TakenAlike : Received → PrimaryState → PrimaryHistory → core.Taken → model.Taken → Type 0
 TakenAlike frame s h (Ok got) (Ok done) = Agrees reply.Ok (Ok got.0, got.1) (step.succeeding done.0 done.1)
-TakenAlike frame s h (Err got) (Err error) = (got.0 ≡ error.0) × ((peer : Option Tuple) × (got.1 ≡ record s { peer = peer }) × (error.1 ≡ record (with_outward (with_frame frame) h) { peer = peer }))
+TakenAlike frame s h (Err got) (Err error) =
+    (got.0 ≡ error.0) × ((peer : Option Tuple) × (got.1 ≡ record s { peer = peer }) × (error.1 ≡ record (with_outward (with_frame frame) h) { peer = peer }))
 TakenAlike frame s h (Ok got) (Err error) = ⊥
 TakenAlike frame s h (Err got) (Ok done) = ⊥

@@ -1,10 +1,11 @@
 -- What the log says of a write, and what the history says of it.
 use Rattle.std.proofs.Common.{◌≡◌, Bool, true, false, not, ◌&&◌, ◌||◌, refl, ◌∙◌, ap}
-use Rattle.std.proofs.lemmas.Bool.{and_parts}
 use Rattle.model.specs.Primary as history
-use Rattle.model.specs.Primary.{LocalOutcome, Waiting, OnDisk, Failed, Accepted, Outward, PrimaryHistory, is_answered, is_alone, completes, is_failed, is_on_disk, is_confirmed, is_released}
+use Rattle.model.specs.Primary.{LocalOutcome, Waiting, OnDisk, Failed, Accepted, Outward, PrimaryHistory, is_answered, is_alone, completes, is_failed}
+use Rattle.model.specs.Primary.{is_on_disk, is_confirmed, is_released}
 use Rattle.transferlog.specs.Writes as log
 use Rattle.transferlog.specs.Writes.{LogWrite}
+use Rattle.laws.proofs.Rules.Completions.{completes-parts, completes-with}
 use Rattle.primary_steps.specs.Leaves.{local_of, logged_of}
 
 -- Truth values.
@@ -39,7 +40,7 @@ disk-not-failed (Failed offsets) on = absurd (cc)
 -- What is read off.
 
 pub completes-seen : (h : PrimaryHistory) (a : Accepted) → log.is_completed (logged_of h a) ≡ completes h a
-completes-seen h a = λ i. disk-seen a.outcome i && (is_answered h a || not-not (is_alone h a) i)
+completes-seen h a = completes-with h a _ _ _ (disk-seen a.outcome) refl (not-not (is_alone h a))
 
 pub open-seen : (h : PrimaryHistory) (a : Accepted) → log.is_open (logged_of h a) ≡ (not (completes h a) && not (is_failed a.outcome))
 open-seen h a = λ i. not (completes-seen h a i) && not (failed-seen a.outcome i)
@@ -49,7 +50,7 @@ waiting-seen h a = ap not (settled-seen a.outcome) ∙ not-not (history.is_waiti
 
 -- what completes did not fail
 pub completes-not-failed : (h : PrimaryHistory) (a : Accepted) → completes h a ≡ true → is_failed a.outcome ≡ false
-completes-not-failed h a done = disk-not-failed a.outcome (and_parts (is_on_disk a.outcome) (is_answered h a || is_alone h a) done).0
+completes-not-failed h a done = disk-not-failed a.outcome (completes-parts h a done).0
 
 -- what waits for the local disk is not released
 pub waiting-not-released : (h : PrimaryHistory) (a : Accepted) → history.is_waiting a.outcome ≡ true → is_released h a ≡ false

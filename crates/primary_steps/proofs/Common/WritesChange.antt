@@ -1,5 +1,6 @@
 -- Something happens to the writes, and releases some: what the log makes of it, and what the history does.
-use Rattle.std.proofs.Common.{ℕ, ◌≡◌, ◌-◌, Bool, true, false, not, ◌&&◌, List, [], ◌∷◌, length, map, filter, Some, slice_get, refl, sym, ◌∙◌, ap, subst, arith, ◌==◌}
+use Rattle.std.proofs.Common.{ℕ, ◌≡◌, ◌-◌, Bool, true, false, not, ◌&&◌, List, [], ◌∷◌, length, map, filter, Some, slice_get, refl, sym, ◌∙◌, ap, subst, arith}
+use Rattle.std.proofs.Common.{◌==◌}
 use Rattle.std.specs.Prelude.{if◌then◌else◌}
 use Rattle.std.specs.List.{list_any}
 use Rattle.std.proofs.lemmas.Bool.{both_ways, false_from_ne_true}
@@ -37,7 +38,8 @@ pub record IsMoved (h h1 : PrimaryHistory) (move : LogWrite → LogWrite) (g : A
 module _ (s : PrimaryState) (h h1 : PrimaryHistory) (move : LogWrite → LogWrite) (g : Accepted → Accepted) (upto : ℕ)
     (left : Leaves s h) (homes : HasHomes h) (last : IsLastOpen h) (m : IsMoved h h1 move g upto) where
   -- which writes are left
-  kept-is : (i : ℕ) (a : Accepted) → slice_get h.writes i ≡ Some a → (not (is_released h a) && not (log.is_released upto (move (logged_of h a)))) ≡ not (is_released h1 (g a))
+  kept-is : (i : ℕ) (a : Accepted) → slice_get h.writes i ≡ Some a
+      → (not (is_released h a) && not (log.is_released upto (move (logged_of h a)))) ≡ not (is_released h1 (g a))
   kept-is i a at = ap (λ b. not (is_released h a) && not b) (m.released i a at) ∙ go (is_released h a) (is_released h1 (g a)) refl refl
     where
       go : (was now : Bool) → is_released h a ≡ was → is_released h1 (g a) ≡ now → (not was && not now) ≡ not now
@@ -49,8 +51,10 @@ module _ (s : PrimaryState) (h h1 : PrimaryHistory) (move : LogWrite → LogWrit
   abbrev rel : Accepted → Bool
   rel a = not (is_released h a)
 
-  seen-at : {Y : Type 0} (out : LogWrite → Y) (p : Accepted → Bool) → map (λ a. out (move (logged_of h a))) (filter p h.writes) ≡ map (λ a. out (logged_of h1 (g a))) (filter p h.writes)
-  seen-at out p = map-at (λ a. out (move (logged_of h a))) (λ a. out (logged_of h1 (g a))) (filter p h.writes) (λ i a at. let there = pick-filtered p h.writes i a at in ap out (sym (m.logged there.0 a there.1)))
+  seen-at : {Y : Type 0} (out : LogWrite → Y) (p : Accepted → Bool)
+      → map (λ a. out (move (logged_of h a))) (filter p h.writes) ≡ map (λ a. out (logged_of h1 (g a))) (filter p h.writes)
+  seen-at out p = map-at (λ a. out (move (logged_of h a))) (λ a. out (logged_of h1 (g a))) (filter p h.writes)
+      (λ i a at. let there = pick-filtered p h.writes i a at in ap out (sym (m.logged there.0 a there.1)))
 
   pub left-then : (moved move upto s.log).writes ≡ map (logged_of h1) (unreleased h1)
   left-then =
@@ -64,18 +68,21 @@ module _ (s : PrimaryState) (h h1 : PrimaryHistory) (move : LogWrite → LogWrit
       ∙ ap (map (logged_of h1)) (sym (filter-map (λ a. not (is_released h1 a)) g h.writes) ∙ ap (filter (λ a. not (is_released h1 a))) (sym m.writes)))))))
 
   -- what the log reports released
-  pub moved-released : (moved move upto s.log).released ≡ map (λ a. released_of (logged_of h1 (g a))) (filter (λ a. not (is_released h a) && is_released h1 (g a)) h.writes)
+  pub moved-released : (moved move upto s.log).released ≡ map (λ a. released_of (logged_of h1 (g a)))
+      (filter (λ a. not (is_released h a) && is_released h1 (g a)) h.writes)
   moved-released =
       ap (λ (ws : List LogWrite). map released_of (filter (log.is_released upto) (map move ws))) left.rest.log.writes
       ∙ (ap (λ (ws : List LogWrite). map released_of (filter (log.is_released upto) ws)) (map-twice move (logged_of h) (unreleased h))
       ∙ (ap (map released_of) (filter-map (log.is_released upto) (λ a. move (logged_of h a)) (unreleased h))
       ∙ (map-twice released_of (λ a. move (logged_of h a)) (filter (λ a. log.is_released upto (move (logged_of h a))) (unreleased h))
       ∙ (ap (map (λ a. released_of (move (logged_of h a)))) (filter-twice (λ a. log.is_released upto (move (logged_of h a))) rel h.writes
-      ∙ filter-at (λ a. rel a && log.is_released upto (move (logged_of h a))) (λ a. rel a && is_released h1 (g a)) h.writes (λ i a at. ap (λ b. rel a && b) (m.released i a at)))
+      ∙ filter-at (λ a. rel a && log.is_released upto (move (logged_of h a))) (λ a. rel a && is_released h1 (g a)) h.writes
+      (λ i a at. ap (λ b. rel a && b) (m.released i a at)))
       ∙ seen-at released_of (λ a. not (is_released h a) && is_released h1 (g a))))))
 
   -- what is open in the log is open in the history, as long as the journal does not have what is completed now
-  open-then : (i : ℕ) (a : Accepted) → slice_get h.writes i ≡ Some a → ((not (is_released h a) && log.is_open (logged_of h a)) && log.is_completed (move (logged_of h a))) ≡ (is_open h1 (g a) && completes h1 (g a))
+  open-then : (i : ℕ) (a : Accepted) → slice_get h.writes i ≡ Some a
+      → ((not (is_released h a) && log.is_open (logged_of h a)) && log.is_completed (move (logged_of h a))) ≡ (is_open h1 (g a) && completes h1 (g a))
   open-then i a at =
       ap (λ b. (not (is_released h a) && log.is_open (logged_of h a)) && b) (ap log.is_completed (sym (m.logged i a at)) ∙ completes-seen h1 (g a))
       ∙ go (completes h1 (g a)) refl
@@ -105,14 +112,18 @@ module _ (s : PrimaryState) (h h1 : PrimaryHistory) (move : LogWrite → LogWrit
 
           by-was : (b : Bool) → completes h a ≡ b → (not (is_released h a) && log.is_open (logged_of h a)) ≡ is_open h1 (g a)
           by-was true was =
-              ap (λ b. not (is_released h a) && b) (open-seen h a ∙ λ j. not (was j) && not (is_failed a.outcome)) ∙ (and-false (not (is_released h a)) ∙ sym (open-is ∙ ap not was))
+              ap (λ b. not (is_released h a) && b) (open-seen h a ∙ λ j. not (was j) && not (is_failed a.outcome))
+              ∙ (and-false (not (is_released h a)) ∙ sym (open-is ∙ ap not was))
             where
               and-false : (b : Bool) → (b && false) ≡ false
               and-false true = refl
               and-false false = refl
           by-was false was =
               let open_log : log.is_open (logged_of h a) ≡ true = open-seen h a ∙ λ j. not (was j) && not (unfailed-was j) in
-              let unreleased_so : is_released h a ≡ false = false_from_ne_true (is_released h a) (λ rel. both_ways (log.is_open (logged_of h a)) (released-not-open h s.log homes last left.rest.log.protocol left.stream.on i a at rel) open_log) in
+              let unreleased_so : is_released h a ≡ false =
+              false_from_ne_true (is_released h a)
+              (λ rel. both_ways (log.is_open (logged_of h a)) (released-not-open h s.log homes last left.rest.log.protocol left.stream.on i a at rel)
+              open_log) in
               (λ j. not (unreleased_so j) && open_log j) ∙ sym (open-is ∙ ap not was)
 
   -- what the log reports completed
@@ -120,30 +131,39 @@ module _ (s : PrimaryState) (h h1 : PrimaryHistory) (move : LogWrite → LogWrit
   moved-completed =
       ap (λ (ws : List LogWrite). map completed_of (filter log.is_completed (map move (filter log.is_open ws)))) left.rest.log.writes
       ∙ (ap (λ (ws : List LogWrite). map completed_of (filter log.is_completed (map move ws))) (filter-map log.is_open (logged_of h) (unreleased h))
-      ∙ (ap (λ (ws : List LogWrite). map completed_of (filter log.is_completed ws)) (map-twice move (logged_of h) (filter (λ a. log.is_open (logged_of h a)) (unreleased h)))
+      ∙ (ap (λ (ws : List LogWrite). map completed_of (filter log.is_completed ws))
+      (map-twice move (logged_of h) (filter (λ a. log.is_open (logged_of h a)) (unreleased h)))
       ∙ (ap (map completed_of) (filter-map log.is_completed (λ a. move (logged_of h a)) (filter (λ a. log.is_open (logged_of h a)) (unreleased h)))
-      ∙ (map-twice completed_of (λ a. move (logged_of h a)) (filter (λ a. log.is_completed (move (logged_of h a))) (filter (λ a. log.is_open (logged_of h a)) (unreleased h)))
-      ∙ (ap (map (λ a. completed_of (move (logged_of h a)))) (ap (filter (λ a. log.is_completed (move (logged_of h a)))) (filter-twice (λ a. log.is_open (logged_of h a)) rel h.writes)
+      ∙ (map-twice completed_of (λ a. move (logged_of h a))
+      (filter (λ a. log.is_completed (move (logged_of h a))) (filter (λ a. log.is_open (logged_of h a)) (unreleased h)))
+      ∙ (ap (map (λ a. completed_of (move (logged_of h a))))
+      (ap (filter (λ a. log.is_completed (move (logged_of h a)))) (filter-twice (λ a. log.is_open (logged_of h a)) rel h.writes)
       ∙ (filter-twice (λ a. log.is_completed (move (logged_of h a))) (λ a. rel a && log.is_open (logged_of h a)) h.writes
-      ∙ filter-at (λ a. (rel a && log.is_open (logged_of h a)) && log.is_completed (move (logged_of h a))) (λ a. is_open h1 (g a) && completes h1 (g a)) h.writes open-then))
+      ∙ filter-at (λ a. (rel a && log.is_open (logged_of h a)) && log.is_completed (move (logged_of h a))) (λ a. is_open h1 (g a) && completes h1 (g a))
+      h.writes open-then))
       ∙ (seen-at completed_of (λ a. is_open h1 (g a) && completes h1 (g a))
       ∙ (sym (map-twice (λ a. completed_of (logged_of h1 a)) g (filter (λ a. is_open h1 (g a) && completes h1 (g a)) h.writes))
-      ∙ ap (map (λ a. completed_of (logged_of h1 a))) (sym (filter-map (λ a. is_open h1 a && completes h1 a) g h.writes) ∙ ap (filter (λ a. is_open h1 a && completes h1 a)) (sym m.writes)))))))))
+      ∙ ap (map (λ a. completed_of (logged_of h1 a))) (sym (filter-map (λ a. is_open h1 a && completes h1 a) g h.writes)
+      ∙ ap (filter (λ a. is_open h1 a && completes h1 a)) (sym m.writes)))))))))
 
   pub latest-then : (block number : ℕ) → latest_in h1.writes block number ≡ latest_in h.writes block number
   latest-then block number = ap (λ (ws : List Accepted). latest_in ws block number) m.writes ∙ go h.writes number
     where
       go : (ws : List Accepted) (number : ℕ) → latest_in (map g ws) block number ≡ latest_in ws block number
       go [] number = refl
-      go (a ∷ ws) number = go ws (if covers (g a).write block then (g a).write.number else number) ∙ ap (λ (w : Write). latest_in ws block (if covers w block then w.number else number)) (m.write a)
+      go (a ∷ ws) number = go ws (if covers (g a).write block then (g a).write.number else number)
+          ∙ ap (λ (w : Write). latest_in ws block (if covers w block then w.number else number)) (m.write a)
 
   -- the active extents are left
   pub moved-activity : LeavesActivity (leaving (moved move upto s.log).released s.activity) h1.settings.slots (unreleased h1)
   moved-activity =
       subst (λ (x : Settings). LeavesActivity (leaving (moved move upto s.log).released s.activity) x.slots (unreleased h1)) (sym m.settings)
       (of-counts (leaving (moved move upto s.log).released s.activity) h.settings.slots (unreleased h1)
-      (counts-same (leaving (moved move upto s.log).released s.activity) h.settings.slots (λ extent. writes_in extent (unreleased h) - released_in extent (moved move upto s.log).released) (λ extent. writes_in extent (unreleased h1)) pointwise
-      (leaving-counts (moved move upto s.log).released s.activity h.settings.slots (λ extent. writes_in extent (unreleased h)) (counts-of s.activity h.settings.slots (unreleased h) left.rest.activity))))
+      (counts-same (leaving (moved move upto s.log).released s.activity) h.settings.slots
+      (λ extent. writes_in extent (unreleased h) - released_in extent (moved move upto s.log).released) (λ extent. writes_in extent (unreleased h1))
+      pointwise
+      (leaving-counts (moved move upto s.log).released s.activity h.settings.slots (λ extent. writes_in extent (unreleased h))
+      (counts-of s.activity h.settings.slots (unreleased h) left.rest.activity))))
     where
       lies : ℕ → Accepted → Bool
       lies extent a = extent == extent_of a.write.first
@@ -154,9 +174,11 @@ module _ (s : PrimaryState) (h h1 : PrimaryHistory) (move : LogWrite → LogWrit
           ∙ (ap (λ (ws : List Accepted). length (filter (lies extent) ws)) (filter-map (λ a. not (is_released h1 a)) g h.writes)
           ∙ (ap length (filter-map (lies extent) g (filter (λ a. not (is_released h1 (g a))) h.writes))
           ∙ (length-map (filter (λ a. lies extent (g a)) (filter (λ a. not (is_released h1 (g a))) h.writes)) g
-          ∙ ap length (filter-at (λ a. lies extent (g a)) (lies extent) (filter (λ a. not (is_released h1 (g a))) h.writes) (λ i a at. ap (λ (w : Write). extent == extent_of w.first) (m.write a))))))
+          ∙ ap length (filter-at (λ a. lies extent (g a)) (lies extent) (filter (λ a. not (is_released h1 (g a))) h.writes)
+          (λ i a at. ap (λ (w : Write). extent == extent_of w.first) (m.write a))))))
 
-      gone : (extent : ℕ) → released_in extent (moved move upto s.log).released ≡ length (filter (lies extent) (filter (λ a. not (is_released h a) && is_released h1 (g a)) h.writes))
+      gone : (extent : ℕ) → released_in extent (moved move upto s.log).released ≡ length
+          (filter (lies extent) (filter (λ a. not (is_released h a) && is_released h1 (g a)) h.writes))
       gone extent =
           let some : List Accepted = filter (λ a. not (is_released h a) && is_released h1 (g a)) h.writes in
           ap (released_in extent) moved-released

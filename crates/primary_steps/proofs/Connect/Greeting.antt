@@ -1,19 +1,24 @@
 -- An end whose stream has not begun takes a frame that is no acknowledgement.
-use Rattle.std.proofs.Common.{ℕ, suc, ◌≡◌, inl, inr, Bool, true, false, not, ◌&&◌, ◌||◌, List, [], ◌∷◌, ◌++◌, length, map, filter, Option, Some, None, slice_get, Ok, refl, sym, ◌∙◌, ap, subst, arith, nat_lt}
+use Rattle.std.proofs.Common.{ℕ, suc, ◌≡◌, inl, inr, Bool, true, false, not, ◌&&◌, ◌||◌, List, [], ◌∷◌, ◌++◌, length, map, filter, Option, Some, None}
+use Rattle.std.proofs.Common.{slice_get, Ok, refl, sym, ◌∙◌, ap, subst, arith, nat_lt}
 use Rattle.std.proofs.Math.Bool.{or-false}
 use Rattle.std.specs.Prelude.{min, if◌then◌else◌}
 use Rattle.std.specs.List.{list_any}
 use Rattle.std.proofs.lemmas.Bool.{cases_lt, both_ways, lt-ltb, le-ltb}
 use Rattle.std.proofs.lemmas.List.{length-append}
 use Rattle.std.proofs.lemmas.List.Folds.{list_any-append}
+use Rattle.blocks.specs.Positions.{StreamPosition}
 use Rattle.blocks.specs.declared.tuple.Tuple.{Tuple}
 use Rattle.blocks.specs.declared.outcome.What.{What}
 use Rattle.blocks.specs.declared.outcome.Reply.TheVariants as reply
 use Rattle.model.specs.Frames.{Acknowledged, Received, naming}
 use Rattle.model.specs.Refusals.{done_with}
 use Rattle.model.specs.Stream.{Item, WriteItem, epoch_of, placed}
-use Rattle.model.specs.Primary.{Accepted, Outward, PrimaryHistory, no_outward, outward, last_index, change_last, with_outward, stands, items_sent, accepted_frames, is_recv_ack, is_write_ack, is_rs_write_ack, is_barrier_ack, was_received, was_written, was_resynced, barrier_acknowledged, is_answered_by, is_answered, is_alone, is_confirmed, is_waiting, is_resync, under_way, open_writes}
+use Rattle.model.specs.Primary.{Accepted, Outward, PrimaryHistory, no_outward, outward, last_index, change_last, with_outward, stands, items_sent}
+use Rattle.model.specs.Primary.{accepted_frames, is_recv_ack, is_write_ack, is_rs_write_ack, is_barrier_ack, was_received, was_written, was_resynced}
+use Rattle.model.specs.Primary.{barrier_acknowledged, is_answered_by, is_answered, is_alone, is_confirmed, is_waiting, is_resync, under_way, open_writes}
 use Rattle.model.specs.PrimarySteps as step
+use Rattle.laws.proofs.Rules.EpochEnds.{down-on}
 use Rattle.laws.proofs.Lists.Last.{get-change}
 use Rattle.laws.proofs.Primary.Ends.{accepted-all}
 use Rattle.laws.proofs.Primary.Homes.{HasHomes}
@@ -23,7 +28,7 @@ use Rattle.primary_steps.specs.Taking.{hearing}
 use Rattle.primary_steps.specs.Leaves.{is_sent, logged_of, holding_item, holding_write, UnderWayLeft, LeavesEnd, Leaves}
 use Rattle.primary_steps.specs.Steps.{Agrees}
 use Rattle.primary_steps.proofs.Common.Reached.{outward-of}
-use Rattle.primary_steps.proofs.Common.NothingFollows.{still, down-on, down-rests}
+use Rattle.primary_steps.proofs.Common.NothingFollows.{still, down-rests}
 use Rattle.primary_steps.proofs.Common.EndChanges.{IsUnseen, turned, writes-same, quiet-same, connections-same, activity-same}
 
 -- Frames.
@@ -36,17 +41,21 @@ pub record IsNoAnswer (frame : Received) : Type 0 where
   pub applied : (epoch : ℕ) → is_barrier_ack epoch frame ≡ false
 
 -- a test that the frame does not pass says the same once it is taken
-any-framed : (p : Received → Bool) (c : Outward) (frame : Received) → c.refused ≡ false → p frame ≡ false → list_any p (accepted_frames (with_frame frame c)) ≡ list_any p (accepted_frames c)
+any-framed : (p : Received → Bool) (c : Outward) (frame : Received) → c.refused ≡ false → p frame ≡ false
+    → list_any p (accepted_frames (with_frame frame c)) ≡ list_any p (accepted_frames c)
 any-framed p c frame plain none =
     ap (list_any p) (accepted-all (with_frame frame c) plain)
     ∙ (list_any-append p c.taken (frame ∷ [])
     ∙ (ap (λ b. list_any p c.taken || (b || false)) none ∙ (or-false (list_any p c.taken) ∙ sym (ap (list_any p) (accepted-all c plain)))))
 
-pub applied-same : (c : Outward) (frame : Received) → c.refused ≡ false → IsNoAnswer frame → (epoch : ℕ) → barrier_acknowledged (with_frame frame c) epoch ≡ barrier_acknowledged c epoch
+pub applied-same : (c : Outward) (frame : Received) → c.refused ≡ false → IsNoAnswer frame → (epoch : ℕ)
+    → barrier_acknowledged (with_frame frame c) epoch ≡ barrier_acknowledged c epoch
 applied-same c frame plain none epoch = any-framed (is_barrier_ack epoch) c frame plain (none.applied epoch)
 
-pub unasked-same : (c : Outward) (frame : Received) → c.refused ≡ false → IsNoAnswer frame → (place : ℕ) (item : Item) → (was_received c place item ≡ false) × (was_written c place item ≡ false) × (was_resynced c place item ≡ false)
-    → (was_received (with_frame frame c) place item ≡ false) × (was_written (with_frame frame c) place item ≡ false) × (was_resynced (with_frame frame c) place item ≡ false)
+pub unasked-same : (c : Outward) (frame : Received) → c.refused ≡ false → IsNoAnswer frame → (place : ℕ) (item : Item)
+    → (was_received c place item ≡ false) × (was_written c place item ≡ false) × (was_resynced c place item ≡ false)
+    → (was_received (with_frame frame c) place item ≡ false) × (was_written (with_frame frame c) place item ≡ false)
+    × (was_resynced (with_frame frame c) place item ≡ false)
 unasked-same c frame plain none place item old = (
   any-framed (is_recv_ack (naming place item)) c frame plain (none.received (naming place item)) ∙ old.0,
   any-framed (is_write_ack (naming place item)) c frame plain (none.written (naming place item)) ∙ old.1,
@@ -54,12 +63,15 @@ unasked-same c frame plain none place item old = (
 )
 
 -- one frame more was heard, of which three count
-pub heard-more : (c : Outward) (frame : Received) (heard : ℕ) → heard ≡ min (length c.taken) 3 → (if nat_lt heard 3 then suc heard else heard) ≡ min (length (c.taken ++ frame ∷ [])) 3
+pub heard-more : (c : Outward) (frame : Received) (heard : ℕ) → heard ≡ min (length c.taken) 3
+    → (if nat_lt heard 3 then suc heard else heard) ≡ min (length (c.taken ++ frame ∷ [])) 3
 heard-more c frame heard is =
     let long = length-append c.taken (frame ∷ []) in
     elim (cases_lt heard 3) [
-      | inl early ↦ let more : suc heard ≡ min (length (c.taken ++ frame ∷ [])) 3 = omega arith in ap (λ b. if b then suc heard else heard) (lt-ltb heard 3 early) ∙ more
-      | inr late ↦ let same : heard ≡ min (length (c.taken ++ frame ∷ [])) 3 = omega arith in ap (λ b. if b then suc heard else heard) (le-ltb heard 3 late) ∙ same
+      | inl early ↦ let more : suc heard ≡ min (length (c.taken ++ frame ∷ [])) 3 = omega arith in ap (λ b. if b then suc heard
+          else heard) (lt-ltb heard 3 early) ∙ more
+      | inr late ↦ let same : heard ≡ min (length (c.taken ++ frame ∷ [])) 3 = omega arith in ap (λ b. if b then suc heard else heard) (le-ltb heard 3 late)
+          ∙ same
     ]
 
 -- The end.
@@ -72,7 +84,8 @@ way-none (Some way) c d left none new = absurd (let both = sym none ∙ left.1 i
 pub empty-way : (c : Outward) → c.stream ≡ [] → under_way c ≡ []
 empty-way c empty = ap (λ (items : List Item). filter (λ (entry : ℕ × Item). is_resync entry.1 && not (was_resynced c entry.0 entry.1)) (placed items)) empty
 
-pub greeted-end : (e : EndState) (c : Outward) (frame : Received) → LeavesEnd e c → c.stream ≡ [] → c.begun ≡ false → IsNoAnswer frame → LeavesEnd (hearing e) (with_frame frame c)
+pub greeted-end : (e : EndState) (c : Outward) (frame : Received) → LeavesEnd e c → c.stream ≡ [] → c.begun ≡ false → IsNoAnswer frame
+    → LeavesEnd (hearing e) (with_frame frame c)
 greeted-end e c frame l empty fresh none = record {
   stands = l.stands;
   plain = l.plain;
@@ -90,21 +103,28 @@ greeted-end e c frame l empty fresh none = record {
 }
 
 -- No write has its home in a stream without items, so that no write sees a change of that end.
-module _ (h : PrimaryHistory) (homes : HasHomes h) (empty : (outward h).stream ≡ []) (f : Outward → Outward) (tuple : Tuple) (peer : Option Tuple) (marks : ℕ → Bool) where
-  untouched : (i : ℕ) (a : Accepted) (home : ℕ × ℕ) → slice_get h.writes i ≡ Some a → a.home ≡ Some home → slice_get (change_last f h.connections) home.0 ≡ slice_get h.connections home.0
+module _ (h : PrimaryHistory) (homes : HasHomes h) (empty : (outward h).stream ≡ []) (f : Outward → Outward) (tuple : Tuple) (peer : Option Tuple) (marks : ℕ
+    → Bool) where
+  untouched : (i : ℕ) (a : Accepted) (home : StreamPosition) → slice_get h.writes i ≡ Some a → a.home ≡ Some home
+      → slice_get (change_last f h.connections) home.index ≡ slice_get h.connections home.index
   untouched i a home at is =
-      let was = homes.housed i home.0 home.1 a at is in
-      elim (get-change f (no_outward h.tuple) h.connections home.0 was.0 was.1) [
+      let was = homes.housed i home.index home.place a at is in
+      elim (get-change f (no_outward h.tuple) h.connections home.index was.0 was.1) [
         | inl stays ↦ stays ∙ sym was.1
-        | inr changed ↦ absurd (let there : slice_get (outward h).stream home.1 ≡ Some (WriteItem a.write) = subst (λ (c : Outward). slice_get c.stream home.1 ≡ Some (WriteItem a.write)) changed.1 was.2 in let none = sym (ap (λ (items : List Item). slice_get items home.1) empty) ∙ there in cc)
+        | inr changed ↦ absurd (let there : slice_get (outward h).stream home.place ≡ Some (WriteItem a.write) =
+            subst (λ (c : Outward). slice_get c.stream home.place ≡ Some (WriteItem a.write)) changed.1 was.2 in let none =
+            sym (ap (λ (items : List Item). slice_get items home.place) empty) ∙ there in cc)
       ]
 
   -- a look-up of a write's connection
-  looked : {X : Type 0} (none : X) (see : ℕ × ℕ → Option Outward → X) (i : ℕ) (a : Accepted) → slice_get h.writes i ≡ Some a
-      → elim a.home as (λ _. X) [ None ↦ none | Some home ↦ see home (slice_get (change_last f h.connections) home.0) ] ≡ elim a.home as (λ _. X) [ None ↦ none | Some home ↦ see home (slice_get h.connections home.0) ]
+  looked : {X : Type 0} (none : X) (see : StreamPosition → Option Outward → X) (i : ℕ) (a : Accepted) → slice_get h.writes i ≡ Some a
+      → elim a.home as (λ _. X) [ None ↦ none | Some home ↦ see home (slice_get (change_last f h.connections) home.index) ] ≡ elim a.home as
+      (λ _. X) [ None ↦ none | Some home ↦ see home (slice_get h.connections home.index) ]
   looked {X} none see i a at = go a.home refl
     where
-      go : (v : Option (ℕ × ℕ)) → a.home ≡ v → elim v as (λ _. X) [ None ↦ none | Some home ↦ see home (slice_get (change_last f h.connections) home.0) ] ≡ elim v as (λ _. X) [ None ↦ none | Some home ↦ see home (slice_get h.connections home.0) ]
+      go : (v : Option StreamPosition) → a.home ≡ v
+          → elim v as (λ _. X) [ None ↦ none | Some home ↦ see home (slice_get (change_last f h.connections) home.index) ] ≡ elim v as
+          (λ _. X) [ None ↦ none | Some home ↦ see home (slice_get h.connections home.index) ]
       go None is = refl
       go (Some home) is = ap (see home) (untouched i a home at is)
 
@@ -112,13 +132,15 @@ module _ (h : PrimaryHistory) (homes : HasHomes h) (empty : (outward h).stream �
   alone-as = looked true (λ home v. elim v as (λ _. Bool) [ None ↦ true | Some c ↦ c.closed ])
 
   sent-as : (i : ℕ) (a : Accepted) → slice_get h.writes i ≡ Some a → is_sent (turned f tuple peer marks h) a ≡ is_sent h a
-  sent-as = looked false (λ home v. elim v as (λ _. Bool) [ None ↦ false | Some c ↦ nat_lt home.1 (items_sent c) ])
+  sent-as = looked false (λ home v. elim v as (λ _. Bool) [ None ↦ false | Some c ↦ nat_lt home.place (items_sent c) ])
 
   answered-as : (i : ℕ) (a : Accepted) → slice_get h.writes i ≡ Some a → is_answered (turned f tuple peer marks h) a ≡ is_answered h a
-  answered-as i a = looked false (λ home v. elim v as (λ _. Bool) [ None ↦ false | Some c ↦ is_answered_by h.settings.protocol c home.1 (WriteItem a.write) ]) i a
+  answered-as i a =
+      looked false (λ home v. elim v as (λ _. Bool) [ None ↦ false | Some c ↦ is_answered_by h.settings.protocol c home.place (WriteItem a.write) ]) i
+      a
 
   confirmed-as : (i : ℕ) (a : Accepted) → slice_get h.writes i ≡ Some a → is_confirmed (turned f tuple peer marks h) a ≡ is_confirmed h a
-  confirmed-as = looked false (λ home v. elim v as (λ _. Bool) [ None ↦ false | Some c ↦ barrier_acknowledged c (epoch_of c.stream home.1) ])
+  confirmed-as = looked false (λ home v. elim v as (λ _. Bool) [ None ↦ false | Some c ↦ barrier_acknowledged c (epoch_of c.stream home.place) ])
 
   pub unseen-new : IsUnseen h (turned f tuple peer marks h)
   unseen-new = record {
@@ -127,7 +149,8 @@ module _ (h : PrimaryHistory) (homes : HasHomes h) (empty : (outward h).stream �
   }
 
 -- The frame is taken, and nothing follows.
-module _ (s : PrimaryState) (h : PrimaryHistory) (left : Leaves s h) (homes : HasHomes h) (e : EndState) (end : LeavesEnd e (outward h)) (empty : (outward h).stream ≡ []) (fresh : (outward h).begun ≡ false) (frame : Received) (none : IsNoAnswer frame) where
+module _ (s : PrimaryState) (h : PrimaryHistory) (left : Leaves s h) (homes : HasHomes h) (e : EndState) (end : LeavesEnd e (outward h))
+    (empty : (outward h).stream ≡ []) (fresh : (outward h).begun ≡ false) (frame : Received) (none : IsNoAnswer frame) where
   out : outward (with_outward (with_frame frame) h) ≡ with_frame frame (outward h)
   out = outward-of (with_frame frame) h (with_outward (with_frame frame) h) refl end.stands
 
@@ -151,13 +174,17 @@ module _ (s : PrimaryState) (h : PrimaryHistory) (left : Leaves s h) (homes : Ha
         protocol = left.rest.log.protocol;
         backlog = left.rest.log.backlog;
         accepted = left.rest.log.accepted;
-        connection = left.rest.log.connection ∙ (ap (λ b. if b then Some (last_index h.connections) else None) down ∙ sym (ap (λ b. if b then Some (last_index (with_outward (with_frame frame) h).connections) else None) down-too));
+        connection = left.rest.log.connection
+            ∙ (ap (λ b. if b then Some (last_index h.connections) else None) down
+            ∙ sym (ap (λ b. if b then Some (last_index (with_outward (with_frame frame) h).connections) else None) down-too));
         writes = writes-same s h left (with_frame frame) h.tuple h.peer h.marks unseen;
         latest = left.rest.log.latest;
       };
       entries = record { entries = left.rest.entries.entries; receipts = left.rest.entries.receipts };
       marks = left.rest.marks;
-      held = left.rest.held ∙ (ap (λ b. map holding_item (if b then under_way (outward h) else []) ++ map holding_write (open_writes h)) down ∙ sym (ap (λ b. map holding_item (if b then under_way (outward (with_outward (with_frame frame) h)) else []) ++ map holding_write (open_writes h)) down-too));
+      held = left.rest.held ∙ (ap (λ b. map holding_item (if b then under_way (outward h) else []) ++ map holding_write (open_writes h)) down
+          ∙ sym (ap (λ b. map holding_item (if b then under_way (outward (with_outward (with_frame frame) h)) else []) ++ map holding_write (open_writes h))
+          down-too));
       activity = activity-same s h left (with_frame frame) h.tuple h.peer h.marks unseen;
       end = subst (LeavesEnd (hearing e)) (sym out) (greeted-end e (outward h) frame end empty fresh none);
       quiet = quiet-same s h left (with_frame frame) h.tuple h.peer h.marks unseen;
@@ -170,7 +197,9 @@ module _ (s : PrimaryState) (h : PrimaryHistory) (left : Leaves s h) (homes : Ha
     };
   }
 
-  pub greeted-agrees : (name : What) → Agrees reply.Ok (Ok (done_with name), record s { end = Some (hearing e) }) (step.succeeding name (with_outward (with_frame frame) h))
+  pub greeted-agrees : (name : What)
+      → Agrees reply.Ok (Ok (done_with name), record s { end = Some (hearing e) }) (step.succeeding name (with_outward (with_frame frame) h))
   greeted-agrees name =
       subst (Agrees reply.Ok (Ok (done_with name), record s { end = Some (hearing e) }))
-      (sym (still (with_outward (with_frame frame) h) greeted-leaves.rest.quiet (down-on (with_outward (with_frame frame) h) down-too) (down-rests (with_outward (with_frame frame) h) down-too) name)) (record { reply = refl; leaves = greeted-leaves })
+      (sym (still (with_outward (with_frame frame) h) greeted-leaves.rest.quiet (down-on (with_outward (with_frame frame) h) down-too)
+      (down-rests (with_outward (with_frame frame) h) down-too) name)) (record { reply = refl; leaves = greeted-leaves })

@@ -1,5 +1,6 @@
 -- A primary takes a frame of its peer's hello.
-use Rattle.std.proofs.Common.{ℕ, zero, suc, ◌≡◌, ◌-◌, ◌<◌, Bool, true, false, ◌||◌, [], ◌∷◌, length, Some, None, Result, Ok, Err, refl, sym, ◌∙◌, ap, subst, arith, ◌==◌}
+use Rattle.std.proofs.Common.{ℕ, zero, suc, ◌≡◌, ◌-◌, ◌<◌, Bool, true, false, ◌||◌, [], ◌∷◌, length, Some, None, Result, Ok, Err, refl, sym, ◌∙◌, ap, subst}
+use Rattle.std.proofs.Common.{arith, ◌==◌}
 use Rattle.std.specs.Prelude.{min, if◌then◌else◌}
 use Rattle.std.proofs.lemmas.Bool.{or_parts}
 use Rattle.blocks.specs.declared.tuple.Tuple.{Tuple}
@@ -16,12 +17,14 @@ use Rattle.bitmap.specs.Marks.{marking}
 use Rattle.blocks.specs.Identifiers.{stands_in, decision, sync_start}
 use Rattle.model.specs.Acknowledgements as model
 use Rattle.model.specs.Acknowledgements.{same_protocol}
-use Rattle.model.specs.Frames.{Packet, DataFrame, RsDataReplyFrame, BarrierFrame, ProtocolFrame, UuidsFrame, SizesFrame, SyncUuidFrame, RecvAckFrame, WriteAckFrame, RsWriteAckFrame, BarrierAckFrame, Received}
+use Rattle.model.specs.Frames.{Packet, DataFrame, RsDataReplyFrame, BarrierFrame, ProtocolFrame, UuidsFrame, SizesFrame, SyncUuidFrame, RecvAckFrame}
+use Rattle.model.specs.Frames.{WriteAckFrame, RsWriteAckFrame, BarrierAckFrame, Received}
 use Rattle.model.specs.Marks.{marking_all}
 use Rattle.model.specs.Primary.{Outward, PrimaryHistory, outward, with_outward}
 use Rattle.model.specs.PrimarySteps as step
 use Rattle.model.specs.PrimarySteps.{resync_is_over}
 use Rattle.model.specs.Stream.{SyncUuidItem}
+use Rattle.laws.proofs.Rules.EpochEnds.{TakesWrites}
 use Rattle.laws.proofs.Lists.Last.{change-twice}
 use Rattle.laws.proofs.Primary.Homes.{HasHomes, open-at}
 use Rattle.laws.proofs.Releases.InOrderMoves.{Ordered, in-order-kept}
@@ -38,15 +41,16 @@ use Rattle.primary_steps.proofs.Connect.StreamBegins.{joining, leading, joined-d
 use Rattle.primary_steps.proofs.Common.TakenAlike.{TakenAlike}
 use Rattle.primary_steps.proofs.Common.EndChanges.{turned}
 
-module _ (settings : Settings) (bound : 0 < settings.max_epoch) (s : PrimaryState) (h : PrimaryHistory) (e : EndState) (left : Leaves s h) (ordered : Ordered settings h) (end : LeavesEnd e (outward h)) (fresh : (outward h).begun ≡ false) where
+module _ (settings : Settings) (bound : TakesWrites settings) (s : PrimaryState) (h : PrimaryHistory) (e : EndState) (left : Leaves s h)
+    (ordered : Ordered settings h) (end : LeavesEnd e (outward h)) (fresh : (outward h).begun ≡ false) where
   homes : HasHomes h
   homes = ordered.1.1.0.0
 
   none : (outward h).stream ≡ []
   none = homes.empty (length h.connections - 1) (outward h) (open-at h end.stands) fresh
 
-  room : 0 < h.settings.max_epoch
-  room = subst (λ (x : Settings). 0 < x.max_epoch) (sym ordered.1.1.0.1.streams.setting) bound
+  room : TakesWrites h.settings
+  room = subst TakesWrites (sym ordered.1.1.0.1.streams.setting) bound
 
   -- Greetings.
 
@@ -56,7 +60,8 @@ module _ (settings : Settings) (bound : 0 < settings.max_epoch) (s : PrimaryStat
 
   -- a frame that is, or is not
   greeted : (frame : Received) → IsNoAnswer frame → (good : Bool) (name : What) (refusal : Refusal)
-      → TakenAlike frame s h (core.greeted good name refusal (hearing e) s) (if good then Ok (name, with_outward (with_frame frame) h) else Err (refusal, with_outward (with_frame frame) h))
+      → TakenAlike frame s h (core.greeted good name refusal (hearing e) s) (if good then Ok (name, with_outward (with_frame frame) h)
+      else Err (refusal, with_outward (with_frame frame) h))
   greeted frame other true name refusal = greeted-agrees s h left homes e end none fresh frame other name
   greeted frame other false name refusal = refused frame refusal
 
@@ -72,38 +77,69 @@ module _ (settings : Settings) (bound : 0 < settings.max_epoch) (s : PrimaryStat
     word : (outward (record (with_outward (with_frame (Ok (UuidsFrame peer))) h) { peer = Some peer })).sync ≡ (outward h).sync
     word = ap (λ (c : Outward). c.sync) out
 
-    joined-is : model.begun_with NoSync (record (with_outward (with_frame (Ok (UuidsFrame peer))) h) { peer = Some peer }) ≡ turned (joining (Ok (UuidsFrame peer))) h.tuple (Some peer) h.marks h
-    joined-is = λ i. record h { connections = change-twice (with_frame (Ok (UuidsFrame peer))) (λ c. record c { begun = true }) h.connections i; peer = Some peer }
+    joined-is : model.begun_with NoSync (record (with_outward (with_frame (Ok (UuidsFrame peer))) h) { peer = Some peer }) ≡ turned
+        (joining (Ok (UuidsFrame peer))) h.tuple (Some peer) h.marks h
+    joined-is = λ i. record h {
+      connections = change-twice (with_frame (Ok (UuidsFrame peer))) (λ c. record c { begun = true }) h.connections i;
+      peer = Some peer;
+    }
 
     led-is : (marks : ℕ → Bool) (w v : ℕ) → w ≡ v
-        → with_outward (λ c. record c { begun = true; stream = SyncUuidItem w ∷ [] }) (record (with_outward (with_frame (Ok (UuidsFrame peer))) h) { peer = Some peer; tuple = sync_start w h.tuple; marks = marks })
+        → with_outward (λ c. record c { begun = true; stream = SyncUuidItem w ∷ [] })
+        (record (with_outward (with_frame (Ok (UuidsFrame peer))) h) { peer = Some peer; tuple = sync_start w h.tuple; marks = marks })
         ≡ turned (leading (Ok (UuidsFrame peer)) v) (sync_start v h.tuple) (Some peer) marks h
     led-is marks w v same =
-        (λ i. record h { connections = change-twice (with_frame (Ok (UuidsFrame peer))) (λ c. record c { begun = true; stream = SyncUuidItem w ∷ [] }) h.connections i; peer = Some peer; tuple = sync_start w h.tuple; marks = marks })
+        (λ i. record h {
+          connections = change-twice (with_frame (Ok (UuidsFrame peer))) (λ c. record c { begun = true; stream = SyncUuidItem w ∷ [] })
+              h.connections i;
+          peer = Some peer;
+          tuple = sync_start w h.tuple;
+          marks = marks;
+        })
         ∙ (λ i. turned (leading (Ok (UuidsFrame peer)) (same i)) (sync_start (same i) h.tuple) (Some peer) marks h)
 
     begins : (decided : Decision) → decision h.tuple peer ≡ Ok decided → stands_in (outward h).loss peer ≡ false
-        → Agrees reply.Ok (Ok (following (what.Decided decided) None (core.begun_with decided (hearing e) (record s { peer = Some peer }))).0, (following (what.Decided decided) None (core.begun_with decided (hearing e) (record s { peer = Some peer }))).1)
+        → Agrees reply.Ok (
+          Ok (following (what.Decided decided) None (core.begun_with decided (hearing e) (record s { peer = Some peer }))).0,
+          (following (what.Decided decided) None (core.begun_with decided (hearing e) (record s { peer = Some peer }))).1,
+        )
         (step.succeeding (what.Decided decided) (model.begun_with decided (record (with_outward (with_frame (Ok (UuidsFrame peer))) h) { peer = Some peer })))
     begins NoSync is unused =
-        subst (λ (g : PrimaryHistory). Agrees reply.Ok (Ok (following (what.Decided NoSync) None (core.begun_with NoSync (hearing e) (record s { peer = Some peer }))).0, (following (what.Decided NoSync) None (core.begun_with NoSync (hearing e) (record s { peer = Some peer }))).1) (step.succeeding (what.Decided NoSync) g))
+        subst (λ (g : PrimaryHistory). Agrees reply.Ok (
+          Ok (following (what.Decided NoSync) None (core.begun_with NoSync (hearing e) (record s { peer = Some peer }))).0,
+          (following (what.Decided NoSync) None (core.begun_with NoSync (hearing e) (record s { peer = Some peer }))).1,
+        )
+        (step.succeeding (what.Decided NoSync) g))
         (sym joined-is)
         (from-follow _ _ (follow _ None (turned (joining (Ok (UuidsFrame peer))) h.tuple (Some peer) h.marks h)
-        (joined-due s h left homes room e end none fresh (Ok (UuidsFrame peer)) other peer (subst HasHomes joined-is ((in-order-kept settings bound).begins h peer NoSync end.stands fresh late is unused ordered).1.1.0.0))
+        (joined-due s h left homes room e end none fresh (Ok (UuidsFrame peer)) other peer
+        (subst HasHomes joined-is ((in-order-kept settings bound).begins h peer NoSync end.stands fresh late is unused ordered).1.1.0.0))
         (what.Decided NoSync)))
     begins BitmapSync is unused =
-        subst (λ (g : PrimaryHistory). Agrees reply.Ok (Ok (following (what.Decided BitmapSync) None (core.begun_with BitmapSync (hearing e) (record s { peer = Some peer }))).0, (following (what.Decided BitmapSync) None (core.begun_with BitmapSync (hearing e) (record s { peer = Some peer }))).1) (step.succeeding (what.Decided BitmapSync) g))
+        subst (λ (g : PrimaryHistory). Agrees reply.Ok (
+          Ok (following (what.Decided BitmapSync) None (core.begun_with BitmapSync (hearing e) (record s { peer = Some peer }))).0,
+          (following (what.Decided BitmapSync) None (core.begun_with BitmapSync (hearing e) (record s { peer = Some peer }))).1,
+        )
+        (step.succeeding (what.Decided BitmapSync) g))
         (sym (led-is h.marks _ _ word))
         (from-follow _ _ (follow _ None (turned (leading (Ok (UuidsFrame peer)) (outward h).sync) (sync_start (outward h).sync h.tuple) (Some peer) h.marks h)
-        (led-due s h left homes room e end none fresh (Ok (UuidsFrame peer)) other peer (λ block. false) h.marks (ap (marking (λ block. false)) left.rest.marks ∙ none-marked h.settings.blocks h.marks)
+        (led-due s h left homes room e end none fresh (Ok (UuidsFrame peer)) other peer (λ block. false) h.marks (ap (marking (λ block. false)) left.rest.marks
+        ∙ none-marked h.settings.blocks h.marks)
         (subst HasHomes (led-is h.marks _ _ word) ((in-order-kept settings bound).begins h peer BitmapSync end.stands fresh late is unused ordered).1.1.0.0))
         (what.Decided BitmapSync)))
     begins FullSync is unused =
-        subst (λ (g : PrimaryHistory). Agrees reply.Ok (Ok (following (what.Decided FullSync) None (core.begun_with FullSync (hearing e) (record s { peer = Some peer }))).0, (following (what.Decided FullSync) None (core.begun_with FullSync (hearing e) (record s { peer = Some peer }))).1) (step.succeeding (what.Decided FullSync) g))
+        subst (λ (g : PrimaryHistory). Agrees reply.Ok (
+          Ok (following (what.Decided FullSync) None (core.begun_with FullSync (hearing e) (record s { peer = Some peer }))).0,
+          (following (what.Decided FullSync) None (core.begun_with FullSync (hearing e) (record s { peer = Some peer }))).1,
+        )
+        (step.succeeding (what.Decided FullSync) g))
         (sym (led-is (marking_all h.settings.blocks) _ _ word))
-        (from-follow _ _ (follow _ None (turned (leading (Ok (UuidsFrame peer)) (outward h).sync) (sync_start (outward h).sync h.tuple) (Some peer) (marking_all h.settings.blocks) h)
-        (led-due s h left homes room e end none fresh (Ok (UuidsFrame peer)) other peer (λ block. true) (marking_all h.settings.blocks) (ap (marking (λ block. true)) left.rest.marks ∙ all-marked h.settings.blocks h.marks)
-        (subst HasHomes (led-is (marking_all h.settings.blocks) _ _ word) ((in-order-kept settings bound).begins h peer FullSync end.stands fresh late is unused ordered).1.1.0.0))
+        (from-follow _ _ (follow _ None (turned (leading (Ok (UuidsFrame peer)) (outward h).sync) (sync_start (outward h).sync h.tuple) (Some peer)
+        (marking_all h.settings.blocks) h)
+        (led-due s h left homes room e end none fresh (Ok (UuidsFrame peer)) other peer (λ block. true) (marking_all h.settings.blocks)
+        (ap (marking (λ block. true)) left.rest.marks ∙ all-marked h.settings.blocks h.marks)
+        (subst HasHomes (led-is (marking_all h.settings.blocks) _ _ word)
+        ((in-order-kept settings bound).begins h peer FullSync end.stands fresh late is unused ordered).1.1.0.0))
         (what.Decided FullSync)))
 
     meets : TakenAlike (Ok (UuidsFrame peer)) s h (core.meeting peer (hearing e) s) (model.meeting peer (with_outward (with_frame (Ok (UuidsFrame peer))) h))
@@ -128,22 +164,30 @@ module _ (settings : Settings) (bound : 0 < settings.max_epoch) (s : PrimaryStat
           | true ↦ Err (UsedIdentifier, record (with_outward (with_frame (Ok (UuidsFrame peer))) h) { peer = Some peer })
           | false ↦ elim v [
             | Err refusal ↦ Err (refusal, record (with_outward (with_frame (Ok (UuidsFrame peer))) h) { peer = Some peer })
-            | Ok decided ↦ Ok (what.Decided decided, model.begun_with decided (record (with_outward (with_frame (Ok (UuidsFrame peer))) h) { peer = Some peer }))
+            | Ok decided ↦ Ok (
+              what.Decided decided,
+              model.begun_with decided (record (with_outward (with_frame (Ok (UuidsFrame peer))) h) { peer = Some peer }),
+            )
           ]
         ]
 
-        go : (b : Bool) → (stands_in (outward h).sync peer || stands_in (outward h).loss peer) ≡ b → (v : Result Decision Refusal) → decision h.tuple peer ≡ v → TakenAlike (Ok (UuidsFrame peer)) s h (core-by b v) (model-by b v)
+        go : (b : Bool) → (stands_in (outward h).sync peer || stands_in (outward h).loss peer) ≡ b → (v : Result Decision Refusal) → decision h.tuple peer ≡ v
+            → TakenAlike (Ok (UuidsFrame peer)) s h (core-by b v) (model-by b v)
         go true used v is = (refl, (Some peer, refl, refl))
         go false unused (Err refusal) is = (refl, (Some peer, refl, refl))
         go false unused (Ok decided) is = begins decided is (or_parts (stands_in (outward h).sync peer) (stands_in (outward h).loss peer) unused).1
 
   -- Which frame comes next.
 
-  first : (packet : Packet) → TakenAlike (Ok packet) s h (core.taking_hello zero packet (hearing e) s) (model.taking_hello zero packet (with_outward (with_frame (Ok packet)) h))
+  first : (packet : Packet) → TakenAlike (Ok packet) s h (core.taking_hello zero packet (hearing e) s)
+      (model.taking_hello zero packet (with_outward (with_frame (Ok packet)) h))
   first (ProtocolFrame asked) =
-      subst (λ (x : Settings). TakenAlike (Ok (ProtocolFrame asked)) s h (core.greeted (same_protocol asked x.protocol) (what.Frame command.Protocol None) OtherProtocol (hearing e) s) (model.taking_hello zero (ProtocolFrame asked) (with_outward (with_frame (Ok (ProtocolFrame asked))) h)))
+      subst (λ (x : Settings). TakenAlike (Ok (ProtocolFrame asked)) s h
+      (core.greeted (same_protocol asked x.protocol) (what.Frame command.Protocol None) OtherProtocol (hearing e) s)
+      (model.taking_hello zero (ProtocolFrame asked) (with_outward (with_frame (Ok (ProtocolFrame asked))) h)))
       (sym left.rest.settings)
-      (greeted (Ok (ProtocolFrame asked)) (record { received = λ of. refl; written = λ of. refl; resynced = λ of. refl; applied = λ epoch. refl }) (same_protocol asked h.settings.protocol) (what.Frame command.Protocol None) OtherProtocol)
+      (greeted (Ok (ProtocolFrame asked)) (record { received = λ of. refl; written = λ of. refl; resynced = λ of. refl; applied = λ epoch. refl })
+      (same_protocol asked h.settings.protocol) (what.Frame command.Protocol None) OtherProtocol)
   first (SizesFrame blocks) = refused _ BadCommand
   first (UuidsFrame tuple) = refused _ BadCommand
   first (DataFrame write place) = refused _ BadCommand
@@ -155,11 +199,15 @@ module _ (settings : Settings) (bound : 0 < settings.max_epoch) (s : PrimaryStat
   first (RsWriteAckFrame of) = refused _ BadCommand
   first (BarrierAckFrame number size) = refused _ BadCommand
 
-  second : (packet : Packet) → TakenAlike (Ok packet) s h (core.taking_hello 1 packet (hearing e) s) (model.taking_hello 1 packet (with_outward (with_frame (Ok packet)) h))
+  second : (packet : Packet) → TakenAlike (Ok packet) s h (core.taking_hello 1 packet (hearing e) s)
+      (model.taking_hello 1 packet (with_outward (with_frame (Ok packet)) h))
   second (SizesFrame blocks) =
-      subst (λ (x : Settings). TakenAlike (Ok (SizesFrame blocks)) s h (core.greeted (blocks == x.blocks) (what.Frame command.Sizes None) OtherSize (hearing e) s) (model.taking_hello 1 (SizesFrame blocks) (with_outward (with_frame (Ok (SizesFrame blocks))) h)))
+      subst (λ (x : Settings). TakenAlike (Ok (SizesFrame blocks)) s h
+      (core.greeted (blocks == x.blocks) (what.Frame command.Sizes None) OtherSize (hearing e) s)
+      (model.taking_hello 1 (SizesFrame blocks) (with_outward (with_frame (Ok (SizesFrame blocks))) h)))
       (sym left.rest.settings)
-      (greeted (Ok (SizesFrame blocks)) (record { received = λ of. refl; written = λ of. refl; resynced = λ of. refl; applied = λ epoch. refl }) (blocks == h.settings.blocks) (what.Frame command.Sizes None) OtherSize)
+      (greeted (Ok (SizesFrame blocks)) (record { received = λ of. refl; written = λ of. refl; resynced = λ of. refl; applied = λ epoch. refl })
+      (blocks == h.settings.blocks) (what.Frame command.Sizes None) OtherSize)
   second (ProtocolFrame asked) = refused _ BadCommand
   second (UuidsFrame tuple) = refused _ BadCommand
   second (DataFrame write place) = refused _ BadCommand
@@ -171,7 +219,9 @@ module _ (settings : Settings) (bound : 0 < settings.max_epoch) (s : PrimaryStat
   second (RsWriteAckFrame of) = refused _ BadCommand
   second (BarrierAckFrame number size) = refused _ BadCommand
 
-  third : (n m : ℕ) → length (outward h).taken ≡ suc (suc n) → (packet : Packet) → TakenAlike (Ok packet) s h (core.taking_hello (suc (suc m)) packet (hearing e) s) (model.taking_hello (suc (suc n)) packet (with_outward (with_frame (Ok packet)) h))
+  third : (n m : ℕ) → length (outward h).taken ≡ suc (suc n) → (packet : Packet)
+      → TakenAlike (Ok packet) s h (core.taking_hello (suc (suc m)) packet (hearing e) s)
+      (model.taking_hello (suc (suc n)) packet (with_outward (with_frame (Ok packet)) h))
   third n m many (UuidsFrame tuple) = meets tuple (omega arith)
   third n m many (SizesFrame blocks) = refused _ BadCommand
   third n m many (ProtocolFrame asked) = refused _ BadCommand
@@ -185,7 +235,8 @@ module _ (settings : Settings) (bound : 0 < settings.max_epoch) (s : PrimaryStat
   third n m many (BarrierAckFrame number size) = refused _ BadCommand
 
   -- three frames at most are counted
-  by-count : (n m : ℕ) → length (outward h).taken ≡ n → m ≡ min n 3 → (packet : Packet) → TakenAlike (Ok packet) s h (core.taking_hello m packet (hearing e) s) (model.taking_hello n packet (with_outward (with_frame (Ok packet)) h))
+  by-count : (n m : ℕ) → length (outward h).taken ≡ n → m ≡ min n 3 → (packet : Packet)
+      → TakenAlike (Ok packet) s h (core.taking_hello m packet (hearing e) s) (model.taking_hello n packet (with_outward (with_frame (Ok packet)) h))
   by-count zero zero many heard packet = first packet
   by-count zero (suc m) many heard packet = absurd (omega arith)
   by-count (suc zero) zero many heard packet = absurd (omega arith)
@@ -196,6 +247,9 @@ module _ (settings : Settings) (bound : 0 < settings.max_epoch) (s : PrimaryStat
   by-count (suc (suc n)) (suc (suc m)) many heard packet = third n m many packet
 
 -- A frame is taken by an end whose stream has not begun.
-pub hello-agrees : (settings : Settings) (bound : 0 < settings.max_epoch) (s : PrimaryState) (h : PrimaryHistory) (e : EndState) → Leaves s h → Ordered settings h → resync_is_over h ≡ false → s.end ≡ Some e → LeavesEnd e (outward h) → (outward h).begun ≡ false → (packet : Packet)
-    → TakenAlike (Ok packet) s h (core.taking_hello e.heard packet (hearing e) s) (model.taking_hello (length (outward h).taken) packet (with_outward (with_frame (Ok packet)) h))
-hello-agrees settings bound s h e left ordered rests is end fresh packet = by-count settings bound s h e left ordered end fresh (length (outward h).taken) e.heard refl end.heard packet
+pub hello-agrees : (settings : Settings) (bound : TakesWrites settings) (s : PrimaryState) (h : PrimaryHistory) (e : EndState) → Leaves s h → Ordered settings h
+    → resync_is_over h ≡ false → s.end ≡ Some e → LeavesEnd e (outward h) → (outward h).begun ≡ false → (packet : Packet)
+    → TakenAlike (Ok packet) s h (core.taking_hello e.heard packet (hearing e) s)
+    (model.taking_hello (length (outward h).taken) packet (with_outward (with_frame (Ok packet)) h))
+hello-agrees settings bound s h e left ordered rests is end fresh packet = by-count settings bound s h e left ordered end fresh
+    (length (outward h).taken) e.heard refl end.heard packet

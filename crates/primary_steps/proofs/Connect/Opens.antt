@@ -1,8 +1,10 @@
 -- A new primary, and a primary that opens its end.
-use Rattle.std.proofs.Common.{ℕ, zero, suc, ◌≡◌, Bool, true, false, not, ◌&&◌, ◌||◌, List, [], ◌∷◌, ◌++◌, length, map, Option, Some, None, slice_get, Ok, refl, sym, ◌∙◌, ap, subst, arith, nat_lt, nat_le}
+use Rattle.std.proofs.Common.{ℕ, zero, suc, ◌≡◌, Bool, true, false, not, ◌&&◌, ◌||◌, List, [], ◌∷◌, ◌++◌, length, map, Option, Some, None, slice_get, Ok, refl}
+use Rattle.std.proofs.Common.{sym, ◌∙◌, ap, subst, arith, nat_lt, nat_le}
 use Rattle.std.specs.Prelude.{replicate, if◌then◌else◌}
 use Rattle.std.proofs.lemmas.Bool.{both_ways}
 use Rattle.std.proofs.lemmas.List.{length-append}
+use Rattle.blocks.specs.Positions.{StreamPosition}
 use Rattle.blocks.specs.declared.tuple.Tuple.{Tuple}
 use Rattle.blocks.specs.declared.refusal.Refusal.TheVariants.{NoMemory, StreamFull, UsedIdentifier, NotDrained}
 use Rattle.blocks.specs.declared.outcome.What.TheVariants as what
@@ -11,9 +13,11 @@ use Rattle.blocks.specs.Identifiers.{are_fresh}
 use Rattle.blocks.specs.Ranges.{below}
 use Rattle.model.specs.Stream.{WriteItem, epoch_of}
 use Rattle.model.specs.Refusals.{done_with}
-use Rattle.model.specs.Primary.{Accepted, Outward, PrimaryHistory, no_outward, outward, last_index, stands, items_sent, is_answered_by, is_answered, is_alone, is_confirmed, is_released, is_waiting, is_on_disk, barrier_acknowledged, unreleased, open_writes, under_way}
+use Rattle.model.specs.Primary.{Accepted, Outward, PrimaryHistory, no_outward, outward, last_index, stands, items_sent, is_answered_by, is_answered, is_alone}
+use Rattle.model.specs.Primary.{is_confirmed, is_released, is_waiting, barrier_acknowledged, unreleased, open_writes, under_way}
 use Rattle.model.specs.PrimarySteps as step
-use Rattle.model.specs.PrimarySteps.{epoch_is_over, resync_is_over}
+use Rattle.laws.proofs.Rules.Completions.{completes-same}
+use Rattle.laws.proofs.Rules.EpochEnds.{down-on}
 use Rattle.laws.proofs.Lists.Elements.{get-left}
 use Rattle.laws.proofs.Lists.Last.{last-more}
 use Rattle.laws.proofs.Lists.Tests.{test-passed}
@@ -26,7 +30,7 @@ use Rattle.primary_steps.specs.Steps.{Agrees, plainly, FreshIsOpening, OpensAgre
 use Rattle.primary_steps.proofs.Common.Filters.{filter-at, map-at}
 use Rattle.primary_steps.proofs.Common.Reached.{reached-ordered, tested-agrees, end-open}
 use Rattle.primary_steps.proofs.Common.Marks.{length-below}
-use Rattle.primary_steps.proofs.Common.NothingFollows.{still, down-on, down-rests}
+use Rattle.primary_steps.proofs.Common.NothingFollows.{still, down-rests}
 
 -- a new primary
 pub fresh-is : FreshIsOpening
@@ -62,39 +66,69 @@ module _ (h : PrimaryHistory) (new : Outward) (homes : HasHomes h) where
   more = record h { connections = h.connections ++ new ∷ [] }
 
   -- a look-up of a write's connection
-  looked : {X : Type 0} (none : X) (see : ℕ × ℕ → Option Outward → X) (i : ℕ) (a : Accepted) → slice_get h.writes i ≡ Some a
-      → elim a.home as (λ _. X) [ None ↦ none | Some home ↦ see home (slice_get (h.connections ++ new ∷ []) home.0) ] ≡ elim a.home as (λ _. X) [ None ↦ none | Some home ↦ see home (slice_get h.connections home.0) ]
+  looked : {X : Type 0} (none : X) (see : StreamPosition → Option Outward → X) (i : ℕ) (a : Accepted) → slice_get h.writes i ≡ Some a
+      → elim a.home as (λ _. X) [ None ↦ none | Some home ↦ see home (slice_get (h.connections ++ new ∷ []) home.index) ] ≡ elim a.home as
+      (λ _. X) [ None ↦ none | Some home ↦ see home (slice_get h.connections home.index) ]
   looked {X} none see i a at = go a.home refl
     where
-      go : (v : Option (ℕ × ℕ)) → a.home ≡ v → elim v as (λ _. X) [ None ↦ none | Some home ↦ see home (slice_get (h.connections ++ new ∷ []) home.0) ] ≡ elim v as (λ _. X) [ None ↦ none | Some home ↦ see home (slice_get h.connections home.0) ]
+      go : (v : Option StreamPosition) → a.home ≡ v
+          → elim v as (λ _. X) [ None ↦ none | Some home ↦ see home (slice_get (h.connections ++ new ∷ []) home.index) ] ≡ elim v as
+          (λ _. X) [ None ↦ none | Some home ↦ see home (slice_get h.connections home.index) ]
       go None is = refl
-      go (Some home) is = let was = homes.housed i home.0 home.1 a at is in ap (see home) (get-left h.connections (new ∷ []) home.0 was.0 was.1 ∙ sym was.1)
+      go (Some home) is =
+          let was = homes.housed i home.index home.place a at is in
+          ap (see home) (get-left h.connections (new ∷ []) home.index was.0 was.1 ∙ sym was.1)
 
   alone-more : (i : ℕ) (a : Accepted) → slice_get h.writes i ≡ Some a → is_alone (record h { connections = h.connections ++ new ∷ [] }) a ≡ is_alone h a
   alone-more = looked true (λ home v. elim v as (λ _. Bool) [ None ↦ true | Some c ↦ c.closed ])
 
   sent-more : (i : ℕ) (a : Accepted) → slice_get h.writes i ≡ Some a → is_sent (record h { connections = h.connections ++ new ∷ [] }) a ≡ is_sent h a
-  sent-more = looked false (λ home v. elim v as (λ _. Bool) [ None ↦ false | Some c ↦ nat_lt home.1 (items_sent c) ])
+  sent-more = looked false (λ home v. elim v as (λ _. Bool) [ None ↦ false | Some c ↦ nat_lt home.place (items_sent c) ])
 
-  answered-more : (i : ℕ) (a : Accepted) → slice_get h.writes i ≡ Some a → is_answered (record h { connections = h.connections ++ new ∷ [] }) a ≡ is_answered h a
-  answered-more i a = looked false (λ home v. elim v as (λ _. Bool) [ None ↦ false | Some c ↦ is_answered_by h.settings.protocol c home.1 (WriteItem a.write) ]) i a
+  answered-more : (i : ℕ) (a : Accepted) → slice_get h.writes i ≡ Some a
+      → is_answered (record h { connections = h.connections ++ new ∷ [] }) a ≡ is_answered h a
+  answered-more i a =
+      looked false (λ home v. elim v as (λ _. Bool) [ None ↦ false | Some c ↦ is_answered_by h.settings.protocol c home.place (WriteItem a.write) ])
+      i a
 
-  confirmed-more : (i : ℕ) (a : Accepted) → slice_get h.writes i ≡ Some a → is_confirmed (record h { connections = h.connections ++ new ∷ [] }) a ≡ is_confirmed h a
-  confirmed-more = looked false (λ home v. elim v as (λ _. Bool) [ None ↦ false | Some c ↦ barrier_acknowledged c (epoch_of c.stream home.1) ])
+  confirmed-more : (i : ℕ) (a : Accepted) → slice_get h.writes i ≡ Some a
+      → is_confirmed (record h { connections = h.connections ++ new ∷ [] }) a ≡ is_confirmed h a
+  confirmed-more = looked false (λ home v. elim v as (λ _. Bool) [ None ↦ false | Some c ↦ barrier_acknowledged c (epoch_of c.stream home.place) ])
 
   seen-more : (i : ℕ) (a : Accepted) → slice_get h.writes i ≡ Some a → logged_of (record h { connections = h.connections ++ new ∷ [] }) a ≡ logged_of h a
   seen-more i a at = λ j. record (logged_of h a) { linked = not (alone-more i a at j); sent = sent-more i a at j; answered = answered-more i a at j }
 
   unreleased-more : unreleased (record h { connections = h.connections ++ new ∷ [] }) ≡ unreleased h
-  unreleased-more = filter-at (λ a. not (is_released (record h { connections = h.connections ++ new ∷ [] }) a)) (λ a. not (is_released h a)) h.writes (λ i a at. λ j. not (not (is_waiting a.outcome) && (confirmed-more i a at j || alone-more i a at j)))
+  unreleased-more = filter-at (λ a. not (is_released (record h { connections = h.connections ++ new ∷ [] }) a)) (λ a. not (is_released h a)) h.writes
+      (λ i a at. λ j. not (not (is_waiting a.outcome) && (confirmed-more i a at j || alone-more i a at j)))
 
 -- The end opens.
 module _ (sync loss : ℕ) (s : PrimaryState) (h : PrimaryHistory) (left : Leaves s h) (homes : HasHomes h) (shut : (outward h).closed ≡ true) where
   abbrev new : Outward
   new = record { sync = sync; loss = loss; hello = h.tuple; stream = []; pushed = 0; taken = []; refused = false; begun = false; closed = false }
 
-  last : outward (step.opened h sync loss) ≡ record { sync = sync; loss = loss; hello = h.tuple; stream = []; pushed = 0; taken = []; refused = false; begun = false; closed = false }
-  last = last-more (no_outward h.tuple) (record { sync = sync; loss = loss; hello = h.tuple; stream = []; pushed = 0; taken = []; refused = false; begun = false; closed = false }) h.connections
+  last : outward (step.opened h sync loss) ≡ record {
+    sync = sync;
+    loss = loss;
+    hello = h.tuple;
+    stream = [];
+    pushed = 0;
+    taken = [];
+    refused = false;
+    begun = false;
+    closed = false;
+  }
+  last = last-more (no_outward h.tuple) (record {
+    sync = sync;
+    loss = loss;
+    hello = h.tuple;
+    stream = [];
+    pushed = 0;
+    taken = [];
+    refused = false;
+    begun = false;
+    closed = false;
+  }) h.connections
 
   none-before : stands (outward h) ≡ false
   none-before = ap (λ b. not b && (outward h).begun) shut
@@ -113,16 +147,20 @@ module _ (sync loss : ℕ) (s : PrimaryState) (h : PrimaryHistory) (left : Leave
         protocol = left.rest.log.protocol;
         backlog = left.rest.log.backlog;
         accepted = left.rest.log.accepted;
-        connection = left.rest.log.connection ∙ (ap (λ b. if b then Some (last_index h.connections) else None) none-before ∙ sym (ap (λ b. if b then Some (last_index (step.opened h sync loss).connections) else None) none-after));
+        connection = left.rest.log.connection
+            ∙ (ap (λ b. if b then Some (last_index h.connections) else None) none-before
+            ∙ sym (ap (λ b. if b then Some (last_index (step.opened h sync loss).connections) else None) none-after));
         writes =
             left.rest.log.writes
             ∙ sym (ap (map (logged_of (step.opened h sync loss))) (unreleased-more h new homes)
-            ∙ map-at (logged_of (step.opened h sync loss)) (logged_of h) (unreleased h) (λ i a at. let there = pick-filtered (λ x. not (is_released h x)) h.writes i a at in seen-more h new homes there.0 a there.1));
+            ∙ map-at (logged_of (step.opened h sync loss)) (logged_of h) (unreleased h)
+            (λ i a at. let there = pick-filtered (λ x. not (is_released h x)) h.writes i a at in seen-more h new homes there.0 a there.1));
         latest = left.rest.log.latest;
       };
       entries = record { entries = left.rest.entries.entries; receipts = left.rest.entries.receipts };
       marks = left.rest.marks;
-      held = left.rest.held ∙ (ap (λ b. map holding_item (if b then under_way (outward h) else []) ++ map holding_write (open_writes h)) none-before ∙ sym (ap (λ b. map holding_item (if b then under_way (outward (step.opened h sync loss)) else []) ++ map holding_write (open_writes h)) none-after));
+      held = left.rest.held ∙ (ap (λ b. map holding_item (if b then under_way (outward h) else []) ++ map holding_write (open_writes h)) none-before
+          ∙ sym (ap (λ b. map holding_item (if b then under_way (outward (step.opened h sync loss)) else []) ++ map holding_write (open_writes h)) none-after));
       activity = subst (LeavesActivity s.activity h.settings.slots) (sym (unreleased-more h new homes)) left.rest.activity;
       end = subst (EndLeft (transition.opened sync loss s).end) (sym last) (record {
         stands = refl;
@@ -139,7 +177,8 @@ module _ (sync loss : ℕ) (s : PrimaryState) (h : PrimaryHistory) (left : Leave
         unasked = λ place item later. (refl, refl, refl);
         unbegun = λ fresh epoch. refl;
       });
-      quiet = λ i a at. left.rest.quiet i a at ∙ λ j. is_on_disk a.outcome && (sym (answered-more h new homes i a at) j || sym (alone-more h new homes i a at) j);
+      quiet = λ i a at. left.rest.quiet i a at
+          ∙ sym (completes-same h (step.opened h sync loss) a (answered-more h new homes i a at) (alone-more h new homes i a at));
     };
     stream = record {
       max_epoch = left.stream.max_epoch;
@@ -162,9 +201,14 @@ module _ (sync loss : ℕ) (s : PrimaryState) (h : PrimaryHistory) (left : Leave
 -- the primary opens its end
 pub opens-agree : OpensAgree
 opens-agree sync loss starved s h reached left =
-    tested-agrees plainly s h (transition.open_tests sync loss starved s) (step.open_tests h sync loss starved) (λ _. (Ok tt, transition.opened sync loss s)) (λ _. step.succeeding what.Nothing (step.opened h sync loss))
-    (λ i. (end-open s.end (outward h) left.rest.end i, NotDrained) ∷ (not (are_fresh sync loss (known-tuples i)), UsedIdentifier) ∷ (nat_le 4294967295 (left.rest.connections i), StreamFull) ∷ (starved, NoMemory) ∷ []) left
-    (λ none. opened-agrees sync loss s h left (reached-ordered h reached).ordered.1.1.0.0 (not-false' (outward h).closed (test-passed (not (outward h).closed) NotDrained ((not (are_fresh sync loss (step.known_tuples h)), UsedIdentifier) ∷ (nat_le 4294967295 (length h.connections), StreamFull) ∷ (starved, NoMemory) ∷ []) none).0))
+    tested-agrees plainly s h (transition.open_tests sync loss starved s) (step.open_tests h sync loss starved) (λ _. (Ok tt, transition.opened sync loss s))
+    (λ _. step.succeeding what.Nothing (step.opened h sync loss))
+    (λ i. (end-open s.end (outward h) left.rest.end i, NotDrained) ∷ (not (are_fresh sync loss (known-tuples i)), UsedIdentifier) ∷
+    (nat_le 4294967295 (left.rest.connections i), StreamFull) ∷ (starved, NoMemory) ∷ []) left
+    (λ none. opened-agrees sync loss s h left (reached-ordered h reached).ordered.1.1.0.0
+    (not-false' (outward h).closed (test-passed (not (outward h).closed) NotDrained
+    ((not (are_fresh sync loss (step.known_tuples h)), UsedIdentifier) ∷ (nat_le 4294967295 (length h.connections), StreamFull) ∷ (starved, NoMemory) ∷ [])
+    none).0))
   where
     known-tuples : transition.known_tuples s ≡ step.known_tuples h
     known-tuples = λ i. elim (left.rest.peer i) as (λ _. List Tuple) [ None ↦ left.rest.tuple i ∷ [] | Some peer ↦ left.rest.tuple i ∷ peer ∷ [] ]

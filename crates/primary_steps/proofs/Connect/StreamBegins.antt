@@ -1,9 +1,10 @@
 -- A stream begins.
-use Rattle.std.proofs.Common.{ℕ, ◌≡◌, ◌+◌, ◌-◌, ◌<◌, ◌≤◌, Bool, true, false, not, ◌&&◌, ◌||◌, List, [], ◌∷◌, ◌++◌, length, map, drop, Some, None, slice_get, refl, sym, ◌∙◌, ap, subst, arith, nat_le}
+use Rattle.std.proofs.Common.{ℕ, zero, suc, ◌≡◌, ◌+◌, ◌-◌, ◌<◌, ◌≤◌, Bool, true, false, not, ◌&&◌, ◌||◌, List, [], ◌∷◌, ◌++◌, length, map, drop, Option, Some}
+use Rattle.std.proofs.Common.{None, slice_get, refl, sym, ◌∙◌, ap, subst, arith}
 use Rattle.std.proofs.Math.Bool.{or-false}
 use Rattle.std.specs.Prelude.{if◌then◌else◌}
 use Rattle.std.specs.List.{list_any}
-use Rattle.std.proofs.lemmas.Bool.{both_ways, and_right, or_from, lt-ltb, lt-leb}
+use Rattle.std.proofs.lemmas.Bool.{both_ways, lt-ltb, lt-leb}
 use Rattle.std.proofs.lemmas.Option.{slice_get_within}
 use Rattle.blocks.specs.declared.tuple.Tuple.{Tuple}
 use Rattle.blocks.specs.Identifiers.{sync_start}
@@ -12,12 +13,13 @@ use Rattle.epochs.specs.Epochs.{EpochsState, empty, uncounted}
 use Rattle.model.specs.Contents.{Write}
 use Rattle.model.specs.Frames.{Received}
 use Rattle.model.specs.Marks.{marking_all}
-use Rattle.model.specs.Stream.{Item, WriteItem, SyncUuidItem, barriers_in, last_epoch, epoch_size, items_of_epoch}
-use Rattle.model.specs.Primary.{Accepted, Outward, PrimaryHistory, outward, last_index, stands, barrier_acknowledged, is_resync, in_resync, under_way, open_writes}
-use Rattle.model.specs.PrimarySteps.{is_settled, epoch_is_over}
+use Rattle.model.specs.Stream.{Item, WriteItem, ResyncItem, SyncUuidItem, barriers_in, last_epoch, epoch_size, items_of_epoch}
+use Rattle.model.specs.Primary.{Accepted, Outward, PrimaryHistory, outward, last_index, stands, barrier_acknowledged, is_resync, in_resync, under_way}
+use Rattle.model.specs.Primary.{open_writes}
+use Rattle.model.specs.PrimarySteps.{epoch_is_over}
 use Rattle.transferlog.specs.Log.{LogState}
+use Rattle.laws.proofs.Rules.EpochEnds.{TakesWrites, room-none, not-over, empty-on}
 use Rattle.laws.proofs.Lists.Last.{length-change}
-use Rattle.laws.proofs.Lists.Picks.{any-none}
 use Rattle.laws.proofs.Primary.Homes.{HasHomes}
 use Rattle.laws.proofs.Primary.Moves.{with_frame}
 use Rattle.primary_steps.specs.Core.{EndState, PrimaryState}
@@ -44,7 +46,8 @@ leading frame word c = record (with_frame frame c) { begun = true; stream = Sync
 abbrev pub led : EndState → EndState
 led e = record e { unsent = SyncUuidItem e.sync ∷ []; resync = true }
 
-pub joined-end : (e : EndState) (c : Outward) (frame : Received) → LeavesEnd e c → c.stream ≡ [] → c.begun ≡ false → IsNoAnswer frame → LeavesEnd (hearing e) (joining frame c)
+pub joined-end : (e : EndState) (c : Outward) (frame : Received) → LeavesEnd e c → c.stream ≡ [] → c.begun ≡ false → IsNoAnswer frame
+    → LeavesEnd (hearing e) (joining frame c)
 joined-end e c frame l none fresh other = record {
   stands = l.stands;
   plain = l.plain;
@@ -55,7 +58,8 @@ joined-end e c frame l none fresh other = record {
   said = l.said;
   pushed = l.pushed;
   unsent = l.unsent;
-  resync = l.resync ∙ ((λ i. (not c.closed && fresh i) && in_resync (none i)) ∙ (nothing (not c.closed) ∙ sym (ap (λ (items : List Item). (not c.closed && true) && in_resync items) none ∙ nowhere (not c.closed))));
+  resync = l.resync ∙ ((λ i. (not c.closed && fresh i) && in_resync (none i))
+      ∙ (nothing (not c.closed) ∙ sym (ap (λ (items : List Item). (not c.closed && true) && in_resync items) none ∙ nowhere (not c.closed))));
   under_way = way-none e.under_way c (joining frame c) l.under_way (empty-way c none) (empty-way (joining frame c) none);
   unasked = λ place item later. unasked-same c frame l.plain other place item (l.unasked place item later);
   unbegun = λ new epoch. absurd (cc);
@@ -69,7 +73,8 @@ joined-end e c frame l none fresh other = record {
     nowhere true = refl
     nowhere false = refl
 
-pub led-end : (e : EndState) (c : Outward) (frame : Received) → LeavesEnd e c → c.stream ≡ [] → IsNoAnswer frame → LeavesEnd (led (hearing e)) (leading frame c.sync c)
+pub led-end : (e : EndState) (c : Outward) (frame : Received) → LeavesEnd e c → c.stream ≡ [] → IsNoAnswer frame
+    → LeavesEnd (led (hearing e)) (leading frame c.sync c)
 led-end e c frame l none other = record {
   stands = l.stands;
   plain = l.plain;
@@ -79,10 +84,12 @@ led-end e c frame l none other = record {
   heard = heard-more c frame e.heard l.heard;
   said = l.said;
   pushed = let few : c.pushed - 3 ≤ 0 = unsaid in omega arith;
-  unsent = ap (λ word. SyncUuidItem word ∷ []) l.sync ∙ sym (ap (λ n. drop n (SyncUuidItem c.sync ∷ [])) (let few = unsaid in let zero_is : c.pushed - 3 ≡ 0 = omega arith in zero_is));
+  unsent = ap (λ word. SyncUuidItem word ∷ []) l.sync
+      ∙ sym (ap (λ n. drop n (SyncUuidItem c.sync ∷ [])) (let few = unsaid in let zero_is : c.pushed - 3 ≡ 0 = omega arith in zero_is));
   resync = sym (ap (λ b. (not b && true) && true) l.stands);
   under_way = way-none e.under_way c (leading frame c.sync c) l.under_way (empty-way c none) refl;
-  unasked = λ place item later. unasked-same c frame l.plain other place item (l.unasked place item (let size : length c.stream ≡ 0 = ap length none in omega arith));
+  unasked = λ place item later. unasked-same c frame l.plain other place item
+      (l.unasked place item (let size : length c.stream ≡ 0 = ap length none in omega arith));
   unbegun = λ new epoch. absurd (cc);
 }
   where
@@ -90,7 +97,8 @@ led-end e c frame l none other = record {
     unsaid = subst (λ (items : List Item). c.pushed - 3 ≤ length items) none l.pushed
 
 -- The log's epochs at the beginning.
-epochs-none : (l : LogState) (c : Outward) (max_epoch : ℕ) → c.stream ≡ [] → ((epoch : ℕ) → barrier_acknowledged c epoch ≡ false) → l.epochs ≡ empty max_epoch → l.confirmed ≡ l.accepted → LeavesEpochs l c
+epochs-none : (l : LogState) (c : Outward) (max_epoch : ℕ) → c.stream ≡ [] → ((epoch : ℕ) → barrier_acknowledged c epoch ≡ false) → l.epochs ≡ empty max_epoch
+    → l.confirmed ≡ l.accepted → LeavesEpochs l c
 epochs-none l c max_epoch stream unsaid epochs confirmed = record {
   acked = 0;
   acknowledged = λ epoch some. unsaid epoch ∙ sym (lt-leb epoch 0 some);
@@ -99,7 +107,8 @@ epochs-none l c max_epoch stream unsaid epochs confirmed = record {
   ended = ap (λ (x : EpochsState). x.ended) epochs ∙ sym (ap barriers_in stream);
   sizes = ap (λ (x : EpochsState). x.sizes) epochs ∙ sym (ap (λ (items : List Item). map (epoch_size items) (numbers_after 0 (barriers_in items - 0))) stream);
   size = ap (λ (x : EpochsState). x.size) epochs ∙ sym (ap (λ (items : List Item). epoch_size items (last_epoch items)) stream);
-  resync = ap (λ (x : EpochsState). x.resync) epochs ∙ sym (ap (λ (items : List Item). list_any (λ (entry : ℕ × Item). is_resync entry.1) (items_of_epoch items (last_epoch items))) stream);
+  resync = ap (λ (x : EpochsState). x.resync) epochs
+      ∙ sym (ap (λ (items : List Item). list_any (λ (entry : ℕ × Item). is_resync entry.1) (items_of_epoch items (last_epoch items))) stream);
   upto = λ k place write within at. absurd (nowhere place write at);
   newest = (λ i. l.confirmed + total (epochs i).sizes + (epochs i).size) ∙ (let same = confirmed in omega arith);
   first = λ some. absurd (let none : 0 < 0 = subst (λ (x : EpochsState). 0 < x.size) epochs some in omega arith);
@@ -110,25 +119,38 @@ epochs-none l c max_epoch stream unsaid epochs confirmed = record {
     nowhere place write at = let none = sym (ap (λ (items : List Item). slice_get items place) stream) ∙ at in cc
 
 -- An epoch that has no write goes on.
-goes-on-empty : (h : PrimaryHistory) (d : Outward) → outward h ≡ d → 0 < h.settings.max_epoch → d.stream ≡ [] → epoch_is_over h ≡ false
-goes-on-empty h d last bound none = ap over last ∙ (ap (λ (items : List Item). stands d && (list_any (is_settled h d) (items_of_epoch items (last_epoch items)) || nat_le h.settings.max_epoch (epoch_size items (last_epoch items)))) none ∙ and_right (stands d) _ (lt-leb h.settings.max_epoch 0 bound))
-  where
-    over : Outward → Bool
-    over c = stands c && (list_any (is_settled h c) (items_of_epoch c.stream (last_epoch c.stream)) || nat_le h.settings.max_epoch (epoch_size c.stream (last_epoch c.stream)))
+goes-on-empty : (h : PrimaryHistory) (d : Outward) → outward h ≡ d → TakesWrites h.settings → d.stream ≡ [] → epoch_is_over h ≡ false
+goes-on-empty h d last bound none = empty-on h d last bound (ap (λ (items : List Item). items_of_epoch items (last_epoch items)) none)
 
-goes-on-led : (h : PrimaryHistory) (d : Outward) (word : ℕ) → outward h ≡ d → 0 < h.settings.max_epoch → d.stream ≡ SyncUuidItem word ∷ [] → epoch_is_over h ≡ false
-goes-on-led h d word last bound one =
-    ap over last ∙ (ap (λ (items : List Item). stands d && (list_any (is_settled h d) (items_of_epoch items (last_epoch items)) || nat_le h.settings.max_epoch (epoch_size items (last_epoch items)))) one
-    ∙ and_right (stands d) _ (or_from _ _ (or_from _ _ (or_from _ _ (any-none _ h.writes (λ accepted. refl)) refl) refl) (lt-leb h.settings.max_epoch 0 bound)))
+goes-on-led : (h : PrimaryHistory) (d : Outward) (word : ℕ) → outward h ≡ d → TakesWrites h.settings → d.stream ≡ SyncUuidItem word ∷ []
+    → epoch_is_over h ≡ false
+goes-on-led h d word last bound one = not-over h d last (record {
+  unsettled = record {
+    writes = λ j place write at i a ati same. absurd (let no = only j place (WriteItem write) (among j at) in cc);
+    blocks = λ j place block contents at. absurd (let no = only j place (ResyncItem block contents) (among j at) in cc);
+  };
+  room = room-none h.settings (epoch_size d.stream (last_epoch d.stream)) bound (ap (λ (items : List Item). epoch_size items (last_epoch items)) one);
+})
   where
-    over : Outward → Bool
-    over c = stands c && (list_any (is_settled h c) (items_of_epoch c.stream (last_epoch c.stream)) || nat_le h.settings.max_epoch (epoch_size c.stream (last_epoch c.stream)))
+    led : List (ℕ × Item)
+    led = (0, SyncUuidItem word) ∷ []
+
+    among : (j : ℕ) {v : Option (ℕ × Item)} → slice_get (items_of_epoch d.stream (last_epoch d.stream)) j ≡ v → slice_get led j ≡ v
+    among j at = ap (λ (items : List Item). slice_get (items_of_epoch items (last_epoch items)) j) (sym one) ∙ at
+
+    only : (j place : ℕ) (item : Item) → slice_get led j ≡ Some (place, item) → SyncUuidItem word ≡ item
+    only zero place item at =
+        let first : ℕ × Item = (0, SyncUuidItem word) in
+        let same : first ≡ (place, item) = cc in
+        ap (λ (x : ℕ × Item). x.1) same
+    only (suc j) place item at = absurd (cc)
 
 -- Marks.
 
 -- every block of the device
 pub all-marked : (blocks : ℕ) (marks : ℕ → Bool) → marking (λ block. true) (marks_in blocks marks) ≡ marks_in blocks (marking_all blocks)
-all-marked blocks marks = marking-in blocks (λ block. true) marks ∙ marks-same blocks (λ block. marks block || true) (marking_all blocks) (λ block inside. or-true (marks block) ∙ sym (lt-ltb block blocks inside))
+all-marked blocks marks = marking-in blocks (λ block. true) marks
+    ∙ marks-same blocks (λ block. marks block || true) (marking_all blocks) (λ block inside. or-true (marks block) ∙ sym (lt-ltb block blocks inside))
   where
     or-true : (b : Bool) → (b || true) ≡ true
     or-true true = refl
@@ -136,10 +158,12 @@ all-marked blocks marks = marking-in blocks (λ block. true) marks ∙ marks-sam
 
 -- no more than before
 pub none-marked : (blocks : ℕ) (marks : ℕ → Bool) → marking (λ block. false) (marks_in blocks marks) ≡ marks_in blocks marks
-none-marked blocks marks = marking-in blocks (λ block. false) marks ∙ marks-same blocks (λ block. marks block || false) marks (λ block inside. or-false (marks block))
+none-marked blocks marks = marking-in blocks (λ block. false) marks
+    ∙ marks-same blocks (λ block. marks block || false) marks (λ block inside. or-false (marks block))
 
 -- The stream begins, before what follows.
-module _ (s : PrimaryState) (h : PrimaryHistory) (left : Leaves s h) (homes : HasHomes h) (bound : 0 < h.settings.max_epoch) (e : EndState) (end : LeavesEnd e (outward h)) (none : (outward h).stream ≡ []) (fresh : (outward h).begun ≡ false)
+module _ (s : PrimaryState) (h : PrimaryHistory) (left : Leaves s h) (homes : HasHomes h) (bound : TakesWrites h.settings) (e : EndState)
+    (end : LeavesEnd e (outward h)) (none : (outward h).stream ≡ []) (fresh : (outward h).begun ≡ false)
     (frame : Received) (other : IsNoAnswer frame) (peer : Tuple) where
   down : stands (outward h) ≡ false
   down = λ i. not (end.stands i) && fresh i
@@ -161,8 +185,10 @@ module _ (s : PrimaryState) (h : PrimaryHistory) (left : Leaves s h) (homes : Ha
   held-of-writes : s.held ≡ map holding_write (open_writes h)
   held-of-writes = left.rest.held ∙ ap (λ b. map holding_item (if b then under_way (outward h) else []) ++ map holding_write (open_writes h)) down
 
-  module _ (f : Outward → Outward) (tuple : Tuple) (marks : ℕ → Bool) (epochs : EpochsState) (closed : (f (outward h)).closed ≡ (outward h).closed) (begun : (f (outward h)).begun ≡ true) (way : under_way (f (outward h)) ≡ [])
-      (max_epoch : epochs.max_epoch ≡ s.log.epochs.max_epoch) (leaves : LeavesEpochs (unreported (Some (s.connections - 1)) s.log.accepted epochs s.log) (f (outward h))) where
+  module _ (f : Outward → Outward) (tuple : Tuple) (marks : ℕ → Bool) (epochs : EpochsState) (closed : (f (outward h)).closed ≡ (outward h).closed)
+      (begun : (f (outward h)).begun ≡ true) (way : under_way (f (outward h)) ≡ [])
+      (max_epoch : epochs.max_epoch ≡ s.log.epochs.max_epoch)
+      (leaves : LeavesEpochs (unreported (Some (s.connections - 1)) s.log.accepted epochs s.log) (f (outward h))) where
     out : outward (turned f tuple (Some peer) marks h) ≡ f (outward h)
     out = outward-of f h (turned f tuple (Some peer) marks h) refl end.stands
 
@@ -181,10 +207,19 @@ module _ (s : PrimaryState) (h : PrimaryHistory) (left : Leaves s h) (homes : Ha
     }
 
     pub begun-due : HasHomes (turned f tuple (Some peer) marks h) → epoch_is_over (turned f tuple (Some peer) marks h) ≡ false
-        → (core_tuple : Tuple) → core_tuple ≡ tuple → (bits : List Bool) → bits ≡ marks_in h.settings.blocks marks → (g : EndState) → LeavesEnd g (f (outward h))
-        → IsDue (record s { tuple = core_tuple; peer = Some peer; log = unreported (Some (s.connections - 1)) s.log.accepted epochs s.log; marks = bits; held = s.held; end = Some g }) None (turned f tuple (Some peer) marks h)
+        → (core_tuple : Tuple) → core_tuple ≡ tuple → (bits : List Bool) → bits ≡ marks_in h.settings.blocks marks → (g : EndState)
+        → LeavesEnd g (f (outward h))
+        → IsDue (record s {
+          tuple = core_tuple;
+          peer = Some peer;
+          log = unreported (Some (s.connections - 1)) s.log.accepted epochs s.log;
+          marks = bits;
+          held = s.held;
+          end = Some g;
+        }) None (turned f tuple (Some peer) marks h)
     begun-due later on core_tuple tuple_is bits bits_are g g_end =
-        unseen-due s h left f tuple (Some peer) marks (unseen-new h homes none f tuple (Some peer) marks) later on end.stands core_tuple tuple_is (Some peer) refl
+        unseen-due s h left f tuple (Some peer) marks (unseen-new h homes none f tuple (Some peer) marks) later on end.stands core_tuple tuple_is
+        (Some peer) refl
         (Some (s.connections - 1)) s.log.accepted epochs
         (ap (λ n. Some n) (index ∙ sym same_index) ∙ sym (ap (λ b. if b then Some (last_index (turned f tuple (Some peer) marks h).connections) else None) up))
         begun-stream bits bits_are s.held
@@ -192,24 +227,47 @@ module _ (s : PrimaryState) (h : PrimaryHistory) (left : Leaves s h) (homes : Ha
 
   -- without a resync
   pub joined-due : HasHomes (turned (joining frame) h.tuple (Some peer) h.marks h)
-      → IsDue (record s { tuple = s.tuple; peer = Some peer; log = unreported (Some (s.connections - 1)) s.log.accepted (empty s.log.epochs.max_epoch) s.log; marks = s.marks; held = s.held; end = Some (hearing e) }) None (turned (joining frame) h.tuple (Some peer) h.marks h)
+      → IsDue (record s {
+        tuple = s.tuple;
+        peer = Some peer;
+        log = unreported (Some (s.connections - 1)) s.log.accepted (empty s.log.epochs.max_epoch) s.log;
+        marks = s.marks;
+        held = s.held;
+        end = Some (hearing e);
+      }) None (turned (joining frame) h.tuple (Some peer) h.marks h)
   joined-due later =
       begun-due (joining frame) h.tuple h.marks (empty s.log.epochs.max_epoch) refl refl (empty-way (joining frame (outward h)) none) refl
-      (epochs-none (unreported (Some (s.connections - 1)) s.log.accepted (empty s.log.epochs.max_epoch) s.log) (joining frame (outward h)) s.log.epochs.max_epoch none unsaid refl refl)
+      (epochs-none (unreported (Some (s.connections - 1)) s.log.accepted (empty s.log.epochs.max_epoch) s.log)
+      (joining frame (outward h)) s.log.epochs.max_epoch none unsaid refl refl)
       later
-      (goes-on-empty (turned (joining frame) h.tuple (Some peer) h.marks h) (joining frame (outward h)) (outward-of (joining frame) h (turned (joining frame) h.tuple (Some peer) h.marks h) refl end.stands) bound none)
+      (goes-on-empty (turned (joining frame) h.tuple (Some peer) h.marks h) (joining frame (outward h))
+      (outward-of (joining frame) h (turned (joining frame) h.tuple (Some peer) h.marks h) refl end.stands) bound none)
       s.tuple left.rest.tuple s.marks left.rest.marks (hearing e) (joined-end e (outward h) frame end none fresh other)
 
   -- with a resync, which may mark more
-  pub led-due : (such marks : ℕ → Bool) → marking such s.marks ≡ marks_in h.settings.blocks marks → HasHomes (turned (leading frame (outward h).sync) (sync_start (outward h).sync h.tuple) (Some peer) marks h)
-      → IsDue (record s { tuple = sync_start e.sync s.tuple; peer = Some peer; log = unreported (Some (s.connections - 1)) s.log.accepted (uncounted (empty s.log.epochs.max_epoch)).1 s.log; marks = marking such s.marks; held = s.held; end = Some (led (hearing e)) }) None
+  pub led-due : (such marks : ℕ → Bool) → marking such s.marks ≡ marks_in h.settings.blocks marks
+      → HasHomes (turned (leading frame (outward h).sync) (sync_start (outward h).sync h.tuple) (Some peer) marks h)
+      → IsDue (record s {
+        tuple = sync_start e.sync s.tuple;
+        peer = Some peer;
+        log = unreported (Some (s.connections - 1)) s.log.accepted (uncounted (empty s.log.epochs.max_epoch)).1 s.log;
+        marks = marking such s.marks;
+        held = s.held;
+        end = Some (led (hearing e));
+      }) None
       (turned (leading frame (outward h).sync) (sync_start (outward h).sync h.tuple) (Some peer) marks h)
   led-due such marks bits later =
       begun-due (leading frame (outward h).sync) (sync_start (outward h).sync h.tuple) marks (uncounted (empty s.log.epochs.max_epoch)).1 refl refl refl refl
-      (epochs-plain (unreported (Some (s.connections - 1)) s.log.accepted (empty s.log.epochs.max_epoch) s.log) (unreported (Some (s.connections - 1)) s.log.accepted (uncounted (empty s.log.epochs.max_epoch)).1 s.log)
+      (epochs-plain (unreported (Some (s.connections - 1)) s.log.accepted (empty s.log.epochs.max_epoch) s.log)
+      (unreported (Some (s.connections - 1)) s.log.accepted (uncounted (empty s.log.epochs.max_epoch)).1 s.log)
       (record (with_frame frame (outward h)) { begun = true; stream = [] }) (leading frame (outward h).sync (outward h)) (SyncUuidItem (outward h).sync)
-      (epochs-none (unreported (Some (s.connections - 1)) s.log.accepted (empty s.log.epochs.max_epoch) s.log) (record (with_frame frame (outward h)) { begun = true; stream = [] }) s.log.epochs.max_epoch refl unsaid refl refl)
+      (epochs-none (unreported (Some (s.connections - 1)) s.log.accepted (empty s.log.epochs.max_epoch) s.log)
+      (record (with_frame frame (outward h)) { begun = true; stream = [] }) s.log.epochs.max_epoch refl unsaid refl refl)
       (record { closed = refl; pushed = refl; taken = refl; refused = refl }) refl refl refl refl refl refl refl refl)
       later
-      (goes-on-led (turned (leading frame (outward h).sync) (sync_start (outward h).sync h.tuple) (Some peer) marks h) (leading frame (outward h).sync (outward h)) (outward h).sync (outward-of (leading frame (outward h).sync) h (turned (leading frame (outward h).sync) (sync_start (outward h).sync h.tuple) (Some peer) marks h) refl end.stands) bound refl)
-      (sync_start e.sync s.tuple) (λ i. sync_start (end.sync i) (left.rest.tuple i)) (marking such s.marks) bits (led (hearing e)) (led-end e (outward h) frame end none other)
+      (goes-on-led (turned (leading frame (outward h).sync) (sync_start (outward h).sync h.tuple) (Some peer) marks h)
+      (leading frame (outward h).sync (outward h)) (outward h).sync
+      (outward-of (leading frame (outward h).sync) h (turned (leading frame (outward h).sync) (sync_start (outward h).sync h.tuple) (Some peer) marks h)
+      refl end.stands) bound refl)
+      (sync_start e.sync s.tuple) (λ i. sync_start (end.sync i) (left.rest.tuple i)) (marking such s.marks) bits (led (hearing e))
+      (led-end e (outward h) frame end none other)

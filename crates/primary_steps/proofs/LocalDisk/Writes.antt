@@ -1,5 +1,6 @@
 -- The local disk does a write, or fails it.
-use Rattle.std.proofs.Common.{ℕ, ◌≡◌, ◌<◌, Bool, true, false, not, ◌&&◌, ◌||◌, List, [], ◌∷◌, Option, Some, None, slice_get, Ok, refl, sym, ◌∙◌, ap, subst, arith, ◌==◌}
+use Rattle.std.proofs.Common.{ℕ, ◌≡◌, Bool, true, false, not, ◌&&◌, List, [], ◌∷◌, Option, Some, None, slice_get, Ok, refl, sym, ◌∙◌, ap, subst, arith}
+use Rattle.std.proofs.Common.{◌==◌}
 use Rattle.std.specs.Prelude.{find, is_some, option_map, if◌then◌else◌}
 use Rattle.std.specs.List.{list_any}
 use Rattle.std.proofs.lemmas.Bool.{both_ways, and_parts, and_from, not-false, eqb-true, false_from_ne_true}
@@ -8,14 +9,17 @@ use Rattle.blocks.specs.declared.refusal.Refusal.TheVariants.{UnknownJob}
 use Rattle.blocks.specs.declared.outcome.What.TheVariants as what
 use Rattle.blocks.specs.declared.outcome.Reply.TheVariants as reply
 use Rattle.model.specs.Marks.{releasing}
-use Rattle.model.specs.Primary.{LocalOutcome, Waiting, OnDisk, Failed, Accepted, PrimaryHistory, is_waiting, is_on_disk, is_failed, is_alone, is_answered, is_confirmed, is_released, completes, unreleased}
+use Rattle.model.specs.Primary.{LocalOutcome, Waiting, OnDisk, Failed, Accepted, PrimaryHistory, is_waiting, is_failed, is_alone}
+use Rattle.model.specs.Primary.{is_confirmed, is_released, completes, unreleased}
 use Rattle.model.specs.PrimarySteps as step
-use Rattle.model.specs.PrimarySteps.{is_unfinished, set_outcome, with_outcome, accepted_at, faulted}
+use Rattle.model.specs.PrimarySteps.{is_unfinished, set_outcome, with_outcome}
 use Rattle.transferlog.specs.Log as log
 use Rattle.transferlog.specs.Log.{changing}
 use Rattle.transferlog.specs.Ring.{on, has_number, write_at}
 use Rattle.transferlog.specs.Writes as writes
-use Rattle.transferlog.specs.Writes.{LogWrite, released_of}
+use Rattle.transferlog.specs.Writes.{LogWrite}
+use Rattle.laws.proofs.Rules.Completions.{completes-parts, completes-by}
+use Rattle.laws.proofs.Rules.EpochEnds.{TakesWrites}
 use Rattle.laws.proofs.Lists.Elements.{same-at}
 use Rattle.laws.proofs.Lists.Last.{change-none}
 use Rattle.laws.proofs.Lists.Tests.{test-passed}
@@ -25,7 +29,7 @@ use Rattle.laws.proofs.Releases.InOrderMoves.{Ordered, OrderedAfter, in-order-ke
 use Rattle.laws.proofs.Releases.Cleared.{done-releases}
 use Rattle.laws.proofs.Releases.Runs.{ordered-release}
 use Rattle.primary_steps.specs.Core as core
-use Rattle.primary_steps.specs.Core.{Fate, Entry, PrimaryState, with_entry}
+use Rattle.primary_steps.specs.Core.{PrimaryState}
 use Rattle.primary_steps.specs.Transitions as transition
 use Rattle.primary_steps.specs.Leaves.{logged_of, marks_in, Leaves}
 use Rattle.primary_steps.specs.Steps.{WritesAgree}
@@ -75,10 +79,12 @@ module _ (s : PrimaryState) (h : PrimaryHistory) (number : ℕ) (left : Leaves s
         at = some.2;
         number_is = eqb-true some.1.write.number number parts.0;
         waits = parts.1;
-        logged = found-is ∙ go some.0 some.1 some.2 (eqb-true some.1.write.number number parts.0) (find named (unreleased h)) refl (any-pick named (unreleased h) held.0 some.1 held.1 parts.0);
+        logged = found-is ∙ go some.0 some.1 some.2 (eqb-true some.1.write.number number parts.0) (find named (unreleased h)) refl
+            (any-pick named (unreleased h) held.0 some.1 held.1 parts.0);
       }
     where
-      go : (i : ℕ) (a : Accepted) → slice_get h.writes i ≡ Some a → a.write.number ≡ number → (v : Option Accepted) → find named (unreleased h) ≡ v → list_any named (unreleased h) ≡ true → option_map (logged_of h) v ≡ Some (logged_of h a)
+      go : (i : ℕ) (a : Accepted) → slice_get h.writes i ≡ Some a → a.write.number ≡ number → (v : Option Accepted) → find named (unreleased h) ≡ v
+          → list_any named (unreleased h) ≡ true → option_map (logged_of h) v ≡ Some (logged_of h a)
       go i a at number_is None none some = absurd (both_ways (list_any named (unreleased h)) (any-some named (unreleased h) ∙ ap is_some none) some)
       go i a at number_is (Some b) found some =
           let there = pick-found named (unreleased h) b found in
@@ -101,11 +107,14 @@ module _ (s : PrimaryState) (h : PrimaryHistory) (number : ℕ) (left : Leaves s
           by (Some b) found = waiting-seen h b ∙ false_from_ne_true (is_waiting b.outcome) (λ waits.
               let there = pick-found named (unreleased h) b found in
               let stood = pick-filtered (λ x. not (is_released h x)) h.writes there.0 b there.1 in
-              both_ways (is_unfinished h number) is (any-pick (λ accepted. (accepted.write.number == number) && is_waiting accepted.outcome) h.writes stood.0 b stood.1 (and_from (b.write.number == number) (is_waiting b.outcome) there.2 waits)))
+              both_ways (is_unfinished h number) is
+              (any-pick (λ accepted. (accepted.write.number == number) && is_waiting accepted.outcome) h.writes stood.0 b stood.1
+              (and_from (b.write.number == number) (is_waiting b.outcome) there.2 waits)))
 
 -- The disk does it.
 
-module _ (settings : Settings) (bound : 0 < settings.max_epoch) (s : PrimaryState) (h : PrimaryHistory) (number : ℕ) (left : Leaves s h) (ordered : Ordered settings h) (unfinished : is_unfinished h number ≡ true) where
+module _ (settings : Settings) (bound : TakesWrites settings) (s : PrimaryState) (h : PrimaryHistory) (number : ℕ) (left : Leaves s h)
+    (ordered : Ordered settings h) (unfinished : is_unfinished h number ≡ true) where
   done : PrimaryHistory
   done = with_outcome number OnDisk h
 
@@ -122,16 +131,19 @@ module _ (settings : Settings) (bound : 0 < settings.max_epoch) (s : PrimaryStat
   the = waits-so s h number left ordered.1.1.0.0 unfinished
 
   done-logged : (a : Accepted) → logged_of (releasing h (with_outcome number OnDisk h)) (set_outcome number OnDisk a) ≡ on number writes.storing (logged_of h a)
-  done-logged a = elim (a.write.number == number) as (λ b. logged_of (releasing h (with_outcome number OnDisk h)) (if b then record a { outcome = OnDisk } else a) ≡ (if b then writes.storing (logged_of h a) else logged_of h a)) [ true ↦ refl | false ↦ refl ]
+  done-logged a = elim (a.write.number == number) as (λ b. logged_of (releasing h (with_outcome number OnDisk h)) (if b then record a { outcome = OnDisk }
+      else a) ≡ (if b then writes.storing (logged_of h a) else logged_of h a)) [ true ↦ refl | false ↦ refl ]
 
   -- of a test that sees the outcome alone
-  outcomes : (see : LocalOutcome → Bool) → see OnDisk ≡ false → (i : ℕ) (a : Accepted) → slice_get h.writes i ≡ Some a → (is_waiting a.outcome ≡ true → see a.outcome ≡ false) → see (set_outcome number OnDisk a).outcome ≡ see a.outcome
+  outcomes : (see : LocalOutcome → Bool) → see OnDisk ≡ false → (i : ℕ) (a : Accepted) → slice_get h.writes i ≡ Some a
+      → (is_waiting a.outcome ≡ true → see a.outcome ≡ false) → see (set_outcome number OnDisk a).outcome ≡ see a.outcome
   outcomes see none i a at waiting = go (a.write.number == number) refl
     where
       go : (b : Bool) → (a.write.number == number) ≡ b → see (if b then record a { outcome = OnDisk } else a).outcome ≡ see a.outcome
       go false is = refl
       go true is =
-          let same : a ≡ the.accepted = one s h number left ordered.1.1.0.0 i the.index a the.accepted at the.at (eqb-true a.write.number number is ∙ sym the.number_is) in
+          let same : a ≡ the.accepted = one s h number left ordered.1.1.0.0 i the.index a the.accepted at the.at (eqb-true a.write.number number is
+          ∙ sym the.number_is) in
           none ∙ sym (waiting (ap (λ (x : Accepted). is_waiting x.outcome) same ∙ the.waits))
 
   done-change : IsChange h (releasing h (with_outcome number OnDisk h)) number writes.storing (set_outcome number OnDisk) (λ c. c)
@@ -144,12 +156,15 @@ module _ (settings : Settings) (bound : 0 < settings.max_epoch) (s : PrimaryStat
     write = λ a. outcome-write number OnDisk a;
     home = λ a. outcome-home number OnDisk a;
     logged = λ i a at. done-logged a;
-    alone = λ i a at. elim (a.write.number == number) as (λ b. is_alone h (if b then record a { outcome = OnDisk } else a) ≡ is_alone h a) [ true ↦ refl | false ↦ refl ];
-    confirmed = λ i a at. elim (a.write.number == number) as (λ b. is_confirmed h (if b then record a { outcome = OnDisk } else a) ≡ is_confirmed h a) [ true ↦ refl | false ↦ refl ];
-    settled = λ i a at settled. elim (a.write.number == number) as (λ b. is_waiting (if b then record a { outcome = OnDisk } else a).outcome ≡ false) [ true ↦ refl | false ↦ settled ];
+    alone = λ i a at. elim (a.write.number == number) as (λ b. is_alone h (if b then record a { outcome = OnDisk } else a) ≡ is_alone h a)
+        [ true ↦ refl | false ↦ refl ];
+    confirmed = λ i a at. elim (a.write.number == number) as (λ b. is_confirmed h (if b then record a { outcome = OnDisk } else a) ≡ is_confirmed h a)
+        [ true ↦ refl | false ↦ refl ];
+    settled = λ i a at settled. elim (a.write.number == number) as (λ b. is_waiting (if b then record a { outcome = OnDisk } else a).outcome ≡ false)
+        [ true ↦ refl | false ↦ settled ];
     failed = λ i a at failed. outcomes is_failed refl i a at (waiting-unfailed a.outcome) ∙ failed;
     completed = λ i a at completed. elim (a.write.number == number) as (λ b. completes h (if b then record a { outcome = OnDisk } else a) ≡ true) [
-      | true ↦ (and_parts (is_on_disk a.outcome) (is_answered h a || is_alone h a) completed).1
+      | true ↦ completes-by h (record a { outcome = OnDisk }) refl (completes-parts h a completed).1
       | false ↦ completed
     ];
     stream = refl;
@@ -167,10 +182,13 @@ module _ (settings : Settings) (bound : 0 < settings.max_epoch) (s : PrimaryStat
 
   pub done-due : IsDue (record s { log = (log.local_done number s.log).1 }) (log.local_done number s.log).0 (releasing h (with_outcome number OnDisk h))
   done-due =
-      change-due s h (releasing h (with_outcome number OnDisk h)) number writes.storing (set_outcome number OnDisk) (λ c. c) left ordered.1.1.0.0 ordered.1.0 ordered.1.1.0.1.on after-releasing.1.1.0.0 done-change
+      change-due s h (releasing h (with_outcome number OnDisk h)) number writes.storing (set_outcome number OnDisk) (λ c. c) left ordered.1.1.0.0 ordered.1.0
+      ordered.1.1.0.1.on after-releasing.1.1.0.0 done-change
       s.entries s.held s.marks s.end refl refl refl
-      (entries-stay s h (releasing h (with_outcome number OnDisk h)) number writes.storing (set_outcome number OnDisk) (λ c. c) left ordered.1.1.0.0 ordered.1.0 ordered.1.1.0.1.on after-releasing.1.1.0.0 done-change unfailed refl)
-      (held-stays s h (releasing h (with_outcome number OnDisk h)) number writes.storing (set_outcome number OnDisk) (λ c. c) left ordered.1.1.0.0 ordered.1.0 ordered.1.1.0.1.on after-releasing.1.1.0.0 done-change unfailed)
+      (entries-stay s h (releasing h (with_outcome number OnDisk h)) number writes.storing (set_outcome number OnDisk) (λ c. c) left ordered.1.1.0.0 ordered.1.0
+      ordered.1.1.0.1.on after-releasing.1.1.0.0 done-change unfailed refl)
+      (held-stays s h (releasing h (with_outcome number OnDisk h)) number writes.storing (set_outcome number OnDisk) (λ c. c) left ordered.1.1.0.0 ordered.1.0
+      ordered.1.1.0.1.on after-releasing.1.1.0.0 done-change unfailed)
       (ap (bits_unmarking) left.rest.marks ∙ marks)
       left.rest.end
     where
@@ -185,13 +203,17 @@ module _ (settings : Settings) (bound : 0 < settings.max_epoch) (s : PrimaryStat
       unfailed : (i : ℕ) (a : Accepted) → slice_get h.writes i ≡ Some a → is_failed (set_outcome number OnDisk a).outcome ≡ is_failed a.outcome
       unfailed i a at = outcomes is_failed refl i a at (waiting-unfailed a.outcome)
 
-      marks : core.unmarking (changing number writes.storing s.log).1.released (changing number writes.storing s.log).1.latest (marks_in h.settings.blocks h.marks) ≡ marks_in h.settings.blocks (releasing h (with_outcome number OnDisk h)).marks
+      marks : core.unmarking (changing number writes.storing s.log).1.released (changing number writes.storing s.log).1.latest
+          (marks_in h.settings.blocks h.marks) ≡ marks_in h.settings.blocks (releasing h (with_outcome number OnDisk h)).marks
       marks =
-          unmarking-is settings h (with_outcome number OnDisk h) (changing number writes.storing s.log).1.released (changing number writes.storing s.log).1.latest ordered after.1.1.0.0 after.1.0 (done-releases h number ordered.1.1.0.0)
+          unmarking-is settings h (with_outcome number OnDisk h) (changing number writes.storing s.log).1.released
+          (changing number writes.storing s.log).1.latest ordered after.1.1.0.0 after.1.0 (done-releases h number ordered.1.1.0.0)
           (reports-of h (with_outcome number OnDisk h) (set_outcome number OnDisk) (changing number writes.storing s.log).1.released
-          (released-is s h (releasing h (with_outcome number OnDisk h)) number writes.storing (set_outcome number OnDisk) (λ c. c) left ordered.1.1.0.0 ordered.1.0 done-change) refl (outcome-write number OnDisk))
+          (released-is s h (releasing h (with_outcome number OnDisk h)) number writes.storing (set_outcome number OnDisk)
+          (λ c. c) left ordered.1.1.0.0 ordered.1.0 done-change) refl (outcome-write number OnDisk))
           h.settings.blocks h.marks
-          (log-then s h (releasing h (with_outcome number OnDisk h)) number writes.storing (set_outcome number OnDisk) (λ c. c) left ordered.1.1.0.0 ordered.1.0 done-change).latest
+          (log-then s h (releasing h (with_outcome number OnDisk h)) number writes.storing (set_outcome number OnDisk) (λ c. c) left ordered.1.1.0.0 ordered.1.0
+          done-change).latest
 
 -- the local disk does a write
 pub writes-agree : WritesAgree
@@ -203,4 +225,5 @@ writes-agree number s h reached left =
     (ap (λ b. (not b, UnknownJob) ∷ []) (unfinished-same s h number left known.ordered.1.1.0.0)) left
     (λ none.
     let unfinished = not-false (is_unfinished h number) (test-passed (not (is_unfinished h number)) UnknownJob [] none).0 in
-    from-follow _ _ (follow (record s { log = (log.local_done number s.log).1 }) (log.local_done number s.log).0 (releasing h (with_outcome number OnDisk h)) (done-due known.settings known.bound s h number left known.ordered unfinished) what.Nothing))
+    from-follow _ _ (follow (record s { log = (log.local_done number s.log).1 }) (log.local_done number s.log).0 (releasing h (with_outcome number OnDisk h))
+    (done-due known.settings known.bound s h number left known.ordered unfinished) what.Nothing))

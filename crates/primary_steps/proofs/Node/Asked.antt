@@ -13,11 +13,19 @@ use Rattle.primary_steps.specs.Transitions as transition
 use Rattle.primary_steps.specs.Leaves.{Leaves}
 use Rattle.primary_steps.proofs.Common.Reached.{end-open}
 
-pub open-tests-same : (sync loss : ℕ) (s : PrimaryState) (h : PrimaryHistory) → Leaves s h → transition.open_tests sync loss false s ≡ step.open_tests h sync loss false
+pub open-tests-same : (sync loss : ℕ) (s : PrimaryState) (h : PrimaryHistory) → Leaves s h
+    → transition.open_tests sync loss false s ≡ step.open_tests h sync loss false
 open-tests-same sync loss s h left =
-    ap (λ b. (b, NotDrained) ∷ (not (are_fresh sync loss (transition.known_tuples s)), UsedIdentifier) ∷ (nat_le 4294967295 s.connections, StreamFull) ∷ (false, NoMemory) ∷ []) (end-open s.end (outward h) left.rest.end)
-    ∙ ap (λ (t : List Tuple). (not (outward h).closed, NotDrained) ∷ (not (are_fresh sync loss t), UsedIdentifier) ∷ (nat_le 4294967295 s.connections, StreamFull) ∷ (false, NoMemory) ∷ []) known
-    ∙ ap (λ n. (not (outward h).closed, NotDrained) ∷ (not (are_fresh sync loss (step.known_tuples h)), UsedIdentifier) ∷ (nat_le 4294967295 n, StreamFull) ∷ (false, NoMemory) ∷ []) left.rest.connections
+    ap (λ b. (b, NotDrained) ∷ (not (are_fresh sync loss (transition.known_tuples s)), UsedIdentifier) ∷ (nat_le 4294967295 s.connections, StreamFull) ∷ (
+      false,
+      NoMemory,
+    ) ∷ []) (end-open s.end (outward h) left.rest.end)
+    ∙ ap (λ (t : List Tuple). (not (outward h).closed, NotDrained) ∷ (not (are_fresh sync loss t), UsedIdentifier) ∷ (
+      nat_le 4294967295 s.connections,
+      StreamFull,
+    ) ∷ (false, NoMemory) ∷ []) known
+    ∙ ap (λ n. (not (outward h).closed, NotDrained) ∷ (not (are_fresh sync loss (step.known_tuples h)), UsedIdentifier) ∷ (nat_le 4294967295 n, StreamFull) ∷
+    (false, NoMemory) ∷ []) left.rest.connections
   where
     known : transition.known_tuples s ≡ step.known_tuples h
     known = ap (λ (v : Option Tuple). elim v as (λ _. List Tuple) [ None ↦ s.tuple ∷ [] | Some peer ↦ s.tuple ∷ peer ∷ [] ]) left.rest.peer

@@ -1,5 +1,6 @@
 -- A node's calls are steps: it is new, it opens, accepts a write, pushes what is due, closes, and gives a receipt.
-use Rattle.std.proofs.Common.{ℕ, suc, ◌≡◌, Bool, true, false, not, ◌&&◌, List, [], ◌∷◌, ◌++◌, length, take, Option, Some, None, Result, Ok, Err, slice_get, refl, sym, ◌∙◌, ap, subst, arith, nat_le}
+use Rattle.std.proofs.Common.{ℕ, suc, ◌≡◌, Bool, true, false, not, ◌&&◌, List, [], ◌∷◌, ◌++◌, length, take, Option, Some, None, Result, Ok, Err, slice_get}
+use Rattle.std.proofs.Common.{refl, sym, ◌∙◌, ap, subst, arith, nat_le}
 use Rattle.std.specs.Prelude.{is_some, unwrap_or}
 use Rattle.blocks.specs.SettingsRange.{IsInRange}
 use Rattle.blocks.specs.declared.tuple.Tuple.{Tuple}
@@ -49,11 +50,14 @@ marks-are marks =
     same-marks (marks_in (length marks) (marked marks)) marks size (λ block inside. marked-in (length marks) (marked marks) block (omega arith))
 
 -- A new node has the opening over what its disk holds.
-pub opening-has : (settings : Settings) (disk : List (List ℕ)) (tuple : Tuple) (marks : List Bool) → IsInRange settings → IsDisk settings.blocks (slice_get disk) → length marks ≡ settings.blocks
-    → NodeHas (record { core = fresh settings tuple marks; disk = disk; pushed = []; taken = [] }) (primary_opening settings (slice_get disk) tuple (λ block. unwrap_or (slice_get marks block) false))
+pub opening-has : (settings : Settings) (disk : List (List ℕ)) (tuple : Tuple) (marks : List Bool) → IsInRange settings
+    → IsDisk settings.blocks (slice_get disk) → length marks ≡ settings.blocks
+    → NodeHas (record { core = fresh settings tuple marks; disk = disk; pushed = []; taken = [] })
+    (primary_opening settings (slice_get disk) tuple (λ block. unwrap_or (slice_get marks block) false))
 opening-has settings disk tuple marks ranges sized size = record {
   leaves = record {
-    core = subst (λ (l : List Bool). Leaves (fresh settings tuple l) (primary_opening settings (slice_get disk) tuple (marked marks))) (ap (λ n. marks_in n (marked marks)) (sym size) ∙ marks-are marks) (fresh-is settings (slice_get disk) tuple (marked marks));
+    core = subst (λ (l : List Bool). Leaves (fresh settings tuple l) (primary_opening settings (slice_get disk) tuple (marked marks)))
+        (ap (λ n. marks_in n (marked marks)) (sym size) ∙ marks-are marks) (fresh-is settings (slice_get disk) tuple (marked marks));
     disk = λ block. refl;
     pushed = refl;
     taken = refl;
@@ -69,13 +73,19 @@ IsPlain event = (h : PrimaryHistory) → Keeps h (unchanged h) (primary_step eve
 
 -- the call is the step, where its transition is
 pub node-plain : {R : Type 0} (event : PrimaryEvent) (n : NodeState) (tell : R → Reply) (result : Result R Refusal) (core : PrimaryState) → IsPlain event
-    → ((h : PrimaryHistory) → IsReached h → Leaves n.core h → Agrees tell (result, core) (primary_step event h)) → NodeSteps event n (replied tell result) (record n { core = core })
+    → ((h : PrimaryHistory) → IsReached h → Leaves n.core h → Agrees tell (result, core) (primary_step event h))
+    → NodeSteps event n (replied tell result) (record n { core = core })
 node-plain event n tell result core plain agrees = node-steps event n (replied tell result) (record n { core = core }) (λ h has.
     let same = agrees h has.reached has.leaves.core in
-    record { reply = same.reply; leaves = kept-leaves n core n.disk n.taken h (primary_step event h).1 (unchanged h) has.leaves same.leaves (plain h) has.leaves.disk has.leaves.taken })
+    record {
+      reply = same.reply;
+      leaves = kept-leaves n core n.disk n.taken h (primary_step event h).1 (unchanged h) has.leaves same.leaves
+          (plain h) has.leaves.disk has.leaves.taken;
+    })
 
 -- what was due is due still, and no stream has begun
-pub plain-still : (event : PrimaryEvent) (n next : NodeState) (reply : Reply) → IsPlain event → NodeIsHad n → NodeSteps event n reply next → IsStill n.core next.core × (stands next.core ≡ true → stands n.core ≡ true)
+pub plain-still : (event : PrimaryEvent) (n next : NodeState) (reply : Reply) → IsPlain event → NodeIsHad n → NodeSteps event n reply next
+    → IsStill n.core next.core × (stands next.core ≡ true → stands n.core ≡ true)
 plain-still event n next reply plain had steps =
     let h = had.history in
     let later = steps.after h had.has in (
@@ -84,19 +94,28 @@ plain-still event n next reply plain had steps =
     )
 
 -- it closes
-pub node-closes : (n : NodeState) (result : Result ℕ Refusal) (core : PrimaryState) → (result, core) ≡ close_end n.core → NodeSteps Closes n (replied reply.Closed result) (record n { core = core })
-node-closes n result core is = node-plain Closes n reply.Closed result core closes-keeps (λ h reached left. subst (λ (p : Result ℕ Refusal × PrimaryState). Agrees reply.Closed p (step.close_primary h)) (sym is) (closes-agree n.core h reached left))
+pub node-closes : (n : NodeState) (result : Result ℕ Refusal) (core : PrimaryState) → (result, core) ≡ close_end n.core
+    → NodeSteps Closes n (replied reply.Closed result) (record n { core = core })
+node-closes n result core is = node-plain Closes n reply.Closed result core closes-keeps
+    (λ h reached left. subst (λ (p : Result ℕ Refusal × PrimaryState). Agrees reply.Closed p (step.close_primary h)) (sym is)
+    (closes-agree n.core h reached left))
 
 -- it accepts a write
-pub node-submits : (n : NodeState) (first : ℕ) (bytes : List ℕ) (starved : Bool) (result : Result Done Refusal) (core : PrimaryState) → (result, core) ≡ submit first bytes starved n.core
+pub node-submits : (n : NodeState) (first : ℕ) (bytes : List ℕ) (starved : Bool) (result : Result Done Refusal) (core : PrimaryState)
+    → (result, core) ≡ submit first bytes starved n.core
     → NodeSteps (Submits first (whole_blocks bytes) starved) n (replied reply.Ok result) (record n { core = core })
-node-submits n first bytes starved result core is = node-plain (Submits first (whole_blocks bytes) starved) n reply.Ok result core (submits-keeps first (whole_blocks bytes) starved)
-    (λ h reached left. subst (λ (p : Result Done Refusal × PrimaryState). Agrees reply.Ok p (step.submit first (whole_blocks bytes) starved h)) (sym is) (submits-agree first bytes starved n.core h reached left))
+node-submits n first bytes starved result core is = node-plain (Submits first (whole_blocks bytes) starved) n reply.Ok result core
+    (submits-keeps first (whole_blocks bytes) starved)
+    (λ h reached left. subst (λ (p : Result Done Refusal × PrimaryState). Agrees reply.Ok p (step.submit first (whole_blocks bytes) starved h)) (sym is)
+    (submits-agree first bytes starved n.core h reached left))
 
 -- the report names the write by the number of all that were accepted
-pub submit-number : (n : NodeState) (first : ℕ) (contents : List (List ℕ)) (starved : Bool) (done : Done) (core : PrimaryState) → NodeIsHad n → NodeSteps (Submits first contents starved) n (reply.Ok done) (record n { core = core })
+pub submit-number : (n : NodeState) (first : ℕ) (contents : List (List ℕ)) (starved : Bool) (done : Done) (core : PrimaryState) → NodeIsHad n
+    → NodeSteps (Submits first contents starved) n (reply.Ok done) (record n { core = core })
     → done.what ≡ what.Write core.log.accepted
-submit-number n first contents starved done core had steps = ap told to ∙ ap what.Write (sym ((steps.after h had.has).leaves.core.rest.log.accepted ∙ (ap (λ (p : Reply × PrimaryHistory). length p.1.writes) (submits-to first contents starved h done said) ∙ count)))
+submit-number n first contents starved done core had steps = ap told to
+    ∙ ap what.Write (sym ((steps.after h had.has).leaves.core.rest.log.accepted
+    ∙ (ap (λ (p : Reply × PrimaryHistory). length p.1.writes) (submits-to first contents starved h done said) ∙ count)))
   where
     h : PrimaryHistory
     h = had.history
@@ -115,12 +134,29 @@ submit-number n first contents starved done core had steps = ap told to ∙ ap w
     grown h a = length-append h.writes (a ∷ []) ∙ omega arith
 
     count : length (step.follows (step.submitted h first contents)).history.writes ≡ suc (length h.writes)
-    count = following-from (λ g. length g.writes ≡ suc (length h.writes)) (λ g. length g.writes ≡ suc (length h.writes)) (λ g. length g.writes ≡ suc (length h.writes))
+    count = following-from (λ g. length g.writes ≡ suc (length h.writes)) (λ g. length g.writes ≡ suc (length h.writes))
+        (λ g. length g.writes ≡ suc (length h.writes))
         (λ g is. is) (λ g over is. is) (λ g on is. is) (λ g over is. is) (λ g is. is) (step.submitted h first contents) (go (model.stands (outward h)))
       where
         go : (b : Bool) → length (elim b as (λ _. PrimaryHistory) [
-          | true ↦ step.appending (WriteItem (step.submission h first contents)) (record h { writes = h.writes ++ record { write = step.submission h first contents; journal_length = length h.journal; home = Some (last_index h.connections, length (outward h).stream); outcome = Waiting } ∷ [] })
-          | false ↦ record h { writes = h.writes ++ record { write = step.submission h first contents; journal_length = length h.journal; home = None; outcome = Waiting } ∷ []; marks = marking (step.submission h first contents) h.marks }
+          | true ↦ step.appending (WriteItem (step.submission h first contents))
+              (record h {
+                writes = h.writes ++ record {
+                  write = step.submission h first contents;
+                  journal_length = length h.journal;
+                  home = Some (record { index = last_index h.connections; place = length (outward h).stream });
+                  outcome = Waiting;
+                } ∷ [];
+              })
+          | false ↦ record h {
+            writes = h.writes ++ record {
+              write = step.submission h first contents;
+              journal_length = length h.journal;
+              home = None;
+              outcome = Waiting;
+            } ∷ [];
+            marks = marking (step.submission h first contents) h.marks;
+          }
         ]).writes ≡ suc (length h.writes)
         go true = grown h _
         go false = grown h _
@@ -131,7 +167,8 @@ submit-number n first contents starved done core had steps = ap told to ∙ ap w
 abbrev new : ℕ → ℕ → PrimaryHistory → Outward
 new sync loss h = record { sync = sync; loss = loss; hello = h.tuple; stream = []; pushed = 0; taken = []; refused = false; begun = false; closed = false }
 
-opened-keeps : (sync loss : ℕ) (h : PrimaryHistory) → reply.Ok (done_with what.Nothing) ≡ (step.open_primary sync loss false h).0 → Keeps (step.opened h sync loss) (unchanged (step.opened h sync loss)) (step.open_primary sync loss false h).1
+opened-keeps : (sync loss : ℕ) (h : PrimaryHistory) → reply.Ok (done_with what.Nothing) ≡ (step.open_primary sync loss false h).0
+    → Keeps (step.opened h sync loss) (unchanged (step.opened h sync loss)) (step.open_primary sync loss false h).1
 opened-keeps sync loss h said =
     subst (Keeps (step.opened h sync loss) (unchanged (step.opened h sync loss))) (sym (opens-to sync loss false h (done_with what.Nothing) said))
     (keeps-following (step.opened h sync loss) (step.opened h sync loss) (unchanged (step.opened h sync loss)) (keeps-self (step.opened h sync loss)))
@@ -139,8 +176,10 @@ opened-keeps sync loss h said =
 -- the end is opened over new ends of a link
 pub node-opened : (n : NodeState) (sync loss : ℕ) (core : PrimaryState) → (Ok tt, core) ≡ open_end sync loss false n.core
     → NodeSteps (Opens sync loss false) n (replied plainly (Ok tt)) (record { core = core; disk = n.disk; pushed = []; taken = [] })
-node-opened n sync loss core is = node-steps (Opens sync loss false) n (replied plainly (Ok tt)) (record { core = core; disk = n.disk; pushed = []; taken = [] }) (λ h has.
-    let agrees = subst (λ (p : Result (Unit {0}) Refusal × PrimaryState). Agrees plainly p (step.open_primary sync loss false h)) (sym is) (opens-agree sync loss false n.core h has.reached has.leaves.core) in
+node-opened n sync loss core is = node-steps (Opens sync loss false) n (replied plainly (Ok tt))
+    (record { core = core; disk = n.disk; pushed = []; taken = [] }) (λ h has.
+    let agrees = subst (λ (p : Result (Unit {0}) Refusal × PrimaryState). Agrees plainly p (step.open_primary sync loss false h)) (sym is)
+    (opens-agree sync loss false n.core h has.reached has.leaves.core) in
     let later : PrimaryHistory = (step.open_primary sync loss false h).1 in
     let k = opened-keeps sync loss h agrees.reply in
     let last : outward (step.opened h sync loss) ≡ new sync loss h = last-more (no_outward h.tuple) (new sync loss h) h.connections in record {
@@ -154,9 +193,11 @@ node-opened n sync loss core is = node-steps (Opens sync loss false) n (replied 
     })
 
 -- an end that was not opened
-pub node-not-opened : (n : NodeState) (sync loss : ℕ) (starved : Bool) (e : Refusal) (core : PrimaryState) → (Err e, core) ≡ open_end sync loss starved n.core → NodeSteps (Opens sync loss starved) n (reply.Refused e) n
+pub node-not-opened : (n : NodeState) (sync loss : ℕ) (starved : Bool) (e : Refusal) (core : PrimaryState) → (Err e, core) ≡ open_end sync loss starved n.core
+    → NodeSteps (Opens sync loss starved) n (reply.Refused e) n
 node-not-opened n sync loss starved e core is = node-refused (Opens sync loss starved) tt n e (λ h has.
-    (subst (λ (p : Result (Unit {0}) Refusal × PrimaryState). Agrees plainly p (step.open_primary sync loss starved h)) (sym is) (opens-agree sync loss starved n.core h has.reached has.leaves.core)).reply)
+    (subst (λ (p : Result (Unit {0}) Refusal × PrimaryState). Agrees plainly p (step.open_primary sync loss starved h)) (sym is)
+    (opens-agree sync loss starved n.core h has.reached has.leaves.core)).reply)
 
 -- what an opening that is done was tested for, and what it leads to
 pub opened-core : (sync loss : ℕ) (s core : PrimaryState) → (Ok tt, core) ≡ open_end sync loss false s → (is_some s.end ≡ false) × (core ≡ opened sync loss s)
@@ -165,7 +206,8 @@ opened-core sync loss s core is = go (first_refusal (open_tests sync loss false 
     rest : List Test
     rest = (not (are_fresh sync loss (known_tuples s)), UsedIdentifier) ∷ (nat_le 4294967295 s.connections, StreamFull) ∷ (false, NoMemory) ∷ []
 
-    go : (v : Option Refusal) → first_refusal (open_tests sync loss false s) ≡ v → (Ok tt, core) ≡ elim v as (λ _. Result (Unit {0}) Refusal × PrimaryState) [ Some refusal ↦ (Err refusal, s) | None ↦ (Ok tt, opened sync loss s) ]
+    go : (v : Option Refusal) → first_refusal (open_tests sync loss false s) ≡ v
+        → (Ok tt, core) ≡ elim v as (λ _. Result (Unit {0}) Refusal × PrimaryState) [ Some refusal ↦ (Err refusal, s) | None ↦ (Ok tt, opened sync loss s) ]
         → (is_some s.end ≡ false) × (core ≡ opened sync loss s)
     go (Some refusal) none is = let one : Ok tt ≡ Err refusal = ap (λ (p : Result (Unit {0}) Refusal × PrimaryState). p.0) is in absurd (cc)
     go None none is = ((test-passed (is_some s.end) NotDrained rest none).0, ap (λ (p : Result (Unit {0}) Refusal × PrimaryState). p.1) is)
@@ -174,7 +216,8 @@ opened-core sync loss s core is = go (first_refusal (open_tests sync loss false 
 pub not-opened-core : (sync loss : ℕ) (starved : Bool) (s core : PrimaryState) (e : Refusal) → (Err e, core) ≡ open_end sync loss starved s → core ≡ s
 not-opened-core sync loss starved s core e is = go (first_refusal (open_tests sync loss starved s)) is
   where
-    go : (v : Option Refusal) → (Err e, core) ≡ elim v as (λ _. Result (Unit {0}) Refusal × PrimaryState) [ Some refusal ↦ (Err refusal, s) | None ↦ (Ok tt, opened sync loss s) ] → core ≡ s
+    go : (v : Option Refusal) → (Err e, core) ≡ elim v as (λ _. Result (Unit {0}) Refusal × PrimaryState)
+        [ Some refusal ↦ (Err refusal, s) | None ↦ (Ok tt, opened sync loss s) ] → core ≡ s
     go (Some refusal) is = ap (λ (p : Result (Unit {0}) Refusal × PrimaryState). p.1) is
     go None is = let one : Err e ≡ Ok tt = ap (λ (p : Result (Unit {0}) Refusal × PrimaryState). p.0) is in absurd (cc)
 

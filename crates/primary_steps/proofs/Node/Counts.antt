@@ -1,5 +1,6 @@
 -- How many epochs of a stream are open, and how many of its writes are not answered, as a primary's state tells it.
-use Rattle.std.proofs.Common.{ℕ, zero, suc, ◌≡◌, ◌+◌, ◌-◌, ◌<◌, inl, inr, Bool, true, false, cond, not, ◌&&◌, ◌||◌, List, [], ◌∷◌, length, map, filter, Some, slice_get, refl, sym, ◌∙◌, ap, subst, arith, nat_lt, nat_le, ◌==◌, length-append}
+use Rattle.std.proofs.Common.{ℕ, zero, suc, ◌≡◌, ◌+◌, ◌-◌, ◌<◌, inl, inr, Bool, true, false, cond, not, ◌&&◌, ◌||◌, List, [], ◌∷◌, length, map, filter, Some}
+use Rattle.std.proofs.Common.{slice_get, refl, sym, ◌∙◌, ap, subst, arith, nat_lt, nat_le, ◌==◌, length-append}
 use Rattle.std.specs.Prelude.{if◌then◌else◌}
 use Rattle.std.specs.List.{list_any}
 use Rattle.std.proofs.lemmas.Bool.{cases_lt, and_parts, lt-ltb, le-ltb, le-leb, lt-leb}
@@ -8,9 +9,11 @@ use Rattle.std.proofs.lemmas.List.Elements.{filter-append}
 use Rattle.blocks.specs.Ranges.{below}
 use Rattle.blocks.specs.declared.settings.Settings.{Settings}
 use Rattle.epochs.specs.Epochs.{unacknowledged}
-use Rattle.model.specs.Stream.{Item, WriteItem, ResyncItem, BarrierItem, SyncUuidItem, UuidsItem, barriers_in, has_blocks, is_write, last_epoch, items_of_epoch, placed, epoch_of}
+use Rattle.model.specs.Stream.{Item, WriteItem, ResyncItem, BarrierItem, SyncUuidItem, UuidsItem, barriers_in, has_blocks, is_write, last_epoch, items_of_epoch}
+use Rattle.model.specs.Stream.{placed, epoch_of}
 use Rattle.model.specs.Primary.{PrimaryHistory, barrier_acknowledged, is_resync, outward, stands}
 use Rattle.model.specs.Status.{open_epochs}
+use Rattle.laws.proofs.Rules.EpochEnds.{takes-writes}
 use Rattle.laws.proofs.Lists.Each.{each-get}
 use Rattle.laws.proofs.Lists.Picks.{pick-filtered}
 use Rattle.laws.proofs.Primary.Ends.{stands-parts}
@@ -27,7 +30,8 @@ use Rattle.primary_steps.proofs.Common.Filters.{any-at}
 -- The stream that stands can be sent.
 pub sendable : (h : PrimaryHistory) → IsReached h → stands (outward h) ≡ true → (settings : Settings) × IsSendable settings (outward h).stream
 sendable h reached standing =
-    let fit = subst (HasFitEnds reached.settings) reached.is (primary_fit reached.settings reached.disk reached.tuple reached.marks reached.events reached.ranges.max_epoch.0) in
+    let fit = subst (HasFitEnds reached.settings) reached.is
+    (primary_fit reached.settings reached.disk reached.tuple reached.marks reached.events (takes-writes reached.settings reached.ranges)) in
     (reached.settings, (each-get _ h.connections (length h.connections - 1) (outward h) fit.ends (open-at h (stands-parts (outward h) standing).0)).stream)
 
 -- Lists.
@@ -53,7 +57,8 @@ any-either p q (x ∷ xs) = ap (λ b. (p x || q x) || b) (any-either p q xs) ∙
 -- Epochs.
 
 -- the items of an epoch that have blocks are its work
-work-same : (settings : Settings) (items : List Item) (epoch : ℕ) → IsSendable settings items → list_any (λ (entry : ℕ × Item). has_blocks entry.1) (items_of_epoch items epoch) ≡ list_any is_work (items_of_epoch items epoch)
+work-same : (settings : Settings) (items : List Item) (epoch : ℕ) → IsSendable settings items
+    → list_any (λ (entry : ℕ × Item). has_blocks entry.1) (items_of_epoch items epoch) ≡ list_any is_work (items_of_epoch items epoch)
 work-same settings items epoch s = any-at (λ (entry : ℕ × Item). has_blocks entry.1) is_work (items_of_epoch items epoch) (λ i entry at.
     let there = pick-filtered (λ (entry : ℕ × Item). epoch_of items entry.0 == epoch) (placed items) i entry at in
     let stood = placed-back 0 items there.0 entry there.1 in
@@ -61,8 +66,10 @@ work-same settings items epoch s = any-at (λ (entry : ℕ × Item). has_blocks 
   where
     same : (place : ℕ) (item : Item) → slice_get items place ≡ Some item → has_blocks item ≡ (is_write item || is_resync item)
     same place (WriteItem write) at =
-        let parts = and_parts ((nat_lt 0 (length write.contents) && nat_le (length write.contents) 32) && nat_le (write.first + length write.contents) settings.blocks) _ (s.stands place (WriteItem write) at) in
-        let sized = and_parts (nat_lt 0 (length write.contents) && nat_le (length write.contents) 32) (nat_le (write.first + length write.contents) settings.blocks) parts.0 in
+        let parts = and_parts ((nat_lt 0 (length write.contents) && nat_le (length write.contents) 32)
+        && nat_le (write.first + length write.contents) settings.blocks) _ (s.stands place (WriteItem write) at) in
+        let sized = and_parts (nat_lt 0 (length write.contents) && nat_le (length write.contents) 32)
+        (nat_le (write.first + length write.contents) settings.blocks) parts.0 in
         (and_parts (nat_lt 0 (length write.contents)) (nat_le (length write.contents) 32) sized.0).0
     same place (ResyncItem block contents) at = lt-ltb 0 1 (omega arith)
     same place (BarrierItem epoch) at = le-ltb 0 0 (omega arith)
@@ -100,19 +107,22 @@ says-epochs s h reached left = go (stands (outward h)) refl
     one_if : Bool → ℕ
     one_if b = if b then 1 else 0
 
-    go : (b : Bool) → stands (outward h) ≡ b → unacknowledged s.log.epochs ≡ (if b then length (filter p (map suc (below (last_epoch (outward h).stream)))) else 0)
+    go : (b : Bool) → stands (outward h) ≡ b → unacknowledged s.log.epochs ≡ (if b then length (filter p (map suc (below (last_epoch (outward h).stream))))
+        else 0)
     go false is = ap unacknowledged (left.stream.off is) ∙ ap (λ b. 0 + (if b || false then 1 else 0)) (le-ltb 0 0 (omega arith))
     go true is =
         let e = left.stream.on is in
         let send = (sendable h reached is).1 in
         let many = sizes-many s.log (outward h) e in
         let front : length (filter p (map suc (below b))) ≡ b - e.acked = count-open p e.acked b (λ k less.
-        (λ i. (work-same (sendable h reached is).0 (outward h).stream (suc k) send ∙ send.filled (suc k) (omega arith) (omega arith)) i && not (e.acknowledged (suc k) (omega arith) i))) in
+        (λ i. (work-same (sendable h reached is).0 (outward h).stream (suc k) send ∙ send.filled (suc k) (omega arith) (omega arith)) i
+        && not (e.acknowledged (suc k) (omega arith) i))) in
         let last : p (suc b) ≡ (nat_lt 0 s.log.epochs.size || s.log.epochs.resync) = λ i. ends e send i in
         sym (ap (λ (l : List ℕ). length (filter p l)) (map-append suc (below b) (b ∷ []))
         ∙ (ap length (filter-append p (map suc (below b)) (suc b ∷ []))
         ∙ (length-append (filter p (map suc (below b))) (filter p (suc b ∷ []))
-        ∙ (ap (λ n. n + length (filter p (suc b ∷ []))) (front ∙ omega arith) ∙ ap (λ n. length s.log.epochs.sizes + n) (single (p (suc b)) ∙ ap one_if last)))))
+        ∙ (ap (λ n. n + length (filter p (suc b ∷ []))) (front ∙ omega arith)
+        ∙ ap (λ n. length s.log.epochs.sizes + n) (single (p (suc b)) ∙ ap one_if last)))))
       where
         b : ℕ
         b = barriers_in (outward h).stream
@@ -121,7 +131,8 @@ says-epochs s h reached left = go (stands (outward h)) refl
         single true = refl
         single false = refl
 
-        ends : (e : LeavesEpochs s.log (outward h)) → IsSendable (sendable h reached is).0 (outward h).stream → p (suc (barriers_in (outward h).stream)) ≡ (nat_lt 0 s.log.epochs.size || s.log.epochs.resync)
+        ends : (e : LeavesEpochs s.log (outward h)) → IsSendable (sendable h reached is).0 (outward h).stream
+            → p (suc (barriers_in (outward h).stream)) ≡ (nat_lt 0 s.log.epochs.size || s.log.epochs.resync)
         ends e send =
             let within = e.within in
             let open_still : barrier_acknowledged (outward h) (suc b) ≡ false = e.acknowledged (suc b) (omega arith) ∙ lt-leb (suc b) e.acked (omega arith) in
@@ -129,7 +140,8 @@ says-epochs s h reached left = go (stands (outward h)) refl
             ∙ (and-true (list_any (λ (entry : ℕ × Item). has_blocks entry.1) (items_of_epoch (outward h).stream (suc b)))
             ∙ (work-same (sendable h reached is).0 (outward h).stream (suc b) send
             ∙ (any-either (λ (entry : ℕ × Item). is_write entry.1) (λ (entry : ℕ × Item). is_resync entry.1) (items_of_epoch (outward h).stream (suc b))
-            ∙ (λ i. (sym (some-filtered (λ (entry : ℕ × Item). is_write entry.1) (items_of_epoch (outward h).stream (suc b))) ∙ ap (nat_lt 0) (sym e.size)) i || sym e.resync i))))
+            ∙ (λ i. (sym (some-filtered (λ (entry : ℕ × Item). is_write entry.1) (items_of_epoch (outward h).stream (suc b))) ∙ ap (nat_lt 0) (sym e.size)) i
+            || sym e.resync i))))
           where
             and-true : (c : Bool) → (c && true) ≡ c
             and-true true = refl

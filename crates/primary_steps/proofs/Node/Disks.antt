@@ -1,5 +1,6 @@
 -- A node's calls that write the disk or read it are steps.
-use Rattle.std.proofs.Common.{ℕ, ◌≡◌, ◌+◌, ◌≤◌, Bool, true, false, List, [], length, Option, Some, None, Result, Err, slice_get, refl, sym, ◌∙◌, ap, subst, arith, ◌==◌}
+use Rattle.std.proofs.Common.{ℕ, ◌≡◌, ◌+◌, ◌≤◌, Bool, true, false, List, [], length, Option, Some, None, Result, Err, slice_get, refl, sym, ◌∙◌, ap, subst}
+use Rattle.std.proofs.Common.{arith, ◌==◌}
 use Rattle.std.specs.Prelude.{find, unwrap_or}
 use Rattle.blocks.specs.Contents.{overwritten}
 use Rattle.blocks.specs.declared.refusal.Refusal.{Refusal}
@@ -43,7 +44,8 @@ pub record KeepsNode (n next : NodeState) : Type 0 where
   pub still : IsStill n.core next.core
   pub stood : stands next.core ≡ true → stands n.core ≡ true
 
-module _ (event : PrimaryEvent) (n : NodeState) (said : Reply) (core : PrimaryState) (disk : List (List ℕ)) (comes : (h : PrimaryHistory) → NodeHas n h → Comes event n said core disk h) where
+module _ (event : PrimaryEvent) (n : NodeState) (said : Reply) (core : PrimaryState) (disk : List (List ℕ)) (comes : (h : PrimaryHistory) → NodeHas n h
+    → Comes event n said core disk h) where
   -- it is the step
   pub comes-steps : NodeSteps event n said (record n { core = core; disk = disk })
   comes-steps = node-steps event n said (record n { core = core; disk = disk }) (λ h has. let to = comes h has in record {
@@ -78,11 +80,13 @@ stays-kept n had =
 abbrev pub held_in : List (List ℕ) → ℕ → List ℕ
 held_in disk block = unwrap_or (slice_get disk block) []
 
-copies-come : (starved : Bool) (n : NodeState) (result : Result Done Refusal) (core : PrimaryState) → (result, core) ≡ resync_next (held_in n.disk) starved n.core
+copies-come : (starved : Bool) (n : NodeState) (result : Result Done Refusal) (core : PrimaryState)
+    → (result, core) ≡ resync_next (held_in n.disk) starved n.core
     → (h : PrimaryHistory) → NodeHas n h → Comes (Resyncs starved) n (replied reply.Ok result) core n.disk h
 copies-come starved n result core is h has =
     let agrees = subst (λ (p : Result Done Refusal × PrimaryState). Agrees reply.Ok p (step.resync_next starved h)) (sym is)
-    (resyncs-agree (held_in n.disk) starved n.core h has.reached has.leaves.core (λ block. ap (λ (v : Option (List ℕ)). unwrap_or v []) (has.leaves.disk block))) in record {
+    (resyncs-agree (held_in n.disk) starved n.core h has.reached has.leaves.core
+    (λ block. ap (λ (v : Option (List ℕ)). unwrap_or v []) (has.leaves.disk block))) in record {
       change = unchanged h;
       reply = agrees.reply;
       leaves = agrees.leaves;
@@ -93,30 +97,37 @@ copies-come starved n result core is h has =
     }
 
 -- a block is copied as the disk has it
-pub node-copies : (starved : Bool) (n : NodeState) (result : Result Done Refusal) (core : PrimaryState) → (result, core) ≡ resync_next (held_in n.disk) starved n.core → NodeSteps (Resyncs starved) n (replied reply.Ok result) (record n { core = core })
+pub node-copies : (starved : Bool) (n : NodeState) (result : Result Done Refusal) (core : PrimaryState)
+    → (result, core) ≡ resync_next (held_in n.disk) starved n.core → NodeSteps (Resyncs starved) n (replied reply.Ok result) (record n { core = core })
 node-copies starved n result core is = comes-steps (Resyncs starved) n (replied reply.Ok result) core n.disk (copies-come starved n result core is)
 
-pub copies-kept : (starved : Bool) (n : NodeState) (result : Result Done Refusal) (core : PrimaryState) → NodeIsHad n → (result, core) ≡ resync_next (held_in n.disk) starved n.core → KeepsNode n (record n { core = core })
+pub copies-kept : (starved : Bool) (n : NodeState) (result : Result Done Refusal) (core : PrimaryState) → NodeIsHad n
+    → (result, core) ≡ resync_next (held_in n.disk) starved n.core → KeepsNode n (record n { core = core })
 copies-kept starved n result core had is = comes-kept (Resyncs starved) n (replied reply.Ok result) core n.disk (copies-come starved n result core is) had
 
 -- a block that is not copied
-pub node-not-copied : (starved : Bool) (n : NodeState) (e : Refusal) → (Err e, n.core) ≡ resync_next (held_in n.disk) starved n.core → NodeSteps (Resyncs starved) n (reply.Refused e) n
+pub node-not-copied : (starved : Bool) (n : NodeState) (e : Refusal) → (Err e, n.core) ≡ resync_next (held_in n.disk) starved n.core
+    → NodeSteps (Resyncs starved) n (reply.Refused e) n
 node-not-copied starved n e is = node-copies starved n (Err e) n.core is
 
 -- the disk fails the read
-pub node-copy-fails : (starved : Bool) (n : NodeState) (e : Refusal) → (Err e, n.core) ≡ resync_fault starved n.core → NodeSteps (FailsResync starved) n (reply.Refused e) n
+pub node-copy-fails : (starved : Bool) (n : NodeState) (e : Refusal) → (Err e, n.core) ≡ resync_fault starved n.core
+    → NodeSteps (FailsResync starved) n (reply.Refused e) n
 node-copy-fails starved n e is = node-refused (FailsResync starved) tt n e (λ h has.
-    (subst (λ (p : Result Done Refusal × PrimaryState). Agrees reply.Ok p (step.resync_fault starved h)) (sym is) (resync-faults-agree starved n.core h has.reached has.leaves.core)).reply)
+    (subst (λ (p : Result Done Refusal × PrimaryState). Agrees reply.Ok p (step.resync_fault starved h)) (sym is)
+    (resync-faults-agree starved n.core h has.reached has.leaves.core)).reply)
 
 -- The local disk.
 
 -- The write of this number is the disk's to do.
-module _ (number : ℕ) (n : NodeState) (w : LogWrite) (found : write_at number n.core.log.writes ≡ Some w) (waits : log.is_waiting w ≡ true) (h : PrimaryHistory) (has : NodeHas n h) where
+module _ (number : ℕ) (n : NodeState) (w : LogWrite) (found : write_at number n.core.log.writes ≡ Some w) (waits : log.is_waiting w ≡ true) (h : PrimaryHistory)
+    (has : NodeHas n h) where
   pub homes : HasHomes h
   homes = (reached-ordered h has.reached).ordered.1.1.0.0
 
   pub unfinished : step.is_unfinished h number ≡ true
-  unfinished = sym (unfinished-same n.core h number has.leaves.core homes) ∙ (ap (λ (v : Option LogWrite). elim v as (λ _. Bool) [ None ↦ false | Some x ↦ log.is_waiting x ]) found ∙ waits)
+  unfinished = sym (unfinished-same n.core h number has.leaves.core homes)
+      ∙ (ap (λ (v : Option LogWrite). elim v as (λ _. Bool) [ None ↦ false | Some x ↦ log.is_waiting x ]) found ∙ waits)
 
   pub the : Waits n.core h number
   the = waits-so n.core h number has.leaves.core homes unfinished
@@ -125,7 +136,8 @@ module _ (number : ℕ) (n : NodeState) (w : LogWrite) (found : write_at number 
   same-write = let one = sym found ∙ the.logged in cc
 
   pub inside : the.accepted.write.first + length the.accepted.write.contents ≤ length n.disk
-  inside = let size = disk-size n h has in let within = (reached-ordered h has.reached).ordered.0.tracked.writes_inside the.index the.accepted the.at in omega arith
+  inside = let size = disk-size n h has in let within =
+      (reached-ordered h has.reached).ordered.0.tracked.writes_inside the.index the.accepted the.at in omega arith
 
   -- the history has it by its number
   pub accepted-is : step.accepted_at h number ≡ Some the.accepted
@@ -133,9 +145,11 @@ module _ (number : ℕ) (n : NodeState) (w : LogWrite) (found : write_at number 
       let numbered = homes.numbered the.index the.accepted the.at in
       let same = the.number_is in
       let index : number ≡ 1 + the.index = omega arith in
-      ap (λ m. find (λ (a : Accepted). a.write.number == m) h.writes) index ∙ (find-number 1 the.index h.writes (λ i a at. homes.numbered i a at ∙ omega arith) ∙ the.at)
+      ap (λ m. find (λ (a : Accepted). a.write.number == m) h.writes) index
+      ∙ (find-number 1 the.index h.writes (λ i a at. homes.numbered i a at ∙ omega arith) ∙ the.at)
 
   pub after-written : (block : ℕ) → slice_get (overwritten n.disk w.first w.blocks) block ≡ local_map (step.with_outcome number OnDisk h) block
   after-written block =
       ap (λ (x : LogWrite). slice_get (overwritten n.disk x.first x.blocks) block) same-write
-      ∙ disk-written h homes (reached-ordered h has.reached).ordered.1.1.1 number the.index the.accepted the.at the.number_is the.waits n.disk has.leaves.disk inside block
+      ∙ disk-written h homes (reached-ordered h has.reached).ordered.1.1.1 number the.index the.accepted the.at the.number_is the.waits n.disk has.leaves.disk
+      inside block

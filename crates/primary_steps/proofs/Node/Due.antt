@@ -2,12 +2,12 @@
 use Rattle.std.proofs.Common.{ℕ, ◌≡◌, ◌+◌, ◌≤◌, true, false, not, ◌&&◌, List, length, Option, Some, None, Result, Ok, Err, slice_get, sym, ◌∙◌, ap, arith}
 use Rattle.std.specs.Prelude.{is_some, ok_or}
 use Rattle.std.proofs.lemmas.Bool.{and_parts, both_ways, false_from_ne_true, not-true}
-use Rattle.std.proofs.lemmas.List.{length-append}
 use Rattle.blocks.specs.declared.settings.Settings.{Settings}
 use Rattle.blocks.specs.declared.refusal.Refusal.{Refusal}
 use Rattle.blocks.specs.declared.refusal.Refusal.TheVariants.{NotConnected, NothingThere}
-use Rattle.model.specs.Frames.{Packet, Received, hello_of, frames_of}
+use Rattle.model.specs.Frames.{Packet, Received}
 use Rattle.model.specs.Primary.{PrimaryHistory, outward, frames_due}
+use Rattle.laws.proofs.Rules.FramesDue.{length-due}
 use Rattle.laws.proofs.Lists.Beginnings.{get-beginning}
 use Rattle.laws.proofs.Primary.Homes.{HasHomes}
 use Rattle.primary_steps.specs.Core.{EndState, PrimaryState, stands}
@@ -16,7 +16,7 @@ use Rattle.primary_steps.specs.Leaves.{Leaves, EndLeft}
 use Rattle.primary_steps.specs.Node.{NodeState, NodeLeaves}
 use Rattle.primary_steps.specs.Steps.{IsReached}
 use Rattle.primary_steps.proofs.Common.Reached.{end-open, reached-ordered, stands-same}
-use Rattle.primary_steps.proofs.Send.Due.{owed-is, length-frames}
+use Rattle.primary_steps.proofs.Send.Due.{owed-is}
 use Rattle.primary_steps.proofs.Node.Keeps.{Change, Keeps, due-begins, pushed-stays}
 
 -- what an open end owes is due
@@ -27,7 +27,8 @@ homes-of : (h : PrimaryHistory) → IsReached h → HasHomes h
 homes-of h reached = (reached-ordered h reached).ordered.1.1.0.0
 
 -- what is due is the next of the frames due
-pub due-next : (s : PrimaryState) (h : PrimaryHistory) (packet : Packet) → Leaves s h → IsReached h → due s ≡ Ok packet → slice_get (frames_due h.settings (outward h)) (outward h).pushed ≡ Some packet
+pub due-next : (s : PrimaryState) (h : PrimaryHistory) (packet : Packet) → Leaves s h → IsReached h → due s ≡ Ok packet
+    → slice_get (frames_due h.settings (outward h)) (outward h).pushed ≡ Some packet
 due-next s h packet left reached is = go s.end left.rest.end is
   where
     got : (v : Option Packet) → ok_or v NothingThere ≡ Ok packet → v ≡ Some packet
@@ -39,7 +40,8 @@ due-next s h packet left reached is = go s.end left.rest.end is
     go (Some e) end is = sym (owed-is s h e left (homes-of h reached) end) ∙ got (owed e s) is
 
 -- What was due is due after a step that pushes nothing, where the end is open still.
-pub still-due : (s t : PrimaryState) (h later : PrimaryHistory) (change : Change) (packet : Packet) → Leaves s h → IsReached h → Leaves t later → IsReached later → Keeps h change later
+pub still-due : (s t : PrimaryState) (h later : PrimaryHistory) (change : Change) (packet : Packet) → Leaves s h → IsReached h → Leaves t later
+    → IsReached later → Keeps h change later
     → due s ≡ Ok packet → is_some t.end ≡ true → due t ≡ Ok packet
 still-due s t h later change packet left reached after reached_too k is stands = go t.end after.rest.end stands
   where
@@ -47,29 +49,30 @@ still-due s t h later change packet left reached after reached_too k is stands =
     there =
         ap (λ n. slice_get (frames_due later.settings (outward later)) n) k.pushed
         ∙ (ap (λ (x : Settings). slice_get (frames_due x (outward later)) (outward h).pushed) k.settings
-        ∙ get-beginning (frames_due h.settings (outward h)) (frames_due h.settings (outward later)) (outward h).pushed packet (due-begins h later change k) (due-next s h packet left reached is))
+        ∙ get-beginning (frames_due h.settings (outward h)) (frames_due h.settings (outward later)) (outward h).pushed packet (due-begins h later change k)
+        (due-next s h packet left reached is))
 
     go : (v : Option EndState) → EndLeft v (outward later) → is_some v ≡ true → due_at v t ≡ Ok packet
     go None end none = absurd (cc)
     go (Some e) end some = ap (λ (v : Option Packet). ok_or v NothingThere) (owed-is t later e after (homes-of later reached_too) end ∙ there)
 
 -- No more was pushed than is due, at an open end.
-pub pushed-within : (s : PrimaryState) (h : PrimaryHistory) → Leaves s h → (outward h).closed ≡ false → (outward h).pushed ≤ length (frames_due h.settings (outward h))
+pub pushed-within : (s : PrimaryState) (h : PrimaryHistory) → Leaves s h → (outward h).closed ≡ false
+    → (outward h).pushed ≤ length (frames_due h.settings (outward h))
 pushed-within s h left unshut = go s.end left.rest.end
   where
     size : length (frames_due h.settings (outward h)) ≡ 3 + length (outward h).stream
-    size =
-        let front : length (frames_due h.settings (outward h)) ≡ 3 + length (frames_of (outward h).stream) = length-append (hello_of h.settings (outward h).hello) (frames_of (outward h).stream) in
-        let rest : length (frames_of (outward h).stream) ≡ length (outward h).stream = length-frames 0 (outward h).stream in
-        omega arith
+    size = length-due h.settings (outward h)
 
     go : (v : Option EndState) → EndLeft v (outward h) → (outward h).pushed ≤ length (frames_due h.settings (outward h))
     go None shut = absurd (both_ways (outward h).closed unshut shut)
     go (Some e) end = let within = end.pushed in let all = size in omega arith
 
 -- What a step that pushes nothing leaves: the same that was pushed.
-pub kept-leaves : (n : NodeState) (core : PrimaryState) (disk : List (List ℕ)) (taken : List Received) (h later : PrimaryHistory) (change : Change) → NodeLeaves n h → Leaves core later → Keeps h change later
-    → ((block : ℕ) → slice_get disk block ≡ change.disk block) → taken ≡ change.taken → NodeLeaves (record { core = core; disk = disk; pushed = n.pushed; taken = taken }) later
+pub kept-leaves : (n : NodeState) (core : PrimaryState) (disk : List (List ℕ)) (taken : List Received) (h later : PrimaryHistory) (change : Change)
+    → NodeLeaves n h → Leaves core later → Keeps h change later
+    → ((block : ℕ) → slice_get disk block ≡ change.disk block) → taken ≡ change.taken
+    → NodeLeaves (record { core = core; disk = disk; pushed = n.pushed; taken = taken }) later
 kept-leaves n core disk taken h later change was left k holds took = record {
   core = left;
   disk = λ block. holds block ∙ sym (k.disk block);
@@ -84,16 +87,21 @@ pub record IsStill (s t : PrimaryState) : Type 0 where
   pub due : (packet : Packet) → due s ≡ Ok packet → is_some t.end ≡ true → due t ≡ Ok packet
 
 -- such a step
-pub is-still : (s t : PrimaryState) (h later : PrimaryHistory) (change : Change) → Leaves s h → IsReached h → Leaves t later → IsReached later → Keeps h change later → IsStill s t
+pub is-still : (s t : PrimaryState) (h later : PrimaryHistory) (change : Change) → Leaves s h → IsReached h → Leaves t later → IsReached later
+    → Keeps h change later → IsStill s t
 is-still s t h later change left reached after reached_too k = record {
-  opened = λ some. end-open s.end (outward h) left.rest.end ∙ ap not (false_from_ne_true (outward h).closed (λ was. both_ways (outward later).closed (not-true (outward later).closed (sym (end-open t.end (outward later) after.rest.end) ∙ some)) (k.shut was)));
+  opened = λ some. end-open s.end (outward h) left.rest.end
+      ∙ ap not (false_from_ne_true (outward h).closed
+      (λ was. both_ways (outward later).closed (not-true (outward later).closed (sym (end-open t.end (outward later) after.rest.end) ∙ some)) (k.shut was)));
   connections = after.rest.connections ∙ (k.connections ∙ sym left.rest.connections);
   due = λ packet is some. still-due s t h later change packet left reached after reached_too k is some;
 }
 
 -- no stream has begun by it
-pub stood : (s t : PrimaryState) (h later : PrimaryHistory) (change : Change) → Leaves s h → Leaves t later → Keeps h change later → change.begun ≡ (outward h).begun → stands t ≡ true → stands s ≡ true
+pub stood : (s t : PrimaryState) (h later : PrimaryHistory) (change : Change) → Leaves s h → Leaves t later → Keeps h change later
+    → change.begun ≡ (outward h).begun → stands t ≡ true → stands s ≡ true
 stood s t h later change left after k same standing =
     let parts = and_parts (not (outward later).closed) (outward later).begun (sym (stands-same t later after) ∙ standing) in
-    let unshut : (outward h).closed ≡ false = false_from_ne_true (outward h).closed (λ was. both_ways (outward later).closed (not-true (outward later).closed parts.0) (k.shut was)) in
+    let unshut : (outward h).closed ≡ false = false_from_ne_true (outward h).closed
+    (λ was. both_ways (outward later).closed (not-true (outward later).closed parts.0) (k.shut was)) in
     stands-same s h left ∙ λ i. not (unshut i) && (sym same ∙ (sym k.begun ∙ parts.1)) i

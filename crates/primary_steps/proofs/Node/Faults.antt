@@ -1,21 +1,21 @@
 -- What is refused of a frame is its own fault, or a rule of the protocol: never that there is none.
-use Rattle.std.proofs.Common.{ℕ, zero, suc, ◌≡◌, Bool, true, false, cond, ◌&&◌, ◌||◌, length, Some, Result, Ok, Err, refl, sym, ◌∙◌, ap, ◌==◌, nat_lt}
+use Rattle.std.proofs.Common.{ℕ, zero, suc, ◌≡◌, Bool, true, false, cond, ◌||◌, length, Some, Result, Ok, Err, refl, sym, ◌∙◌, ap}
 use Rattle.std.specs.Prelude.{is_some, if◌then◌else◌}
 use Rattle.blocks.specs.declared.tuple.Tuple.{Tuple}
 use Rattle.blocks.specs.declared.refusal.Refusal.{Refusal}
-use Rattle.blocks.specs.declared.refusal.Refusal.TheVariants.{BadBarrierAck, NothingThere, OtherProtocol, OtherSize, PrimaryStale, SplitBrain, UnknownAck, Unrelated, UsedIdentifier}
+use Rattle.blocks.specs.declared.refusal.Refusal.TheVariants.{BadBarrierAck, NothingThere, OtherProtocol, OtherSize, UnknownAck, UsedIdentifier}
 use Rattle.blocks.specs.declared.outcome.Decision.{Decision}
-use Rattle.blocks.specs.declared.outcome.Decision.TheVariants.{NoSync, BitmapSync, FullSync}
 use Rattle.blocks.specs.declared.outcome.Done.{Done}
 use Rattle.blocks.specs.declared.outcome.What.{What}
 use Rattle.blocks.specs.declared.outcome.What.TheVariants as what
 use Rattle.blocks.specs.declared.outcome.Reply.{Reply}
 use Rattle.blocks.specs.declared.outcome.Reply.TheVariants as reply
-use Rattle.blocks.specs.Identifiers.{decision, is_historical, share_identifier, stands_in}
+use Rattle.blocks.specs.Identifiers.{decision, stands_in}
 use Rattle.model.specs.Frames.{Packet, ProtocolFrame, SizesFrame, UuidsFrame, RecvAckFrame, WriteAckFrame, RsWriteAckFrame, BarrierAckFrame, Received}
 use Rattle.model.specs.Primary.{PrimaryHistory, outward, with_outward}
 use Rattle.model.specs.PrimarySteps as step
 use Rattle.model.specs.Acknowledgements as model
+use Rattle.laws.proofs.Rules.Decisions.{decision-has}
 use Rattle.laws.proofs.Primary.Moves.{with_frame, refusing}
 use Rattle.primary_steps.specs.Core.{PrimaryState}
 use Rattle.primary_steps.specs.Taking.{take_at}
@@ -28,7 +28,8 @@ abbrev Told : model.Taken → Type 0
 Told (Ok done) = Unit {0}
 Told (Err error) = error.0 ≡ NothingThere → ⊥
 
-told-if : (good : Bool) (name : What) (refusal : Refusal) (done taken : PrimaryHistory) → (refusal ≡ NothingThere → ⊥) → Told (cond good (Ok (name, done)) (Err (refusal, taken)))
+told-if : (good : Bool) (name : What) (refusal : Refusal) (done taken : PrimaryHistory) → (refusal ≡ NothingThere → ⊥)
+    → Told (cond good (Ok (name, done)) (Err (refusal, taken)))
 told-if true name refusal done taken other = tt
 told-if false name refusal done taken other = other
 
@@ -41,26 +42,20 @@ told-ack packet before h = λ same. absurd (cc)
 
 -- a decision that is refused is by the generations
 told-decision : (own peer : Tuple) → decision own peer ≡ Err NothingThere → ⊥
-told-decision own peer = go (peer.current == 0) (own.current == peer.current) (own.bitmap == peer.current) (nat_lt 0 own.current && (peer.bitmap == own.current)) (is_historical peer.current own) (is_historical own.current peer)
-    (nat_lt 0 own.bitmap && (own.bitmap == peer.bitmap)) (share_identifier own peer)
-  where
-    go : (a b c d e f g i : Bool) → (if a then Ok FullSync else if b then Ok NoSync else if c then Ok BitmapSync else if d then Err PrimaryStale else if e then Ok FullSync else if f then Err PrimaryStale else if g then Err SplitBrain else if i then Err SplitBrain else Err Unrelated) ≡ Err NothingThere → ⊥
-    go true b c d e f g i is = cc
-    go false true c d e f g i is = cc
-    go false false true d e f g i is = cc
-    go false false false true e f g i is = cc
-    go false false false false true f g i is = cc
-    go false false false false false true g i is = cc
-    go false false false false false false true i is = cc
-    go false false false false false false false true is = cc
-    go false false false false false false false false is = cc
+told-decision = decision-has (λ v. v ≡ Err NothingThere → ⊥) (λ decided same. cc) (λ same. cc) (λ same. cc) (λ same. cc)
 
 told-meeting : (peer : Tuple) (h : PrimaryHistory) → Told (model.meeting peer h)
 told-meeting peer h = go (stands_in (outward h).sync peer || stands_in (outward h).loss peer) (decision h.tuple peer) refl
   where
     go : (used : Bool) (v : Result Decision Refusal) → decision h.tuple peer ≡ v → Told (elim used as (λ _. model.Taken) [
       | true ↦ Err (UsedIdentifier, record h { peer = Some peer })
-      | false ↦ elim v as (λ _. model.Taken) [ Err refusal ↦ Err (refusal, record h { peer = Some peer }) | Ok decided ↦ Ok (what.Decided decided, model.begun_with decided (record h { peer = Some peer })) ]
+      | false ↦ elim v as (λ _. model.Taken) [
+        | Err refusal ↦ Err (refusal, record h { peer = Some peer })
+        | Ok decided ↦ Ok (
+          what.Decided decided,
+          model.begun_with decided (record h { peer = Some peer }),
+        )
+      ]
     ])
     go true v is = λ same. absurd (cc)
     go false (Err refusal) is = λ same. told-decision h.tuple peer (is ∙ ap Err same)
@@ -76,7 +71,8 @@ told-frame : (frame : Received) (before h : PrimaryHistory) → (frame ≡ Err N
 told-frame (Err fault) before h other = λ same. other (ap Err same)
 told-frame (Ok packet) before h other = go (outward before).begun
   where
-    go : (begun : Bool) → Told (elim begun as (λ _. model.Taken) [ true ↦ model.taking_ack packet before h | false ↦ model.taking_hello (length (outward before).taken) packet h ])
+    go : (begun : Bool) → Told (elim begun as
+        (λ _. model.Taken) [ true ↦ model.taking_ack packet before h | false ↦ model.taking_hello (length (outward before).taken) packet h ])
     go true = told-ack packet before h
     go false = told-hello (length (outward before).taken) packet h
 
@@ -92,7 +88,10 @@ told-step frame h other = go (model.taking frame h (with_outward (with_frame fra
     go (Err error) fine is = fine (let same : error.0 ≡ NothingThere = cc in same)
 
 -- A frame that is taken is not answered by that there is none.
-pub takes-told : (n : NodeState) (frame : Received) (result : Result Done Refusal) (core : PrimaryState) → is_some n.core.end ≡ true → (result, core) ≡ take_at frame n.core → NodeIsHad n → (frame ≡ Err NothingThere → ⊥) → result ≡ Err NothingThere → ⊥
+pub takes-told : (n : NodeState) (frame : Received) (result : Result Done Refusal) (core : PrimaryState) → is_some n.core.end ≡ true
+    → (result, core) ≡ take_at frame n.core → NodeIsHad n → (frame ≡ Err NothingThere → ⊥) → result ≡ Err NothingThere → ⊥
 takes-told n frame result core some is had other none =
     let h = had.history in
-    told-step frame h other (ap (replied reply.Ok) (sym none) ∙ ((node-takes n frame result core some is).said h had.has ∙ ap (λ (p : Reply × PrimaryHistory). p.0) (steps-frame frame h (unshut-end n frame result core some is h had.has))))
+    told-step frame h other (ap (replied reply.Ok) (sym none)
+    ∙ ((node-takes n frame result core some is).said h had.has
+    ∙ ap (λ (p : Reply × PrimaryHistory). p.0) (steps-frame frame h (unshut-end n frame result core some is h had.has))))

@@ -1,10 +1,10 @@
 -- What the steps that push no frame keep: what was pushed, and the frames that were due; and what the local disk holds.
-use Rattle.std.proofs.Common.{ℕ, suc, ◌≡◌, ◌+◌, ◌-◌, ◌≤◌, Bool, true, false, not, ◌&&◌, ◌||◌, List, [], ◌∷◌, ◌++◌, length, map, take, Option, Some, None, Result, Ok, Err, slice_get, refl, sym, ◌∙◌, ap, subst, nat_lt, nat_le, ◌==◌}
+use Rattle.std.proofs.Common.{ℕ, suc, ◌≡◌, ◌-◌, ◌≤◌, Bool, true, false, not, ◌&&◌, ◌||◌, List, [], ◌∷◌, ◌++◌, length, map, take, Option, Some, None}
+use Rattle.std.proofs.Common.{Result, Ok, Err, slice_get, refl, sym, ◌∙◌, ap, subst, nat_lt, nat_le, ◌==◌}
 use Rattle.std.specs.Prelude.{find, is_none, unwrap_or, if◌then◌else◌}
-use Rattle.std.proofs.lemmas.Bool.{both_ways, and_parts}
+use Rattle.std.proofs.lemmas.Bool.{both_ways}
 use Rattle.std.proofs.lemmas.List.{map-append}
 use Rattle.blocks.specs.declared.settings.Settings.{Settings}
-use Rattle.blocks.specs.declared.tuple.Tuple.{Tuple}
 use Rattle.blocks.specs.declared.refusal.Refusal.{Refusal}
 use Rattle.blocks.specs.declared.refusal.Refusal.TheVariants.{LocalFault, NoMemory, NotConnected, NothingToDo, StreamFull}
 use Rattle.blocks.specs.declared.outcome.What.TheVariants as what
@@ -12,18 +12,22 @@ use Rattle.blocks.specs.declared.outcome.Reply.{Reply}
 use Rattle.blocks.specs.declared.outcome.Reply.TheVariants as reply
 use Rattle.model.specs.Contents.{BlockMap, overlay, block_under, is_between}
 use Rattle.model.specs.Stream.{Item, WriteItem, ResyncItem, BarrierItem, UuidsItem, IsBeginning, within, last_epoch}
-use Rattle.model.specs.Frames.{Packet, Received, frame_of, hello_of, frames_from, frames_of}
+use Rattle.model.specs.Frames.{Received}
 use Rattle.model.specs.Marks.{marking, releasing}
-use Rattle.model.specs.Primary.{Waiting, OnDisk, Failed, Accepted, Completion, Outward, PrimaryHistory, free_block, last_index, outward, change_last, stands, frames_due, local_map, local_layer, resync_runs, under_way}
+use Rattle.model.specs.Primary.{Waiting, OnDisk, Failed, Accepted, Completion, Outward, PrimaryHistory, free_block, last_index, outward, change_last, stands}
+use Rattle.model.specs.Primary.{frames_due, local_map, local_layer, resync_runs, under_way}
 use Rattle.model.specs.PrimarySteps as step
 use Rattle.model.specs.Refusals.{Test, first_refusal}
 use Rattle.model.specs.PrimarySteps.{follows, appending, succeeding, submission}
+use Rattle.laws.proofs.Rules.FramesDue as rule
+use Rattle.laws.proofs.Rules.EpochEnds.{over-standing}
 use Rattle.laws.proofs.Blocks.Overlays.{overlay-append}
-use Rattle.laws.proofs.Lists.Beginnings.{begins-append, begins-self, begins-trans, take-begins}
+use Rattle.laws.proofs.Lists.Beginnings.{begins-self, begins-trans, take-begins}
 use Rattle.laws.proofs.Lists.Last.{length-change}
 use Rattle.laws.proofs.Lists.Tests.{test-passed}
 use Rattle.laws.proofs.Primary.Moves.{following-from, tested-keeps}
-use Rattle.laws.proofs.Primary.StaysClosed.{open-stands, over-stands}
+use Rattle.laws.proofs.Primary.StaysClosed.{open-stands}
+use Rattle.laws.proofs.Rules.ResyncEnds.{over-stands}
 use Rattle.primary_steps.proofs.Common.Reached.{outward-of}
 
 -- What a step may change besides what is due: the frames taken, whether the stream has begun, and what the local disk holds.
@@ -65,8 +69,10 @@ keeps-self h = record {
 }
 
 -- The open end changes, with more in its stream.
-pub keeps-change : (h g later : PrimaryHistory) (before after : Change) (f : Outward → Outward) (more : List Item) → Keeps h before g → (outward g).closed ≡ false → later.settings ≡ g.settings
-    → later.connections ≡ change_last f g.connections → (f (outward g)).hello ≡ (outward g).hello → (f (outward g)).pushed ≡ (outward g).pushed → (f (outward g)).stream ≡ (outward g).stream ++ more
+pub keeps-change : (h g later : PrimaryHistory) (before after : Change) (f : Outward → Outward) (more : List Item) → Keeps h before g
+    → (outward g).closed ≡ false → later.settings ≡ g.settings
+    → later.connections ≡ change_last f g.connections → (f (outward g)).hello ≡ (outward g).hello → (f (outward g)).pushed ≡ (outward g).pushed
+    → (f (outward g)).stream ≡ (outward g).stream ++ more
     → (f (outward g)).taken ≡ after.taken → (f (outward g)).begun ≡ after.begun → ((block : ℕ) → local_map later block ≡ after.disk block) → Keeps h after later
 keeps-change h g later before after f more k unshut settings connections hello pushed stream taken begun disk = record {
   settings = settings ∙ k.settings;
@@ -86,10 +92,12 @@ keeps-change h g later before after f more k unshut settings connections hello p
 
 -- an item goes to a stream that stands
 keeps-appending : (h g : PrimaryHistory) (change : Change) (item : Item) → (outward g).closed ≡ false → Keeps h change g → Keeps h change (appending item g)
-keeps-appending h g change item unshut k = keeps-change h g (appending item g) change change (λ c. record c { stream = c.stream ++ item ∷ [] }) (item ∷ []) k unshut refl refl refl refl refl k.taken k.begun k.disk
+keeps-appending h g change item unshut k = keeps-change h g (appending item g) change change (λ c. record c { stream = c.stream ++ item ∷ [] })
+    (item ∷ []) k unshut refl refl refl refl refl k.taken k.begun k.disk
 
 -- what no connection sees
-pub keeps-rest : (h g later : PrimaryHistory) (before after : Change) → Keeps h before g → later.settings ≡ g.settings → outward later ≡ outward g → length later.connections ≡ length g.connections → before.taken ≡ after.taken → before.begun ≡ after.begun
+pub keeps-rest : (h g later : PrimaryHistory) (before after : Change) → Keeps h before g → later.settings ≡ g.settings → outward later ≡ outward g
+    → length later.connections ≡ length g.connections → before.taken ≡ after.taken → before.begun ≡ after.begun
     → ((block : ℕ) → local_map later block ≡ after.disk block) → Keeps h after later
 keeps-rest h g later before after k settings out connections taken begun disk = record {
   settings = settings ∙ k.settings;
@@ -108,62 +116,85 @@ keeps-rest h g later before after k settings out connections taken begun disk = 
 pub keeps-following : (h g : PrimaryHistory) (change : Change) → Keeps h change g → Keeps h change (follows g).history
 keeps-following h g change = following-from (Keeps h change) (Keeps h change) (Keeps h change)
     (λ x k. keeps-rest h x (step.with_completions x) change change k refl refl refl refl refl k.disk)
-    (λ x over k. keeps-appending h x change (BarrierItem (last_epoch (outward x).stream)) (open-stands (outward x) (and_parts (stands (outward x)) _ over).0) k)
+    (λ x over k. keeps-appending h x change (BarrierItem (last_epoch (outward x).stream)) (open-stands (outward x) (over-standing x over)) k)
     (λ x on k. k)
-    (λ x over k. keeps-change h x (step.ending_resync x) change change (λ c. record c { stream = c.stream ++ UuidsItem _ ∷ [] }) (UuidsItem _ ∷ []) k (open-stands (outward x) (over-stands x over)) refl refl refl refl refl k.taken k.begun k.disk)
+    (λ x over k. keeps-change h x (step.ending_resync x) change change (λ c. record c { stream = c.stream ++ UuidsItem _ ∷ [] }) (UuidsItem _ ∷ []) k
+    (open-stands (outward x) (over-stands x over)) refl refl refl refl refl k.taken k.begun k.disk)
     (λ x k. k) g
 
--- the frames of a stream begin those of a longer one
-frames-begin : (place : ℕ) (xs ys : List Item) → IsBeginning (frames_from place xs) (frames_from place (xs ++ ys))
-frames-begin place [] ys = (frames_from place ys, refl)
-frames-begin place (x ∷ xs) ys = let rest = frames-begin (place + 1) xs ys in (rest.0, ap (λ (l : List Packet). frame_of place x ∷ l) rest.1)
-
 -- what is due only grows at its end
-pub due-begins : (h later : PrimaryHistory) (change : Change) → Keeps h change later → IsBeginning (frames_due h.settings (outward h)) (frames_due h.settings (outward later))
-due-begins h later change k =
-    let c = outward h in
-    subst (λ (t : Tuple). IsBeginning (frames_due h.settings c) (hello_of h.settings t ++ frames_of (outward later).stream)) (sym k.hello)
-    (subst (λ (s : List Item). IsBeginning (frames_due h.settings c) (hello_of h.settings c.hello ++ frames_of s)) k.stream.1
-    (begins-append (hello_of h.settings c.hello) (frames_of c.stream) (frames_of (c.stream ++ k.stream.0)) (frames-begin 0 c.stream k.stream.0)))
+pub due-begins : (h later : PrimaryHistory) (change : Change) → Keeps h change later
+    → IsBeginning (frames_due h.settings (outward h)) (frames_due h.settings (outward later))
+due-begins h later change k = rule.due-begins h.settings (outward h) (outward later) k.hello k.stream
 
 -- What was pushed stays: at an open end no more was pushed than is due.
-pub pushed-stays : (h later : PrimaryHistory) (change : Change) → Keeps h change later → ((outward h).closed ≡ false → (outward h).pushed ≤ length (frames_due h.settings (outward h)))
+pub pushed-stays : (h later : PrimaryHistory) (change : Change) → Keeps h change later
+    → ((outward h).closed ≡ false → (outward h).pushed ≤ length (frames_due h.settings (outward h)))
     → take (outward later).pushed (frames_due later.settings (outward later)) ≡ take (outward h).pushed (frames_due h.settings (outward h))
 pushed-stays h later change k within =
-    ap (λ n. take n (frames_due later.settings (outward later))) k.pushed ∙ (ap (λ (s : Settings). take (outward h).pushed (frames_due s (outward later))) k.settings ∙ go (outward h).closed refl)
+    ap (λ n. take n (frames_due later.settings (outward later))) k.pushed
+    ∙ (ap (λ (s : Settings). take (outward h).pushed (frames_due s (outward later))) k.settings ∙ go (outward h).closed refl)
   where
-    go : (b : Bool) → (outward h).closed ≡ b → take (outward h).pushed (frames_due h.settings (outward later)) ≡ take (outward h).pushed (frames_due h.settings (outward h))
-    go true was = ap (λ (t : Tuple). take (outward h).pushed (hello_of h.settings t ++ frames_of (outward later).stream)) k.hello
-        ∙ ap (λ (l : List Item). take (outward h).pushed (hello_of h.settings (outward h).hello ++ frames_of l)) (k.rests was)
-    go false was = sym (take-begins (outward h).pushed (frames_due h.settings (outward h)) (frames_due h.settings (outward later)) (within was) (due-begins h later change k))
+    go : (b : Bool) → (outward h).closed ≡ b
+        → take (outward h).pushed (frames_due h.settings (outward later)) ≡ take (outward h).pushed (frames_due h.settings (outward h))
+    go true was = ap (take (outward h).pushed) (rule.due-same h.settings (outward h) (outward later) k.hello (k.rests was))
+    go false was = sym (take-begins (outward h).pushed (frames_due h.settings (outward h)) (frames_due h.settings (outward later)) (within was)
+        (due-begins h later change k))
 
 -- The steps.
 
 -- a write that waits lays nothing
 bare : (a : Accepted) (block : ℕ) (v : Option (List ℕ)) → a.outcome ≡ Waiting → block_under (local_layer a) block v ≡ v
-bare a block v waits = ap (λ (x : Accepted). block_under (local_layer x) block v) (λ i. record a { outcome = waits i }) ∙ off (is_between a.write.first (length a.write.contents) block)
+bare a block v waits = ap (λ (x : Accepted). block_under (local_layer x) block v) (λ i. record a { outcome = waits i })
+    ∙ off (is_between a.write.first (length a.write.contents) block)
   where
     off : (b : Bool) → (if b && false then slice_get a.write.contents (block - a.write.first) else v) ≡ v
     off true = refl
     off false = refl
 
-disk-submits : (h : PrimaryHistory) (a : Accepted) (block : ℕ) → a.outcome ≡ Waiting → overlay h.opening_map (map local_layer (h.writes ++ a ∷ [])) block ≡ local_map h block
+disk-submits : (h : PrimaryHistory) (a : Accepted) (block : ℕ) → a.outcome ≡ Waiting
+    → overlay h.opening_map (map local_layer (h.writes ++ a ∷ [])) block ≡ local_map h block
 disk-submits h a block waits =
-    ap (λ (l : List _). overlay h.opening_map l block) (map-append local_layer h.writes (a ∷ [])) ∙ (overlay-append h.opening_map (map local_layer h.writes) (local_layer a) block ∙ bare a block (local_map h block) waits)
+    ap (λ (l : List _). overlay h.opening_map l block) (map-append local_layer h.writes (a ∷ []))
+    ∙ (overlay-append h.opening_map (map local_layer h.writes) (local_layer a) block ∙ bare a block (local_map h block) waits)
 
 -- a write is accepted
-pub submits-keeps : (first : ℕ) (contents : List (List ℕ)) (starved : Bool) (h : PrimaryHistory) → Keeps h (unchanged h) (step.submit first contents starved h).1
+pub submits-keeps : (first : ℕ) (contents : List (List ℕ)) (starved : Bool) (h : PrimaryHistory)
+    → Keeps h (unchanged h) (step.submit first contents starved h).1
 submits-keeps first contents starved h =
-    tested-keeps (Keeps h (unchanged h)) h (step.submit_tests h first contents starved) (λ _. succeeding (what.Write (suc (length h.writes))) (step.submitted h first contents)) (keeps-self h)
+    tested-keeps (Keeps h (unchanged h)) h (step.submit_tests h first contents starved)
+    (λ _. succeeding (what.Write (suc (length h.writes))) (step.submitted h first contents)) (keeps-self h)
     (λ passed. keeps-following h (step.submitted h first contents) (unchanged h) (go (stands (outward h)) refl))
   where
     go : (b : Bool) → stands (outward h) ≡ b → Keeps h (unchanged h) (elim b as (λ _. PrimaryHistory) [
-      | true ↦ appending (WriteItem (submission h first contents)) (record h { writes = h.writes ++ record { write = submission h first contents; journal_length = length h.journal; home = Some (last_index h.connections, length (outward h).stream); outcome = Waiting } ∷ [] })
-      | false ↦ record h { writes = h.writes ++ record { write = submission h first contents; journal_length = length h.journal; home = None; outcome = Waiting } ∷ []; marks = marking (submission h first contents) h.marks }
+      | true ↦ appending (WriteItem (submission h first contents))
+          (record h {
+            writes = h.writes ++ record {
+              write = submission h first contents;
+              journal_length = length h.journal;
+              home = Some (record { index = last_index h.connections; place = length (outward h).stream });
+              outcome = Waiting;
+            } ∷ [];
+          })
+      | false ↦ record h {
+        writes = h.writes ++ record {
+          write = submission h first contents;
+          journal_length = length h.journal;
+          home = None;
+          outcome = Waiting;
+        } ∷ [];
+        marks = marking (submission h first contents) h.marks;
+      }
     ])
     go true is =
-        keeps-change h h _ (unchanged h) (unchanged h) (λ c. record c { stream = c.stream ++ WriteItem (submission h first contents) ∷ [] }) (WriteItem (submission h first contents) ∷ []) (keeps-self h) (open-stands (outward h) is) refl refl refl refl refl refl refl
-        (λ block. disk-submits h (record { write = submission h first contents; journal_length = length h.journal; home = Some (last_index h.connections, length (outward h).stream); outcome = Waiting }) block refl)
+        keeps-change h h _ (unchanged h) (unchanged h) (λ c. record c { stream = c.stream ++ WriteItem (submission h first contents) ∷ [] })
+        (WriteItem (submission h first contents) ∷ []) (keeps-self h) (open-stands (outward h) is) refl refl refl refl refl refl refl
+        (λ block. disk-submits h (record {
+          write = submission h first contents;
+          journal_length = length h.journal;
+          home = Some (record { index = last_index h.connections; place = length (outward h).stream });
+          outcome = Waiting;
+        }) block refl)
     go false is =
         keeps-rest h h _ (unchanged h) (unchanged h) (keeps-self h) refl refl refl refl refl
         (λ block. disk-submits h (record { write = submission h first contents; journal_length = length h.journal; home = None; outcome = Waiting }) block refl)
@@ -173,25 +204,35 @@ abbrev pub written : PrimaryHistory → BlockMap → Change
 written h disk = record (unchanged h) { disk = disk }
 
 -- the local disk does a write
-pub writes-keeps : (number : ℕ) (h : PrimaryHistory) → Keeps h (written h (local_map (step.with_outcome number OnDisk h))) (follows (releasing h (step.with_outcome number OnDisk h))).history
+pub writes-keeps : (number : ℕ) (h : PrimaryHistory)
+    → Keeps h (written h (local_map (step.with_outcome number OnDisk h))) (follows (releasing h (step.with_outcome number OnDisk h))).history
 writes-keeps number h =
     let later : PrimaryHistory = releasing h (step.with_outcome number OnDisk h) in
-    keeps-following h later (written h (local_map (step.with_outcome number OnDisk h))) (keeps-rest h h later (unchanged h) (written h (local_map (step.with_outcome number OnDisk h))) (keeps-self h) refl refl refl refl refl (λ block. refl))
+    keeps-following h later (written h (local_map (step.with_outcome number OnDisk h)))
+    (keeps-rest h h later (unchanged h) (written h (local_map (step.with_outcome number OnDisk h))) (keeps-self h) refl refl refl refl refl (λ block. refl))
 
 -- the local disk fails a write
-pub fails-keeps : (number : ℕ) (offsets : List ℕ) (h : PrimaryHistory) → Keeps h (written h (local_map (step.faulted number offsets h))) (follows (step.faulted number offsets h)).history
-fails-keeps number offsets h = keeps-following h (step.faulted number offsets h) (written h (local_map (step.faulted number offsets h))) (go (step.accepted_at h number))
+pub fails-keeps : (number : ℕ) (offsets : List ℕ) (h : PrimaryHistory)
+    → Keeps h (written h (local_map (step.faulted number offsets h))) (follows (step.faulted number offsets h)).history
+fails-keeps number offsets h = keeps-following h (step.faulted number offsets h) (written h (local_map (step.faulted number offsets h)))
+    (go (step.accepted_at h number))
   where
     after : Option Accepted → PrimaryHistory
-    after v = elim v as (λ _. PrimaryHistory) [ None ↦ h | Some accepted ↦ step.with_outcome number (Failed (within (length accepted.write.contents) offsets)) (record h { marks = marking accepted.write h.marks }) ]
+    after v = elim v as (λ _. PrimaryHistory) [
+      | None ↦ h
+      | Some accepted ↦ step.with_outcome number (Failed (within (length accepted.write.contents) offsets))
+          (record h { marks = marking accepted.write h.marks })
+    ]
 
     go : (v : Option Accepted) → Keeps h (written h (local_map (after v))) (after v)
     go None = keeps-self h
-    go (Some accepted) = keeps-rest h h (after (Some accepted)) (unchanged h) (written h (local_map (after (Some accepted)))) (keeps-self h) refl refl refl refl refl (λ block. refl)
+    go (Some accepted) = keeps-rest h h (after (Some accepted)) (unchanged h) (written h (local_map (after (Some accepted))))
+        (keeps-self h) refl refl refl refl refl (λ block. refl)
 
 -- a block is copied
 pub resyncs-keeps : (starved : Bool) (h : PrimaryHistory) → Keeps h (unchanged h) (step.resync_next starved h).1
-resyncs-keeps starved h = tested-keeps (Keeps h (unchanged h)) h (step.resync_tests h starved) (λ _. after (free_block h)) (keeps-self h) (λ passed. go (free_block h) (test-passed (outward h).closed NotConnected others passed).0)
+resyncs-keeps starved h = tested-keeps (Keeps h (unchanged h)) h (step.resync_tests h starved) (λ _. after (free_block h)) (keeps-self h)
+    (λ passed. go (free_block h) (test-passed (outward h).closed NotConnected others passed).0)
   where
     others : List Test
     others =
@@ -201,12 +242,14 @@ resyncs-keeps starved h = tested-keeps (Keeps h (unchanged h)) h (step.resync_te
     after : Option ℕ → Reply × PrimaryHistory
     after v = elim v as (λ _. Reply × PrimaryHistory) [
       | None ↦ (reply.Refused NothingToDo, h)
-      | Some block ↦ succeeding (what.Block (record { 0 = block }) (length (outward h).stream)) (appending (ResyncItem block (unwrap_or (local_map h block) [])) h)
+      | Some block ↦ succeeding (what.Block (record { 0 = block }) (length (outward h).stream))
+          (appending (ResyncItem block (unwrap_or (local_map h block) [])) h)
     ]
 
     go : (v : Option ℕ) → (outward h).closed ≡ false → Keeps h (unchanged h) (after v).1
     go None unshut = keeps-self h
-    go (Some block) unshut = keeps-following h (appending (ResyncItem block (unwrap_or (local_map h block) [])) h) (unchanged h) (keeps-appending h h (unchanged h) (ResyncItem block (unwrap_or (local_map h block) [])) unshut (keeps-self h))
+    go (Some block) unshut = keeps-following h (appending (ResyncItem block (unwrap_or (local_map h block) [])) h) (unchanged h)
+        (keeps-appending h h (unchanged h) (ResyncItem block (unwrap_or (local_map h block) [])) unshut (keeps-self h))
 
 -- the end closes
 pub closing-keeps : (h g : PrimaryHistory) (change : Change) → (outward g).closed ≡ false → Keeps h change g → Keeps h change (step.closing g)
@@ -228,8 +271,10 @@ closing-keeps h g change unshut k = record {
 
 -- nothing else is lost by it
 pub closes-keeps : (h : PrimaryHistory) → Keeps h (unchanged h) (step.close_primary h).1
-closes-keeps h = tested-keeps (Keeps h (unchanged h)) h (((outward h).closed, NotConnected) ∷ []) (λ _. let after = follows (step.closing h) in (reply.Closed (length after.completed), after.history)) (keeps-self h)
-    (λ passed. keeps-following h (step.closing h) (unchanged h) (closing-keeps h h (unchanged h) (test-passed (outward h).closed NotConnected [] passed).0 (keeps-self h)))
+closes-keeps h = tested-keeps (Keeps h (unchanged h)) h (((outward h).closed, NotConnected) ∷ [])
+    (λ _. let after = follows (step.closing h) in (reply.Closed (length after.completed), after.history)) (keeps-self h)
+    (λ passed. keeps-following h (step.closing h) (unchanged h)
+    (closing-keeps h h (unchanged h) (test-passed (outward h).closed NotConnected [] passed).0 (keeps-self h)))
 
 -- a receipt is taken
 pub receipts-keeps : (number : ℕ) (h : PrimaryHistory) → Keeps h (unchanged h) (step.take_completed number h).1
@@ -240,7 +285,13 @@ receipts-keeps number h = go (first_refusal (step.take_completed_tests h number)
 
     go : (v : Option Refusal) (entry : Option Completion) → Keeps h (unchanged h) (elim v as (λ _. Result Completion Refusal × PrimaryHistory) [
       | Some refusal ↦ (Err refusal, h)
-      | None ↦ elim entry as (λ _. Result Completion Refusal × PrimaryHistory) [ None ↦ (Err LocalFault, step.receipted number h) | Some entry ↦ (Ok entry, step.receipted number h) ]
+      | None ↦ elim entry as (λ _. Result Completion Refusal × PrimaryHistory) [
+        | None ↦ (Err LocalFault, step.receipted number h)
+        | Some entry ↦ (
+          Ok entry,
+          step.receipted number h,
+        )
+      ]
     ]).1
     go (Some refusal) entry = keeps-self h
     go None None = given

@@ -1,28 +1,28 @@
 -- No end of a primary pushes more frames than it owes, whether it is open or closed: so what was pushed tells how many items
 -- were sent.
-use Rattle.std.proofs.Common.{ℕ, suc, ◌≡◌, ◌+◌, ◌-◌, ◌≤◌, ◌<◌, inl, inr, min, Bool, true, false, not, ◌&&◌, List, [], ◌∷◌, ◌++◌, length, take, Option, Some, None, Ok, refl, sym, ◌∙◌, ap, subst, arith}
+use Rattle.std.proofs.Common.{ℕ, ◌≡◌, ◌+◌, ◌-◌, ◌≤◌, ◌<◌, inl, inr, min, Bool, true, false, not, List, [], ◌∷◌, ◌++◌, length, Option, Some, None, Ok, refl, sym}
+use Rattle.std.proofs.Common.{◌∙◌, ap, subst, arith}
 use Rattle.std.proofs.lemmas.Bool.{both_ways, and_parts}
 use Rattle.std.proofs.lemmas.List.{length-append, length-take}
-use Rattle.blocks.specs.declared.settings.Settings.{Settings}
 use Rattle.blocks.specs.declared.tuple.Tuple.{Tuple}
 use Rattle.blocks.specs.declared.outcome.Decision.{Decision}
 use Rattle.blocks.specs.declared.outcome.Decision.TheVariants.{NoSync, BitmapSync, FullSync}
-use Rattle.model.specs.Contents.{BlockMap}
 use Rattle.model.specs.Stream.{WriteItem, SyncUuidItem, within}
-use Rattle.model.specs.Frames.{Packet, UuidsFrame, hello_of, frames_of}
+use Rattle.model.specs.Frames.{UuidsFrame}
 use Rattle.model.specs.Marks.{marking}
-use Rattle.model.specs.Primary.{Waiting, Failed, Accepted, Outward, PrimaryHistory, primary_opening, no_outward, outward, change_last, last_index, last_of, with_outward, stands, resync_runs, in_resync, items_sent, frames_due}
-use Rattle.model.specs.PrimarySteps.{resync_is_over, submission, submitted, appending, with_outcome, faulted, accepted_at}
+use Rattle.model.specs.Primary.{Waiting, Failed, Accepted, Outward, PrimaryHistory, primary_opening, no_outward, outward, change_last, last_index, last_of}
+use Rattle.model.specs.Primary.{with_outward, stands, in_resync, items_sent, frames_due}
+use Rattle.model.specs.PrimarySteps.{submission, submitted, appending, with_outcome, faulted, accepted_at}
 use Rattle.model.specs.Acknowledgements.{begun_with}
-use Rattle.model.specs.LocalRuns.{PrimaryEvent, primary_run}
+use Rattle.laws.proofs.Rules.FramesDue.{length-due}
+use Rattle.laws.proofs.Rules.EpochEnds.{over-standing, takes-writes}
 use Rattle.laws.proofs.Lists.Each.{Each, each-append, each-change, each-get}
 use Rattle.laws.proofs.Lists.Last.{change-twice, last-at}
 use Rattle.laws.proofs.Primary.Moves.{following-from, IsKeptByMoves, IsKeptByReleases, kept-by-releases, keeps-run, with_frame, refusing, pushing}
 use Rattle.laws.proofs.Primary.Sendable.{HasFitEnds, IsFitEnd, primary_fit}
-use Rattle.laws.proofs.Primary.StaysClosed.{over-stands}
+use Rattle.laws.proofs.Rules.ResyncEnds.{over-stands}
 use Rattle.primary_steps.specs.Node.{NodeState, NodeHas}
 use Rattle.primary_steps.specs.Steps.{IsReached}
-use Rattle.primary_steps.proofs.Send.Due.{length-frames}
 
 -- A connection that has pushed no more than its hello and its stream, and whose stream is empty until it has begun.
 record IsPushed (c : Outward) : Type 0 where
@@ -33,27 +33,23 @@ record IsPushed (c : Outward) : Type 0 where
 abbrev ArePushed : PrimaryHistory → Type 0
 ArePushed h = Each IsPushed h.connections
 
--- all that an end owes: three frames, and then one for each item
-pub length-due : (settings : Settings) (c : Outward) → length (frames_due settings c) ≡ 3 + length c.stream
-length-due settings c =
-    let front : length (frames_due settings c) ≡ 3 + length (frames_of c.stream) = length-append (hello_of settings c.hello) (frames_of c.stream) in
-    let rest : length (frames_of c.stream) ≡ length c.stream = length-frames 0 c.stream in
-    omega arith
-
 -- Changes of the last connection.
 
-changes : (h : PrimaryHistory) (cs : List Outward) (f : Outward → Outward) → cs ≡ change_last f h.connections → (IsPushed (outward h) → IsPushed (f (outward h))) → ArePushed h → Each IsPushed cs
+changes : (h : PrimaryHistory) (cs : List Outward) (f : Outward → Outward) → cs ≡ change_last f h.connections
+    → (IsPushed (outward h) → IsPushed (f (outward h))) → ArePushed h → Each IsPushed cs
 changes h cs f connections keeps all = subst (Each IsPushed) (sym connections) (each-change IsPushed f (no_outward h.tuple) h.connections all keeps)
 
 -- a frame was taken
-takes : (h : PrimaryHistory) (cs : List Outward) (f : Outward → Outward) → cs ≡ change_last f h.connections → (f (outward h)).pushed ≡ (outward h).pushed → (f (outward h)).stream ≡ (outward h).stream → (f (outward h)).begun ≡ (outward h).begun → ArePushed h → Each IsPushed cs
+takes : (h : PrimaryHistory) (cs : List Outward) (f : Outward → Outward) → cs ≡ change_last f h.connections → (f (outward h)).pushed ≡ (outward h).pushed
+    → (f (outward h)).stream ≡ (outward h).stream → (f (outward h)).begun ≡ (outward h).begun → ArePushed h → Each IsPushed cs
 takes h cs f connections pushed stream begun all = changes h cs f connections (λ e. record {
   within = let old = e.within in let size = ap length stream in omega arith;
   empty = λ unbegun. stream ∙ e.empty (sym begun ∙ unbegun);
 }) all
 
 -- an item goes to the end of a stream that has begun
-appends : (h : PrimaryHistory) (cs : List Outward) (f : Outward → Outward) → cs ≡ change_last f h.connections → stands (outward h) ≡ true → (f (outward h)).pushed ≡ (outward h).pushed → (f (outward h)).begun ≡ (outward h).begun
+appends : (h : PrimaryHistory) (cs : List Outward) (f : Outward → Outward) → cs ≡ change_last f h.connections → stands (outward h) ≡ true
+    → (f (outward h)).pushed ≡ (outward h).pushed → (f (outward h)).begun ≡ (outward h).begun
     → length (outward h).stream ≤ length (f (outward h)).stream → ArePushed h → Each IsPushed cs
 appends h cs f connections standing pushed begun longer all = changes h cs f connections (λ e. record {
   within = let old = e.within in omega arith;
@@ -68,46 +64,74 @@ pushed-submits : (h : PrimaryHistory) (first : ℕ) (contents : List (List ℕ))
 pushed-submits h first contents all = go (stands (outward h)) refl
   where
     go : (b : Bool) → stands (outward h) ≡ b → ArePushed (elim b as (λ _. PrimaryHistory) [
-      | true ↦ appending (WriteItem (submission h first contents)) (record h { writes = h.writes ++ record { write = submission h first contents; journal_length = length h.journal; home = Some (last_index h.connections, length (outward h).stream); outcome = Waiting } ∷ [] })
-      | false ↦ record h { writes = h.writes ++ record { write = submission h first contents; journal_length = length h.journal; home = None; outcome = Waiting } ∷ []; marks = marking (submission h first contents) h.marks }
+      | true ↦ appending (WriteItem (submission h first contents))
+          (record h {
+            writes = h.writes ++ record {
+              write = submission h first contents;
+              journal_length = length h.journal;
+              home = Some (record { index = last_index h.connections; place = length (outward h).stream });
+              outcome = Waiting;
+            } ∷ [];
+          })
+      | false ↦ record h {
+        writes = h.writes ++ record {
+          write = submission h first contents;
+          journal_length = length h.journal;
+          home = None;
+          outcome = Waiting;
+        } ∷ [];
+        marks = marking (submission h first contents) h.marks;
+      }
     ])
-    go true is = appends h _ (λ c. record c { stream = c.stream ++ WriteItem (submission h first contents) ∷ [] }) refl is refl refl (longer-by (outward h).stream _) all
+    go true is = appends h _ (λ c. record c { stream = c.stream ++ WriteItem (submission h first contents) ∷ [] }) refl is refl refl
+        (longer-by (outward h).stream _) all
     go false is = all
 
 pushed-faults : (h : PrimaryHistory) (number : ℕ) (offsets : List ℕ) → ArePushed h → ArePushed (faulted number offsets h)
 pushed-faults h number offsets all = go (accepted_at h number)
   where
-    go : (v : Option Accepted) → ArePushed (elim v as (λ _. PrimaryHistory) [ None ↦ h | Some accepted ↦ with_outcome number (Failed (within (length accepted.write.contents) offsets)) (record h { marks = marking accepted.write h.marks }) ])
+    go : (v : Option Accepted) → ArePushed
+        (elim v as (λ _. PrimaryHistory) [
+          | None ↦ h
+          | Some accepted ↦ with_outcome number (Failed (within (length accepted.write.contents) offsets))
+              (record h { marks = marking accepted.write h.marks })
+        ])
     go None = all
     go (Some accepted) = all
 
-pushed-begins : (h : PrimaryHistory) (peer : Tuple) (decided : Decision) → (outward h).begun ≡ false → ArePushed h → ArePushed (begun_with decided (record (with_outward (with_frame (Ok (UuidsFrame peer))) h) { peer = Some peer }))
+pushed-begins : (h : PrimaryHistory) (peer : Tuple) (decided : Decision) → (outward h).begun ≡ false → ArePushed h
+    → ArePushed (begun_with decided (record (with_outward (with_frame (Ok (UuidsFrame peer))) h) { peer = Some peer }))
 pushed-begins h peer decided unbegun all = go decided
   where
     taken : PrimaryHistory
     taken = record (with_outward (with_frame (Ok (UuidsFrame peer))) h) { peer = Some peer }
 
-    twice : (cs : List Outward) (g : Outward → Outward) → cs ≡ change_last g (change_last (with_frame (Ok (UuidsFrame peer))) h.connections) → (IsPushed (outward h) → IsPushed (g (with_frame (Ok (UuidsFrame peer)) (outward h)))) → Each IsPushed cs
-    twice cs g connections keeps = changes h cs (λ c. g (with_frame (Ok (UuidsFrame peer)) c)) (connections ∙ change-twice (with_frame (Ok (UuidsFrame peer))) g h.connections) keeps all
+    twice : (cs : List Outward) (g : Outward → Outward) → cs ≡ change_last g (change_last (with_frame (Ok (UuidsFrame peer))) h.connections)
+        → (IsPushed (outward h) → IsPushed (g (with_frame (Ok (UuidsFrame peer)) (outward h)))) → Each IsPushed cs
+    twice cs g connections keeps = changes h cs (λ c. g (with_frame (Ok (UuidsFrame peer)) c)) (connections
+        ∙ change-twice (with_frame (Ok (UuidsFrame peer))) g h.connections) keeps all
 
     few : IsPushed (outward h) → (outward h).pushed ≤ 3
     few e = let none = ap length (e.empty unbegun) in let old = e.within in omega arith
 
     go : (v : Decision) → ArePushed (begun_with v (record (with_outward (with_frame (Ok (UuidsFrame peer))) h) { peer = Some peer }))
     go NoSync = twice _ (λ c. record c { begun = true }) refl (λ e. record { within = e.within; empty = λ begun. absurd (cc) })
-    go BitmapSync = twice _ (λ c. record c { begun = true; stream = SyncUuidItem (outward taken).sync ∷ [] }) refl (λ e. record { within = let old = few e in omega arith; empty = λ begun. absurd (cc) })
-    go FullSync = twice _ (λ c. record c { begun = true; stream = SyncUuidItem (outward taken).sync ∷ [] }) refl (λ e. record { within = let old = few e in omega arith; empty = λ begun. absurd (cc) })
+    go BitmapSync = twice _ (λ c. record c { begun = true; stream = SyncUuidItem (outward taken).sync ∷ [] }) refl
+        (λ e. record { within = let old = few e in omega arith; empty = λ begun. absurd (cc) })
+    go FullSync = twice _ (λ c. record c { begun = true; stream = SyncUuidItem (outward taken).sync ∷ [] }) refl
+        (λ e. record { within = let old = few e in omega arith; empty = λ begun. absurd (cc) })
 
 pushed-kept : IsKeptByMoves ArePushed ArePushed
 pushed-kept = record {
   following = following-from ArePushed ArePushed ArePushed (λ h all. all)
-      (λ g over all. appends g _ _ refl (and_parts (stands (outward g)) _ over).0 refl refl (longer-by (outward g).stream _) all) (λ g on all. all)
+      (λ g over all. appends g _ _ refl (over-standing g over) refl refl (longer-by (outward g).stream _) all) (λ g on all. all)
       (λ g over all. appends g _ _ refl (over-stands g over) refl refl (longer-by (outward g).stream _) all) (λ g all. all);
   opens = λ h sync loss closed fresh all. each-append IsPushed h.connections _ all (record { within = omega arith; empty = λ unbegun. refl });
   submits = λ h first contents may all. pushed-submits h first contents all;
   writes = λ h number waiting all. all;
   faults = λ h number offsets waiting all. pushed-faults h number offsets all;
-  sends = λ h standing due all. changes h _ pushing refl (λ e. record { within = let size = length-due h.settings (outward h) in omega arith; empty = e.empty }) all;
+  sends = λ h standing due all. changes h _ pushing refl (λ e. record { within = let size = length-due h.settings (outward h) in omega arith; empty = e.empty })
+      all;
   greets = λ h frame standing new met all. takes h _ (with_frame frame) refl refl refl refl all;
   begins = λ h peer decided standing new late is fresh all. pushed-begins h peer decided new all;
   receives = λ h ack standing begun may all. takes h _ (with_frame _) refl refl refl refl all;
@@ -115,8 +139,10 @@ pushed-kept = record {
   clears = λ h ack standing begun may all. takes h _ (with_frame _) refl refl refl refl all;
   confirms = λ h number size standing begun turn all. takes h _ (with_frame _) refl refl refl refl all;
   refuses = λ h frame peer standing all. takes h _ (λ c. record c { taken = c.taken ++ frame ∷ []; refused = true; closed = true })
-      (ap (change_last (λ (c : Outward). record c { closed = true })) (change-twice (with_frame frame) refusing h.connections) ∙ change-twice (λ c. refusing (with_frame frame c)) (λ c. record c { closed = true }) h.connections) refl refl refl all;
-  resyncs = λ h block runs alone is all. appends h _ _ refl (and_parts (stands (outward h)) (in_resync (outward h).stream) runs).0 refl refl (longer-by (outward h).stream _) all;
+      (ap (change_last (λ (c : Outward). record c { closed = true })) (change-twice (with_frame frame) refusing h.connections)
+      ∙ change-twice (λ c. refusing (with_frame frame c)) (λ c. record c { closed = true }) h.connections) refl refl refl all;
+  resyncs = λ h block runs alone is all. appends h _ _ refl (and_parts (stands (outward h)) (in_resync (outward h).stream) runs).0 refl refl
+      (longer-by (outward h).stream _) all;
   closes = λ h standing all. takes h _ (λ c. record c { closed = true }) refl refl refl refl all;
   receipts = λ h number all. all;
 }
@@ -125,7 +151,8 @@ pushed-released : IsKeptByReleases ArePushed ArePushed
 pushed-released = kept-by-releases ArePushed ArePushed (λ h marks all. all)
 
 reached-pushed : (h : PrimaryHistory) → IsReached h → ArePushed h
-reached-pushed h reached = subst ArePushed reached.is (keeps-run ArePushed ArePushed pushed-kept pushed-released reached.events (primary_opening reached.settings reached.disk reached.tuple reached.marks) tt)
+reached-pushed h reached = subst ArePushed reached.is
+    (keeps-run ArePushed ArePushed pushed-kept pushed-released reached.events (primary_opening reached.settings reached.disk reached.tuple reached.marks) tt)
 
 -- what holds of each connection holds of the last, and of none
 of-last : (P : Outward → Type 0) (h : PrimaryHistory) → Each P h.connections → P (no_outward h.tuple) → P (outward h)
@@ -149,7 +176,8 @@ pushed-many n h has = (all, omega (arith, all, within, short))
     short : length (outward h).stream ≤ 4294967290
     short =
         let reached = has.reached in
-        let fit = subst (HasFitEnds reached.settings) reached.is (primary_fit reached.settings reached.disk reached.tuple reached.marks reached.events reached.ranges.max_epoch.0) in
+        let fit = subst (HasFitEnds reached.settings) reached.is
+        (primary_fit reached.settings reached.disk reached.tuple reached.marks reached.events (takes-writes reached.settings reached.ranges)) in
         of-last (λ c. length c.stream ≤ 4294967290) h (each-short h.connections fit.ends) (omega arith)
       where
         each-short : (cs : List Outward) → Each (IsFitEnd has.reached.settings) cs → Each (λ c. length c.stream ≤ 4294967290) cs
@@ -158,7 +186,8 @@ pushed-many n h has = (all, omega (arith, all, within, short))
 
     all : length n.pushed ≡ (outward h).pushed
     all =
-        let taken : length n.pushed ≡ min (outward h).pushed (length (frames_due h.settings (outward h))) = ap length has.leaves.pushed ∙ length-take (outward h).pushed (frames_due h.settings (outward h)) in
+        let taken : length n.pushed ≡ min (outward h).pushed (length (frames_due h.settings (outward h))) = ap length has.leaves.pushed
+        ∙ length-take (outward h).pushed (frames_due h.settings (outward h)) in
         let size = length-due h.settings (outward h) in
         omega (arith, taken, size, within)
 

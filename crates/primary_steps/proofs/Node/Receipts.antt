@@ -3,6 +3,7 @@ use Rattle.std.proofs.Common.{ℕ, suc, ◌≡◌, ◌<◌, Bool, length, Option
 use Rattle.std.specs.Prelude.{find}
 use Rattle.std.specs.Option.{option_map}
 use Rattle.std.specs.Result.{result_map_both}
+use Rattle.blocks.specs.Positions.{StreamPosition}
 use Rattle.blocks.specs.declared.refusal.Refusal.{Refusal}
 use Rattle.blocks.specs.declared.refusal.Refusal.TheVariants.{LocalFault}
 use Rattle.blocks.specs.declared.outcome.What.TheVariants as what
@@ -19,32 +20,42 @@ use Rattle.primary_steps.specs.Leaves.{Leaves, is_linked}
 use Rattle.primary_steps.specs.Node.{NodeState, NodeHas, NodeIsHad, NodeSteps, IsStep, take_receipt}
 use Rattle.primary_steps.specs.Steps.{SameAnswer, TellsReceipt}
 use Rattle.primary_steps.proofs.Node.Due.{kept-leaves}
-use Rattle.primary_steps.proofs.Node.Housed.{reached-housed}
 use Rattle.primary_steps.proofs.Node.Keeps.{unchanged, receipts-keeps}
 use Rattle.primary_steps.proofs.Node.Runs.{node-steps}
 use Rattle.primary_steps.proofs.Receipts.Receipts.{receipts-agree}
 
 -- the receipt of an entry that was completed
-abbrev pub receipt_with : ℕ → Entry → Kind → Option (ℕ × ℕ) → Receipt
-receipt_with number entry kind home = record { number = number; first = entry.first; count = entry.count; kind = kind; home = option_map (λ home. (suc home.0, home.1)) home }
+abbrev pub receipt_with : ℕ → Entry → Kind → Option StreamPosition → Receipt
+receipt_with number entry kind home = record {
+  number = number;
+  first = entry.first;
+  count = entry.count;
+  kind = kind;
+  home = home;
+}
 
 module _ (n : NodeState) (number : ℕ) (got : Result Entry Refusal) (core : PrimaryState) (is : (got, core) ≡ take_completed number n.core) where
   tells : (h : PrimaryHistory) → NodeHas n h → TellsReceipt number n.core h
   tells h has = receipts-agree number n.core h has.reached has.leaves.core
 
   answer : (h : PrimaryHistory) → NodeHas n h → SameAnswer number got (step.take_completed number h).0
-  answer h has = subst (λ (r : Result Entry Refusal). SameAnswer number r (step.take_completed number h).0) (sym (ap (λ (p : Result Entry Refusal × PrimaryState). p.0) is)) (tells h has).answer
+  answer h has = subst (λ (r : Result Entry Refusal). SameAnswer number r (step.take_completed number h).0)
+      (sym (ap (λ (p : Result Entry Refusal × PrimaryState). p.0) is)) (tells h has).answer
 
   -- the history after it
   pub node-receipted : NodeSteps (Receipts number) n (reply.Ok (done_with what.Nothing)) (record n { core = core })
   node-receipted = node-steps (Receipts number) n (reply.Ok (done_with what.Nothing)) (record n { core = core }) (λ h has. record {
     reply = refl;
-    leaves = kept-leaves n core n.disk n.taken h (step.take_completed number h).1 (unchanged h) has.leaves (subst (λ (s : PrimaryState). Leaves s (step.take_completed number h).1) (sym (ap (λ (p : Result Entry Refusal × PrimaryState). p.1) is)) (tells h has).leaves)
+    leaves = kept-leaves n core n.disk n.taken h (step.take_completed number h).1 (unchanged h) has.leaves
+        (subst (λ (s : PrimaryState). Leaves s (step.take_completed number h).1) (sym (ap (λ (p : Result Entry Refusal × PrimaryState). p.1) is))
+        (tells h has).leaves)
         (receipts-keeps number h) has.leaves.disk has.leaves.taken;
   })
 
   -- the call answers what the step answers
-  pub node-receipt : (told : Result Receipt Refusal) → ((e : Refusal) → got ≡ Err e → told ≡ Err e) → ((entry : Entry) (kind : Kind) (home : Option (ℕ × ℕ)) → got ≡ Ok entry → entry.fate ≡ Completed (is_linked kind) home → told ≡ Ok (receipt_with number entry kind home))
+  pub node-receipt : (told : Result Receipt Refusal) → ((e : Refusal) → got ≡ Err e → told ≡ Err e)
+      → ((entry : Entry) (kind : Kind) (home : Option StreamPosition) → got ≡ Ok entry → entry.fate ≡ Completed (is_linked kind) home
+      → told ≡ Ok (receipt_with number entry kind home))
       → IsStep (take_receipt number) n told (record n { core = core })
   node-receipt told refused given = record {
     said = λ h has. go got (step.take_completed number h).0 refl (answer h has);
@@ -54,32 +65,13 @@ module _ (n : NodeState) (number : ℕ) (got : Result Entry Refusal) (core : Pri
       go : (r : Result Entry Refusal) (v : Result Completion Refusal) → got ≡ r → SameAnswer number r v → told ≡ result_map_both receipt_of (λ e. e) v
       go (Ok entry) (Ok completion) at same =
           given entry completion.kind completion.home at same.3
-          ∙ λ i. Ok (record { number = sym same.0 i; first = same.1 i; count = same.2 i; kind = completion.kind; home = option_map (λ home. (suc home.0, home.1)) completion.home })
+          ∙ λ i. Ok (record {
+            number = sym same.0 i;
+            first = same.1 i;
+            count = same.2 i;
+            kind = completion.kind;
+            home = completion.home;
+          })
       go (Err e) (Err other) at same = refused e at ∙ ap Err same
       go (Ok entry) (Err other) at same = absurd same
       go (Err e) (Ok completion) at same = absurd same
-
-  -- its connection is one of those that were opened
-  pub home-within : NodeIsHad n → (entry : Entry) (linked : Bool) (home : ℕ × ℕ) → got ≡ Ok entry → entry.fate ≡ Completed linked (Some home) → home.0 < n.core.connections
-  home-within had entry linked home at fate =
-      subst (λ (m : ℕ). home.0 < m) (sym had.has.leaves.core.rest.connections) (go (step.take_completed number h).0 refl (subst (λ (r : Result Entry Refusal). SameAnswer number r (step.take_completed number h).0) at (answer h had.has)))
-    where
-      h : PrimaryHistory
-      h = had.history
-
-      -- a receipt is of the journal
-      found : (v : Option Refusal) (w : Option Completion) (completion : Completion) → (elim v as (λ _. Result Completion Refusal × PrimaryHistory) [
-        | Some refusal ↦ (Err refusal, h)
-        | None ↦ elim w as (λ _. Result Completion Refusal × PrimaryHistory) [ None ↦ (Err LocalFault, step.receipted number h) | Some entry ↦ (Ok entry, step.receipted number h) ]
-      ]).0 ≡ Ok completion → w ≡ Some completion
-      found (Some refusal) w completion is = absurd (cc)
-      found None None completion is = absurd (cc)
-      found None (Some c) completion is = ap Some (let same : c ≡ completion = cc in same)
-
-      go : (v : Result Completion Refusal) → (step.take_completed number h).0 ≡ v → SameAnswer number (Ok entry) v → home.0 < length h.connections
-      go (Err other) at same = absurd same
-      go (Ok completion) at same =
-          let there = pick-found (λ c. c.write.number == number) h.journal completion (found (first_refusal (step.take_completed_tests h number)) (find (λ c. c.write.number == number) h.journal) completion at) in
-          let fates : Completed linked (Some home) ≡ Completed (is_linked completion.kind) completion.home = sym fate ∙ same.3 in
-          let homes : Some home ≡ completion.home = cc in
-          (reached-housed h had.has.reached).journal there.0 completion home there.1 (sym homes)

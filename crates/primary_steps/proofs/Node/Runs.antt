@@ -13,7 +13,8 @@ use Rattle.model.specs.Primary.{OnDisk, PrimaryHistory, primary_opening, outward
 use Rattle.model.specs.Marks.{releasing}
 use Rattle.model.specs.PrimarySteps as step
 use Rattle.model.specs.PrimarySteps.{follows, appending, succeeding}
-use Rattle.model.specs.LocalRuns.{PrimaryEvent, Opens, Submits, WritesLocally, FailsLocally, Sends, Takes, Resyncs, FailsResync, Closes, Receipts, primary_after, primary_run}
+use Rattle.model.specs.LocalRuns.{PrimaryEvent, Opens, Submits, WritesLocally, FailsLocally, Sends, Takes, Resyncs, FailsResync, Closes, Receipts}
+use Rattle.model.specs.LocalRuns.{primary_after, primary_run}
 use Rattle.laws.proofs.Primary.Moves.{pushing}
 use Rattle.primary_steps.specs.Node.{NodeState, NodeLeaves, NodeHas, NodeIsHad, NodeSteps, primary_step}
 use Rattle.primary_steps.specs.Steps.{IsReached}
@@ -31,7 +32,8 @@ after-step (FailsResync starved) h = refl
 after-step Closes h = refl
 after-step (Receipts number) h = refl
 
-run-snoc : (event : PrimaryEvent) (events : List PrimaryEvent) (h : PrimaryHistory) → primary_run (events ++ event ∷ []) h ≡ (primary_step event (primary_run events h)).1
+run-snoc : (event : PrimaryEvent) (events : List PrimaryEvent) (h : PrimaryHistory)
+    → primary_run (events ++ event ∷ []) h ≡ (primary_step event (primary_run events h)).1
 run-snoc event [] h = after-step event h
 run-snoc event (e ∷ events) h = run-snoc event events (primary_after e h)
 
@@ -54,7 +56,8 @@ pub record NodeAgrees (said : Reply) (next : NodeState) (step : Reply × Primary
   pub leaves : NodeLeaves next step.1
 
 -- A call that agrees with the step on every history that the node has is the step.
-pub node-steps : (event : PrimaryEvent) (n : NodeState) (reply : Reply) (next : NodeState) → ((h : PrimaryHistory) → NodeHas n h → NodeAgrees reply next (primary_step event h)) → NodeSteps event n reply next
+pub node-steps : (event : PrimaryEvent) (n : NodeState) (reply : Reply) (next : NodeState)
+    → ((h : PrimaryHistory) → NodeHas n h → NodeAgrees reply next (primary_step event h)) → NodeSteps event n reply next
 node-steps event n reply next agrees = record {
   said = λ h has. (agrees h has).reply;
   after = λ h has. record { leaves = (agrees h has).leaves; reached = reached-step event h has.reached };
@@ -65,7 +68,8 @@ pub node-had : (event : PrimaryEvent) (n : NodeState) (reply : Reply) (next : No
 node-had event n reply next is steps = record { history = (primary_step event is.history).1; has = steps.after is.history is.has }
 
 -- A step that only tests refuse or let pass.
-did : (h : PrimaryHistory) (tests : List Test) (done : Unit {0} → Reply × PrimaryHistory) (d : Done) → reply.Ok d ≡ (step.tested h tests done).0 → step.tested h tests done ≡ done tt
+did : (h : PrimaryHistory) (tests : List Test) (done : Unit {0} → Reply × PrimaryHistory) (d : Done) → reply.Ok d ≡ (step.tested h tests done).0
+    → step.tested h tests done ≡ done tt
 did h tests done d is = go (first_refusal tests) is
   where
     go : (v : Option Refusal) → reply.Ok d ≡ (elim v as (λ _. Reply × PrimaryHistory) [ Some refusal ↦ (reply.Refused refusal, h) | None ↦ done tt ]).0
@@ -73,7 +77,8 @@ did h tests done d is = go (first_refusal tests) is
     go (Some refusal) is = absurd (cc)
     go None is = refl
 
-did-not : (h : PrimaryHistory) (tests : List Test) (done : Unit {0} → Reply × PrimaryHistory) (e : Refusal) → (reply.Refused e ≡ (done tt).0 → (done tt).1 ≡ h) → reply.Refused e ≡ (step.tested h tests done).0 → (step.tested h tests done).1 ≡ h
+did-not : (h : PrimaryHistory) (tests : List Test) (done : Unit {0} → Reply × PrimaryHistory) (e : Refusal) → (reply.Refused e ≡ (done tt).0 → (done tt).1 ≡ h)
+    → reply.Refused e ≡ (step.tested h tests done).0 → (step.tested h tests done).1 ≡ h
 did-not h tests done e other is = go (first_refusal tests) is
   where
     go : (v : Option Refusal) → reply.Refused e ≡ (elim v as (λ _. Reply × PrimaryHistory) [ Some refusal ↦ (reply.Refused refusal, h) | None ↦ done tt ]).0
@@ -94,48 +99,66 @@ IsStill (Takes (Some frame) starved) = ⊥
 IsStill event = Unit {0}
 
 -- What refuses such an event changes nothing.
-pub refused-same : (event : PrimaryEvent) → IsStill event → (h : PrimaryHistory) (e : Refusal) → reply.Refused e ≡ (primary_step event h).0 → (primary_step event h).1 ≡ h
-refused-same (Opens sync loss starved) still h e is = did-not h (step.open_tests h sync loss starved) (λ _. succeeding what.Nothing (step.opened h sync loss)) e (λ no. absurd (cc)) is
-refused-same (Submits first contents starved) still h e is = did-not h (step.submit_tests h first contents starved) (λ _. succeeding (what.Write (suc (length h.writes))) (step.submitted h first contents)) e (λ no. absurd (cc)) is
-refused-same (WritesLocally number) still h e is = did-not h ((not (step.is_unfinished h number), UnknownJob) ∷ []) (λ _. succeeding what.Nothing (releasing h (step.with_outcome number OnDisk h))) e (λ no. absurd (cc)) is
-refused-same (FailsLocally number offsets) still h e is = did-not h ((not (step.is_unfinished h number), UnknownJob) ∷ []) (λ _. succeeding what.Nothing (step.faulted number offsets h)) e (λ no. absurd (cc)) is
-refused-same (Sends room starved) still h e is = did-not h (step.send_tests h room starved) (λ _. succeeding (step.sending h) (with_outward pushing h)) e (λ no. absurd (cc)) is
+pub refused-same : (event : PrimaryEvent) → IsStill event → (h : PrimaryHistory) (e : Refusal) → reply.Refused e ≡ (primary_step event h).0
+    → (primary_step event h).1 ≡ h
+refused-same (Opens sync loss starved) still h e is = did-not h (step.open_tests h sync loss starved) (λ _. succeeding what.Nothing (step.opened h sync loss)) e
+    (λ no. absurd (cc)) is
+refused-same (Submits first contents starved) still h e is = did-not h (step.submit_tests h first contents starved)
+    (λ _. succeeding (what.Write (suc (length h.writes))) (step.submitted h first contents)) e (λ no. absurd (cc)) is
+refused-same (WritesLocally number) still h e is = did-not h ((not (step.is_unfinished h number), UnknownJob) ∷ [])
+    (λ _. succeeding what.Nothing (releasing h (step.with_outcome number OnDisk h))) e (λ no. absurd (cc)) is
+refused-same (FailsLocally number offsets) still h e is = did-not h ((not (step.is_unfinished h number), UnknownJob) ∷ [])
+    (λ _. succeeding what.Nothing (step.faulted number offsets h)) e (λ no. absurd (cc)) is
+refused-same (Sends room starved) still h e is = did-not h (step.send_tests h room starved) (λ _. succeeding (step.sending h) (with_outward pushing h)) e
+    (λ no. absurd (cc)) is
 refused-same (Takes (Some frame) starved) still h e is = absurd still
 refused-same (Takes None starved) still h e is =
-    did-not h (((outward h).closed, NotConnected) ∷ (not (outward h).begun && starved, NoMemory) ∷ (true, NothingThere) ∷ []) (λ _. (reply.Refused NothingThere, h)) e (λ same. refl) is
+    did-not h (((outward h).closed, NotConnected) ∷ (not (outward h).begun && starved, NoMemory) ∷ (true, NothingThere) ∷ [])
+    (λ _. (reply.Refused NothingThere, h)) e (λ same. refl) is
 refused-same (Resyncs starved) still h e is = did-not h (step.resync_tests h starved) (λ _. copies h (free_block h)) e (go (free_block h)) is
   where
     go : (v : Option ℕ) → reply.Refused e ≡ (copies h v).0 → (copies h v).1 ≡ h
     go None same = refl
     go (Some block) same = absurd (cc)
 refused-same (FailsResync starved) still h e is = did-not h (step.resync_tests h starved) (λ _. (reply.Refused ReadFault, h)) e (λ same. refl) is
-refused-same Closes still h e is = did-not h (((outward h).closed, NotConnected) ∷ []) (λ _. let after = follows (step.closing h) in (reply.Closed (length after.completed), after.history)) e (λ no. absurd (cc)) is
+refused-same Closes still h e is = did-not h (((outward h).closed, NotConnected) ∷ [])
+    (λ _. let after = follows (step.closing h) in (reply.Closed (length after.completed), after.history)) e (λ no. absurd (cc)) is
 refused-same (Receipts number) still h e is = absurd (cc)
 
 -- A call that is refused, and leaves the node, is the step.
-pub node-refused : (event : PrimaryEvent) → IsStill event → (n : NodeState) (e : Refusal) → ((h : PrimaryHistory) → NodeHas n h → reply.Refused e ≡ (primary_step event h).0) → NodeSteps event n (reply.Refused e) n
+pub node-refused : (event : PrimaryEvent) → IsStill event → (n : NodeState) (e : Refusal)
+    → ((h : PrimaryHistory) → NodeHas n h → reply.Refused e ≡ (primary_step event h).0) → NodeSteps event n (reply.Refused e) n
 node-refused event still n e is = node-steps event n (reply.Refused e) n (λ h has. record {
   reply = is h has;
   leaves = subst (NodeLeaves n) (sym (refused-same event still h e (is h has))) has.leaves;
 })
 
 -- What the steps that are done lead to.
-pub opens-to : (sync loss : ℕ) (starved : Bool) (h : PrimaryHistory) (d : Done) → reply.Ok d ≡ (step.open_primary sync loss starved h).0 → (step.open_primary sync loss starved h).1 ≡ (follows (step.opened h sync loss)).history
-opens-to sync loss starved h d is = ap (λ (p : Reply × PrimaryHistory). p.1) (did h (step.open_tests h sync loss starved) (λ _. succeeding what.Nothing (step.opened h sync loss)) d is)
+pub opens-to : (sync loss : ℕ) (starved : Bool) (h : PrimaryHistory) (d : Done) → reply.Ok d ≡ (step.open_primary sync loss starved h).0
+    → (step.open_primary sync loss starved h).1 ≡ (follows (step.opened h sync loss)).history
+opens-to sync loss starved h d is = ap (λ (p : Reply × PrimaryHistory). p.1)
+    (did h (step.open_tests h sync loss starved) (λ _. succeeding what.Nothing (step.opened h sync loss)) d is)
 
 -- the local disk did a write
-pub writes-to : (number : ℕ) (h : PrimaryHistory) (d : Done) → reply.Ok d ≡ (step.local_done number h).0 → (step.local_done number h).1 ≡ (follows (releasing h (step.with_outcome number OnDisk h))).history
-writes-to number h d is = ap (λ (p : Reply × PrimaryHistory). p.1) (did h ((not (step.is_unfinished h number), UnknownJob) ∷ []) (λ _. succeeding what.Nothing (releasing h (step.with_outcome number OnDisk h))) d is)
+pub writes-to : (number : ℕ) (h : PrimaryHistory) (d : Done) → reply.Ok d ≡ (step.local_done number h).0
+    → (step.local_done number h).1 ≡ (follows (releasing h (step.with_outcome number OnDisk h))).history
+writes-to number h d is = ap (λ (p : Reply × PrimaryHistory). p.1)
+    (did h ((not (step.is_unfinished h number), UnknownJob) ∷ []) (λ _. succeeding what.Nothing (releasing h (step.with_outcome number OnDisk h))) d is)
 
 -- the local disk failed a write
-pub fails-to : (number : ℕ) (offsets : List ℕ) (h : PrimaryHistory) (d : Done) → reply.Ok d ≡ (step.local_fault number offsets h).0 → (step.local_fault number offsets h).1 ≡ (follows (step.faulted number offsets h)).history
-fails-to number offsets h d is = ap (λ (p : Reply × PrimaryHistory). p.1) (did h ((not (step.is_unfinished h number), UnknownJob) ∷ []) (λ _. succeeding what.Nothing (step.faulted number offsets h)) d is)
+pub fails-to : (number : ℕ) (offsets : List ℕ) (h : PrimaryHistory) (d : Done) → reply.Ok d ≡ (step.local_fault number offsets h).0
+    → (step.local_fault number offsets h).1 ≡ (follows (step.faulted number offsets h)).history
+fails-to number offsets h d is = ap (λ (p : Reply × PrimaryHistory). p.1)
+    (did h ((not (step.is_unfinished h number), UnknownJob) ∷ []) (λ _. succeeding what.Nothing (step.faulted number offsets h)) d is)
 
 -- a frame was pushed
-pub pushes-to : (room starved : Bool) (h : PrimaryHistory) (d : Done) → reply.Ok d ≡ (step.send room starved h).0 → (step.send room starved h).1 ≡ (follows (with_outward pushing h)).history
-pushes-to room starved h d is = ap (λ (p : Reply × PrimaryHistory). p.1) (did h (step.send_tests h room starved) (λ _. succeeding (step.sending h) (with_outward pushing h)) d is)
+pub pushes-to : (room starved : Bool) (h : PrimaryHistory) (d : Done) → reply.Ok d ≡ (step.send room starved h).0
+    → (step.send room starved h).1 ≡ (follows (with_outward pushing h)).history
+pushes-to room starved h d is = ap (λ (p : Reply × PrimaryHistory). p.1)
+    (did h (step.send_tests h room starved) (λ _. succeeding (step.sending h) (with_outward pushing h)) d is)
 
 -- a write was accepted
 pub submits-to : (first : ℕ) (contents : List (List ℕ)) (starved : Bool) (h : PrimaryHistory) (d : Done) → reply.Ok d ≡ (step.submit first contents starved h).0
     → step.submit first contents starved h ≡ succeeding (what.Write (suc (length h.writes))) (step.submitted h first contents)
-submits-to first contents starved h d is = did h (step.submit_tests h first contents starved) (λ _. succeeding (what.Write (suc (length h.writes))) (step.submitted h first contents)) d is
+submits-to first contents starved h d is = did h (step.submit_tests h first contents starved)
+    (λ _. succeeding (what.Write (suc (length h.writes))) (step.submitted h first contents)) d is

@@ -1,5 +1,6 @@
 -- What is read off a primary's state is what its history says.
-use Rattle.std.proofs.Common.{ℕ, ◌≡◌, ◌+◌, inl, inr, Bool, true, false, cond, not, ◌&&◌, List, [], ◌∷◌, length, map, filter, Option, Some, None, slice_get, refl, sym, ◌∙◌, ap, arith}
+use Rattle.std.proofs.Common.{ℕ, ◌≡◌, ◌+◌, inl, inr, Bool, true, false, cond, not, ◌&&◌, List, [], ◌∷◌, length, map, filter, Option, Some, None, slice_get}
+use Rattle.std.proofs.Common.{refl, sym, ◌∙◌, ap, arith}
 use Rattle.std.specs.Prelude.{find, option_map, unwrap_or, if◌then◌else◌}
 use Rattle.std.proofs.lemmas.Bool.{both_ways, cases_lt, lt-ltb, le-ltb}
 use Rattle.std.proofs.lemmas.List.{length-map}
@@ -36,8 +37,10 @@ says-next s h left =
     ap (λ (l : List LogWrite). option_map (λ (w : LogWrite). w.number) (find log.is_waiting l)) left.rest.log.writes
     ∙ (ap (option_map (λ (w : LogWrite). w.number)) (find-map log.is_waiting (logged_of h) (unreleased h))
     ∙ (twice (find (λ (a : Accepted). log.is_waiting (logged_of h a)) (unreleased h))
-    ∙ ap (option_map (λ (a : Accepted). a.write.number)) (find-at (λ (a : Accepted). log.is_waiting (logged_of h a)) (λ (a : Accepted). is_waiting a.outcome) (unreleased h) (λ i a at. waiting-seen h a)
-    ∙ find-kept (λ (a : Accepted). is_waiting a.outcome) (λ (a : Accepted). not (is_released h a)) h.writes (λ a waits. ap not (waiting-not-released h a waits)))))
+    ∙ ap (option_map (λ (a : Accepted). a.write.number)) (find-at (λ (a : Accepted). log.is_waiting (logged_of h a)) (λ (a : Accepted). is_waiting a.outcome)
+    (unreleased h) (λ i a at. waiting-seen h a)
+    ∙ find-kept (λ (a : Accepted). is_waiting a.outcome) (λ (a : Accepted). not (is_released h a)) h.writes
+    (λ a waits. ap not (waiting-not-released h a waits)))))
   where
     twice : (v : Option Accepted) → option_map (λ (w : LogWrite). w.number) (option_map (logged_of h) v) ≡ option_map (λ (a : Accepted). a.write.number) v
     twice None = refl
@@ -49,23 +52,27 @@ says-incomplete s h reached left =
     ap (λ (l : List LogWrite). length (filter log.is_open l)) left.rest.log.writes
     ∙ (ap length (filter-map log.is_open (logged_of h) (unreleased h))
     ∙ (length-map (filter (λ (a : Accepted). log.is_open (logged_of h a)) (unreleased h)) (logged_of h)
-    ∙ ap length (filter-twice (λ (a : Accepted). log.is_open (logged_of h a)) (λ (a : Accepted). not (is_released h a)) h.writes ∙ filter-at (λ (a : Accepted). not (is_released h a) && log.is_open (logged_of h a)) (is_open h) h.writes same)))
+    ∙ ap length (filter-twice (λ (a : Accepted). log.is_open (logged_of h a)) (λ (a : Accepted). not (is_released h a)) h.writes
+    ∙ filter-at (λ (a : Accepted). not (is_released h a) && log.is_open (logged_of h a)) (is_open h) h.writes same)))
   where
     same : (i : ℕ) (a : Accepted) → slice_get h.writes i ≡ Some a → (not (is_released h a) && log.is_open (logged_of h a)) ≡ is_open h a
-    same i a at = let known = reached-ordered h reached in kept (is_released h a) refl ∙ (open-seen h a ∙ ap (λ b. not b && not (is_failed a.outcome)) (sym (left.rest.quiet i a at)))
+    same i a at = let known = reached-ordered h reached in kept (is_released h a) refl
+        ∙ (open-seen h a ∙ ap (λ b. not b && not (is_failed a.outcome)) (sym (left.rest.quiet i a at)))
       where
         kept : (b : Bool) → is_released h a ≡ b → (not b && log.is_open (logged_of h a)) ≡ log.is_open (logged_of h a)
         kept false is = refl
-        kept true is = let known = reached-ordered h reached in sym (released-not-open h s.log known.ordered.1.1.0.0 known.ordered.1.0 left.rest.log.protocol left.stream.on i a at is)
+        kept true is = let known = reached-ordered h reached in sym
+            (released-not-open h s.log known.ordered.1.1.0.0 known.ordered.1.0 left.rest.log.protocol left.stream.on i a at is)
 
 -- How many blocks are marked, and whether one is.
 
 count-map : (marks : ℕ → Bool) (blocks : List ℕ) → bits.count (map marks blocks) ≡ length (filter marks blocks)
 count-map marks [] = refl
-count-map marks (block ∷ blocks) = elim (marks block) as (λ b. (if b then 1 else 0) + bits.count (map marks blocks) ≡ length (cond b (block ∷ filter marks blocks) (filter marks blocks))) [
-  | true ↦ let rest = count-map marks blocks in omega arith
-  | false ↦ let rest = count-map marks blocks in omega arith
-]
+count-map marks (block ∷ blocks) =
+    elim (marks block) as (λ b. (if b then 1 else 0) + bits.count (map marks blocks) ≡ length (cond b (block ∷ filter marks blocks) (filter marks blocks))) [
+      | true ↦ let rest = count-map marks blocks in omega arith
+      | false ↦ let rest = count-map marks blocks in omega arith
+    ]
 
 pub says-marks : (s : PrimaryState) (h : PrimaryHistory) → Leaves s h → bits.count s.marks ≡ length (marked_blocks h)
 says-marks s h left = ap bits.count left.rest.marks ∙ count-map h.marks (below h.settings.blocks)
@@ -75,5 +82,6 @@ says-marked s h block left = ap (λ (l : List Bool). bits.marked l block) left.r
   | inl within ↦ marked-in h.settings.blocks h.marks block within ∙ ap (λ b. b && h.marks block) (sym (lt-ltb block h.settings.blocks within))
   | inr past ↦
       let size = length-marks h.settings.blocks h.marks in
-      ap (λ (v : Option Bool). unwrap_or v false) (slice_get_past (marks_in h.settings.blocks h.marks) block (omega arith)) ∙ ap (λ b. b && h.marks block) (sym (le-ltb block h.settings.blocks past))
+      ap (λ (v : Option Bool). unwrap_or v false) (slice_get_past (marks_in h.settings.blocks h.marks) block (omega arith))
+      ∙ ap (λ b. b && h.marks block) (sym (le-ltb block h.settings.blocks past))
 ]

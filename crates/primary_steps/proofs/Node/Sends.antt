@@ -1,5 +1,6 @@
 -- A node pushes what is due.
-use Rattle.std.proofs.Common.{ℕ, zero, suc, ◌≡◌, ◌⊎◌, inl, inr, ◌≤◌, Bool, true, false, not, ◌&&◌, List, [], ◌∷◌, ◌++◌, length, take, Option, Some, None, Result, Ok, Err, slice_get, refl, sym, ◌∙◌, ap, subst, arith}
+use Rattle.std.proofs.Common.{ℕ, zero, suc, ◌≡◌, ◌⊎◌, inl, inr, ◌≤◌, Bool, true, false, not, ◌&&◌, List, [], ◌∷◌, ◌++◌, length, take, Option, Some, None}
+use Rattle.std.proofs.Common.{Result, Ok, Err, slice_get, refl, sym, ◌∙◌, ap, subst, arith}
 use Rattle.std.specs.Prelude.{is_some, ok_or}
 use Rattle.std.proofs.lemmas.Bool.{and_parts, not-true}
 use Rattle.std.proofs.lemmas.Option.{slice_get_within}
@@ -27,7 +28,8 @@ use Rattle.primary_steps.proofs.Send.Sends.{sends-agree}
 pub due-open : (s : PrimaryState) (packet : Packet) → due s ≡ Ok packet → is_some s.end ≡ true
 due-open s packet is = go s.end is
   where
-    go : (v : Option EndState) → elim v as (λ _. Result Packet Refusal) [ None ↦ Err NotConnected | Some e ↦ ok_or (owed e s) NothingThere ] ≡ Ok packet → is_some v ≡ true
+    go : (v : Option EndState) → elim v as (λ _. Result Packet Refusal) [ None ↦ Err NotConnected | Some e ↦ ok_or (owed e s) NothingThere ] ≡ Ok packet
+        → is_some v ≡ true
     go None is = absurd (cc)
     go (Some e) is = refl
 
@@ -39,7 +41,8 @@ due-refused s e is = go s.end is
     owes None is = cc
     owes (Some p) is = absurd (cc)
 
-    go : (v : Option EndState) → elim v as (λ _. Result Packet Refusal) [ None ↦ Err NotConnected | Some x ↦ ok_or (owed x s) NothingThere ] ≡ Err e → (e ≡ NotConnected) ⊎ (e ≡ NothingThere)
+    go : (v : Option EndState) → elim v as (λ _. Result Packet Refusal) [ None ↦ Err NotConnected | Some x ↦ ok_or (owed x s) NothingThere ] ≡ Err e
+        → (e ≡ NotConnected) ⊎ (e ≡ NothingThere)
     go None is = inl (cc)
     go (Some x) is = inr (owes (owed x s) is)
 
@@ -62,12 +65,14 @@ send-not-due room starved s e is = go s.end is
     owes x None is = ap Err (let same : NothingThere ≡ e = cc in same)
     owes x (Some p) is = absurd (cc)
 
-    go : (v : Option EndState) → elim v as (λ _. Result Packet Refusal) [ None ↦ Err NotConnected | Some x ↦ ok_or (owed x s) NothingThere ] ≡ Err e → (send_at room starved s v).0 ≡ Err e
+    go : (v : Option EndState) → elim v as (λ _. Result Packet Refusal) [ None ↦ Err NotConnected | Some x ↦ ok_or (owed x s) NothingThere ] ≡ Err e
+        → (send_at room starved s v).0 ≡ Err e
     go None is = ap Err (let same : NotConnected ≡ e = cc in same)
     go (Some x) is = owes x (owed x s) is
 
 -- What holds at each open end that owes something.
-pub of-due : (P : Option EndState → Type 0) (s : PrimaryState) (packet : Packet) → due s ≡ Ok packet → ((e : EndState) → owed e s ≡ Some packet → P (Some e)) → P s.end
+pub of-due : (P : Option EndState → Type 0) (s : PrimaryState) (packet : Packet) → due s ≡ Ok packet → ((e : EndState) → owed e s ≡ Some packet → P (Some e))
+    → P s.end
 of-due P s packet is each = go s.end is
   where
     owes : (v : Option Packet) → ok_or v NothingThere ≡ Ok packet → v ≡ Some packet
@@ -87,66 +92,75 @@ pub send-full : (s : PrimaryState) (packet : Packet) → due s ≡ Ok packet →
 send-full s packet is = of-due (λ v. (send_at false false s v).0 ≡ Err LinkFull) s packet is (λ e owes. ap (λ v. (send_owed false false s e v).0) owes)
 
 -- A frame that is not pushed.
-pub node-not-pushed : (n : NodeState) (room starved : Bool) (e : Refusal) → (send room starved n.core).0 ≡ Err e → NodeSteps (Sends room starved) n (reply.Refused e) n
-node-not-pushed n room starved e is = node-refused (Sends room starved) tt n e (λ h has. ap (replied reply.Ok) (sym is) ∙ (sends-agree room starved n.core h has.reached has.leaves.core).reply)
+pub node-not-pushed : (n : NodeState) (room starved : Bool) (e : Refusal) → (send room starved n.core).0 ≡ Err e
+    → NodeSteps (Sends room starved) n (reply.Refused e) n
+node-not-pushed n room starved e is = node-refused (Sends room starved) tt n e (λ h has. ap (replied reply.Ok) (sym is)
+    ∙ (sends-agree room starved n.core h has.reached has.leaves.core).reply)
 
 -- What a push leads to.
-pushed-keeps : (h : PrimaryHistory) (done : Done) → reply.Ok done ≡ (step.send true false h).0 → Keeps (with_outward pushing h) (unchanged (with_outward pushing h)) (step.send true false h).1
+pushed-keeps : (h : PrimaryHistory) (done : Done) → reply.Ok done ≡ (step.send true false h).0
+    → Keeps (with_outward pushing h) (unchanged (with_outward pushing h)) (step.send true false h).1
 pushed-keeps h done said =
     subst (Keeps (with_outward pushing h) (unchanged (with_outward pushing h))) (sym (pushes-to true false h done said))
     (keeps-following (with_outward pushing h) (with_outward pushing h) (unchanged (with_outward pushing h)) (keeps-self (with_outward pushing h)))
 
-module _ (n : NodeState) (packet : Packet) (done : Done) (core : PrimaryState) (is : due n.core ≡ Ok packet) (sent : (Ok done, core) ≡ send true false n.core) where
-  agrees : (h : PrimaryHistory) → NodeHas n h → Agrees reply.Ok (Ok done, core) (step.send true false h)
-  agrees h has = subst (λ (p : Result Done Refusal × PrimaryState). Agrees reply.Ok p (step.send true false h)) (sym sent) (sends-agree true false n.core h has.reached has.leaves.core)
+module _ (n : NodeState) (packet : Packet) (done : Done) (core : PrimaryState) (is : due n.core ≡ Ok packet) (sent : (Ok done, core) ≡ send true false n.core)
+  where
+    agrees : (h : PrimaryHistory) → NodeHas n h → Agrees reply.Ok (Ok done, core) (step.send true false h)
+    agrees h has = subst (λ (p : Result Done Refusal × PrimaryState). Agrees reply.Ok p (step.send true false h)) (sym sent)
+        (sends-agree true false n.core h has.reached has.leaves.core)
 
-  unshut : (h : PrimaryHistory) → NodeHas n h → (outward h).closed ≡ false
-  unshut h has = not-true (outward h).closed (sym (end-open n.core.end (outward h) has.leaves.core.rest.end) ∙ due-open n.core packet is)
+    unshut : (h : PrimaryHistory) → NodeHas n h → (outward h).closed ≡ false
+    unshut h has = not-true (outward h).closed (sym (end-open n.core.end (outward h) has.leaves.core.rest.end) ∙ due-open n.core packet is)
 
-  out : (h : PrimaryHistory) → NodeHas n h → outward (with_outward pushing h) ≡ pushing (outward h)
-  out h has = outward-of pushing h (with_outward pushing h) refl (unshut h has)
+    out : (h : PrimaryHistory) → NodeHas n h → outward (with_outward pushing h) ≡ pushing (outward h)
+    out h has = outward-of pushing h (with_outward pushing h) refl (unshut h has)
 
-  -- the frame stands last among those pushed
-  pushed-more : (h : PrimaryHistory) → NodeHas n h → (later : PrimaryHistory) → Keeps (with_outward pushing h) (unchanged (with_outward pushing h)) later → n.pushed ++ packet ∷ [] ≡ take (outward later).pushed (frames_due later.settings (outward later))
-  pushed-more h has later k =
-      let due : List Packet = frames_due h.settings (outward h) in
-      let at = due-next n.core h packet has.leaves.core has.reached is in
-      ap (λ (l : List Packet). l ++ packet ∷ []) has.leaves.pushed
-      ∙ (one-more due (outward h).pushed packet at
-      ∙ (sym (ap (λ (c : Outward). take c.pushed (frames_due h.settings c)) (out h has))
-      ∙ sym (pushed-stays (with_outward pushing h) later (unchanged (with_outward pushing h)) k (λ shut. subst (λ (c : Outward). c.pushed ≤ length (frames_due h.settings c)) (sym (out h has)) (let within = slice_get_within due (outward h).pushed packet at in omega arith)))))
-    where
-      one-more : (xs : List Packet) (i : ℕ) (x : Packet) → slice_get xs i ≡ Some x → take i xs ++ x ∷ [] ≡ take (suc i) xs
-      one-more [] i x at = absurd (cc)
-      one-more (y ∷ xs) zero x at = let same : y ≡ x = cc in ap (λ z. z ∷ []) (sym same)
-      one-more (y ∷ xs) (suc i) x at = ap (λ (l : List Packet). y ∷ l) (one-more xs i x at)
+    -- the frame stands last among those pushed
+    pushed-more : (h : PrimaryHistory) → NodeHas n h → (later : PrimaryHistory) → Keeps (with_outward pushing h) (unchanged (with_outward pushing h)) later
+        → n.pushed ++ packet ∷ [] ≡ take (outward later).pushed (frames_due later.settings (outward later))
+    pushed-more h has later k =
+        let due : List Packet = frames_due h.settings (outward h) in
+        let at = due-next n.core h packet has.leaves.core has.reached is in
+        ap (λ (l : List Packet). l ++ packet ∷ []) has.leaves.pushed
+        ∙ (one-more due (outward h).pushed packet at
+        ∙ (sym (ap (λ (c : Outward). take c.pushed (frames_due h.settings c)) (out h has))
+        ∙ sym (pushed-stays (with_outward pushing h) later (unchanged (with_outward pushing h)) k
+        (λ shut. subst (λ (c : Outward). c.pushed ≤ length (frames_due h.settings c)) (sym (out h has))
+        (let within = slice_get_within due (outward h).pushed packet at in omega arith)))))
+      where
+        one-more : (xs : List Packet) (i : ℕ) (x : Packet) → slice_get xs i ≡ Some x → take i xs ++ x ∷ [] ≡ take (suc i) xs
+        one-more [] i x at = absurd (cc)
+        one-more (y ∷ xs) zero x at = let same : y ≡ x = cc in ap (λ z. z ∷ []) (sym same)
+        one-more (y ∷ xs) (suc i) x at = ap (λ (l : List Packet). y ∷ l) (one-more xs i x at)
 
-  -- what is due is pushed
-  pub node-pushes : NodeSteps (Sends true false) n (reply.Ok done) (record n { core = core; pushed = n.pushed ++ packet ∷ [] })
-  node-pushes = node-steps (Sends true false) n (reply.Ok done) (record n { core = core; pushed = n.pushed ++ packet ∷ [] }) (λ h has.
-      let k = pushed-keeps h done (agrees h has).reply in record {
-        reply = (agrees h has).reply;
-        leaves = record {
-          core = (agrees h has).leaves;
-          disk = λ block. has.leaves.disk block ∙ sym (k.disk block);
-          pushed = pushed-more h has (step.send true false h).1 k;
-          taken = has.leaves.taken ∙ sym (k.taken ∙ ap (λ (c : Outward). c.taken) (out h has));
-        };
-      })
+    -- what is due is pushed
+    pub node-pushes : NodeSteps (Sends true false) n (reply.Ok done) (record n { core = core; pushed = n.pushed ++ packet ∷ [] })
+    node-pushes = node-steps (Sends true false) n (reply.Ok done) (record n { core = core; pushed = n.pushed ++ packet ∷ [] }) (λ h has.
+        let k = pushed-keeps h done (agrees h has).reply in record {
+          reply = (agrees h has).reply;
+          leaves = record {
+            core = (agrees h has).leaves;
+            disk = λ block. has.leaves.disk block ∙ sym (k.disk block);
+            pushed = pushed-more h has (step.send true false h).1 k;
+            taken = has.leaves.taken ∙ sym (k.taken ∙ ap (λ (c : Outward). c.taken) (out h has));
+          };
+        })
 
-  -- no connection more, and no stream begins
-  pub pushes-connections : NodeIsHad n → core.connections ≡ n.core.connections
-  pushes-connections had =
-      let h = had.history in
-      let a = agrees h had.has in
-      a.leaves.rest.connections ∙ ((pushed-keeps h done a.reply).connections ∙ (length-change pushing h.connections ∙ sym had.has.leaves.core.rest.connections))
+    -- no connection more, and no stream begins
+    pub pushes-connections : NodeIsHad n → core.connections ≡ n.core.connections
+    pushes-connections had =
+        let h = had.history in
+        let a = agrees h had.has in
+        a.leaves.rest.connections ∙ ((pushed-keeps h done a.reply).connections ∙
+        (length-change pushing h.connections ∙ sym had.has.leaves.core.rest.connections))
 
-  -- a stream that stands stood before
-  pub pushes-stood : NodeIsHad n → stands core ≡ true → stands n.core ≡ true
-  pushes-stood had standing =
-      let h = had.history in
-      let a = agrees h had.has in
-      let later : PrimaryHistory = (step.send true false h).1 in
-      let parts = and_parts (not (outward later).closed) (outward later).begun (sym (stands-same core later a.leaves) ∙ standing) in
-      let begun : (outward h).begun ≡ true = ap (λ (c : Outward). c.begun) (sym (out h had.has)) ∙ (sym (pushed-keeps h done a.reply).begun ∙ parts.1) in
-      stands-same n.core h had.has.leaves.core ∙ λ i. not (unshut h had.has i) && begun i
+    -- a stream that stands stood before
+    pub pushes-stood : NodeIsHad n → stands core ≡ true → stands n.core ≡ true
+    pushes-stood had standing =
+        let h = had.history in
+        let a = agrees h had.has in
+        let later : PrimaryHistory = (step.send true false h).1 in
+        let parts = and_parts (not (outward later).closed) (outward later).begun (sym (stands-same core later a.leaves) ∙ standing) in
+        let begun : (outward h).begun ≡ true = ap (λ (c : Outward). c.begun) (sym (out h had.has)) ∙ (sym (pushed-keeps h done a.reply).begun ∙ parts.1) in
+        stands-same n.core h had.has.leaves.core ∙ λ i. not (unshut h had.has i) && begun i

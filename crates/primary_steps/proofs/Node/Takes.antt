@@ -1,5 +1,6 @@
 -- A node takes a frame.
-use Rattle.std.proofs.Common.{ℕ, zero, suc, ◌≡◌, ◌-◌, Bool, true, false, cond, not, ◌&&◌, ◌||◌, List, [], ◌∷◌, ◌++◌, length, Option, Some, None, Result, Ok, Err, refl, sym, ◌∙◌, ap, subst}
+use Rattle.std.proofs.Common.{ℕ, zero, suc, ◌≡◌, ◌-◌, Bool, true, false, cond, not, ◌&&◌, ◌||◌, List, [], ◌∷◌, ◌++◌, length, Option, Some, None, Result, Ok}
+use Rattle.std.proofs.Common.{Err, refl, sym, ◌∙◌, ap, subst}
 use Rattle.std.specs.Prelude.{is_some, if◌then◌else◌}
 use Rattle.std.proofs.lemmas.Bool.{and_parts, not-true}
 use Rattle.std.proofs.lemmas.List.{append-nil}
@@ -14,7 +15,8 @@ use Rattle.blocks.specs.declared.outcome.What.TheVariants as what
 use Rattle.blocks.specs.declared.outcome.Reply.{Reply}
 use Rattle.blocks.specs.declared.outcome.Reply.TheVariants as reply
 use Rattle.model.specs.Stream.{Item, SyncUuidItem}
-use Rattle.model.specs.Frames.{Packet, DataFrame, RsDataReplyFrame, ProtocolFrame, SizesFrame, UuidsFrame, RecvAckFrame, WriteAckFrame, RsWriteAckFrame, BarrierAckFrame, Received}
+use Rattle.model.specs.Frames.{Packet, DataFrame, RsDataReplyFrame, ProtocolFrame, SizesFrame, UuidsFrame, RecvAckFrame, WriteAckFrame, RsWriteAckFrame}
+use Rattle.model.specs.Frames.{BarrierAckFrame, Received}
 use Rattle.model.specs.Identifiers.{decision, stands_in}
 use Rattle.model.specs.Marks.{clearing, releasing}
 use Rattle.model.specs.Primary.{Outward, PrimaryHistory, change_last, outward, with_outward, local_map}
@@ -49,31 +51,37 @@ module _ (h : PrimaryHistory) (frame : Received) (unshut : (outward h).closed �
 
   -- before what it says is looked at
   keeps-taken : Keeps h (took h frame (outward h).begun) (with_outward (with_frame frame) h)
-  keeps-taken = keeps-change h h (with_outward (with_frame frame) h) (unchanged h) (took h frame (outward h).begun) (with_frame frame) [] (keeps-self h) unshut refl refl refl refl (sym (append-nil (outward h).stream)) refl refl (λ block. refl)
+  keeps-taken = keeps-change h h (with_outward (with_frame frame) h) (unchanged h) (took h frame (outward h).begun) (with_frame frame) []
+      (keeps-self h) unshut refl refl refl refl (sym (append-nil (outward h).stream)) refl refl (λ block. refl)
 
   -- what does not touch the end's stream
-  keeps-marked : (later : PrimaryHistory) → later.settings ≡ h.settings → later.connections ≡ (with_outward (with_frame frame) h).connections → outward later ≡ outward (with_outward (with_frame frame) h)
+  keeps-marked : (later : PrimaryHistory) → later.settings ≡ h.settings → later.connections ≡ (with_outward (with_frame frame) h).connections
+      → outward later ≡ outward (with_outward (with_frame frame) h)
       → ((block : ℕ) → local_map later block ≡ local_map h block) → Keeps h (took h frame (outward h).begun) later
-  keeps-marked later settings connections same disk = keeps-rest h (with_outward (with_frame frame) h) later (took h frame (outward h).begun) (took h frame (outward h).begun) keeps-taken settings same (ap length connections) refl refl disk
+  keeps-marked later settings connections same disk = keeps-rest h (with_outward (with_frame frame) h) later (took h frame (outward h).begun)
+      (took h frame (outward h).begun) keeps-taken settings same (ap length connections) refl refl disk
 
   -- What comes of it: the frame is accepted, or only the peer's tuple may have changed.
   abbrev Comes : model.Taken → Type 0
   Comes (Ok done) = (begun : Bool) × Keeps h (took h frame begun) done.1
   Comes (Err error) = (peer : Option Tuple) × (error.1 ≡ record (with_outward (with_frame frame) h) { peer = peer })
 
-  comes-if : (good : Bool) (name : What) (refusal : Refusal) (done : PrimaryHistory) → Keeps h (took h frame (outward h).begun) done → Comes (cond good (Ok (name, done)) (Err (refusal, with_outward (with_frame frame) h)))
+  comes-if : (good : Bool) (name : What) (refusal : Refusal) (done : PrimaryHistory) → Keeps h (took h frame (outward h).begun) done
+      → Comes (cond good (Ok (name, done)) (Err (refusal, with_outward (with_frame frame) h)))
   comes-if true name refusal done k = ((outward h).begun, k)
   comes-if false name refusal done k = (h.peer, refl)
 
   comes-ack : (packet : Packet) → Comes (model.taking_ack packet h (with_outward (with_frame frame) h))
   comes-ack (RecvAckFrame ack) = comes-if _ _ _ _ keeps-taken
   comes-ack (WriteAckFrame ack) = comes-if _ _ _ _ keeps-taken
-  comes-ack (RsWriteAckFrame ack) = comes-if _ _ _ (record (with_outward (with_frame frame) h) { marks = clearing ack.first h.marks }) (keeps-marked _ refl refl refl (λ block. refl))
+  comes-ack (RsWriteAckFrame ack) = comes-if _ _ _ (record (with_outward (with_frame frame) h) { marks = clearing ack.first h.marks })
+      (keeps-marked _ refl refl refl (λ block. refl))
   comes-ack (BarrierAckFrame number size) = comes-if _ _ _ (releasing h (with_outward (with_frame frame) h)) (keeps-marked _ refl refl refl (λ block. refl))
   comes-ack packet = (h.peer, refl)
 
   -- a stream that begins was empty
-  comes-begun : (peer : Tuple) → (outward h).stream ≡ [] → (decided : Decision) → Keeps h (took h frame true) (model.begun_with decided (record (with_outward (with_frame frame) h) { peer = Some peer }))
+  comes-begun : (peer : Tuple) → (outward h).stream ≡ [] → (decided : Decision)
+      → Keeps h (took h frame true) (model.begun_with decided (record (with_outward (with_frame frame) h) { peer = Some peer }))
   comes-begun peer empty decided = go decided
     where
       g : PrimaryHistory
@@ -88,23 +96,32 @@ module _ (h : PrimaryHistory) (frame : Received) (unshut : (outward h).closed �
       had : (outward g).taken ≡ (outward h).taken ++ frame ∷ []
       had = ap (λ (c : Outward). c.taken) out
 
-      with-start : (later : PrimaryHistory) → later.settings ≡ h.settings → later.connections ≡ change_last (λ c. record c { begun = true; stream = SyncUuidItem (outward g).sync ∷ [] }) g.connections
+      with-start : (later : PrimaryHistory) → later.settings ≡ h.settings
+          → later.connections ≡ change_last (λ c. record c { begun = true; stream = SyncUuidItem (outward g).sync ∷ [] }) g.connections
           → ((block : ℕ) → local_map later block ≡ local_map h block) → Keeps h (took h frame true) later
       with-start later settings connections disk =
-          keeps-change h g later (took h frame (outward h).begun) (took h frame true) (λ c. record c { begun = true; stream = SyncUuidItem (outward g).sync ∷ [] }) (SyncUuidItem (outward g).sync ∷ []) seen open-taken settings connections
+          keeps-change h g later (took h frame (outward h).begun) (took h frame true)
+          (λ c. record c { begun = true; stream = SyncUuidItem (outward g).sync ∷ [] }) (SyncUuidItem (outward g).sync ∷ []) seen open-taken settings
+          connections
           refl refl (sym (ap (λ (l : List Item). l ++ SyncUuidItem (outward g).sync ∷ []) was)) had refl disk
 
       go : (v : Decision) → Keeps h (took h frame true) (model.begun_with v g)
-      go NoSync = keeps-change h g _ (took h frame (outward h).begun) (took h frame true) (λ c. record c { begun = true }) [] seen open-taken refl refl refl refl (sym (append-nil (outward g).stream)) had refl (λ block. refl)
+      go NoSync = keeps-change h g _ (took h frame (outward h).begun) (took h frame true) (λ c. record c { begun = true }) [] seen open-taken refl refl refl
+          refl (sym (append-nil (outward g).stream)) had refl (λ block. refl)
       go BitmapSync = with-start _ refl refl (λ block. refl)
       go FullSync = with-start _ refl refl (λ block. refl)
 
   comes-meeting : (peer : Tuple) → (outward h).stream ≡ [] → Comes (model.meeting peer (with_outward (with_frame frame) h))
-  comes-meeting peer empty = go (stands_in (outward (with_outward (with_frame frame) h)).sync peer || stands_in (outward (with_outward (with_frame frame) h)).loss peer) (decision h.tuple peer)
+  comes-meeting peer empty = go (stands_in (outward (with_outward (with_frame frame) h)).sync peer
+      || stands_in (outward (with_outward (with_frame frame) h)).loss peer) (decision h.tuple peer)
     where
       go : (used : Bool) (v : Result Decision Refusal) → Comes (elim used as (λ _. model.Taken) [
         | true ↦ Err (UsedIdentifier, record (with_outward (with_frame frame) h) { peer = Some peer })
-        | false ↦ elim v as (λ _. model.Taken) [ Err refusal ↦ Err (refusal, record (with_outward (with_frame frame) h) { peer = Some peer }) | Ok decided ↦ Ok (what.Decided decided, model.begun_with decided (record (with_outward (with_frame frame) h) { peer = Some peer })) ]
+        | false ↦ elim v as (λ _. model.Taken) [
+          | Err refusal ↦ Err (refusal, record (with_outward (with_frame frame) h) { peer = Some peer })
+          | Ok decided ↦ Ok
+              (what.Decided decided, model.begun_with decided (record (with_outward (with_frame frame) h) { peer = Some peer }))
+        ]
       ])
       go true v = (Some peer, refl)
       go false (Err refusal) = (Some peer, refl)
@@ -141,13 +158,16 @@ module _ (h : PrimaryHistory) (frame : Received) (unshut : (outward h).closed �
       go (Ok done) so = (so.0, keeps-following h done.1 (took h frame so.0) so.1)
       go (Err error) so =
           let g : PrimaryHistory = record (with_outward (with_frame frame) h) { peer = so.0 } in
-          let shut : (outward (with_outward refusing g)).closed ≡ false = ap (λ (c : Outward). c.closed) (outward-of refusing g (with_outward refusing g) refl open-taken) ∙ open-taken in
+          let shut : (outward (with_outward refusing g)).closed ≡ false =
+          ap (λ (c : Outward). c.closed) (outward-of refusing g (with_outward refusing g) refl open-taken) ∙ open-taken in
           let seen : Keeps h (took h frame (outward h).begun) g = keeps-marked g refl refl refl (λ block. refl) in
           let refused : Keeps h (took h frame (outward h).begun) (with_outward refusing g) =
-          keeps-change h g (with_outward refusing g) (took h frame (outward h).begun) (took h frame (outward h).begun) refusing [] seen open-taken refl refl refl refl (sym (append-nil (outward g).stream)) seen.taken seen.begun (λ block. refl) in (
+          keeps-change h g (with_outward refusing g) (took h frame (outward h).begun) (took h frame (outward h).begun) refusing [] seen open-taken refl refl
+          refl refl (sym (append-nil (outward g).stream)) seen.taken seen.begun (λ block. refl) in (
             (outward h).begun,
             subst (λ (x : PrimaryHistory). Keeps h (took h frame (outward h).begun) (step.follows (step.closing (with_outward refusing x))).history) (sym so.1)
-                (keeps-following h (step.closing (with_outward refusing g)) (took h frame (outward h).begun) (closing-keeps h (with_outward refusing g) (took h frame (outward h).begun) shut refused)),
+                (keeps-following h (step.closing (with_outward refusing g)) (took h frame (outward h).begun)
+                (closing-keeps h (with_outward refusing g) (took h frame (outward h).begun) shut refused)),
           )
 
 -- The step, where an end is open.
@@ -177,7 +197,8 @@ takes-frame frame s some = go s.end some
     go None none = absurd (cc)
     go (Some e) some = ap (by (Some e)) (and-false (not (stands s)))
 
-module _ (n : NodeState) (frame : Received) (result : Result Done Refusal) (core : PrimaryState) (some : is_some n.core.end ≡ true) (is : (result, core) ≡ take_at frame n.core) where
+module _ (n : NodeState) (frame : Received) (result : Result Done Refusal) (core : PrimaryState) (some : is_some n.core.end ≡ true)
+    (is : (result, core) ≡ take_at frame n.core) where
   -- the end is open in the history
   pub unshut-end : (h : PrimaryHistory) → NodeHas n h → (outward h).closed ≡ false
   unshut-end h has = not-true (outward h).closed (sym (end-open n.core.end (outward h) has.leaves.core.rest.end) ∙ some)
@@ -192,15 +213,21 @@ module _ (n : NodeState) (frame : Received) (result : Result Done Refusal) (core
   node-takes = node-steps (Takes (Some frame) false) n (replied reply.Ok result) (record n { core = core; taken = n.taken ++ frame ∷ [] }) (λ h has.
       let k = kept h has in
       let here : (result, core) ≡ ack_in (Some frame) false n.core = is ∙ sym (takes-frame frame n.core some) in
-      let agrees = subst (λ (p : Result Done Refusal × PrimaryState). Agrees reply.Ok p (model.ack_in (Some frame) false h)) (sym here) (takes-agree (Some frame) false n.core h has.reached has.leaves.core) in
-      record { reply = agrees.reply; leaves = kept-leaves n core n.disk (n.taken ++ frame ∷ []) h (model.ack_in (Some frame) false h).1 (took h frame k.0) has.leaves agrees.leaves k.1 has.leaves.disk (ap (λ (l : List Received). l ++ frame ∷ []) has.leaves.taken) })
+      let agrees = subst (λ (p : Result Done Refusal × PrimaryState). Agrees reply.Ok p (model.ack_in (Some frame) false h)) (sym here)
+      (takes-agree (Some frame) false n.core h has.reached has.leaves.core) in
+      record {
+        reply = agrees.reply;
+        leaves = kept-leaves n core n.disk (n.taken ++ frame ∷ []) h (model.ack_in (Some frame) false h).1
+            (took h frame k.0) has.leaves agrees.leaves k.1 has.leaves.disk (ap (λ (l : List Received). l ++ frame ∷ []) has.leaves.taken);
+      })
 
   -- what was due is due still
   pub takes-still : NodeIsHad n → IsStill n.core core
   takes-still had =
       let h = had.history in
       let later = node-takes.after h had.has in
-      is-still n.core core h (model.ack_in (Some frame) false h).1 (took h frame (kept h had.has).0) had.has.leaves.core had.has.reached later.leaves.core later.reached (kept h had.has).1
+      is-still n.core core h (model.ack_in (Some frame) false h).1 (took h frame (kept h had.has).0) had.has.leaves.core had.has.reached later.leaves.core
+      later.reached (kept h had.has).1
 
   -- a stream stands only at an open end
   pub stands-open : NodeIsHad n → stands core ≡ true → is_some core.end ≡ true
@@ -208,11 +235,14 @@ module _ (n : NodeState) (frame : Received) (result : Result Done Refusal) (core
       let h = had.history in
       let later : PrimaryHistory = (model.ack_in (Some frame) false h).1 in
       let left = (node-takes.after h had.has).leaves.core in
-      end-open core.end (outward later) left.rest.end ∙ (and_parts (not (outward later).closed) (outward later).begun (sym (stands-same core later left) ∙ standing)).0
+      end-open core.end (outward later) left.rest.end
+      ∙ (and_parts (not (outward later).closed) (outward later).begun (sym (stands-same core later left) ∙ standing)).0
 
 -- A frame that was not taken.
-pub node-not-taken : (n : NodeState) (starved : Bool) (e : Refusal) → (ack_in None starved n.core).0 ≡ Err e → NodeSteps (Takes None starved) n (reply.Refused e) n
-node-not-taken n starved e is = node-refused (Takes None starved) tt n e (λ h has. ap (replied reply.Ok) (sym is) ∙ (takes-agree None starved n.core h has.reached has.leaves.core).reply)
+pub node-not-taken : (n : NodeState) (starved : Bool) (e : Refusal) → (ack_in None starved n.core).0 ≡ Err e
+    → NodeSteps (Takes None starved) n (reply.Refused e) n
+node-not-taken n starved e is = node-refused (Takes None starved) tt n e (λ h has. ap (replied reply.Ok) (sym is)
+    ∙ (takes-agree None starved n.core h has.reached has.leaves.core).reply)
 
 -- the end is closed
 pub not-open : (s : PrimaryState) → is_some s.end ≡ false → (ack_in None false s).0 ≡ Err NotConnected
@@ -257,7 +287,8 @@ accepted-short (DataFrame write at) e s done is = go (stands s) e.heard is
     go false (suc (suc n)) is = cc
 accepted-short (RsDataReplyFrame block contents at) e s done is = go (stands s) e.heard is
   where
-    go : (b : Bool) (n : ℕ) → (if b then taking_ack (RsDataReplyFrame block contents at) e s else taking_hello n (RsDataReplyFrame block contents at) (hearing e) s) ≡ Ok done → ⊥
+    go : (b : Bool) (n : ℕ) → (if b then taking_ack (RsDataReplyFrame block contents at) e s
+        else taking_hello n (RsDataReplyFrame block contents at) (hearing e) s) ≡ Ok done → ⊥
     go true n is = cc
     go false zero is = cc
     go false (suc zero) is = cc
@@ -265,14 +296,18 @@ accepted-short (RsDataReplyFrame block contents at) e s done is = go (stands s) 
 accepted-short packet e s done is = tt
 
 -- The end is open still only where the frame was a packet without blocks.
-pub open-short : (frame : Received) (s core : PrimaryState) (result : Result Done Refusal) → is_some s.end ≡ true → (result, core) ≡ take_at frame s → is_some core.end ≡ true → (packet : Packet) × (frame ≡ Ok packet) × IsShort packet
+pub open-short : (frame : Received) (s core : PrimaryState) (result : Result Done Refusal) → is_some s.end ≡ true → (result, core) ≡ take_at frame s
+    → is_some core.end ≡ true → (packet : Packet) × (frame ≡ Ok packet) × IsShort packet
 open-short frame s core result some is standing = go s.end some (sym (ap (λ (p : Result Done Refusal × PrimaryState). is_some p.1.end) is) ∙ standing)
   where
-    accepted : (e : EndState) (v : Received) (got : Taken) → taking v e s ≡ got → is_some (taken_by e got).1.end ≡ true → (packet : Packet) × (v ≡ Ok packet) × IsShort packet
+    accepted : (e : EndState) (v : Received) (got : Taken) → taking v e s ≡ got → is_some (taken_by e got).1.end ≡ true
+        → (packet : Packet) × (v ≡ Ok packet) × IsShort packet
     accepted e v (Err error) at closed = absurd (cc)
     accepted e (Err fault) (Ok done) at here = absurd (cc)
     accepted e (Ok packet) (Ok done) at here = (packet, refl, accepted-short packet e s done at)
 
-    go : (v : Option EndState) → is_some v ≡ true → is_some (elim v as (λ _. Result Done Refusal × PrimaryState) [ None ↦ (Err NotConnected, s) | Some e ↦ taken_by e (taking frame e s) ]).1.end ≡ true → (packet : Packet) × (frame ≡ Ok packet) × IsShort packet
+    go : (v : Option EndState) → is_some v ≡ true
+        → is_some (elim v as (λ _. Result Done Refusal × PrimaryState) [ None ↦ (Err NotConnected, s) | Some e ↦ taken_by e (taking frame e s) ]).1.end ≡ true
+        → (packet : Packet) × (frame ≡ Ok packet) × IsShort packet
     go None none here = absurd (cc)
     go (Some e) some here = accepted e frame (taking frame e s) refl here

@@ -1,11 +1,14 @@
 -- How many writes of the standing stream were sent and are not answered, as a primary's log tells it.
-use Rattle.std.proofs.Common.{ℕ, zero, suc, ◌≡◌, ◌+◌, ◌<◌, ◌≤◌, inl, inr, Bool, true, false, cond, not, ◌&&◌, ◌||◌, List, [], ◌∷◌, length, map, filter, Option, Some, None, slice_get, refl, sym, ◌∙◌, ap, arith, nat_lt}
+use Rattle.std.proofs.Common.{ℕ, zero, suc, ◌≡◌, ◌+◌, ◌<◌, ◌≤◌, inl, inr, Bool, true, false, cond, not, ◌&&◌, ◌||◌, List, [], ◌∷◌, length, map, filter, Option}
+use Rattle.std.proofs.Common.{Some, None, slice_get, refl, sym, ◌∙◌, ap, arith, nat_lt}
 use Rattle.std.specs.Prelude.{if◌then◌else◌, option_map}
 use Rattle.std.proofs.lemmas.Bool.{cases_Bool, both_ways, and_parts, and_from, not-true}
 use Rattle.std.proofs.lemmas.List.{length-map}
+use Rattle.blocks.specs.Positions.{StreamPosition}
 use Rattle.model.specs.Contents.{Write}
 use Rattle.model.specs.Stream.{Item, WriteItem, ResyncItem, BarrierItem, SyncUuidItem, UuidsItem, is_write, number_of, placed, placed_from}
-use Rattle.model.specs.Primary.{Accepted, Outward, PrimaryHistory, is_alone, is_answered, is_answered_by, is_confirmed, is_released, is_waiting, items_sent, last_index, outward, stands, unreleased}
+use Rattle.model.specs.Primary.{Accepted, Outward, PrimaryHistory, is_alone, is_answered, is_answered_by, is_confirmed, is_released, is_waiting, items_sent}
+use Rattle.model.specs.Primary.{last_index, outward, stands, unreleased}
 use Rattle.model.specs.Status.{unanswered}
 use Rattle.transferlog.specs.Writes.{LogWrite, is_unanswered}
 use Rattle.laws.proofs.Lists.Picks.{pick-filtered, filtered-pick, pick-image}
@@ -50,11 +53,14 @@ abbrev Has : List ℕ → ℕ → Type 0
 Has xs n = (i : ℕ) × (slice_get xs i ≡ Some n)
 
 -- two rising lists of the same numbers are as long
-same-length : (low other : ℕ) (xs ys : List ℕ) → RisesFrom low xs → RisesFrom other ys → ((n : ℕ) → Has xs n → Has ys n) → ((n : ℕ) → Has ys n → Has xs n) → length xs ≡ length ys
+same-length : (low other : ℕ) (xs ys : List ℕ) → RisesFrom low xs → RisesFrom other ys → ((n : ℕ) → Has xs n → Has ys n) → ((n : ℕ) → Has ys n → Has xs n)
+    → length xs ≡ length ys
 same-length low other [] [] rises too forth back = refl
 same-length low other [] (y ∷ ys) rises too forth back = absurd (let none = back y (0, refl) in let at = none.1 in cc)
 same-length low other (x ∷ xs) [] rises too forth back = absurd (let none = forth x (0, refl) in let at = none.1 in cc)
-same-length low other (x ∷ xs) (y ∷ ys) rises too forth back = ap suc (same-length (suc x) (suc y) xs ys rises.1 too.1 (λ n has. behind n has.0 has.1 (forth n (suc has.0, has.1))) (λ n has. behind-too n has.0 has.1 (back n (suc has.0, has.1))))
+same-length low other (x ∷ xs) (y ∷ ys) rises too forth back =
+    ap suc (same-length (suc x) (suc y) xs ys rises.1 too.1 (λ n has. behind n has.0 has.1 (forth n (suc has.0, has.1)))
+    (λ n has. behind-too n has.0 has.1 (back n (suc has.0, has.1))))
   where
     low_end : x ≤ y
     low_end = by (back y (0, refl))
@@ -71,47 +77,78 @@ same-length low other (x ∷ xs) (y ∷ ys) rises too forth back = ap suc (same-
         by (suc i, at) = let a = above (suc y) ys i x too.1 at in omega arith
 
     behind : (n i : ℕ) → slice_get xs i ≡ Some n → Has (y ∷ ys) n → Has ys n
-    behind n i at (zero, first) = absurd (let same : y ≡ n = cc in let a = above (suc x) xs i n rises.1 at in let b = high_end in let d = low_end in omega arith)
+    behind n i at (zero, first) = absurd (let same : y ≡ n = cc in let a = above (suc x) xs i n rises.1 at in let b = high_end in let d =
+        low_end in omega arith)
     behind n i at (suc j, there) = (j, there)
 
     behind-too : (n i : ℕ) → slice_get ys i ≡ Some n → Has (x ∷ xs) n → Has xs n
-    behind-too n i at (zero, first) = absurd (let same : x ≡ n = cc in let a = above (suc y) ys i n too.1 at in let b = high_end in let d = low_end in omega arith)
+    behind-too n i at (zero, first) = absurd (let same : x ≡ n = cc in let a = above (suc y) ys i n too.1 at in let b = high_end in let d =
+        low_end in omega arith)
     behind-too n i at (suc j, there) = (j, there)
 
 -- Accepted writes rise by their numbers, and so do those of a stream.
 
 writes-rise : (n : ℕ) (xs : List Accepted) → AreNumberedFrom n xs → RisesFrom n (map (λ (a : Accepted). a.write.number) xs)
 writes-rise n [] all = tt
-writes-rise n (x ∷ xs) all = let first = numbered-first n x xs all in (omega arith, lower (suc n) (suc x.write.number) (map (λ (a : Accepted). a.write.number) xs) (omega arith) (writes-rise (suc n) xs (numbered-rest n x xs all)))
+writes-rise n (x ∷ xs) all = let first = numbered-first n x xs all in (
+  omega arith,
+  lower (suc n) (suc x.write.number) (map (λ (a : Accepted). a.write.number) xs) (omega arith) (writes-rise (suc n) xs (numbered-rest n x xs all)),
+)
 
 -- numbers of the writes rise along the items
 abbrev RisesAlong : List Item → Type 0
-RisesAlong items = (place later : ℕ) (a b : Write) → place < later → slice_get items place ≡ Some (WriteItem a) → slice_get items later ≡ Some (WriteItem b) → a.number < b.number
+RisesAlong items = (place later : ℕ) (a b : Write) → place < later → slice_get items place ≡ Some (WriteItem a) → slice_get items later ≡ Some (WriteItem b)
+    → a.number < b.number
 
 stream-rises : (low start : ℕ) (items : List Item) → RisesAlong items → ((place : ℕ) (a : Write) → slice_get items place ≡ Some (WriteItem a) → low ≤ a.number)
     → RisesFrom low (map (λ (entry : ℕ × Item). number_of entry.1) (filter (λ (entry : ℕ × Item). is_write entry.1) (placed_from start items)))
 stream-rises low start [] rises least = tt
-stream-rises low start (WriteItem w ∷ items) rises least =
-    (least 0 w refl, stream-rises (suc w.number) (suc start) items (λ place later a b less ata atb. rises (suc place) (suc later) a b (omega arith) ata atb) (λ place a at. rises 0 (suc place) w a (omega arith) refl at))
-stream-rises low start (ResyncItem block contents ∷ items) rises least = stream-rises low (suc start) items (λ place later a b less ata atb. rises (suc place) (suc later) a b (omega arith) ata atb) (λ place a at. least (suc place) a at)
-stream-rises low start (BarrierItem epoch ∷ items) rises least = stream-rises low (suc start) items (λ place later a b less ata atb. rises (suc place) (suc later) a b (omega arith) ata atb) (λ place a at. least (suc place) a at)
-stream-rises low start (SyncUuidItem word ∷ items) rises least = stream-rises low (suc start) items (λ place later a b less ata atb. rises (suc place) (suc later) a b (omega arith) ata atb) (λ place a at. least (suc place) a at)
-stream-rises low start (UuidsItem tuple ∷ items) rises least = stream-rises low (suc start) items (λ place later a b less ata atb. rises (suc place) (suc later) a b (omega arith) ata atb) (λ place a at. least (suc place) a at)
+stream-rises low start (WriteItem w ∷ items) rises least = (
+  least 0 w refl,
+  stream-rises (suc w.number) (suc start) items (λ place later a b less ata atb. rises (suc place) (suc later) a b (omega arith) ata atb)
+      (λ place a at. rises 0 (suc place) w a (omega arith) refl at),
+)
+stream-rises low start (ResyncItem block contents ∷ items) rises least =
+    stream-rises low (suc start) items (λ place later a b less ata atb. rises (suc place) (suc later) a b (omega arith) ata atb)
+    (λ place a at. least (suc place) a at)
+stream-rises low start (BarrierItem epoch ∷ items) rises least =
+    stream-rises low (suc start) items (λ place later a b less ata atb. rises (suc place) (suc later) a b (omega arith) ata atb)
+    (λ place a at. least (suc place) a at)
+stream-rises low start (SyncUuidItem word ∷ items) rises least =
+    stream-rises low (suc start) items (λ place later a b less ata atb. rises (suc place) (suc later) a b (omega arith) ata atb)
+    (λ place a at. least (suc place) a at)
+stream-rises low start (UuidsItem tuple ∷ items) rises least =
+    stream-rises low (suc start) items (λ place later a b less ata atb. rises (suc place) (suc later) a b (omega arith) ata atb)
+    (λ place a at. least (suc place) a at)
 
 -- an item with its place
 placed-here : (items : List Item) (n : ℕ) (item : Item) → slice_get items n ≡ Some item → slice_get (placed items) n ≡ Some (n, item)
-placed-here items n item at = let same : 0 + n ≡ n = omega arith in placed-at 0 items n item at ∙ ap (λ (m : ℕ). let entry : ℕ × Item = (m, item) in Some entry) same
+placed-here items n item at = let same : 0 + n ≡ n = omega arith in placed-at 0 items n item at
+    ∙ ap (λ (m : ℕ). let entry : ℕ × Item = (m, item) in Some entry) same
 
 -- What is seen of a write at its home.
 
-sent-at : (h : PrimaryHistory) (a : Accepted) (k place : ℕ) (c : Outward) → a.home ≡ Some (k, place) → slice_get h.connections k ≡ Some c → is_sent h a ≡ nat_lt place (items_sent c)
+sent-at : (h : PrimaryHistory) (a : Accepted) (k place : ℕ) (c : Outward) → a.home ≡ Some (record { index = k; place = place })
+    → slice_get h.connections k ≡ Some c
+    → is_sent h a ≡ nat_lt place (items_sent c)
 sent-at h a k place c home there =
-    ap (λ (v : Option (ℕ × ℕ)). elim v as (λ _. Bool) [ None ↦ false | Some home ↦ elim (slice_get h.connections home.0) as (λ _. Bool) [ None ↦ false | Some c ↦ nat_lt home.1 (items_sent c) ] ]) home
+    ap (λ (v : Option StreamPosition). elim v as
+    (λ _. Bool) [
+      | None ↦ false
+      | Some home ↦ elim (slice_get h.connections home.index) as (λ _. Bool) [ None ↦ false | Some c ↦ nat_lt home.place (items_sent c) ]
+    ]) home
     ∙ ap (λ (v : Option Outward). elim v as (λ _. Bool) [ None ↦ false | Some c ↦ nat_lt place (items_sent c) ]) there
 
-answered-at : (h : PrimaryHistory) (a : Accepted) (k place : ℕ) (c : Outward) → a.home ≡ Some (k, place) → slice_get h.connections k ≡ Some c → is_answered h a ≡ is_answered_by h.settings.protocol c place (WriteItem a.write)
+answered-at : (h : PrimaryHistory) (a : Accepted) (k place : ℕ) (c : Outward) → a.home ≡ Some (record { index = k; place = place })
+    → slice_get h.connections k ≡ Some c
+    → is_answered h a ≡ is_answered_by h.settings.protocol c place (WriteItem a.write)
 answered-at h a k place c home there =
-    ap (λ (v : Option (ℕ × ℕ)). elim v as (λ _. Bool) [ None ↦ false | Some home ↦ elim (slice_get h.connections home.0) as (λ _. Bool) [ None ↦ false | Some c ↦ is_answered_by h.settings.protocol c home.1 (WriteItem a.write) ] ]) home
+    ap (λ (v : Option StreamPosition). elim v as
+    (λ _. Bool) [
+      | None ↦ false
+      | Some home ↦ elim (slice_get h.connections home.index) as
+          (λ _. Bool) [ None ↦ false | Some c ↦ is_answered_by h.settings.protocol c home.place (WriteItem a.write) ]
+    ]) home
     ∙ ap (λ (v : Option Outward). elim v as (λ _. Bool) [ None ↦ false | Some c ↦ is_answered_by h.settings.protocol c place (WriteItem a.write) ]) there
 
 -- The writes that the log says are not answered.
@@ -154,7 +191,8 @@ module _ (s : PrimaryState) (h : PrimaryHistory) (reached : IsReached h) (left :
       ap (λ (l : List LogWrite). length (filter is_unanswered l)) left.rest.log.writes
       ∙ (ap length (filter-map is_unanswered (logged_of h) (unreleased h))
       ∙ (length-map (filter waits (unreleased h)) (logged_of h)
-      ∙ ap length (filter-twice waits (λ (a : Accepted). not (is_released h a)) h.writes ∙ filter-at (λ (a : Accepted). not (is_released h a) && waits a) waits h.writes released-answered)))
+      ∙ ap length (filter-twice waits (λ (a : Accepted). not (is_released h a)) h.writes
+      ∙ filter-at (λ (a : Accepted). not (is_released h a) && waits a) waits h.writes released-answered)))
 
   -- where no stream stands, none does
   none-waits : stands (outward h) ≡ false → filter waits h.writes ≡ []
@@ -186,8 +224,10 @@ module _ (s : PrimaryState) (h : PrimaryHistory) (reached : IsReached h) (left :
         let more = and_parts (is_sent h a) (not (is_answered h a)) parts.1 in
         let here = not-alone h homes known.ordered.1.0 there.0 a there.1 (not-true (is_alone h a) parts.0) in
         let entry : ℕ × Item = (here.place, WriteItem a.write) in
-        let first = filtered-pick (λ (entry : ℕ × Item). is_write entry.1) (placed (outward h).stream) here.place entry (placed-here (outward h).stream here.place (WriteItem a.write) here.there) refl in
-        let asked : asks (here.place, WriteItem a.write) ≡ true = and_from (nat_lt here.place (items_sent (outward h))) (not (is_answered_by h.settings.protocol (outward h) here.place (WriteItem a.write)))
+        let first = filtered-pick (λ (entry : ℕ × Item). is_write entry.1) (placed (outward h).stream) here.place entry
+        (placed-here (outward h).stream here.place (WriteItem a.write) here.there) refl in
+        let asked : asks (here.place, WriteItem a.write) ≡ true = and_from (nat_lt here.place (items_sent (outward h)))
+        (not (is_answered_by h.settings.protocol (outward h) here.place (WriteItem a.write)))
         (sym (sent-at h a (last_index h.connections) here.place (outward h) here.home connected) ∙ more.0)
         (ap not (sym (answered-at h a (last_index h.connections) here.place (outward h) here.home connected)) ∙ more.1) in
         let second = filtered-pick asks items first.0 entry first.1 asked in
@@ -202,18 +242,27 @@ module _ (s : PrimaryState) (h : PrimaryHistory) (reached : IsReached h) (left :
         let stood = placed-back 0 (outward h).stream first.0 image.0 first.1 in
         go image.0.0 image.0.1 first.0 stood.0 stood.1 first.2 second.2 image.2
       where
-        go : (place : ℕ) (item : Item) (k : ℕ) → place ≡ 0 + k → slice_get (outward h).stream k ≡ Some item → is_write item ≡ true → asks (place, item) ≡ true → number_of item ≡ n → Has (map (λ (a : Accepted). a.write.number) (filter waits h.writes)) n
+        go : (place : ℕ) (item : Item) (k : ℕ) → place ≡ 0 + k → slice_get (outward h).stream k ≡ Some item → is_write item ≡ true → asks (place, item) ≡ true
+            → number_of item ≡ n → Has (map (λ (a : Accepted). a.write.number) (filter waits h.writes)) n
         go place (WriteItem w) k index there written asked number_is =
             let same : place ≡ k = omega arith in
             let its = homes.homed (last_index h.connections) place (outward h) w connected (ap (slice_get (outward h).stream) same ∙ there) in
             let a : Accepted = its.1 in
-            let home : a.home ≡ Some (last_index h.connections, place) = its.4 in
+            let home : a.home ≡ Some (record { index = last_index h.connections; place = place }) = its.4 in
             let parts = and_parts (nat_lt place (items_sent (outward h))) (not (is_answered_by h.settings.protocol (outward h) place (WriteItem w))) asked in
-            let linked : not (is_alone h a) ≡ true = ap not (alone-at h a (last_index h.connections, place) (outward h) home connected ∙ (stands-parts (outward h) standing).0) in
+            let linked : not (is_alone h a) ≡ true =
+            ap not (alone-at h a (record { index = last_index h.connections; place = place }) (outward h) home connected
+            ∙ (stands-parts (outward h) standing).0) in
             let sent : is_sent h a ≡ true = sent-at h a (last_index h.connections) place (outward h) home connected ∙ parts.0 in
-            let unanswered_still : not (is_answered h a) ≡ true = ap not (answered-at h a (last_index h.connections) place (outward h) home connected ∙ ap (λ (x : Write). is_answered_by h.settings.protocol (outward h) place (WriteItem x)) its.3) ∙ parts.1 in
-            let found = filtered-pick waits h.writes its.0 a its.2 (and_from (not (is_alone h a)) (is_sent h a && not (is_answered h a)) linked (and_from (is_sent h a) (not (is_answered h a)) sent unanswered_still)) in
-            (found.0, get-map (λ (a : Accepted). a.write.number) (filter waits h.writes) found.0 ∙ (ap (option_map (λ (a : Accepted). a.write.number)) found.1 ∙ ap Some (ap (λ (x : Write). x.number) its.3 ∙ number_is)))
+            let unanswered_still : not (is_answered h a) ≡ true = ap not (answered-at h a (last_index h.connections) place (outward h) home connected
+            ∙ ap (λ (x : Write). is_answered_by h.settings.protocol (outward h) place (WriteItem x)) its.3) ∙ parts.1 in
+            let found = filtered-pick waits h.writes its.0 a its.2
+            (and_from (not (is_alone h a)) (is_sent h a && not (is_answered h a)) linked
+            (and_from (is_sent h a) (not (is_answered h a)) sent unanswered_still)) in (
+              found.0,
+              get-map (λ (a : Accepted). a.write.number) (filter waits h.writes) found.0
+                  ∙ (ap (option_map (λ (a : Accepted). a.write.number)) found.1 ∙ ap Some (ap (λ (x : Write). x.number) its.3 ∙ number_is)),
+            )
         go place (ResyncItem block contents) k index there written asked number_is = absurd (cc)
         go place (BarrierItem epoch) k index there written asked number_is = absurd (cc)
         go place (SyncUuidItem word) k index there written asked number_is = absurd (cc)
@@ -224,7 +273,9 @@ module _ (s : PrimaryState) (h : PrimaryHistory) (reached : IsReached h) (left :
         sym (length-map (filter waits h.writes) (λ (a : Accepted). a.write.number))
         ∙ (same-length 1 0 (map (λ (a : Accepted). a.write.number) (filter waits h.writes)) (map number_at (filter asks items))
         (rises-filtered (λ (a : Accepted). a.write.number) waits 1 h.writes (writes-rise 1 h.writes (λ i a at. homes.numbered i a at ∙ omega arith)))
-        (rises-filtered number_at asks 0 items (stream-rises 0 0 (outward h).stream (known.ordered.1.1.0.1.streams.lawful (last_index h.connections) (outward h) connected).rising (λ place a at. omega arith))) forth back
+        (rises-filtered number_at asks 0 items
+        (stream-rises 0 0 (outward h).stream (known.ordered.1.1.0.1.streams.lawful (last_index h.connections) (outward h) connected).rising
+        (λ place a at. omega arith))) forth back
         ∙ (length-map (filter asks items) number_at ∙ ap length (filter-twice asks (λ (entry : ℕ × Item). is_write entry.1) (placed (outward h).stream))))
 
   -- How many writes were sent on the connection that stands, and are not answered.
@@ -232,6 +283,9 @@ module _ (s : PrimaryState) (h : PrimaryHistory) (reached : IsReached h) (left :
   says-unanswered = counted ∙ go (stands (outward h)) refl
     where
       go : (b : Bool) → stands (outward h) ≡ b
-          → length (filter waits h.writes) ≡ (if b then length (filter (λ (entry : ℕ × Item). is_write entry.1 && (nat_lt entry.0 (items_sent (outward h)) && not (is_answered_by h.settings.protocol (outward h) entry.0 entry.1))) (placed (outward h).stream)) else 0)
+          → length (filter waits h.writes) ≡ (if b
+          then length (filter (λ (entry : ℕ × Item). is_write entry.1
+          && (nat_lt entry.0 (items_sent (outward h)) && not (is_answered_by h.settings.protocol (outward h) entry.0 entry.1))) (placed (outward h).stream))
+          else 0)
       go true is = as-many is
       go false is = ap length (none-waits is)

@@ -1,5 +1,6 @@
 -- A receipt is told as the journal has it.
-use Rattle.std.proofs.Common.{ℕ, zero, suc, ◌≡◌, ◌+◌, inl, inr, Bool, true, false, not, ◌&&◌, ◌||◌, List, [], ◌∷◌, ◌++◌, length, Option, Some, None, slice_get, Result, Ok, Err, refl, sym, ◌∙◌, ap, subst, arith, ◌==◌}
+use Rattle.std.proofs.Common.{ℕ, zero, suc, ◌≡◌, ◌+◌, inl, inr, Bool, true, false, not, ◌&&◌, ◌||◌, List, [], ◌∷◌, ◌++◌, length, Option, Some, None, slice_get}
+use Rattle.std.proofs.Common.{Result, Ok, Err, refl, sym, ◌∙◌, ap, subst, arith, ◌==◌}
 use Rattle.std.specs.Prelude.{find, is_some, is_none, option_map, if◌then◌else◌}
 use Rattle.std.specs.List.{list_any}
 use Rattle.std.proofs.lemmas.Bool.{both_ways, eqb-true, eq-eqb, or_right, false_from_ne_true}
@@ -32,13 +33,15 @@ pub record TellsEntries (number : ℕ) (s : PrimaryState) (h : PrimaryHistory) :
 -- has accepted writes.
 pub record IsNumbered (h : PrimaryHistory) : Type 0 where
   pub numbered : (i : ℕ) (accepted : Accepted) → slice_get h.writes i ≡ Some accepted → accepted.write.number ≡ suc i
-  pub on_disk : (i : ℕ) (accepted : Accepted) → slice_get h.writes i ≡ Some accepted → is_completed h accepted.write.number ≡ true → is_on_disk accepted.outcome ≡ true
+  pub on_disk : (i : ℕ) (accepted : Accepted) → slice_get h.writes i ≡ Some accepted → is_completed h accepted.write.number ≡ true
+      → is_on_disk accepted.outcome ≡ true
   pub journal : JournalIsAccepted h
 
 -- Receipts.
 
 -- a failed write is not completed
-pub failed-open : (h : PrimaryHistory) → IsNumbered h → (i : ℕ) (a : Accepted) → slice_get h.writes i ≡ Some a → is_failed a.outcome ≡ true → is_completed h a.write.number ≡ false
+pub failed-open : (h : PrimaryHistory) → IsNumbered h → (i : ℕ) (a : Accepted) → slice_get h.writes i ≡ Some a → is_failed a.outcome ≡ true
+    → is_completed h a.write.number ≡ false
 failed-open h known i a at failed = false_from_ne_true (is_completed h a.write.number) (λ completed. both a.outcome failed (known.on_disk i a at completed))
   where
     both : (o : LocalOutcome) → is_failed o ≡ true → is_on_disk o ≡ true → ⊥
@@ -47,7 +50,8 @@ failed-open h known i a at failed = false_from_ne_true (is_completed h a.write.n
     both (history.Failed offsets) f d = absurd (cc)
 
 -- what the model answers of a write that is there
-module _ (h : PrimaryHistory) (known : IsNumbered h) (n : ℕ) (a : Accepted) (at : slice_get h.writes n ≡ Some a) (s : PrimaryState) (left : LeavesEntries s h) where
+module _ (h : PrimaryHistory) (known : IsNumbered h) (n : ℕ) (a : Accepted) (at : slice_get h.writes n ≡ Some a) (s : PrimaryState)
+    (left : LeavesEntries s h) where
   number-is : a.write.number ≡ suc n
   number-is = known.numbered n a at
 
@@ -93,19 +97,25 @@ module _ (h : PrimaryHistory) (known : IsNumbered h) (n : ℕ) (a : Accepted) (a
       now : (x : Accepted) → x.write.number ≡ suc n → true ≡ list_any (λ number. number == x.write.number) (h.receipts ++ suc n ∷ [])
       now x is =
           let same : (suc n == x.write.number) ≡ true = eq-eqb (suc n) x.write.number (sym is) in
-          sym (list_any-append (λ number. number == x.write.number) h.receipts (suc n ∷ []) ∙ or_right (list_any (λ number. number == x.write.number) h.receipts) ((suc n == x.write.number) || false) (rw same refl))
+          sym (list_any-append (λ number. number == x.write.number) h.receipts (suc n ∷ [])
+          ∙ or_right (list_any (λ number. number == x.write.number) h.receipts) ((suc n == x.write.number) || false) (rw same refl))
 
-      still : (x : Accepted) → (x.write.number == (1 + n)) ≡ false → list_any (λ number. number == x.write.number) h.receipts ≡ list_any (λ number. number == x.write.number) (h.receipts ++ suc n ∷ [])
+      still : (x : Accepted) → (x.write.number == (1 + n)) ≡ false
+          → list_any (λ number. number == x.write.number) h.receipts ≡ list_any (λ number. number == x.write.number) (h.receipts ++ suc n ∷ [])
       still x other =
-          let none : (suc n == x.write.number) ≡ false = false_from_ne_true (suc n == x.write.number) (λ e. both_ways (x.write.number == (1 + n)) other (eq-eqb x.write.number (1 + n) (sym (eqb-true (suc n) x.write.number e) ∙ omega arith))) in
-          sym (list_any-append (λ number. number == x.write.number) h.receipts (suc n ∷ []) ∙ (ap (λ b. list_any (λ number. number == x.write.number) h.receipts || (b || false)) none ∙ or-none (list_any (λ number. number == x.write.number) h.receipts)))
+          let none : (suc n == x.write.number) ≡ false = false_from_ne_true (suc n == x.write.number)
+          (λ e. both_ways (x.write.number == (1 + n)) other (eq-eqb x.write.number (1 + n) (sym (eqb-true (suc n) x.write.number e) ∙ omega arith))) in
+          sym (list_any-append (λ number. number == x.write.number) h.receipts (suc n ∷ [])
+          ∙ (ap (λ b. list_any (λ number. number == x.write.number) h.receipts || (b || false)) none
+          ∙ or-none (list_any (λ number. number == x.write.number) h.receipts)))
         where
           or-none : (b : Bool) → (b || (false || false)) ≡ b
           or-none true = refl
           or-none false = refl
 
   -- the tests of the model, by what the history has of the write
-  tests-are : (given done : Bool) → list_any (λ taken. taken == suc n) h.receipts ≡ given → is_open h a ≡ done → model.take_completed_tests h (suc n) ≡ (given, UnknownJob) ∷ (done, NotCompleted) ∷ []
+  tests-are : (given done : Bool) → list_any (λ taken. taken == suc n) h.receipts ≡ given → is_open h a ≡ done
+      → model.take_completed_tests h (suc n) ≡ (given, UnknownJob) ∷ (done, NotCompleted) ∷ []
   tests-are given done is_given_so is_open_so = λ i. (none i, UnknownJob) ∷ ((open-is ∙ is_open_so) i, NotCompleted) ∷ []
     where
       none : (is_none (accepted_at h (suc n)) || list_any (λ taken. taken == suc n) h.receipts) ≡ given
@@ -127,52 +137,76 @@ module _ (h : PrimaryHistory) (known : IsNumbered h) (n : ℕ) (a : Accepted) (a
   Alike got step = SameAnswer (suc n) got.0 step.0 × LeavesEntries got.1 step.1
 
   -- by whether the receipt was taken, whether the local disk failed the write, and what the journal has of it
-  by-fate : (given failed : Bool) → list_any (λ taken. taken == suc n) h.receipts ≡ given → is_failed a.outcome ≡ failed → (found : Option Completion) → find (λ (entry : Completion). entry.write.number == a.write.number) h.journal ≡ found
-      → Alike (core-by (Some (record { first = a.write.first; count = length a.write.contents; fate = elim failed as (λ _. Fate) [ true ↦ Failed | false ↦ fate_in found ]; taken = given })))
+  by-fate : (given failed : Bool) → list_any (λ taken. taken == suc n) h.receipts ≡ given → is_failed a.outcome ≡ failed → (found : Option Completion)
+      → find (λ (entry : Completion). entry.write.number == a.write.number) h.journal ≡ found
+      → Alike (core-by (Some (record {
+        first = a.write.first;
+        count = length a.write.contents;
+        fate = elim failed as (λ _. Fate) [ true ↦ Failed | false ↦ fate_in found ];
+        taken = given;
+      })))
       (model-by ((given, UnknownJob) ∷ (not (is_some found) && not failed, NotCompleted) ∷ []) found)
   by-fate true failed is_given_so is_failed_so found is = (refl, left)
   by-fate false true is_given_so is_failed_so None is = (refl, receipted-left)
   by-fate false true is_given_so is_failed_so (Some c) is =
-      absurd (both_ways (is_completed h a.write.number) (failed-open h known n a at is_failed_so) (any-some (λ (entry : Completion). entry.write.number == a.write.number) h.journal ∙ ap is_some is))
+      absurd (both_ways (is_completed h a.write.number) (failed-open h known n a at is_failed_so)
+      (any-some (λ (entry : Completion). entry.write.number == a.write.number) h.journal ∙ ap is_some is))
   by-fate false false is_given_so is_failed_so None is = (refl, left)
   by-fate false false is_given_so is_failed_so (Some c) is =
-      let same = write-is c is in
-      ((ap (λ (w : Write). w.number) same ∙ number-is, ap (λ (w : Write). w.first) (sym same), ap (λ (w : Write). length w.contents) (sym same), refl), receipted-left)
+      let same = write-is c is in (
+        (ap (λ (w : Write). w.number) same ∙ number-is, ap (λ (w : Write). w.first) (sym same), ap (λ (w : Write). length w.contents) (sym same), refl),
+        receipted-left,
+      )
 
   -- the receipt of a write that is there
   tells-there : TellsEntries (suc n) s h
   tells-there =
       let given : Bool = list_any (λ taken. taken == suc n) h.receipts in
       let found : Option Completion = find (λ (entry : Completion). entry.write.number == a.write.number) h.journal in
-      let open_so : is_open h a ≡ (not (is_some found) && not (is_failed a.outcome)) = ap (λ b. not b && not (is_failed a.outcome)) (any-some (λ (entry : Completion). entry.write.number == a.write.number) h.journal) in
-      let numbers : found ≡ find (λ (entry : Completion). entry.write.number == suc n) h.journal = ap (λ (m : ℕ). find (λ (entry : Completion). entry.write.number == m) h.journal) number-is in
+      let open_so : is_open h a ≡ (not (is_some found) && not (is_failed a.outcome)) = ap (λ b. not b && not (is_failed a.outcome))
+      (any-some (λ (entry : Completion). entry.write.number == a.write.number) h.journal) in
+      let numbers : found ≡ find (λ (entry : Completion). entry.write.number == suc n) h.journal =
+      ap (λ (m : ℕ). find (λ (entry : Completion). entry.write.number == m) h.journal) number-is in
       let taken_is : list_any (λ number. number == a.write.number) h.receipts ≡ given = ap (λ (m : ℕ). list_any (λ number. number == m) h.receipts) number-is in
       let alike = by-fate given (is_failed a.outcome) refl refl found refl in
-      let got : core-by (Some (record { first = a.write.first; count = length a.write.contents; fate = fate_of h a; taken = given })) ≡ take_completed (suc n) s =
+      let got : core-by (Some (record { first = a.write.first; count = length a.write.contents; fate = fate_of h a; taken = given })) ≡ take_completed
+      (suc n) s =
       ap core-by (sym (entry-is ∙ λ i. Some (record { first = a.write.first; count = length a.write.contents; fate = fate_of h a; taken = taken_is i }))) in
       let step : model-by ((given, UnknownJob) ∷ (not (is_some found) && not (is_failed a.outcome), NotCompleted) ∷ []) found ≡ model.take_completed (suc n) h =
       λ i. model-by (sym (tests-are given (not (is_some found) && not (is_failed a.outcome)) refl open_so) i) (numbers i) in
-      let both = subst (λ x. Alike x (model.take_completed (suc n) h)) got (subst (Alike (core-by (Some (record { first = a.write.first; count = length a.write.contents; fate = fate_of h a; taken = given })))) step alike) in
+      let both = subst (λ x. Alike x (model.take_completed (suc n) h)) got
+      (subst (Alike (core-by (Some (record { first = a.write.first; count = length a.write.contents; fate = fate_of h a; taken = given })))) step alike) in
       record { answer = both.0; leaves = both.1 }
 
 -- a number that no write has is refused
-tells-none : (h : PrimaryHistory) (number : ℕ) (s : PrimaryState) → LeavesEntries s h → accepted_at h number ≡ None → entry_at number s ≡ None → TellsEntries number s h
+tells-none : (h : PrimaryHistory) (number : ℕ) (s : PrimaryState) → LeavesEntries s h → accepted_at h number ≡ None → entry_at number s ≡ None
+    → TellsEntries number s h
 tells-none h number s left none nothing =
-    let tests : model.take_completed_tests h number ≡ (true, UnknownJob) ∷ (list_any (λ (x : Accepted). (x.write.number == number) && is_open h x) h.writes, NotCompleted) ∷ [] =
-    ap (λ (v : Option Accepted). (is_none v || list_any (λ taken. taken == number) h.receipts, UnknownJob) ∷ (list_any (λ (x : Accepted). (x.write.number == number) && is_open h x) h.writes, NotCompleted) ∷ []) none in
-    let step : model.take_completed number h ≡ (Err UnknownJob, h) = ap (λ (ts : List Test). elim (first_refusal ts) as (λ _. Result Completion Refusal × PrimaryHistory) [
+    let tests : model.take_completed_tests h number ≡ (true, UnknownJob) ∷ (
+      list_any (λ (x : Accepted). (x.write.number == number) && is_open h x) h.writes,
+      NotCompleted,
+    ) ∷ [] =
+    ap (λ (v : Option Accepted). (is_none v || list_any (λ taken. taken == number) h.receipts, UnknownJob) ∷
+    (list_any (λ (x : Accepted). (x.write.number == number) && is_open h x) h.writes, NotCompleted) ∷ []) none in
+    let step : model.take_completed number h ≡ (Err UnknownJob, h) =
+    ap (λ (ts : List Test). elim (first_refusal ts) as (λ _. Result Completion Refusal × PrimaryHistory) [
       | Some refusal ↦ (Err refusal, h)
-      | None ↦ elim (find (λ (entry : Completion). entry.write.number == number) h.journal) [ None ↦ (Err LocalFault, receipted number h) | Some entry ↦ (Ok entry, receipted number h) ]
+      | None ↦ elim (find (λ (entry : Completion). entry.write.number == number) h.journal)
+          [ None ↦ (Err LocalFault, receipted number h) | Some entry ↦ (Ok entry, receipted number h) ]
     ]) tests in
-    let got : take_completed number s ≡ (Err UnknownJob, s) = ap (λ (v : Option Entry). (told v, if is_given (told v) then core.receipted number s else s)) nothing in
+    let got : take_completed number s ≡ (Err UnknownJob, s) = ap (λ (v : Option Entry). (told v, if is_given (told v) then core.receipted number s else s))
+    nothing in
     record {
-      answer = subst (λ x. SameAnswer number x (model.take_completed number h).0) (sym (ap (λ x. x.0) got)) (subst (SameAnswer number (Err UnknownJob)) (sym (ap (λ x. x.0) step)) refl);
-      leaves = subst (λ x. LeavesEntries x (model.take_completed number h).1) (sym (ap (λ x. x.1) got)) (subst (LeavesEntries s) (sym (ap (λ x. x.1) step)) left);
+      answer = subst (λ x. SameAnswer number x (model.take_completed number h).0) (sym (ap (λ x. x.0) got))
+          (subst (SameAnswer number (Err UnknownJob)) (sym (ap (λ x. x.0) step)) refl);
+      leaves = subst (λ x. LeavesEntries x (model.take_completed number h).1) (sym (ap (λ x. x.1) got))
+          (subst (LeavesEntries s) (sym (ap (λ x. x.1) step)) left);
     }
 
 -- a receipt is told as the journal has it
 pub tells : (h : PrimaryHistory) → IsNumbered h → (number : ℕ) (s : PrimaryState) → LeavesEntries s h → TellsEntries number s h
-tells h known zero s left = tells-none h 0 s left (find-none 0 1 h.writes (λ i accepted there. known.numbered i accepted there ∙ omega arith) (omega arith)) refl
+tells h known zero s left = tells-none h 0 s left (find-none 0 1 h.writes (λ i accepted there. known.numbered i accepted there ∙ omega arith) (omega arith))
+    refl
 tells h known (suc n) s left = by-place (slice_get h.writes n) refl
   where
     from-first : AreNumberedFrom 1 h.writes

@@ -1,5 +1,6 @@
 -- A resync reads its next block, or the local disk fails that.
-use Rattle.std.proofs.Common.{ℕ, ◌≡◌, Bool, true, false, not, ◌||◌, List, [], ◌∷◌, length, Option, Some, None, Result, Ok, Err, refl, sym, ◌∙◌, ap, subst, nat_lt, nat_le}
+use Rattle.std.proofs.Common.{ℕ, ◌≡◌, Bool, true, false, not, ◌||◌, List, [], ◌∷◌, length, Option, Some, None, Result, Ok, Err, refl, sym, ◌∙◌, ap, subst}
+use Rattle.std.proofs.Common.{nat_lt, nat_le}
 use Rattle.std.specs.Prelude.{is_some, is_none, unwrap_or}
 use Rattle.std.proofs.lemmas.Bool.{or_parts, not-false}
 use Rattle.blocks.specs.declared.refusal.Refusal.{Refusal}
@@ -34,45 +35,69 @@ none-way : (v : Option UnderWay) (c : Outward) → UnderWayLeft v c → is_some 
 none-way None c none is = none
 none-way (Some way) c left is = absurd (cc)
 
-module _ (starved : Bool) (s : PrimaryState) (h : PrimaryHistory) (e : EndState) (reached : IsReached h) (left : Leaves s h) (end : LeavesEnd e (outward h)) where
+module _ (starved : Bool) (s : PrimaryState) (h : PrimaryHistory) (e : EndState) (reached : IsReached h) (left : Leaves s h)
+    (end : LeavesEnd e (outward h)) where
   next-same : is_some e.under_way ≡ false → next_block s.marks s.held ≡ free_block h
   next-same alone = next-is s h left.rest.marks (held-alone s h left.rest.held (none-way e.under_way (outward h) end.under_way alone))
 
-  same_first : (not e.resync || (is_some e.under_way || is_none (next_block s.marks s.held))) ≡ (not (resync_runs (outward h)) || (nat_lt 0 (length (under_way (outward h))) || is_none (free_block h)))
-  same_first = (λ i. not (end.resync i) || go (is_some e.under_way) refl i) ∙ ap (λ b. not (resync_runs (outward h)) || (b || is_none (free_block h))) (way-same e.under_way (outward h) end.under_way)
+  same_first : (not e.resync || (is_some e.under_way || is_none (next_block s.marks s.held))) ≡
+      (not (resync_runs (outward h)) || (nat_lt 0 (length (under_way (outward h))) || is_none (free_block h)))
+  same_first = (λ i. not (end.resync i) || go (is_some e.under_way) refl i)
+      ∙ ap (λ b. not (resync_runs (outward h)) || (b || is_none (free_block h))) (way-same e.under_way (outward h) end.under_way)
     where
       go : (b : Bool) → is_some e.under_way ≡ b → (is_some e.under_way || is_none (next_block s.marks s.held)) ≡ (is_some e.under_way || is_none (free_block h))
       go true is = ap (λ b. b || is_none (next_block s.marks s.held)) is ∙ sym (ap (λ b. b || is_none (free_block h)) is)
       go false is = ap (λ v. is_some e.under_way || is_none v) (next-same is)
 
   -- the tests are the same
-  resync-tests-same : transition.resync_tests starved e s ≡ (not (resync_runs (outward h)) || (nat_lt 0 (length (under_way (outward h))) || is_none (free_block h)), NothingToDo) ∷ (nat_le 4294967288 (length (outward h).stream), StreamFull) ∷ (starved, NoMemory) ∷ []
-  resync-tests-same = λ i. (same_first i, NothingToDo) ∷ (nat_le 4294967288 (places-are s h left (reached-ordered h reached).ordered.1.1.0.0 end.stands i), StreamFull) ∷ (starved, NoMemory) ∷ []
+  resync-tests-same : transition.resync_tests starved e s ≡
+      (not (resync_runs (outward h)) || (nat_lt 0 (length (under_way (outward h))) || is_none (free_block h)), NothingToDo) ∷
+      (nat_le 4294967288 (length (outward h).stream), StreamFull) ∷ (starved, NoMemory) ∷ []
+  resync-tests-same = λ i. (same_first i, NothingToDo) ∷ (
+    nat_le 4294967288 (places-are s h left (reached-ordered h reached).ordered.1.1.0.0 end.stands i),
+    StreamFull,
+  ) ∷ (starved, NoMemory) ∷ []
 
   -- The block is copied.
-  copies : (block : ℕ) (contents : List ℕ) → contents ≡ unwrap_or (local_map h block) [] → resync_runs (outward h) ≡ true → under_way (outward h) ≡ [] → free_block h ≡ Some block
-      → Agrees reply.Ok (Ok (copying block contents e s).0, (copying block contents e s).1) (step.succeeding (what.Block (record { 0 = block }) (length (outward h).stream)) (appending (ResyncItem block (unwrap_or (local_map h block) [])) h))
+  copies : (block : ℕ) (contents : List ℕ) → contents ≡ unwrap_or (local_map h block) [] → resync_runs (outward h) ≡ true → under_way (outward h) ≡ []
+      → free_block h ≡ Some block
+      → Agrees reply.Ok (
+        Ok (copying block contents e s).0,
+        (copying block contents e s).1,
+      )
+      (step.succeeding (what.Block (record { 0 = block }) (length (outward h).stream)) (appending (ResyncItem block (unwrap_or (local_map h block) [])) h))
   copies block contents are runs none free =
       let known = reached-ordered h reached in
-      subst (λ (l : List ℕ). Agrees reply.Ok (Ok (copying block l e s).0, (copying block l e s).1) (step.succeeding (what.Block (record { 0 = block }) (length (outward h).stream)) (appending (ResyncItem block (unwrap_or (local_map h block) [])) h))) (sym are)
-      (subst (λ (n : ℕ). Agrees reply.Ok (Ok (copying block (unwrap_or (local_map h block) []) e s).0, (copying block (unwrap_or (local_map h block) []) e s).1) (step.succeeding (what.Block (record { 0 = block }) n) (appending (ResyncItem block (unwrap_or (local_map h block) [])) h)))
+      subst (λ (l : List ℕ). Agrees reply.Ok (
+        Ok (copying block l e s).0,
+        (copying block l e s).1,
+      ) (step.succeeding (what.Block (record { 0 = block }) (length (outward h).stream))
+      (appending (ResyncItem block (unwrap_or (local_map h block) [])) h))) (sym are)
+      (subst (λ (n : ℕ). Agrees reply.Ok (Ok (copying block (unwrap_or (local_map h block) []) e s).0, (copying block (unwrap_or (local_map h block) []) e s).1)
+      (step.succeeding (what.Block (record { 0 = block }) n) (appending (ResyncItem block (unwrap_or (local_map h block) [])) h)))
       (places-are s h left known.ordered.1.1.0.0 end.stands)
-      (from-follow _ _ (follow _ None (appending (ResyncItem block (unwrap_or (local_map h block) [])) h) (copying-due known.settings known.bound s h e left known.ordered end runs none block free) (what.Block (record { 0 = block }) s.log.epochs.places))))
+      (from-follow _ _ (follow _ None (appending (ResyncItem block (unwrap_or (local_map h block) [])) h)
+      (copying-due known.settings known.bound s h e left known.ordered end runs none block free) (what.Block (record { 0 = block }) s.log.epochs.places))))
 
   resync-agrees : (disk : ℕ → List ℕ) → ((block : ℕ) → disk block ≡ unwrap_or (local_map h block) [])
       → Agrees reply.Ok (tested s (transition.resync_tests starved e s) (λ _. elim (next_block s.marks s.held) as (λ _. Result Done Refusal × PrimaryState) [
         | None ↦ (Err NothingToDo, s)
         | Some block ↦ let after = copying block (disk block) e s in (Ok after.0, after.1)
       ]))
-      (step.tested h ((not (resync_runs (outward h)) || (nat_lt 0 (length (under_way (outward h))) || is_none (free_block h)), NothingToDo) ∷ (nat_le 4294967288 (length (outward h).stream), StreamFull) ∷ (starved, NoMemory) ∷ []) (λ _. elim (free_block h) as (λ _. Reply × PrimaryHistory) [
+      (step.tested h ((not (resync_runs (outward h)) || (nat_lt 0 (length (under_way (outward h))) || is_none (free_block h)), NothingToDo) ∷
+      (nat_le 4294967288 (length (outward h).stream), StreamFull) ∷ (starved, NoMemory) ∷ []) (λ _. elim (free_block h) as (λ _. Reply × PrimaryHistory) [
         | None ↦ (reply.Refused NothingToDo, h)
-        | Some block ↦ step.succeeding (what.Block (record { 0 = block }) (length (outward h).stream)) (appending (ResyncItem block (unwrap_or (local_map h block) [])) h)
+        | Some block ↦ step.succeeding (what.Block (record { 0 = block }) (length (outward h).stream))
+            (appending (ResyncItem block (unwrap_or (local_map h block) [])) h)
       ]))
   resync-agrees disk holds =
-      tested-agrees reply.Ok s h (transition.resync_tests starved e s) ((not (resync_runs (outward h)) || (nat_lt 0 (length (under_way (outward h))) || is_none (free_block h)), NothingToDo) ∷ (nat_le 4294967288 (length (outward h).stream), StreamFull) ∷ (starved, NoMemory) ∷ [])
+      tested-agrees reply.Ok s h (transition.resync_tests starved e s)
+      ((not (resync_runs (outward h)) || (nat_lt 0 (length (under_way (outward h))) || is_none (free_block h)), NothingToDo) ∷
+      (nat_le 4294967288 (length (outward h).stream), StreamFull) ∷ (starved, NoMemory) ∷ [])
       (λ _. core-by (next_block s.marks s.held)) (λ _. model-by (free_block h)) resync-tests-same left
       (λ none.
-      let first = test-passed (not (resync_runs (outward h)) || (nat_lt 0 (length (under_way (outward h))) || is_none (free_block h))) NothingToDo ((nat_le 4294967288 (length (outward h).stream), StreamFull) ∷ (starved, NoMemory) ∷ []) none in
+      let first = test-passed (not (resync_runs (outward h)) || (nat_lt 0 (length (under_way (outward h))) || is_none (free_block h))) NothingToDo
+      ((nat_le 4294967288 (length (outward h).stream), StreamFull) ∷ (starved, NoMemory) ∷ []) none in
       let parts = or_parts (not (resync_runs (outward h))) (nat_lt 0 (length (under_way (outward h))) || is_none (free_block h)) first.0 in
       let more = or_parts (nat_lt 0 (length (under_way (outward h)))) (is_none (free_block h)) parts.1 in
       let alone = way-same e.under_way (outward h) end.under_way ∙ more.0 in
@@ -85,7 +110,8 @@ module _ (starved : Bool) (s : PrimaryState) (h : PrimaryHistory) (e : EndState)
       model-by : Option ℕ → Reply × PrimaryHistory
       model-by v = elim v [
         | None ↦ (reply.Refused NothingToDo, h)
-        | Some block ↦ step.succeeding (what.Block (record { 0 = block }) (length (outward h).stream)) (appending (ResyncItem block (unwrap_or (local_map h block) [])) h)
+        | Some block ↦ step.succeeding (what.Block (record { 0 = block }) (length (outward h).stream))
+            (appending (ResyncItem block (unwrap_or (local_map h block) [])) h)
       ]
 
       go : (v : Option ℕ) → free_block h ≡ v → resync_runs (outward h) ≡ true → under_way (outward h) ≡ [] → Agrees reply.Ok (core-by v) (model-by v)
@@ -93,18 +119,24 @@ module _ (starved : Bool) (s : PrimaryState) (h : PrimaryHistory) (e : EndState)
       go (Some block) is runs none = copies block (disk block) (holds block) runs none is
 
   fault-agrees : Agrees reply.Ok (tested s (transition.resync_tests starved e s) (λ _. (Err ReadFault, s)))
-      (step.tested h ((not (resync_runs (outward h)) || (nat_lt 0 (length (under_way (outward h))) || is_none (free_block h)), NothingToDo) ∷ (nat_le 4294967288 (length (outward h).stream), StreamFull) ∷ (starved, NoMemory) ∷ []) (λ _. (reply.Refused ReadFault, h)))
-  fault-agrees = tested-agrees reply.Ok s h _ _ (λ _. (Err ReadFault, s)) (λ _. (reply.Refused ReadFault, h)) resync-tests-same left (λ none. record { reply = refl; leaves = left })
+      (step.tested h ((not (resync_runs (outward h)) || (nat_lt 0 (length (under_way (outward h))) || is_none (free_block h)), NothingToDo) ∷
+      (nat_le 4294967288 (length (outward h).stream), StreamFull) ∷ (starved, NoMemory) ∷ []) (λ _. (reply.Refused ReadFault, h)))
+  fault-agrees = tested-agrees reply.Ok s h _ _ (λ _. (Err ReadFault, s)) (λ _. (reply.Refused ReadFault, h)) resync-tests-same left
+      (λ none. record { reply = refl; leaves = left })
 
 -- A closed end refuses both; an open one has the tests that are left.
-module _ (starved : Bool) (s : PrimaryState) (h : PrimaryHistory) (left : Leaves s h) (done : EndState → Unit {0} → Result Done Refusal × PrimaryState) (answer : Unit {0} → Reply × PrimaryHistory) where
+module _ (starved : Bool) (s : PrimaryState) (h : PrimaryHistory) (left : Leaves s h) (done : EndState → Unit {0}
+    → Result Done Refusal × PrimaryState) (answer : Unit {0} → Reply × PrimaryHistory) where
   abbrev core-by : Option EndState → Result Done Refusal × PrimaryState
   core-by v = elim v [ None ↦ (Err NotConnected, s) | Some e ↦ tested s (transition.resync_tests starved e s) (done e) ]
 
   abbrev model-by : Bool → Reply × PrimaryHistory
-  model-by closed = step.tested h ((closed, NotConnected) ∷ (not (resync_runs (outward h)) || (nat_lt 0 (length (under_way (outward h))) || is_none (free_block h)), NothingToDo) ∷ (nat_le 4294967288 (length (outward h).stream), StreamFull) ∷ (starved, NoMemory) ∷ []) answer
+  model-by closed = step.tested h
+      ((closed, NotConnected) ∷ (not (resync_runs (outward h)) || (nat_lt 0 (length (under_way (outward h))) || is_none (free_block h)), NothingToDo) ∷
+      (nat_le 4294967288 (length (outward h).stream), StreamFull) ∷ (starved, NoMemory) ∷ []) answer
 
-  by-end : ((e : EndState) → LeavesEnd e (outward h) → Agrees reply.Ok (core-by (Some e)) (model-by false)) → (v : Option EndState) → s.end ≡ v → EndLeft v (outward h) → Agrees reply.Ok (core-by s.end) (model-by (outward h).closed)
+  by-end : ((e : EndState) → LeavesEnd e (outward h) → Agrees reply.Ok (core-by (Some e)) (model-by false)) → (v : Option EndState) → s.end ≡ v
+      → EndLeft v (outward h) → Agrees reply.Ok (core-by s.end) (model-by (outward h).closed)
   by-end agree None none shut = refused-agrees reply.Ok s h NotConnected (core-by s.end) (model-by (outward h).closed) (ap core-by none) (ap model-by shut) left
   by-end agree (Some e) is end =
       subst (λ v. Agrees reply.Ok (core-by v) (model-by (outward h).closed)) (sym is)
@@ -114,14 +146,20 @@ module _ (starved : Bool) (s : PrimaryState) (h : PrimaryHistory) (left : Leaves
 pub resyncs-agree : ResyncsAgree
 resyncs-agree disk starved s h reached left holds =
     by-end starved s h left
-    (λ e _. elim (next_block s.marks s.held) as (λ _. Result Done Refusal × PrimaryState) [ None ↦ (Err NothingToDo, s) | Some block ↦ let after = copying block (disk block) e s in (Ok after.0, after.1) ])
+    (λ e _. elim (next_block s.marks s.held) as (λ _. Result Done Refusal × PrimaryState) [
+      | None ↦ (Err NothingToDo, s)
+      | Some block ↦ let after =
+          copying block (disk block) e s in (Ok after.0, after.1)
+    ])
     (λ _. elim (free_block h) as (λ _. Reply × PrimaryHistory) [
       | None ↦ (reply.Refused NothingToDo, h)
-      | Some block ↦ step.succeeding (what.Block (record { 0 = block }) (length (outward h).stream)) (appending (ResyncItem block (unwrap_or (local_map h block) [])) h)
+      | Some block ↦ step.succeeding (what.Block (record { 0 = block }) (length (outward h).stream))
+          (appending (ResyncItem block (unwrap_or (local_map h block) [])) h)
     ])
     (λ e end. resync-agrees starved s h e reached left end disk holds) s.end refl left.rest.end
 
 -- the local disk fails that read
 pub resync-faults-agree : ResyncFaultsAgree
 resync-faults-agree starved s h reached left =
-    by-end starved s h left (λ e _. (Err ReadFault, s)) (λ _. (reply.Refused ReadFault, h)) (λ e end. fault-agrees starved s h e reached left end) s.end refl left.rest.end
+    by-end starved s h left (λ e _. (Err ReadFault, s)) (λ _. (reply.Refused ReadFault, h)) (λ e end. fault-agrees starved s h e reached left end) s.end refl
+    left.rest.end

@@ -1,21 +1,27 @@
 -- What a primary owes, and a frame that is pushed and that no write sees.
-use Rattle.std.proofs.Common.{ℕ, zero, suc, ◌≡◌, ◌+◌, ◌-◌, ◌<◌, ◌≤◌, inl, inr, Bool, true, false, not, ◌&&◌, ◌||◌, List, [], ◌∷◌, ◌++◌, length, map, drop, Option, Some, None, slice_get, Ok, refl, sym, ◌∙◌, ap, subst, arith, nat_lt, nat_le, ◌==◌}
+use Rattle.std.proofs.Common.{ℕ, zero, suc, ◌≡◌, ◌+◌, ◌-◌, ◌<◌, ◌≤◌, inl, inr, Bool, true, false, not, ◌&&◌, ◌||◌, List, [], ◌∷◌, ◌++◌, length, map, drop}
+use Rattle.std.proofs.Common.{Option, Some, None, slice_get, Ok, refl, sym, ◌∙◌, ap, subst, arith, nat_lt, nat_le}
 use Rattle.std.specs.Prelude.{min, option_map, if◌then◌else◌}
-use Rattle.std.specs.List.{list_any}
 use Rattle.std.proofs.lemmas.Bool.{cases_lt, ltb-true, lt-ltb, le-ltb, le-leb, lt-leb}
 use Rattle.std.proofs.lemmas.Option.{slice_get_within}
+use Rattle.blocks.specs.Positions.{StreamPosition}
 use Rattle.blocks.specs.declared.settings.Protocol.{Protocol}
 use Rattle.blocks.specs.declared.settings.Protocol.TheVariants as protocol
 use Rattle.blocks.specs.declared.outcome.What.{What}
 use Rattle.blocks.specs.declared.outcome.Reply.TheVariants as reply
-use Rattle.model.specs.Stream.{Item, epoch_of, last_epoch, epoch_size, items_of_epoch}
-use Rattle.model.specs.Frames.{Packet, frame_of, hello_of, frames_of, frames_from}
+use Rattle.model.specs.Stream.{Item, epoch_of}
+use Rattle.model.specs.Frames.{Packet, frame_of, hello_of}
 use Rattle.model.specs.Refusals.{done_with}
-use Rattle.model.specs.Primary.{Accepted, Outward, PrimaryHistory, no_outward, outward, last_index, change_last, with_outward, stands, items_sent, frames_due, is_answered_by, is_alone, is_confirmed, is_released, is_waiting, barrier_acknowledged, unreleased, open_writes, under_way, resync_runs, marked_blocks}
+use Rattle.model.specs.Primary.{Accepted, PrimaryHistory, no_outward, outward, last_index, change_last, with_outward, stands, items_sent, frames_due}
+use Rattle.model.specs.Primary.{is_answered_by, is_alone, is_confirmed, is_released, is_waiting, barrier_acknowledged, unreleased, open_writes, under_way}
+use Rattle.model.specs.Primary.{resync_runs}
 use Rattle.model.specs.PrimarySteps as step
-use Rattle.model.specs.PrimarySteps.{is_settled, epoch_is_over, resync_is_over}
+use Rattle.model.specs.PrimarySteps.{epoch_is_over, resync_is_over}
 use Rattle.epochs.specs.Epochs.{EpochsState}
 use Rattle.transferlog.specs.Writes.{LogWrite, is_completed}
+use Rattle.laws.proofs.Rules.FramesDue.{due-hello, due-at}
+use Rattle.laws.proofs.Rules.ResyncEnds.{over-alike}
+use Rattle.laws.proofs.Rules.EpochEnds.{over-same}
 use Rattle.laws.proofs.Lists.Elements.{get-there}
 use Rattle.laws.proofs.Lists.Last.{length-change}
 use Rattle.laws.proofs.Lists.Picks.{pick-filtered}
@@ -50,27 +56,20 @@ length-drop zero xs within = omega arith
 length-drop (suc n) [] within = absurd (omega arith)
 length-drop (suc n) (x ∷ xs) within = let rest = length-drop n xs (omega arith) in omega arith
 
-frame-at : (start n : ℕ) (items : List Item) → slice_get (frames_from start items) n ≡ option_map (frame_of (start + n)) (slice_get items n)
-frame-at start n [] = refl
-frame-at start zero (x ∷ items) = ap (λ m. Some (frame_of m x)) (omega arith)
-frame-at start (suc n) (x ∷ items) = frame-at (start + 1) n items ∙ ap (λ m. option_map (frame_of m) (slice_get items n)) (omega arith)
-
-pub length-frames : (start : ℕ) (items : List Item) → length (frames_from start items) ≡ length items
-length-frames start [] = refl
-length-frames start (x ∷ items) = let rest = length-frames (start + 1) items in omega arith
-
 none-past : {X : Type 0} (xs : List X) (n : ℕ) → length xs ≤ n → slice_get xs n ≡ None
 none-past [] n past = refl
 none-past (x ∷ xs) zero past = absurd (omega arith)
 none-past (x ∷ xs) (suc n) past = none-past xs n (omega arith)
 
 -- as many places as the stream has, also where none has begun
-pub places-are : (s : PrimaryState) (h : PrimaryHistory) → Leaves s h → HasHomes h → (outward h).closed ≡ false → s.log.epochs.places ≡ length (outward h).stream
+pub places-are : (s : PrimaryState) (h : PrimaryHistory) → Leaves s h → HasHomes h → (outward h).closed ≡ false
+    → s.log.epochs.places ≡ length (outward h).stream
 places-are s h left homes unshut = go (outward h).begun refl
   where
     go : (b : Bool) → (outward h).begun ≡ b → s.log.epochs.places ≡ length (outward h).stream
     go true is = (left.stream.on (λ i. not (unshut i) && is i)).places
-    go false is = ap (λ (x : EpochsState). x.places) (left.stream.off (λ i. not (unshut i) && is i)) ∙ sym (ap length (homes.empty (last_index h.connections) (outward h) (open-at h unshut) is))
+    go false is = ap (λ (x : EpochsState). x.places) (left.stream.off (λ i. not (unshut i) && is i))
+        ∙ sym (ap length (homes.empty (last_index h.connections) (outward h) (open-at h unshut) is))
 
 module _ (s : PrimaryState) (h : PrimaryHistory) (e : EndState) (left : Leaves s h) (homes : HasHomes h) (end : LeavesEnd e (outward h)) where
   -- the place of the next item
@@ -96,37 +95,33 @@ module _ (s : PrimaryState) (h : PrimaryHistory) (e : EndState) (left : Leaves s
   owed-is = elim (cases_lt (outward h).pushed 3) [
     | inl early ↦
         ap (λ b. if b then slice_get (hello_of s.settings e.hello) e.said else option_map (frame_of (next_place e s)) (slice_get e.unsent 0)) (said-early early)
-        ∙ ((λ i. slice_get (hello_of (left.rest.settings i) (end.hello i)) ((end.said ∙ same early) i)) ∙ front (outward h).pushed early)
+        ∙ ((λ i. slice_get (hello_of (left.rest.settings i) (end.hello i)) ((end.said ∙ same early) i))
+        ∙ sym (due-hello h.settings (outward h) (outward h).pushed early))
     | inr late ↦
         let index : (outward h).pushed ≡ 3 + items_sent (outward h) = omega arith in
-        owed-late late ∙ (sym (frame-at 0 (items_sent (outward h)) (outward h).stream ∙ ap (λ m. option_map (frame_of m) (slice_get (outward h).stream (items_sent (outward h)))) (omega arith)) ∙ sym (ap (slice_get (frames_due h.settings (outward h))) index ∙ behind (items_sent (outward h))))
+        owed-late late ∙ sym (ap (slice_get (frames_due h.settings (outward h))) index ∙ due-at h.settings (outward h) (items_sent (outward h)))
   ]
     where
       same : (outward h).pushed < 3 → min (outward h).pushed 3 ≡ (outward h).pushed
       same early = omega arith
 
-      front : (n : ℕ) → n < 3 → slice_get (hello_of h.settings (outward h).hello) n ≡ slice_get (frames_due h.settings (outward h)) n
-      front zero early = refl
-      front (suc zero) early = refl
-      front (suc (suc zero)) early = refl
-      front (suc (suc (suc n))) early = absurd (omega arith)
-
-      behind : (n : ℕ) → slice_get (frames_due h.settings (outward h)) (3 + n) ≡ slice_get (frames_of (outward h).stream) n
-      behind n = let index : 3 + n ≡ suc (suc (suc n)) = omega arith in ap (slice_get (frames_due h.settings (outward h))) index
-
   -- whether nothing is owed
-  pub none-owed : slice_get (frames_due h.settings (outward h)) (outward h).pushed ≡ None → nat_le (length (frames_due h.settings (outward h))) (outward h).pushed ≡ true
+  pub none-owed : slice_get (frames_due h.settings (outward h)) (outward h).pushed ≡ None
+      → nat_le (length (frames_due h.settings (outward h))) (outward h).pushed ≡ true
   none-owed none = elim (cases_lt (outward h).pushed (length (frames_due h.settings (outward h)))) [
     | inl within ↦ absurd (let there = get-there (frames_due h.settings (outward h)) (outward h).pushed within in let at = there.1 in cc)
     | inr past ↦ le-leb (length (frames_due h.settings (outward h))) (outward h).pushed past
   ]
 
-  pub some-owed : (packet : Packet) → slice_get (frames_due h.settings (outward h)) (outward h).pushed ≡ Some packet → nat_le (length (frames_due h.settings (outward h))) (outward h).pushed ≡ false
-  some-owed packet at = lt-leb (length (frames_due h.settings (outward h))) (outward h).pushed (slice_get_within (frames_due h.settings (outward h)) (outward h).pushed packet at)
+  pub some-owed : (packet : Packet) → slice_get (frames_due h.settings (outward h)) (outward h).pushed ≡ Some packet
+      → nat_le (length (frames_due h.settings (outward h))) (outward h).pushed ≡ false
+  some-owed packet at = lt-leb (length (frames_due h.settings (outward h))) (outward h).pushed
+      (slice_get_within (frames_due h.settings (outward h)) (outward h).pushed packet at)
 
 -- A frame is pushed that no write sees.
 module _ (s : PrimaryState) (h : PrimaryHistory) (e f : EndState) (left : Leaves s h) (homes : HasHomes h) (end : LeavesEnd e (outward h)) (is : s.end ≡ Some e)
-    (seen : (i : ℕ) (a : Accepted) → slice_get h.writes i ≡ Some a → logged_of (with_outward pushing h) a ≡ logged_of h a) (pushed : LeavesEnd f (pushing (outward h)))
+    (seen : (i : ℕ) (a : Accepted) → slice_get h.writes i ≡ Some a → logged_of (with_outward pushing h) a ≡ logged_of h a)
+    (pushed : LeavesEnd f (pushing (outward h)))
     (on : epoch_is_over h ≡ false) (rests : resync_is_over h ≡ false) where
   out : outward (with_outward pushing h) ≡ pushing (outward h)
   out = outward-of pushing h (with_outward pushing h) refl end.stands
@@ -135,21 +130,35 @@ module _ (s : PrimaryState) (h : PrimaryHistory) (e f : EndState) (left : Leaves
   confirmed-same : (a : Accepted) → is_confirmed (with_outward pushing h) a ≡ is_confirmed h a
   confirmed-same a = go a.home
     where
-      go : (v : Option (ℕ × ℕ)) → elim v as (λ _. Bool) [ None ↦ false | Some home ↦ elim (slice_get (change_last pushing h.connections) home.0) as (λ _. Bool) [ None ↦ false | Some c ↦ barrier_acknowledged c (epoch_of c.stream home.1) ] ]
-          ≡ elim v as (λ _. Bool) [ None ↦ false | Some home ↦ elim (slice_get h.connections home.0) as (λ _. Bool) [ None ↦ false | Some c ↦ barrier_acknowledged c (epoch_of c.stream home.1) ] ]
+      go : (v : Option StreamPosition) → elim v as (λ _. Bool) [
+        | None ↦ false
+        | Some home ↦ elim (slice_get (change_last pushing h.connections) home.index) as
+            (λ _. Bool) [ None ↦ false | Some c ↦ barrier_acknowledged c (epoch_of c.stream home.place) ]
+      ]
+          ≡ elim v as (λ _. Bool) [
+            | None ↦ false
+            | Some home ↦ elim (slice_get h.connections home.index) as
+                (λ _. Bool) [ None ↦ false | Some c ↦ barrier_acknowledged c (epoch_of c.stream home.place) ]
+          ]
       go None = refl
-      go (Some home) = look (λ v. elim v as (λ _. Bool) [ None ↦ false | Some c ↦ barrier_acknowledged c (epoch_of c.stream home.1) ]) pushing (no_outward h.tuple) h.connections home.0 refl
+      go (Some home) = look (λ v. elim v as (λ _. Bool) [ None ↦ false | Some c ↦ barrier_acknowledged c (epoch_of c.stream home.place) ]) pushing
+          (no_outward h.tuple) h.connections home.index refl
 
   alone-same : (a : Accepted) → is_alone (with_outward pushing h) a ≡ is_alone h a
   alone-same a = go a.home
     where
-      go : (v : Option (ℕ × ℕ)) → elim v as (λ _. Bool) [ None ↦ true | Some home ↦ elim (slice_get (change_last pushing h.connections) home.0) as (λ _. Bool) [ None ↦ true | Some c ↦ c.closed ] ]
-          ≡ elim v as (λ _. Bool) [ None ↦ true | Some home ↦ elim (slice_get h.connections home.0) as (λ _. Bool) [ None ↦ true | Some c ↦ c.closed ] ]
+      go : (v : Option StreamPosition) → elim v as (λ _. Bool) [
+        | None ↦ true
+        | Some home ↦ elim (slice_get (change_last pushing h.connections) home.index) as
+            (λ _. Bool) [ None ↦ true | Some c ↦ c.closed ]
+      ]
+          ≡ elim v as (λ _. Bool) [ None ↦ true | Some home ↦ elim (slice_get h.connections home.index) as (λ _. Bool) [ None ↦ true | Some c ↦ c.closed ] ]
       go None = refl
-      go (Some home) = look (λ v. elim v as (λ _. Bool) [ None ↦ true | Some c ↦ c.closed ]) pushing (no_outward h.tuple) h.connections home.0 refl
+      go (Some home) = look (λ v. elim v as (λ _. Bool) [ None ↦ true | Some c ↦ c.closed ]) pushing (no_outward h.tuple) h.connections home.index refl
 
   unreleased-same : unreleased (with_outward pushing h) ≡ unreleased h
-  unreleased-same = filter-at (λ a. not (is_released (with_outward pushing h) a)) (λ a. not (is_released h a)) h.writes (λ i a at. λ j. not (not (is_waiting a.outcome) && (confirmed-same a j || alone-same a j)))
+  unreleased-same = filter-at (λ a. not (is_released (with_outward pushing h) a)) (λ a. not (is_released h a)) h.writes
+      (λ i a at. λ j. not (not (is_waiting a.outcome) && (confirmed-same a j || alone-same a j)))
 
   index-same : last_index (with_outward pushing h).connections ≡ last_index h.connections
   index-same = ap (λ m. m - 1) (length-change pushing h.connections)
@@ -169,7 +178,8 @@ module _ (s : PrimaryState) (h : PrimaryHistory) (e f : EndState) (left : Leaves
         writes =
             left.rest.log.writes
             ∙ sym (ap (map (logged_of (with_outward pushing h))) unreleased-same
-            ∙ map-at (logged_of (with_outward pushing h)) (logged_of h) (unreleased h) (λ i a at. let there = pick-filtered (λ x. not (is_released h x)) h.writes i a at in seen there.0 a there.1));
+            ∙ map-at (logged_of (with_outward pushing h)) (logged_of h) (unreleased h)
+            (λ i a at. let there = pick-filtered (λ x. not (is_released h x)) h.writes i a at in seen there.0 a there.1));
         latest = left.rest.log.latest;
       };
       entries = record { entries = left.rest.entries.entries; receipts = left.rest.entries.receipts };
@@ -177,12 +187,19 @@ module _ (s : PrimaryState) (h : PrimaryHistory) (e f : EndState) (left : Leaves
       held = left.rest.held ∙ sym (λ i. map holding_item (if stands (out i) then under_way (out i) else []) ++ map holding_write (open_writes h));
       activity = subst (LeavesActivity s.activity h.settings.slots) (sym unreleased-same) left.rest.activity;
       end = subst (LeavesEnd f) (sym out) pushed;
-      quiet = λ i a at. left.rest.quiet i a at ∙ (sym (completes-seen h a) ∙ (ap log_completed (sym (seen i a at)) ∙ completes-seen (with_outward pushing h) a));
+      quiet = λ i a at. left.rest.quiet i a at
+          ∙ (sym (completes-seen h a) ∙ (ap log_completed (sym (seen i a at)) ∙ completes-seen (with_outward pushing h) a));
     };
     stream = record {
       max_epoch = left.stream.max_epoch;
-      on = λ so. subst (LeavesEpochs s.log) (sym out) (epochs-same s.log s.log (outward h) (pushing (outward h)) (left.stream.on (sym (ap stands out) ∙ so)) refl (λ epoch. refl) grows refl refl refl refl);
-      here = λ so i a at behind. let place = left.stream.here (sym (ap stands out) ∙ so) i a at behind in (place.0, place.1 ∙ ap (λ m. Some (m, place.0)) (sym index-same));
+      on = λ so. subst (LeavesEpochs s.log) (sym out)
+          (epochs-same s.log s.log (outward h) (pushing (outward h)) (left.stream.on (sym (ap stands out) ∙ so)) refl
+          (λ epoch. refl) grows refl refl refl refl);
+      here = λ so i a at behind. let place = left.stream.here (sym (ap stands out) ∙ so) i a at behind in (
+        place.0,
+        place.1
+            ∙ ap (λ m. let at : StreamPosition = record { index = m; place = place.0 } in Some at) (sym index-same),
+      );
       off = λ none. left.stream.off (sym (ap stands out) ∙ none);
     };
   }
@@ -190,17 +207,19 @@ module _ (s : PrimaryState) (h : PrimaryHistory) (e f : EndState) (left : Leaves
       log_completed : LogWrite → Bool
       log_completed = is_completed
 
-      grows : (asked : Protocol) (place : ℕ) (item : Item) → is_answered_by asked (outward h) place item ≡ true → is_answered_by asked (pushing (outward h)) place item ≡ true
+      grows : (asked : Protocol) (place : ℕ) (item : Item) → is_answered_by asked (outward h) place item ≡ true
+          → is_answered_by asked (pushing (outward h)) place item ≡ true
       grows protocol.A place item sent = let less = ltb-true place ((outward h).pushed - 3) sent in lt-ltb place (suc (outward h).pushed - 3) (omega arith)
       grows protocol.B place item so = so
       grows protocol.C place item so = so
 
   pub pushed-agrees : (name : What) → Agrees reply.Ok (Ok (done_with name), record s { end = Some f }) (step.succeeding name (with_outward pushing h))
   pushed-agrees name =
-      subst (Agrees reply.Ok (Ok (done_with name), record s { end = Some f })) (sym (still (with_outward pushing h) pushed-leaves.rest.quiet (over ∙ on) (ended ∙ rests) name)) (record { reply = refl; leaves = pushed-leaves })
+      subst (Agrees reply.Ok (Ok (done_with name), record s { end = Some f }))
+      (sym (still (with_outward pushing h) pushed-leaves.rest.quiet (over ∙ on) (ended ∙ rests) name)) (record { reply = refl; leaves = pushed-leaves })
     where
       over : epoch_is_over (with_outward pushing h) ≡ epoch_is_over h
-      over = ap (λ (x : Outward). stands x && (list_any (is_settled h x) (items_of_epoch x.stream (last_epoch x.stream)) || nat_le h.settings.max_epoch (epoch_size x.stream (last_epoch x.stream)))) out
+      over = over-same h (with_outward pushing h) (outward h) (pushing (outward h)) refl out refl refl refl refl refl (λ place item. refl)
 
       ended : resync_is_over (with_outward pushing h) ≡ resync_is_over h
-      ended = ap (λ (x : Outward). elim (resync_runs x) as (λ _. Bool) [ false ↦ false | true ↦ (length (marked_blocks h) == 0) && (length (under_way x) == 0) ]) out
+      ended = over-alike h (with_outward pushing h) refl refl (ap resync_runs out) (ap under_way out)

@@ -1,10 +1,13 @@
 -- An item of the stream is pushed: what an end, and what a write, sees of it.
-use Rattle.std.proofs.Common.{ℕ, suc, ◌≡◌, ◌-◌, ◌<◌, ◌≤◌, inl, inr, Bool, true, false, not, length, drop, Option, Some, None, slice_get, refl, sym, ◌∙◌, ap, subst, arith, nat_lt}
+use Rattle.std.proofs.Common.{ℕ, suc, ◌≡◌, ◌-◌, ◌<◌, ◌≤◌, inl, inr, Bool, true, false, not, length, drop, Option, Some, None, slice_get, refl, sym, ◌∙◌, ap}
+use Rattle.std.proofs.Common.{subst, arith, nat_lt}
 use Rattle.std.proofs.lemmas.Bool.{cases_lt, lt-ltb, le-ltb}
+use Rattle.blocks.specs.Positions.{StreamPosition}
 use Rattle.blocks.specs.declared.settings.Protocol.{Protocol}
 use Rattle.blocks.specs.declared.settings.Protocol.TheVariants as protocol
 use Rattle.model.specs.Stream.{WriteItem}
-use Rattle.model.specs.Primary.{Accepted, Outward, PrimaryHistory, no_outward, outward, change_last, with_outward, items_sent, is_answered_by, is_answered, is_alone}
+use Rattle.model.specs.Primary.{Accepted, Outward, PrimaryHistory, no_outward, outward, change_last, with_outward, items_sent, is_answered_by, is_answered}
+use Rattle.model.specs.Primary.{is_alone}
 use Rattle.laws.proofs.Lists.Last.{get-change}
 use Rattle.laws.proofs.Primary.Homes.{HasHomes}
 use Rattle.laws.proofs.Primary.Moves.{pushing}
@@ -39,7 +42,8 @@ hello-pushed e c early l = record {
 }
 
 -- an item of the stream
-pub item-pushed : (e : EndState) (c : Outward) → 3 ≤ c.pushed → (c.pushed - 3) < length c.stream → LeavesEnd e c → LeavesEnd (record e { unsent = drop 1 e.unsent }) (pushing c)
+pub item-pushed : (e : EndState) (c : Outward) → 3 ≤ c.pushed → (c.pushed - 3) < length c.stream → LeavesEnd e c
+    → LeavesEnd (record e { unsent = drop 1 e.unsent }) (pushing c)
 item-pushed e c late within l = record {
   stands = l.stands;
   plain = l.plain;
@@ -49,7 +53,8 @@ item-pushed e c late within l = record {
   heard = l.heard;
   said = let was = l.said in omega arith;
   pushed = omega arith;
-  unsent = let next_is : suc (c.pushed - 3) ≡ suc c.pushed - 3 = omega arith in ap (drop 1) l.unsent ∙ (drop-more (c.pushed - 3) c.stream ∙ ap (λ n. drop n c.stream) next_is);
+  unsent = let next_is : suc (c.pushed - 3) ≡ suc c.pushed - 3 = omega arith in ap (drop 1) l.unsent
+      ∙ (drop-more (c.pushed - 3) c.stream ∙ ap (λ n. drop n c.stream) next_is);
   resync = l.resync;
   under_way = way-pushed e.under_way c l.under_way;
   unasked = l.unasked;
@@ -57,51 +62,81 @@ item-pushed e c late within l = record {
 }
 
 -- What a write sees of its connection, which is the same but for the last one.
-pub looked-at : {X : Type 0} (see : Option Outward → X) (h : PrimaryHistory) (k : ℕ) (c : Outward) → slice_get h.connections k ≡ Some c → (c ≡ outward h → see (Some (pushing c)) ≡ see (Some c)) → see (slice_get (change_last pushing h.connections) k) ≡ see (slice_get h.connections k)
+pub looked-at : {X : Type 0} (see : Option Outward → X) (h : PrimaryHistory) (k : ℕ) (c : Outward) → slice_get h.connections k ≡ Some c
+    → (c ≡ outward h → see (Some (pushing c)) ≡ see (Some c)) → see (slice_get (change_last pushing h.connections) k) ≡ see (slice_get h.connections k)
 looked-at see h k c at same = elim (get-change pushing (no_outward h.tuple) h.connections k c at) [
   | inl stays ↦ ap see (stays ∙ sym at)
   | inr changed ↦ ap see changed.0 ∙ (same changed.1 ∙ ap see (sym at))
 ]
 
 -- the logged write, by what changes in it
-pub logged-with : (h g : PrimaryHistory) (a : Accepted) → is_alone g a ≡ is_alone h a → (sent answered : Bool) → is_sent g a ≡ sent → is_answered g a ≡ answered → logged_of g a ≡ record (logged_of h a) { sent = sent; answered = answered }
+pub logged-with : (h g : PrimaryHistory) (a : Accepted) → is_alone g a ≡ is_alone h a → (sent answered : Bool) → is_sent g a ≡ sent → is_answered g a ≡ answered
+    → logged_of g a ≡ record (logged_of h a) { sent = sent; answered = answered }
 logged-with h g a alone sent answered sent_is answered_is = λ j. record (logged_of h a) { linked = not (alone j); sent = sent_is j; answered = answered_is j }
 
 pub alone-pushed : (h : PrimaryHistory) (a : Accepted) → is_alone (with_outward pushing h) a ≡ is_alone h a
 alone-pushed h a = go a.home
   where
-    go : (v : Option (ℕ × ℕ)) → elim v as (λ _. Bool) [ None ↦ true | Some home ↦ elim (slice_get (change_last pushing h.connections) home.0) as (λ _. Bool) [ None ↦ true | Some c ↦ c.closed ] ]
-        ≡ elim v as (λ _. Bool) [ None ↦ true | Some home ↦ elim (slice_get h.connections home.0) as (λ _. Bool) [ None ↦ true | Some c ↦ c.closed ] ]
+    go : (v : Option StreamPosition) → elim v as (λ _. Bool) [
+      | None ↦ true
+      | Some home ↦ elim (slice_get (change_last pushing h.connections) home.index) as
+          (λ _. Bool) [ None ↦ true | Some c ↦ c.closed ]
+    ]
+        ≡ elim v as (λ _. Bool) [ None ↦ true | Some home ↦ elim (slice_get h.connections home.index) as (λ _. Bool) [ None ↦ true | Some c ↦ c.closed ] ]
     go None = refl
-    go (Some home) = look (λ v. elim v as (λ _. Bool) [ None ↦ true | Some c ↦ c.closed ]) pushing (no_outward h.tuple) h.connections home.0 refl
+    go (Some home) = look (λ v. elim v as (λ _. Bool) [ None ↦ true | Some c ↦ c.closed ]) pushing (no_outward h.tuple) h.connections home.index refl
 
 -- A write whose frame is not the one that is pushed sees nothing of it.
 pub unseen : (h : PrimaryHistory) → HasHomes h → (i : ℕ) (a : Accepted) → slice_get h.writes i ≡ Some a
-    → ((place : ℕ) → slice_get (outward h).stream place ≡ Some (WriteItem a.write) → nat_lt place (items_sent (pushing (outward h))) ≡ nat_lt place (items_sent (outward h))) → logged_of (with_outward pushing h) a ≡ logged_of h a
-unseen h homes i a at same = logged-with h (with_outward pushing h) a (alone-pushed h a) (is_sent h a) (is_answered h a) (sent a.home refl) (answered a.home refl)
+    → ((place : ℕ) → slice_get (outward h).stream place ≡ Some (WriteItem a.write)
+    → nat_lt place (items_sent (pushing (outward h))) ≡ nat_lt place (items_sent (outward h))) → logged_of (with_outward pushing h) a ≡ logged_of h a
+unseen h homes i a at same = logged-with h (with_outward pushing h) a (alone-pushed h a) (is_sent h a) (is_answered h a) (sent a.home refl)
+    (answered a.home refl)
   where
-    sent : (v : Option (ℕ × ℕ)) → a.home ≡ v → elim v as (λ _. Bool) [ None ↦ false | Some home ↦ elim (slice_get (change_last pushing h.connections) home.0) as (λ _. Bool) [ None ↦ false | Some c ↦ nat_lt home.1 (items_sent c) ] ]
-        ≡ elim v as (λ _. Bool) [ None ↦ false | Some home ↦ elim (slice_get h.connections home.0) as (λ _. Bool) [ None ↦ false | Some c ↦ nat_lt home.1 (items_sent c) ] ]
+    sent : (v : Option StreamPosition) → a.home ≡ v
+        → elim v as (λ _. Bool) [
+          | None ↦ false
+          | Some home ↦ elim (slice_get (change_last pushing h.connections) home.index) as
+              (λ _. Bool) [ None ↦ false | Some c ↦ nat_lt home.place (items_sent c) ]
+        ]
+        ≡ elim v as (λ _. Bool) [
+          | None ↦ false
+          | Some home ↦ elim (slice_get h.connections home.index) as
+              (λ _. Bool) [ None ↦ false | Some c ↦ nat_lt home.place (items_sent c) ]
+        ]
     sent None is = refl
     sent (Some home) is =
-        let was = homes.housed i home.0 home.1 a at is in
-        looked-at (λ v. elim v as (λ _. Bool) [ None ↦ false | Some c ↦ nat_lt home.1 (items_sent c) ]) h home.0 was.0 was.1
-        (λ last. ap (λ (c : Outward). nat_lt home.1 (items_sent (pushing c))) last ∙ (same home.1 (subst (λ (c : Outward). slice_get c.stream home.1 ≡ Some (WriteItem a.write)) last was.2) ∙ ap (λ (c : Outward). nat_lt home.1 (items_sent c)) (sym last)))
+        let was = homes.housed i home.index home.place a at is in
+        looked-at (λ v. elim v as (λ _. Bool) [ None ↦ false | Some c ↦ nat_lt home.place (items_sent c) ]) h home.index was.0 was.1
+        (λ last. ap (λ (c : Outward). nat_lt home.place (items_sent (pushing c))) last
+        ∙ (same home.place (subst (λ (c : Outward). slice_get c.stream home.place ≡ Some (WriteItem a.write)) last was.2)
+        ∙ ap (λ (c : Outward). nat_lt home.place (items_sent c)) (sym last)))
 
-    by-protocol : (asked : Protocol) (place : ℕ) → nat_lt place (items_sent (pushing (outward h))) ≡ nat_lt place (items_sent (outward h)) → is_answered_by asked (pushing (outward h)) place (WriteItem a.write) ≡ is_answered_by asked (outward h) place (WriteItem a.write)
+    by-protocol : (asked : Protocol) (place : ℕ) → nat_lt place (items_sent (pushing (outward h))) ≡ nat_lt place (items_sent (outward h))
+        → is_answered_by asked (pushing (outward h)) place (WriteItem a.write) ≡ is_answered_by asked (outward h) place (WriteItem a.write)
     by-protocol protocol.A place so = so
     by-protocol protocol.B place so = refl
     by-protocol protocol.C place so = refl
 
-    answered : (v : Option (ℕ × ℕ)) → a.home ≡ v
-        → elim v as (λ _. Bool) [ None ↦ false | Some home ↦ elim (slice_get (change_last pushing h.connections) home.0) as (λ _. Bool) [ None ↦ false | Some c ↦ is_answered_by h.settings.protocol c home.1 (WriteItem a.write) ] ]
-        ≡ elim v as (λ _. Bool) [ None ↦ false | Some home ↦ elim (slice_get h.connections home.0) as (λ _. Bool) [ None ↦ false | Some c ↦ is_answered_by h.settings.protocol c home.1 (WriteItem a.write) ] ]
+    answered : (v : Option StreamPosition) → a.home ≡ v
+        → elim v as (λ _. Bool) [
+          | None ↦ false
+          | Some home ↦ elim (slice_get (change_last pushing h.connections) home.index) as
+              (λ _. Bool) [ None ↦ false | Some c ↦ is_answered_by h.settings.protocol c home.place (WriteItem a.write) ]
+        ]
+        ≡ elim v as (λ _. Bool) [
+          | None ↦ false
+          | Some home ↦ elim (slice_get h.connections home.index) as
+              (λ _. Bool) [ None ↦ false | Some c ↦ is_answered_by h.settings.protocol c home.place (WriteItem a.write) ]
+        ]
     answered None is = refl
     answered (Some home) is =
-        let was = homes.housed i home.0 home.1 a at is in
-        looked-at (λ v. elim v as (λ _. Bool) [ None ↦ false | Some c ↦ is_answered_by h.settings.protocol c home.1 (WriteItem a.write) ]) h home.0 was.0 was.1
-        (λ last. ap (λ (c : Outward). is_answered_by h.settings.protocol (pushing c) home.1 (WriteItem a.write)) last
-        ∙ (by-protocol h.settings.protocol home.1 (same home.1 (subst (λ (c : Outward). slice_get c.stream home.1 ≡ Some (WriteItem a.write)) last was.2)) ∙ ap (λ (c : Outward). is_answered_by h.settings.protocol c home.1 (WriteItem a.write)) (sym last)))
+        let was = homes.housed i home.index home.place a at is in
+        looked-at (λ v. elim v as (λ _. Bool) [ None ↦ false | Some c ↦ is_answered_by h.settings.protocol c home.place (WriteItem a.write) ])
+        h home.index was.0 was.1 (λ last. ap (λ (c : Outward). is_answered_by h.settings.protocol (pushing c) home.place (WriteItem a.write)) last
+        ∙ (by-protocol h.settings.protocol home.place (same home.place (subst (λ (c : Outward). slice_get c.stream home.place
+        ≡ Some (WriteItem a.write)) last was.2))
+        ∙ ap (λ (c : Outward). is_answered_by h.settings.protocol c home.place (WriteItem a.write)) (sym last)))
 
 -- Another place than the one that is pushed.
 pub other-place : (c : Outward) (place : ℕ) → (place ≡ items_sent c → ⊥) → nat_lt place (items_sent (pushing c)) ≡ nat_lt place (items_sent c)

@@ -1,5 +1,6 @@
 -- A write is accepted without a connection: what that leaves, before what follows.
-use Rattle.std.proofs.Common.{ℕ, suc, ◌≡◌, ◌+◌, ◌<◌, true, false, not, ◌&&◌, List, [], ◌∷◌, ◌++◌, length, map, Some, None, slice_get, refl, sym, ◌∙◌, ap, subst, arith}
+use Rattle.std.proofs.Common.{ℕ, suc, ◌≡◌, ◌+◌, ◌<◌, true, false, not, ◌&&◌, List, [], ◌∷◌, ◌++◌, length, map, Some, None, slice_get, refl, sym, ◌∙◌, ap, subst}
+use Rattle.std.proofs.Common.{arith}
 use Rattle.std.specs.Prelude.{option_map, if◌then◌else◌}
 use Rattle.std.proofs.lemmas.Bool.{both_ways}
 use Rattle.std.proofs.lemmas.List.{length-append, map-append}
@@ -17,6 +18,7 @@ use Rattle.transferlog.specs.declared.local.Local.TheVariants as local
 use Rattle.overlap.specs.Holdings.{Holding, holding, holding_too}
 use Rattle.activitylog.specs.Activity.{can_begin, begun}
 use Rattle.bitmap.specs.Marks as bits
+use Rattle.laws.proofs.Rules.EpochEnds.{TakesWrites, down-on}
 use Rattle.laws.proofs.Primary.Homes.{HasHomes}
 use Rattle.laws.proofs.Releases.InOrderMoves.{Ordered, OrderedAfter, in-order-kept}
 use Rattle.laws.proofs.Primary.Moves.{MaySubmit}
@@ -29,10 +31,12 @@ use Rattle.primary_steps.proofs.Submit.NewWrite.{blocks-whole, concat-whole, lat
 use Rattle.primary_steps.proofs.Submit.Extents.{begins-activity}
 use Rattle.primary_steps.proofs.Common.Following.{IsDue, parted}
 use Rattle.primary_steps.proofs.Common.Marks.{unmarking-none, marking-in}
-use Rattle.primary_steps.proofs.Common.NothingFollows.{quiet-none, down-on}
+use Rattle.primary_steps.proofs.Common.NothingFollows.{quiet-none}
 
-module _ (settings : Settings) (bound : 0 < settings.max_epoch) (s : PrimaryState) (h : PrimaryHistory) (first : ℕ) (bytes : List ℕ) (left : Leaves s h) (ordered : Ordered settings h)
-    (may : MaySubmit h first (whole_blocks bytes)) (range : HasRange h.settings first (length (whole_blocks bytes))) (begins : can_begin (extent_of first) s.activity ≡ true) (down : stands (outward h) ≡ false) where
+module _ (settings : Settings) (bound : TakesWrites settings) (s : PrimaryState) (h : PrimaryHistory) (first : ℕ) (bytes : List ℕ) (left : Leaves s h)
+    (ordered : Ordered settings h)
+    (may : MaySubmit h first (whole_blocks bytes)) (range : HasRange h.settings first (length (whole_blocks bytes)))
+    (begins : can_begin (extent_of first) s.activity ≡ true) (down : stands (outward h) ≡ false) where
   homes : HasHomes h
   homes = ordered.1.1.0.0
 
@@ -47,7 +51,11 @@ module _ (settings : Settings) (bound : 0 < settings.max_epoch) (s : PrimaryStat
 
   pub submitted-is : submitted h first (whole_blocks bytes) ≡ later
   submitted-is = ap (λ b. elim b as (λ _. PrimaryHistory) [
-    | true ↦ appending (WriteItem write) (record h { writes = h.writes ++ accepted_at h first (whole_blocks bytes) (Some (last_index h.connections, length (outward h).stream)) ∷ [] })
+    | true ↦ appending (WriteItem write)
+        (record h {
+          writes =
+              h.writes ++ accepted_at h first (whole_blocks bytes) (Some (record { index = last_index h.connections; place = length (outward h).stream })) ∷ [];
+        })
     | false ↦ later
   ]) down
 
@@ -68,8 +76,13 @@ module _ (settings : Settings) (bound : 0 < settings.max_epoch) (s : PrimaryStat
 
   pub accepting-is : log.accepting first (length (whole_blocks bytes)) bytes s.log ≡ (record { number = s.log.accepted + 1; place = None; barrier = None }, l1)
   accepting-is = ap (λ v. (
-    record { number = s.log.accepted + 1; place = option_map (λ x. x.1) (home_in v (s.log.accepted + 1) s.log.epochs).0; barrier = (home_in v (s.log.accepted + 1) s.log.epochs).1.0 },
-    log.with_write (accepted_write first (length (whole_blocks bytes)) bytes (home_in v (s.log.accepted + 1) s.log.epochs).0 s.log) (home_in v (s.log.accepted + 1) s.log.epochs).1.1 s.log,
+    record {
+      number = s.log.accepted + 1;
+      place = option_map (λ x. x.place) (home_in v (s.log.accepted + 1) s.log.epochs).0;
+      barrier = (home_in v (s.log.accepted + 1) s.log.epochs).1.0;
+    },
+    log.with_write (accepted_write first (length (whole_blocks bytes)) bytes (home_in v (s.log.accepted + 1) s.log.epochs).0 s.log)
+        (home_in v (s.log.accepted + 1) s.log.epochs).1.1 s.log,
   )) connection-is
 
   new-logged : accepted_write first (length (whole_blocks bytes)) bytes None s.log ≡ logged_of later new
@@ -95,10 +108,12 @@ module _ (settings : Settings) (bound : 0 < settings.max_epoch) (s : PrimaryStat
     backlog = left.rest.log.backlog;
     accepted = let all = left.rest.log.accepted in let size = length-append h.writes (new ∷ []) in omega arith;
     connection = left.rest.log.connection;
-    writes = (λ i. left.rest.log.writes i ++ new-logged i ∷ []) ∙ (sym (map-append (logged_of later) (unreleased h) (new ∷ [])) ∙ ap (map (logged_of later)) (sym unreleased-is));
+    writes = (λ i. left.rest.log.writes i ++ new-logged i ∷ [])
+        ∙ (sym (map-append (logged_of later) (unreleased h) (new ∷ [])) ∙ ap (map (logged_of later)) (sym unreleased-is));
     latest =
         ap (with_latest (s.log.accepted + 1) first (length (whole_blocks bytes))) left.rest.log.latest
-        ∙ latest-more h.settings.blocks h.writes new (s.log.accepted + 1) first (length (whole_blocks bytes)) (let all = left.rest.log.accepted in omega arith) refl refl range.inside;
+        ∙ latest-more h.settings.blocks h.writes new (s.log.accepted + 1) first (length (whole_blocks bytes)) (let all = left.rest.log.accepted in omega arith)
+        refl refl range.inside;
   }
 
   quiet : IsQuiet later
@@ -106,7 +121,8 @@ module _ (settings : Settings) (bound : 0 < settings.max_epoch) (s : PrimaryStat
 
   held-left : holding_too (holding (s.log.accepted + 1) first (length (whole_blocks bytes))) s.held ≡ held_of later
   held-left =
-      ap (holding_too (holding (s.log.accepted + 1) first (length (whole_blocks bytes)))) (left.rest.held ∙ ap (λ b. map holding_item (if b then under_way (outward h) else []) ++ map holding_write (open_writes h)) down)
+      ap (holding_too (holding (s.log.accepted + 1) first (length (whole_blocks bytes)))) (left.rest.held
+      ∙ ap (λ b. map holding_item (if b then under_way (outward h) else []) ++ map holding_write (open_writes h)) down)
       ∙ (holding-end (holding (s.log.accepted + 1) first (length (whole_blocks bytes))) (map holding_write (open_writes h)) lower
       ∙ (opens ∙ sym (ap (λ b. map holding_item (if b then under_way (outward h) else []) ++ map holding_write (open_writes later)) down)))
     where
@@ -118,12 +134,17 @@ module _ (settings : Settings) (bound : 0 < settings.max_epoch) (s : PrimaryStat
 
       opens : map holding_write (open_writes h) ++ holding (s.log.accepted + 1) first (length (whole_blocks bytes)) ∷ [] ≡ map holding_write (open_writes later)
       opens =
-          (λ i. map holding_write (open_writes h) ++ holding ((let size = all in let is : s.log.accepted + 1 ≡ suc (length h.writes) = omega arith in is) i) first (length (whole_blocks bytes)) ∷ [])
+          (λ i. map holding_write (open_writes h) ++ holding ((let size = all in let is : s.log.accepted + 1 ≡ suc (length h.writes) = omega arith in is) i)
+          first (length (whole_blocks bytes)) ∷ [])
           ∙ (sym (map-append holding_write (open_writes h) (new ∷ []))
           ∙ ap (map holding_write) (sym (filter-one (is_open h) h.writes new true (ap (λ b. not b && true) fresh))))
 
   still-so : parted (with_completions later) ≡ with_completions later
-  still-so = ap (λ b. elim b as (λ _. PrimaryHistory) [ true ↦ appending (BarrierItem (last_epoch (outward (with_completions later)).stream)) (with_completions later) | false ↦ with_completions later ]) (down-on (with_completions later) down)
+  still-so = ap (λ b. elim b as (λ _. PrimaryHistory) [
+    | true ↦ appending (BarrierItem (last_epoch (outward (with_completions later)).stream))
+        (with_completions later)
+    | false ↦ with_completions later
+  ]) (down-on (with_completions later) down)
 
   -- All is there for what follows.
   pub alone-due : IsDue (record s {
@@ -156,6 +177,7 @@ module _ (settings : Settings) (bound : 0 < settings.max_epoch) (s : PrimaryStat
         ap (λ m. unmarking [] l1.latest (bits.marking (is_between first (length (whole_blocks bytes))) m)) left.rest.marks
         ∙ (ap (unmarking [] l1.latest) (marking-in h.settings.blocks (is_between first (length (whole_blocks bytes))) h.marks)
         ∙ unmarking-none [] l1.latest h.settings.blocks (marking write h.marks) (λ n r at. absurd (cc)));
-    activity = subst (LeavesActivity (begun (extent_of first) s.activity) h.settings.slots) (sym unreleased-is) (begins-activity s.activity h.settings.slots (unreleased h) new left.rest.activity begins);
+    activity = subst (LeavesActivity (begun (extent_of first) s.activity) h.settings.slots) (sym unreleased-is)
+        (begins-activity s.activity h.settings.slots (unreleased h) new left.rest.activity begins);
     end = left.rest.end;
   }

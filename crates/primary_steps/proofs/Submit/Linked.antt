@@ -1,20 +1,21 @@
 -- A write is accepted over a stream that stands: what that leaves, before what follows.
-use Rattle.std.proofs.Common.{ℕ, suc, ◌≡◌, ◌+◌, ◌-◌, ◌<◌, ◌≤◌, inl, inr, Bool, true, false, not, ◌&&◌, ◌||◌, List, [], ◌∷◌, ◌++◌, length, map, Option, Some, None, slice_get, refl, sym, ◌∙◌, ap, subst, arith, nat_lt, nat_le, ◌==◌}
+use Rattle.std.proofs.Common.{ℕ, suc, ◌≡◌, ◌+◌, ◌-◌, ◌<◌, ◌≤◌, inl, inr, Bool, true, false, not, ◌&&◌, List, [], ◌∷◌, ◌++◌, length, map, Option, Some}
+use Rattle.std.proofs.Common.{None, slice_get, refl, sym, ◌∙◌, ap, subst, arith, nat_lt, nat_le, ◌==◌}
 use Rattle.std.specs.Prelude.{option_map, if◌then◌else◌}
 use Rattle.std.specs.List.{list_any}
-use Rattle.std.proofs.Math.Bool.{and-false, or-false}
-use Rattle.std.proofs.lemmas.Bool.{both_ways, and_parts, eqb-true, eq-eqb, le-ltb, false_from_ne_true}
+use Rattle.std.proofs.lemmas.Bool.{both_ways, le-ltb}
 use Rattle.std.proofs.lemmas.Bool.Decides.{nat_tests}
 use Rattle.std.proofs.lemmas.List.{length-append, map-append, append-nil, append_assoc}
-use Rattle.std.proofs.lemmas.List.Folds.{list_any-append}
 use Rattle.std.proofs.lemmas.Option.{slice_get_within}
+use Rattle.blocks.specs.Positions.{StreamPosition}
 use Rattle.blocks.specs.declared.settings.Settings.{Settings}
 use Rattle.blocks.specs.declared.settings.Protocol.{Protocol}
 use Rattle.blocks.specs.declared.settings.Protocol.TheVariants as protocol
 use Rattle.model.specs.Contents.{Write, extent_of}
-use Rattle.model.specs.Stream.{Item, WriteItem, BarrierItem, is_write, number_of, last_epoch, epoch_size, items_of_epoch}
-use Rattle.model.specs.Primary.{Accepted, Completion, Outward, PrimaryHistory, no_outward, outward, last_index, stands, items_sent, is_answered_by, is_answered, is_alone, is_on_disk, is_failed, is_completed, is_open, open_writes, is_released, unreleased, is_resync, was_resynced, under_way}
-use Rattle.model.specs.PrimarySteps.{completion_of, newly_completed, with_completions, is_settled, epoch_is_over, appending, submission, submitted}
+use Rattle.model.specs.Stream.{Item, WriteItem, BarrierItem, number_of, last_epoch, epoch_size, items_of_epoch}
+use Rattle.model.specs.Primary.{Accepted, Completion, Outward, PrimaryHistory, no_outward, outward, last_index, stands, items_sent, is_answered_by, is_answered}
+use Rattle.model.specs.Primary.{is_alone, is_failed, is_completed, is_open, open_writes, is_released, unreleased, under_way}
+use Rattle.model.specs.PrimarySteps.{completion_of, newly_completed, with_completions, epoch_is_over, appending, submission, submitted}
 use Rattle.epochs.specs.Epochs.{EpochsState, with_write, with_resync, write_placed, ended_if, placed}
 use Rattle.transferlog.specs.Log as log
 use Rattle.transferlog.specs.Log.{LogState, home_in, accepted_write, with_latest}
@@ -23,35 +24,40 @@ use Rattle.overlap.specs.Holdings.{Holding, holding, holding_too}
 use Rattle.activitylog.specs.Activity.{can_begin, begun}
 use Rattle.model.specs.Marks.{marking}
 use Rattle.transferlog.specs.declared.local.Local.TheVariants as local
+use Rattle.laws.proofs.Rules.Completions.{completes-same}
+use Rattle.laws.proofs.Primary.LastEpoch.{unsettled-more}
+use Rattle.laws.proofs.Rules.EpochEnds.{TakesWrites, IsUnsettled, GoesOn, goes-on, over-full}
 use Rattle.laws.proofs.Lists.Elements.{get-more, get-split}
 use Rattle.laws.proofs.Lists.Last.{length-change, get-last-changed}
-use Rattle.laws.proofs.Lists.Picks.{pick-any, pick-image}
+use Rattle.laws.proofs.Lists.Picks.{pick-image}
 use Rattle.laws.proofs.Primary.Ends.{stands-parts}
 use Rattle.laws.proofs.Primary.Homes.{HasHomes, open-at, alone-at}
 use Rattle.laws.proofs.Releases.InOrderMoves.{Ordered, OrderedAfter, in-order-kept}
-use Rattle.laws.proofs.Primary.LastEpoch.{IsEndOpen, end-open}
 use Rattle.laws.proofs.Primary.LawfulMoves.{last-changed}
-use Rattle.laws.proofs.Streams.Lawful.{barrier-empties, epoch-items-grow}
+use Rattle.laws.proofs.Streams.Lawful.{barrier-empties}
 use Rattle.laws.proofs.Primary.Moves.{MaySubmit}
 use Rattle.laws.proofs.Tracked.Kept.{fresh-number}
 use Rattle.primary_steps.specs.Core as core
-use Rattle.primary_steps.specs.Core.{Fate, Failed, Open, Entry, EndState, PrimaryState, unmarking}
+use Rattle.primary_steps.specs.Core.{Open, EndState, PrimaryState, unmarking}
 use Rattle.primary_steps.specs.Transitions.{whole_blocks}
-use Rattle.primary_steps.specs.Leaves.{is_sent, logged_of, holding_item, holding_write, held_of, LeavesLog, LeavesStream, LeavesEpochs, LeavesActivity, LeavesEnd, EndLeft, IsQuiet, Leaves}
+use Rattle.primary_steps.specs.Leaves.{is_sent, logged_of, holding_item, holding_write, held_of, LeavesLog, LeavesStream, LeavesEpochs, LeavesActivity}
+use Rattle.primary_steps.specs.Leaves.{LeavesEnd, EndLeft, IsQuiet, Leaves}
 use Rattle.primary_steps.proofs.Submit.NewWrite.{blocks-whole, concat-whole, latest-more, holding-end, filter-one}
 use Rattle.primary_steps.proofs.Common.Appending.{end-more, under-way-more}
 use Rattle.primary_steps.proofs.Submit.Extents.{begins-activity}
 use Rattle.primary_steps.proofs.Common.Connections.{SeesSame, seen-same, released-same, alone-same, answers-same}
-use Rattle.primary_steps.proofs.Common.Epochs.{epochs-write, epochs-barrier, epochs-same, barriers-more}
-use Rattle.primary_steps.proofs.Common.Filters.{filter-at, map-at, any-at}
+use Rattle.primary_steps.proofs.Common.Epochs.{epochs-write, epochs-barrier, epochs-same}
+use Rattle.primary_steps.proofs.Common.Filters.{filter-at, map-at}
 use Rattle.primary_steps.proofs.Common.Following.{IsDue, parted, barrier_of, runs-more}
 use Rattle.primary_steps.proofs.Common.Marks.{unmarking-none}
 use Rattle.primary_steps.proofs.Common.NothingFollows.{quiet-none}
 use Rattle.primary_steps.proofs.Submit.Entries.{open-lower, numbers-early, HasRange, accepted_at, entries-more, done-more}
 
 -- Over a stream that stands.
-module _ (settings : Settings) (bound : 0 < settings.max_epoch) (s : PrimaryState) (h : PrimaryHistory) (first : ℕ) (bytes : List ℕ) (left : Leaves s h) (ordered : Ordered settings h)
-    (may : MaySubmit h first (whole_blocks bytes)) (range : HasRange h.settings first (length (whole_blocks bytes))) (begins : can_begin (extent_of first) s.activity ≡ true) (on : stands (outward h) ≡ true) where
+module _ (settings : Settings) (bound : TakesWrites settings) (s : PrimaryState) (h : PrimaryHistory) (first : ℕ) (bytes : List ℕ) (left : Leaves s h)
+    (ordered : Ordered settings h)
+    (may : MaySubmit h first (whole_blocks bytes)) (range : HasRange h.settings first (length (whole_blocks bytes)))
+    (begins : can_begin (extent_of first) s.activity ≡ true) (on : stands (outward h) ≡ true) where
   homes : HasHomes h
   homes = ordered.1.1.0.0
 
@@ -62,7 +68,7 @@ module _ (settings : Settings) (bound : 0 < settings.max_epoch) (s : PrimaryStat
   item = WriteItem (submission h first (whole_blocks bytes))
 
   abbrev pub new : Accepted
-  new = accepted_at h first (whole_blocks bytes) (Some (last_index h.connections, length (outward h).stream))
+  new = accepted_at h first (whole_blocks bytes) (Some (record { index = last_index h.connections; place = length (outward h).stream }))
 
   abbrev pub longer : PrimaryHistory
   longer = record h { writes = h.writes ++ new ∷ [] }
@@ -105,7 +111,8 @@ module _ (settings : Settings) (bound : 0 < settings.max_epoch) (s : PrimaryStat
   unreleased-is : unreleased later ≡ unreleased h ++ new ∷ []
   unreleased-is =
       filter-one (λ a. not (is_released later a)) h.writes new true refl
-      ∙ ap (λ (l : List Accepted). l ++ new ∷ []) (filter-at (λ a. not (is_released later a)) (λ a. not (is_released h a)) h.writes (λ i a at. ap not (released-old i a at)))
+      ∙ ap (λ (l : List Accepted). l ++ new ∷ [])
+      (filter-at (λ a. not (is_released later a)) (λ a. not (is_released h a)) h.writes (λ i a at. ap not (released-old i a at)))
 
   there : slice_get h.connections (last_index h.connections) ≡ Some (outward h)
   there = open-at h parts.0
@@ -114,14 +121,19 @@ module _ (settings : Settings) (bound : 0 < settings.max_epoch) (s : PrimaryStat
   there-then = get-last-changed f (no_outward h.tuple) h.connections (outward h) there refl
 
   -- the new write in the log
-  new-logged : (e : EndState) → LeavesEnd e (outward h) → accepted_write first (length (whole_blocks bytes)) bytes (Some (last_index h.connections, length (outward h).stream)) s.log ≡ logged_of later new
+  new-logged : (e : EndState) → LeavesEnd e (outward h)
+      → accepted_write first (length (whole_blocks bytes)) bytes (Some (record {
+        index = last_index h.connections;
+        place =
+            length (outward h).stream;
+      })) s.log ≡ logged_of later new
   new-logged e end = λ i. record {
     number = number_is i;
     first = first;
     count = length (whole_blocks bytes);
     contents = sym (concat-whole bytes range.some) i;
     blocks = sym (blocks-whole bytes range.some) i;
-    home = Some (last_index h.connections, length (outward h).stream);
+    home = Some (record { index = last_index h.connections; place = length (outward h).stream });
     linked = not (sym linked_is i);
     sent = sym sent_is i;
     answered = sym answered_is i;
@@ -132,10 +144,11 @@ module _ (settings : Settings) (bound : 0 < settings.max_epoch) (s : PrimaryStat
       number_is = let all = left.rest.log.accepted in omega arith
 
       linked_is : is_alone later new ≡ false
-      linked_is = alone-at later new (last_index h.connections, length (outward h).stream) (f (outward h)) refl there-then ∙ parts.0
+      linked_is = alone-at later new (record { index = last_index h.connections; place = length (outward h).stream }) (f (outward h)) refl there-then ∙ parts.0
 
       sent_is : is_sent later new ≡ false
-      sent_is = ap (λ (v : Option Outward). elim v as (λ _. Bool) [ None ↦ false | Some c ↦ nat_lt (length (outward h).stream) (items_sent c) ]) there-then ∙ le-ltb (length (outward h).stream) (items_sent (outward h)) end.pushed
+      sent_is = ap (λ (v : Option Outward). elim v as (λ _. Bool) [ None ↦ false | Some c ↦ nat_lt (length (outward h).stream) (items_sent c) ]) there-then
+          ∙ le-ltb (length (outward h).stream) (items_sent (outward h)) end.pushed
 
       by-protocol : (asked : Protocol) → is_answered_by asked (f (outward h)) (length (outward h).stream) item ≡ false
       by-protocol protocol.A = le-ltb (length (outward h).stream) (items_sent (outward h)) end.pushed
@@ -143,7 +156,9 @@ module _ (settings : Settings) (bound : 0 < settings.max_epoch) (s : PrimaryStat
       by-protocol protocol.C = (end.unasked (length (outward h).stream) item (omega arith)).1
 
       answered_is : is_answered later new ≡ false
-      answered_is = ap (λ (v : Option Outward). elim v as (λ _. Bool) [ None ↦ false | Some c ↦ is_answered_by h.settings.protocol c (length (outward h).stream) item ]) there-then ∙ by-protocol h.settings.protocol
+      answered_is = ap (λ (v : Option Outward). elim v as
+          (λ _. Bool) [ None ↦ false | Some c ↦ is_answered_by h.settings.protocol c (length (outward h).stream) item ]) there-then
+          ∙ by-protocol h.settings.protocol
 
   index-then : last_index later.connections ≡ last_index h.connections
   index-then = ap (λ m. m - 1) (length-change f h.connections)
@@ -164,15 +179,28 @@ module _ (settings : Settings) (bound : 0 < settings.max_epoch) (s : PrimaryStat
   placed-there = placed (s.log.accepted + 1) s.log.epochs
 
   abbrev pub l1 : LogState
-  l1 = log.with_write (accepted_write first (length (whole_blocks bytes)) bytes (Some (last_index h.connections, length (outward h).stream)) s.log) (placed (s.log.accepted + 1) s.log.epochs).1.1 s.log
+  l1 = log.with_write (accepted_write first (length (whole_blocks bytes)) bytes (Some (record {
+    index = last_index h.connections;
+    place =
+        length (outward h).stream;
+  })) s.log)
+      (placed (s.log.accepted + 1) s.log.epochs).1.1 s.log
 
-  home-is : home_in s.log.connection (s.log.accepted + 1) s.log.epochs ≡ (Some (last_index h.connections, length (outward h).stream), (placed (s.log.accepted + 1) s.log.epochs).1)
+  home-is : home_in s.log.connection (s.log.accepted + 1) s.log.epochs ≡ (
+    Some (record { index = last_index h.connections; place = length (outward h).stream }),
+    (placed (s.log.accepted + 1) s.log.epochs).1,
+  )
   home-is =
       ap (λ v. home_in v (s.log.accepted + 1) s.log.epochs) connection-is
-      ∙ ap (λ n. (Some (last_index h.connections, n), (placed (s.log.accepted + 1) s.log.epochs).1)) (left.stream.on on).places
+      ∙ ap (λ n. let at : StreamPosition = record { index = last_index h.connections; place = n } in (Some at, (placed (s.log.accepted + 1) s.log.epochs).1))
+      (left.stream.on on).places
 
-  pub accepting-is : log.accepting first (length (whole_blocks bytes)) bytes s.log ≡ (record { number = s.log.accepted + 1; place = Some (length (outward h).stream); barrier = (placed (s.log.accepted + 1) s.log.epochs).1.0 }, l1)
-  accepting-is = ap (λ home. (record { number = s.log.accepted + 1; place = option_map (λ x. x.1) home.0; barrier = home.1.0 }, log.with_write (accepted_write first (length (whole_blocks bytes)) bytes home.0 s.log) home.1.1 s.log)) home-is
+  pub accepting-is : log.accepting first (length (whole_blocks bytes)) bytes s.log ≡
+      (record { number = s.log.accepted + 1; place = Some (length (outward h).stream); barrier = (placed (s.log.accepted + 1) s.log.epochs).1.0 }, l1)
+  accepting-is = ap (λ home. (
+    record { number = s.log.accepted + 1; place = option_map (λ x. x.place) home.0; barrier = home.1.0 },
+    log.with_write (accepted_write first (length (whole_blocks bytes)) bytes home.0 s.log) home.1.1 s.log,
+  )) home-is
 
   log-left : LeavesLog l1 later
   log-left = record {
@@ -186,13 +214,18 @@ module _ (settings : Settings) (bound : 0 < settings.max_epoch) (s : PrimaryStat
         ∙ (sym (map-append (logged_of later) (unreleased h) (new ∷ [])) ∙ ap (map (logged_of later)) (sym unreleased-is)));
     latest =
         ap (with_latest (s.log.accepted + 1) first (length (whole_blocks bytes))) left.rest.log.latest
-        ∙ latest-more h.settings.blocks h.writes new (s.log.accepted + 1) first (length (whole_blocks bytes)) (let all = left.rest.log.accepted in omega arith) refl refl range.inside;
+        ∙ latest-more h.settings.blocks h.writes new (s.log.accepted + 1) first (length (whole_blocks bytes)) (let all = left.rest.log.accepted in omega arith)
+        refl refl range.inside;
   }
 
   -- nothing is completed
   quiet : IsQuiet later
-  quiet = done-more h later first (whole_blocks bytes) (Some (last_index h.connections, length (outward h).stream)) left.rest.quiet fresh refl refl
-      (λ i a at. λ j. is_on_disk a.outcome && (answers-same h later f refl refl same a j || alone-same h later f refl refl same a j))
+  quiet = done-more h later first (whole_blocks bytes) (Some (record {
+    index = last_index h.connections;
+    place =
+        length (outward h).stream;
+  })) left.rest.quiet fresh refl refl
+      (λ i a at. completes-same h later a (answers-same h later f refl refl same a) (alone-same h later f refl refl same a))
 
   none-new : newly_completed later ≡ []
   none-new = quiet-none later quiet
@@ -216,25 +249,29 @@ module _ (settings : Settings) (bound : 0 < settings.max_epoch) (s : PrimaryStat
 
       lower : (i : ℕ) (x : Holding) → slice_get (held_of h) i ≡ Some x → x.number < s.log.accepted + 1
       lower i x at = elim (get-split (map holding_item (if stands (outward h) then under_way (outward h) else [])) (map holding_write (open_writes h)) i x at) [
-        | inl way ↦ let of = pick-image holding_item (if stands (outward h) then under_way (outward h) else []) i x way in let none : x.number ≡ 0 = ap (λ (y : Holding). y.number) (sym of.2) in omega arith
+        | inl way ↦ let of = pick-image holding_item (if stands (outward h) then under_way (outward h) else []) i x way in let none : x.number ≡ 0 =
+            ap (λ (y : Holding). y.number) (sym of.2) in omega arith
         | inr opened ↦ let low = open-lower h homes opened.0 x opened.2 in let size = all in omega arith
       ]
 
-      zeros-same : map holding_item (if stands (outward h) then under_way (outward h) else []) ≡ map holding_item (if stands (outward later) then under_way (outward later) else [])
+      zeros-same : map holding_item (if stands (outward h) then under_way (outward h) else []) ≡ map holding_item (if stands (outward later)
+          then under_way (outward later) else [])
       zeros-same =
-          sym (ap (λ (l : List (ℕ × Item)). map holding_item (if stands (outward h) then l else [])) (under-way-more (outward h) (f (outward h)) item same refl refl))
+          sym (ap (λ (l : List (ℕ × Item)). map holding_item (if stands (outward h) then l else []))
+          (under-way-more (outward h) (f (outward h)) item same refl refl))
           ∙ sym (λ i. map holding_item (if stands (out i) then under_way (out i) else []))
 
       opens : map holding_write (open_writes h) ++ holding (s.log.accepted + 1) first (length (whole_blocks bytes)) ∷ [] ≡ map holding_write (open_writes later)
       opens =
-          (λ i. map holding_write (open_writes h) ++ holding ((let size = all in let is : s.log.accepted + 1 ≡ suc (length h.writes) = omega arith in is) i) first (length (whole_blocks bytes)) ∷ [])
+          (λ i. map holding_write (open_writes h) ++ holding ((let size = all in let is : s.log.accepted + 1 ≡ suc (length h.writes) = omega arith in is) i)
+          first (length (whole_blocks bytes)) ∷ [])
           ∙ (sym (map-append holding_write (open_writes h) (new ∷ []))
           ∙ ap (map holding_write) (sym (filter-one (is_open h) h.writes new true (ap (λ b. not b && true) fresh))))
 
   -- The last epoch.
 
-  quiet-end : IsEndOpen h (outward h)
-  quiet-end = end-open h on ordered.1.1.0.1.on
+  quiet-end : GoesOn h (outward h)
+  quiet-end = goes-on h on ordered.1.1.0.1.on
 
   e0 : LeavesEpochs s.log (outward h)
   e0 = left.stream.on on
@@ -250,7 +287,8 @@ module _ (settings : Settings) (bound : 0 < settings.max_epoch) (s : PrimaryStat
   l0 = record l1 { epochs = with_write (s.log.accepted + 1) s.log.epochs }
 
   e1 : LeavesEpochs l0 (outward later)
-  e1 = subst (LeavesEpochs l0) (sym out) (epochs-write s.log l0 (outward h) (f (outward h)) item e0 same refl refl refl write refl (let all = left.rest.log.accepted in omega arith) refl refl)
+  e1 = subst (LeavesEpochs l0) (sym out)
+      (epochs-write s.log l0 (outward h) (f (outward h)) item e0 same refl refl refl write refl (let all = left.rest.log.accepted in omega arith) refl refl)
 
   -- whether the epoch is as long as it may be
   abbrev is_long : Bool
@@ -259,61 +297,42 @@ module _ (settings : Settings) (bound : 0 < settings.max_epoch) (s : PrimaryStat
   stands-later : stands (outward later) ≡ true
   stands-later = ap stands out ∙ on
 
-  -- no item of the last epoch is settled
-  unsettled : list_any (is_settled (with_completions later) (f (outward h))) (items_of_epoch ((outward h).stream ++ item ∷ []) (last_epoch ((outward h).stream ++ item ∷ []))) ≡ false
-  unsettled =
-      ap (λ n. list_any (is_settled (with_completions later) (f (outward h))) (items_of_epoch ((outward h).stream ++ item ∷ []) n)) (ap suc (barriers-more (outward h).stream item refl))
-      ∙ (ap (list_any (is_settled (with_completions later) (f (outward h)))) (epoch-items-grow (outward h).stream item (last_epoch (outward h).stream)
-      ∙ ap (λ b. items_of_epoch (outward h).stream (last_epoch (outward h).stream) ++ (if b then (length (outward h).stream, item) ∷ [] else [])) (eq-eqb (last_epoch (outward h).stream) (last_epoch (outward h).stream) refl))
-      ∙ (list_any-append (is_settled (with_completions later) (f (outward h))) (items_of_epoch (outward h).stream (last_epoch (outward h).stream)) ((length (outward h).stream, item) ∷ [])
-      ∙ or-from (list_any (is_settled (with_completions later) (f (outward h))) (items_of_epoch (outward h).stream (last_epoch (outward h).stream))) (list_any (is_settled (with_completions later) (f (outward h))) ((length (outward h).stream, item) ∷ [])) olds news))
-    where
-      or-from : (a b : Bool) → a ≡ false → b ≡ false → (a || b) ≡ false
-      or-from a b na nb = λ i. na i || nb i
+  -- what is open of the old ones is so still
+  still-open : (a : Accepted) → is_open (with_completions later) a ≡ is_open h a
+  still-open a = ap (λ (j : List Completion). not (list_any (λ (entry : Completion). entry.write.number == a.write.number) j) && not (is_failed a.outcome))
+      journal-same
 
-      -- the new write is open
-      new-open : is_open (with_completions later) new ≡ true
-      new-open = ap (λ (j : List Completion). not (list_any (λ (entry : Completion). entry.write.number == suc (length h.writes)) j) && true) journal-same ∙ ap (λ b. not b && true) fresh
+  -- the new write is open
+  new-open : (a : Accepted) → a ≡ new → is_open (with_completions later) a ≡ true
+  new-open a is = still-open a ∙ (ap (is_open h) is ∙ ap (λ b. not b && true) fresh)
 
-      -- what is open of the old ones is so still
-      settled-as : (entry : ℕ × Item) → is_settled (with_completions later) (f (outward h)) entry
-          ≡ ((list_any (λ accepted. (is_write entry.1 && (accepted.write.number == number_of entry.1)) && not (is_open h accepted)) h.writes || false) || (is_resync entry.1 && was_resynced (outward h) entry.0 entry.1))
-      settled-as entry =
-          ap (λ b. b || (is_resync entry.1 && was_resynced (outward h) entry.0 entry.1))
-          ((λ i. list_any (λ accepted. (is_write entry.1 && (accepted.write.number == number_of entry.1)) && not (not (list_any (λ (e : Completion). e.write.number == accepted.write.number) (journal-same i)) && not (is_failed accepted.outcome))) (h.writes ++ new ∷ []))
-          ∙ (list_any-append (λ accepted. (is_write entry.1 && (accepted.write.number == number_of entry.1)) && not (is_open h accepted)) h.writes (new ∷ [])
-          ∙ ap (λ b. list_any (λ accepted. (is_write entry.1 && (accepted.write.number == number_of entry.1)) && not (is_open h accepted)) h.writes || b) (none (is_write entry.1 && (suc (length h.writes) == number_of entry.1)))))
-        where
-          none : (b : Bool) → ((b && not (is_open h new)) || false) ≡ false
-          none b = (λ i. (b && not ((ap (λ c. not c && true) fresh) i)) || false) ∙ (or-false (b && false) ∙ and-false b)
-
-      olds : list_any (is_settled (with_completions later) (f (outward h))) (items_of_epoch (outward h).stream (last_epoch (outward h).stream)) ≡ false
-      olds =
-          any-at (is_settled (with_completions later) (f (outward h))) (is_settled h (outward h)) (items_of_epoch (outward h).stream (last_epoch (outward h).stream))
-          (λ i entry at. settled-as entry ∙ ap (λ b. b || (is_resync entry.1 && was_resynced (outward h) entry.0 entry.1)) (or-false (list_any (λ accepted. (is_write entry.1 && (accepted.write.number == number_of entry.1)) && not (is_open h accepted)) h.writes)))
-          ∙ quiet-end.unsettled
-
-      news : list_any (is_settled (with_completions later) (f (outward h))) ((length (outward h).stream, item) ∷ []) ≡ false
-      news = ap (λ b. b || false) (settled-as (length (outward h).stream, item) ∙ λ i. (nobody i || false) || false)
-        where
-          nobody : list_any (λ accepted. (true && (accepted.write.number == suc (length h.writes))) && not (is_open h accepted)) h.writes ≡ false
-          nobody = false_from_ne_true (list_any (λ accepted. (true && (accepted.write.number == suc (length h.writes))) && not (is_open h accepted)) h.writes) (λ some.
-              let got = pick-any (λ accepted. (true && (accepted.write.number == suc (length h.writes))) && not (is_open h accepted)) h.writes some in
-              let its = and_parts (true && (got.1.write.number == suc (length h.writes))) (not (is_open h got.1)) got.3 in
-              let number = eqb-true got.1.write.number (suc (length h.writes)) its.0 in
-              let index = homes.numbered got.0 got.1 got.2 in
-              let within = slice_get_within h.writes got.0 got.1 got.2 in
-              omega arith)
+  -- nothing of the last epoch is done
+  unsettled : IsUnsettled (with_completions later) (f (outward h))
+  unsettled = unsettled-more h (with_completions later) (outward h) (f (outward h)) item refl refl quiet-end.unsettled
+      (λ number was i a at same. elim (get-more h.writes new i a at) [
+        | inl old ↦ still-open a ∙ was i a old same
+        | inr added ↦ new-open a added.1
+      ])
+      (λ made is i a at same. elim (get-more h.writes new i a at) [
+        | inl old ↦
+            let itself : write ≡ made = cc in
+            let number : suc (length h.writes) ≡ made.number = ap (λ (w : Write). w.number) itself in
+            let index = homes.numbered i a old in
+            let within = slice_get_within h.writes i a old in
+            absurd (omega arith)
+        | inr added ↦ new-open a added.1
+      ])
+      (λ place block contents. refl) refl
 
   over-is : epoch_is_over (with_completions later) ≡ is_long
-  over-is =
-      ap (λ (c : Outward). stands c && (list_any (is_settled (with_completions later) c) (items_of_epoch c.stream (last_epoch c.stream)) || nat_le h.settings.max_epoch (epoch_size c.stream (last_epoch c.stream)))) out
-      ∙ λ i. on i && (unsettled i || nat_le (sym left.stream.max_epoch i) (size_is i))
+  over-is = over-full (with_completions later) (f (outward h)) s.log.epochs.max_epoch out on left.stream.max_epoch unsettled
+      ∙ ap (nat_le s.log.epochs.max_epoch) size_is
     where
       size_is : epoch_size ((outward h).stream ++ item ∷ []) (last_epoch ((outward h).stream ++ item ∷ [])) ≡ s.log.epochs.size + 1
       size_is = sym (e1.size ∙ ap (λ (c : Outward). epoch_size c.stream (last_epoch c.stream)) out)
 
-  write-placed-is : (placed (s.log.accepted + 1) s.log.epochs).1 ≡ ended_if (epoch_is_over (with_completions later)) (with_write (s.log.accepted + 1) s.log.epochs)
+  write-placed-is : (placed (s.log.accepted + 1) s.log.epochs).1 ≡ ended_if (epoch_is_over (with_completions later))
+      (with_write (s.log.accepted + 1) s.log.epochs)
   write-placed-is = placed-is ∙ ap (λ b. ended_if b (with_write (s.log.accepted + 1) s.log.epochs)) (sym over-is)
 
   barrier-left : (placed (s.log.accepted + 1) s.log.epochs).1.0 ≡ barrier_of (with_completions later)
@@ -329,47 +348,69 @@ module _ (settings : Settings) (bound : 0 < settings.max_epoch) (s : PrimaryStat
   stream-left : LeavesStream l1 (parted (with_completions later))
   stream-left = go (epoch_is_over (with_completions later)) refl (ap (λ x. x.1) write-placed-is)
     where
-      here : (i : ℕ) (a : Accepted) → slice_get later.writes i ≡ Some a → s.log.confirmed < a.write.number → (place : ℕ) × (a.home ≡ Some (last_index h.connections, place))
+      here : (i : ℕ) (a : Accepted) → slice_get later.writes i ≡ Some a → s.log.confirmed < a.write.number
+          → (place : ℕ) × (a.home ≡ Some (record { index = last_index h.connections; place = place }))
       here i a at behind = elim (get-more h.writes new i a at) [
         | inl old ↦ left.stream.here on i a old behind
         | inr added ↦ (length (outward h).stream, ap (λ (x : Accepted). x.home) added.1)
       ]
 
-      go : (b : Bool) → epoch_is_over (with_completions later) ≡ b → (placed (s.log.accepted + 1) s.log.epochs).1.1 ≡ (ended_if b (with_write (s.log.accepted + 1) s.log.epochs)).1
-          → LeavesStream l1 (elim b as (λ _. PrimaryHistory) [ true ↦ appending (BarrierItem (last_epoch (outward (with_completions later)).stream)) (with_completions later) | false ↦ with_completions later ])
+      go : (b : Bool) → epoch_is_over (with_completions later) ≡ b
+          → (placed (s.log.accepted + 1) s.log.epochs).1.1 ≡ (ended_if b (with_write (s.log.accepted + 1) s.log.epochs)).1
+          → LeavesStream l1 (elim b as (λ _. PrimaryHistory) [
+            | true ↦ appending (BarrierItem (last_epoch (outward (with_completions later)).stream))
+                (with_completions later)
+            | false ↦ with_completions later
+          ])
       go false still epochs = record {
         max_epoch = ap (λ (x : EpochsState). x.max_epoch) epochs ∙ left.stream.max_epoch;
         on = λ so. epochs-same l0 l1 (outward later) (outward later) e1 refl (λ epoch. refl) (λ asked place it was. was) refl refl refl epochs;
-        here = λ so i a at behind. let place = here i a at behind in (place.0, place.1 ∙ ap (λ m. Some (m, place.0)) (sym index-then));
+        here = λ so i a at behind. let place = here i a at behind in
+            (place.0, place.1 ∙ ap (λ m. let at : StreamPosition = record { index = m; place = place.0 } in Some at) (sym index-then));
         off = λ none. absurd (both_ways (stands (outward later)) none stands-later);
       }
       go true over epochs = record {
         max_epoch = ap (λ (x : EpochsState). x.max_epoch) epochs ∙ left.stream.max_epoch;
-        on = λ so. epochs-barrier l0 l1 (outward later) (outward (appending (BarrierItem (last_epoch (outward later).stream)) (with_completions later))) (BarrierItem (last_epoch (outward later).stream)) e1
-            (subst (SeesSame (outward later)) (sym last) (record { closed = refl; pushed = refl; taken = refl; refused = refl })) (ap (λ (c : Outward). c.stream) last) refl refl refl refl
-            (ap (λ (x : List Item). items_of_epoch x (last_epoch x)) (ap (λ (c : Outward). c.stream) last) ∙ barrier-empties (outward later).stream (last_epoch (outward later).stream)) refl epochs few;
+        on = λ so. epochs-barrier l0 l1 (outward later) (outward (appending (BarrierItem (last_epoch (outward later).stream)) (with_completions later)))
+            (BarrierItem (last_epoch (outward later).stream)) e1
+            (subst (SeesSame (outward later)) (sym last) (record { closed = refl; pushed = refl; taken = refl; refused = refl }))
+            (ap (λ (c : Outward). c.stream) last) refl refl refl refl
+            (ap (λ (x : List Item). items_of_epoch x (last_epoch x)) (ap (λ (c : Outward). c.stream) last)
+            ∙ barrier-empties (outward later).stream (last_epoch (outward later).stream)) refl epochs few;
         here = λ so i a at behind.
-            let place = here i a at behind in
-            (place.0, place.1 ∙ ap (λ m. Some (m, place.0)) (sym (ap (λ m. m - 1) (length-change (λ (c : Outward). record c { stream = c.stream ++ BarrierItem (last_epoch (outward later).stream) ∷ [] }) later.connections) ∙ index-then)));
-        off = λ none. absurd (both_ways (stands (outward (appending (BarrierItem (last_epoch (outward later).stream)) (with_completions later)))) none (ap stands last ∙ stands-later));
+            let place = here i a at behind in (
+              place.0,
+              place.1 ∙ ap (λ m. let at : StreamPosition = record { index = m; place = place.0 } in Some at)
+                  (sym (ap (λ m. m - 1) (length-change (λ (c : Outward). record c { stream = c.stream ++ BarrierItem (last_epoch (outward later).stream) ∷ [] })
+                  later.connections) ∙ index-then)),
+            );
+        off = λ none. absurd (both_ways (stands (outward (appending (BarrierItem (last_epoch (outward later).stream)) (with_completions later)))) none
+            (ap stands last ∙ stands-later));
       }
         where
-          last : outward (appending (BarrierItem (last_epoch (outward later).stream)) (with_completions later)) ≡ record (outward later) { stream = (outward later).stream ++ BarrierItem (last_epoch (outward later).stream) ∷ [] }
-          last = last-changed (with_completions later) (λ (c : Outward). record c { stream = c.stream ++ BarrierItem (last_epoch (outward later).stream) ∷ [] }) (no_outward h.tuple) (stands-parts (outward later) stands-later).0
+          last : outward (appending (BarrierItem (last_epoch (outward later).stream)) (with_completions later)) ≡ record (outward later) {
+            stream =
+                (outward later).stream ++ BarrierItem (last_epoch (outward later).stream) ∷ [];
+          }
+          last = last-changed (with_completions later) (λ (c : Outward). record c { stream = c.stream ++ BarrierItem (last_epoch (outward later).stream) ∷ [] })
+              (no_outward h.tuple) (stands-parts (outward later) stands-later).0
 
           few : (place : ℕ) (w : Write) → slice_get (outward later).stream place ≡ Some (WriteItem w) → w.number ≤ s.log.accepted + 1
-          few place w at = elim (get-more (outward h).stream item place (WriteItem w) (subst (λ (c : Outward). slice_get c.stream place ≡ Some (WriteItem w)) out at)) [
-            | inl old ↦ let early = numbers-early h homes (last_index h.connections) (outward h) there place w old in let all = left.rest.log.accepted in omega arith
-            | inr added ↦ let is : w.number ≡ suc (length h.writes) = ap number_of added.1 in let all = left.rest.log.accepted in omega arith
-          ]
+          few place w at = elim (get-more (outward h).stream item place (WriteItem w)
+              (subst (λ (c : Outward). slice_get c.stream place ≡ Some (WriteItem w)) out at)) [
+                | inl old ↦ let early = numbers-early h homes (last_index h.connections) (outward h) there place w old in let all =
+                    left.rest.log.accepted in omega arith
+                | inr added ↦ let is : w.number ≡ suc (length h.writes) = ap number_of added.1 in let all = left.rest.log.accepted in omega arith
+              ]
 
   -- All is there for what follows.
-  pub stream-due : (number : ℕ) → number ≡ s.log.accepted + 1 → IsDue (core.appending (WriteItem (record { number = number; first = first; contents = whole_blocks bytes }) ∷ []) (record s {
-    log = l1;
-    entries = s.entries ++ record { first = first; count = length (whole_blocks bytes); fate = Open; taken = false } ∷ [];
-    held = holding_too (holding (s.log.accepted + 1) first (length (whole_blocks bytes))) s.held;
-    activity = begun (extent_of first) s.activity;
-  })) (placed (s.log.accepted + 1) s.log.epochs).1.0 later
+  pub stream-due : (number : ℕ) → number ≡ s.log.accepted + 1
+      → IsDue (core.appending (WriteItem (record { number = number; first = first; contents = whole_blocks bytes }) ∷ []) (record s {
+        log = l1;
+        entries = s.entries ++ record { first = first; count = length (whole_blocks bytes); fate = Open; taken = false } ∷ [];
+        held = holding_too (holding (s.log.accepted + 1) first (length (whole_blocks bytes))) s.held;
+        activity = begun (extent_of first) s.activity;
+      })) (placed (s.log.accepted + 1) s.log.epochs).1.0 later
   stream-due number number_is = record {
     homes = after.1.1.0.0;
     done = λ i a at completed. sym (quiet i a at) ∙ completed;
@@ -381,20 +422,33 @@ module _ (settings : Settings) (bound : 0 < settings.max_epoch) (s : PrimaryStat
     completed = sym (ap (map (λ a. completed_of (logged_of later a))) none-new);
     barrier_is = barrier-left;
     stream = stream-left;
-    entries = entries-more s h later first (whole_blocks bytes) (Some (last_index h.connections, length (outward h).stream)) left fresh refl refl refl;
+    entries = entries-more s h later first (whole_blocks bytes) (Some (record {
+      index = last_index h.connections;
+      place =
+          length (outward h).stream;
+    })) left fresh refl refl refl;
     receipts = λ i number at. let few = left.rest.entries.receipts i number at in let size = length-append h.writes (new ∷ []) in omega arith;
     held = held-left;
     marks = ap (unmarking [] l1.latest) left.rest.marks ∙ unmarking-none [] l1.latest h.settings.blocks h.marks (λ n r at. absurd (cc));
-    activity = subst (LeavesActivity (begun (extent_of first) s.activity) h.settings.slots) (sym unreleased-is) (begins-activity s.activity h.settings.slots (unreleased h) new left.rest.activity begins);
+    activity = subst (LeavesActivity (begun (extent_of first) s.activity) h.settings.slots) (sym unreleased-is)
+        (begins-activity s.activity h.settings.slots (unreleased h) new left.rest.activity begins);
     end = ends an-end.0 an-end.1 an-end.2;
   }
     where
       item_is : WriteItem (record { number = number; first = first; contents = whole_blocks bytes }) ≡ item
-      item_is = ap (λ n. WriteItem (record { number = n; first = first; contents = whole_blocks bytes })) (number_is ∙ (let all = left.rest.log.accepted in omega arith))
+      item_is = ap (λ n. WriteItem (record { number = n; first = first; contents = whole_blocks bytes })) (number_is
+          ∙ (let all = left.rest.log.accepted in omega arith))
 
-      ends : (e : EndState) → s.end ≡ Some e → LeavesEnd e (outward h) → EndLeft (option_map (λ (e : EndState). record e { unsent = e.unsent ++ WriteItem (record { number = number; first = first; contents = whole_blocks bytes }) ∷ [] }) s.end) (outward later)
+      ends : (e : EndState) → s.end ≡ Some e → LeavesEnd e (outward h)
+          → EndLeft (option_map (λ (e : EndState). record e
+          { unsent = e.unsent ++ WriteItem (record { number = number; first = first; contents = whole_blocks bytes }) ∷ [] }) s.end) (outward later)
       ends e is end =
-          subst (λ (v : Option EndState). EndLeft (option_map (λ (e : EndState). record e { unsent = e.unsent ++ WriteItem (record { number = number; first = first; contents = whole_blocks bytes }) ∷ [] }) v) (outward later)) (sym is)
+          subst (λ (v : Option EndState). EndLeft
+          (option_map (λ (e : EndState). record e
+          { unsent = e.unsent ++ WriteItem (record { number = number; first = first; contents = whole_blocks bytes }) ∷ [] }) v) (outward later)) (sym is)
           (subst (λ (i : Item). LeavesEnd (record e { unsent = e.unsent ++ i ∷ [] }) (outward later)) (sym item_is)
-          (subst (λ (b : Bool). LeavesEnd (record e { unsent = e.unsent ++ item ∷ []; resync = b }) (outward later)) (runs-more (outward h) (outward later) item (ap (λ (c : Outward). c.stream) out) (ap stands out) refl refl ∙ sym end.resync)
-          (end-more e (outward h) (outward later) item (subst (SeesSame (outward h)) (sym out) same) (ap (λ (c : Outward). c.stream) out) (ap (λ (c : Outward). c.sync) out) (ap (λ (c : Outward). c.loss) out) (ap (λ (c : Outward). c.hello) out) (ap (λ (c : Outward). c.begun) out ∙ parts.1) refl end)))
+          (subst (λ (b : Bool). LeavesEnd (record e { unsent = e.unsent ++ item ∷ []; resync = b }) (outward later))
+          (runs-more (outward h) (outward later) item (ap (λ (c : Outward). c.stream) out) (ap stands out) refl refl ∙ sym end.resync)
+          (end-more e (outward h) (outward later) item (subst (SeesSame (outward h)) (sym out) same) (ap (λ (c : Outward). c.stream) out)
+          (ap (λ (c : Outward). c.sync) out) (ap (λ (c : Outward). c.loss) out) (ap (λ (c : Outward). c.hello) out) (ap (λ (c : Outward). c.begun) out
+          ∙ parts.1) refl end)))

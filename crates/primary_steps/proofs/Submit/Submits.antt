@@ -1,28 +1,29 @@
 -- The primary accepts a write.
-use Rattle.std.proofs.Common.{ℕ, suc, ◌≡◌, ◌+◌, ◌-◌, inl, inr, Bool, true, false, not, ◌&&◌, List, [], ◌∷◌, ◌++◌, length, map, filter, Option, Some, None, slice_get, Ok, refl, sym, ◌∙◌, ap, subst, arith, nat_lt, nat_le, ◌==◌}
-use Rattle.std.specs.Prelude.{find, is_some, unwrap_or, option_map, if◌then◌else◌}
+use Rattle.std.proofs.Common.{ℕ, suc, ◌≡◌, ◌+◌, ◌-◌, inl, inr, Bool, true, false, not, ◌&&◌, List, [], ◌∷◌, ◌++◌, length, map, Option, Some, None}
+use Rattle.std.proofs.Common.{Ok, refl, sym, ◌∙◌, ap, subst, arith, nat_lt, nat_le, ◌==◌}
+use Rattle.std.specs.Prelude.{find, is_some, option_map, if◌then◌else◌}
 use Rattle.std.specs.List.{list_any}
 use Rattle.std.proofs.lemmas.Bool.{cases_Bool, both_ways, and_parts, not-false, ltb-true, leb-true, lt-ltb, le-leb, false_from_ne_true}
 use Rattle.std.proofs.lemmas.List.{length-map}
-use Rattle.blocks.specs.declared.refusal.Refusal.TheVariants.{BadRange, Conflict, LogFull, ActivityFull, JournalFull, StreamFull, NoMemory, NotConnected}
 use Rattle.blocks.specs.declared.outcome.Done.{Done}
 use Rattle.blocks.specs.declared.outcome.What.TheVariants as what
 use Rattle.blocks.specs.declared.outcome.Reply.TheVariants as reply
 use Rattle.blocks.specs.Ranges.{is_between, ranges_meet}
-use Rattle.model.specs.Contents.{Write, covers, overlap, is_range, extent_of}
+use Rattle.model.specs.Contents.{Write, covers, is_range, extent_of}
 use Rattle.model.specs.Stream.{Item, WriteItem, ResyncItem, BarrierItem, SyncUuidItem, UuidsItem, first_of, placed}
-use Rattle.model.specs.Refusals.{Test, first_refusal}
+use Rattle.model.specs.Refusals.{first_refusal}
 use Rattle.model.specs.Primary.{Accepted, PrimaryHistory, outward, last_index, stands, is_resync, was_resynced, under_way, open_writes, unreleased}
 use Rattle.model.specs.PrimarySteps as step
-use Rattle.model.specs.PrimarySteps.{appending, conflict, activity_is_full, submission, submitted}
+use Rattle.model.specs.PrimarySteps.{conflict, submission, submitted}
 use Rattle.overlap.specs.Holdings as held
 use Rattle.overlap.specs.Holdings.{Holding, holding, meets}
 use Rattle.activitylog.specs.Activity.{can_begin, begun}
 use Rattle.bitmap.specs.Marks as bits
 use Rattle.transferlog.specs.Log.{LogState}
 use Rattle.transferlog.specs.declared.report.Accepted as report
+use Rattle.laws.proofs.Rules.Conflicts.{has_block_of, ways_of, conflict-by}
+use Rattle.laws.proofs.Rules.Submissions.{IsAccepted, accepted-by-tests, tests-by}
 use Rattle.laws.proofs.Lists.Picks.{pick-filtered}
-use Rattle.laws.proofs.Lists.Tests.{test-passed}
 use Rattle.laws.proofs.Primary.Moves.{MaySubmit}
 use Rattle.primary_steps.specs.Core as core
 use Rattle.primary_steps.specs.Core.{PrimaryState}
@@ -41,11 +42,6 @@ use Rattle.primary_steps.proofs.Submit.Linked as linked
 
 -- Conflicts.
 
--- the first that a filter lets through is what a search finds
-first-found : {X Y : Type 0} (p : X → Bool) (f : X → Y) (xs : List X) → slice_get (map f (filter p xs)) 0 ≡ option_map f (find p xs)
-first-found p f [] = refl
-first-found {X} p f (x ∷ xs) = elim (p x) as (λ b. slice_get (map f (if b then x ∷ filter p xs else filter p xs)) 0 ≡ option_map f (if b then Some x else find p xs)) [ true ↦ refl | false ↦ first-found p f xs ]
-
 -- one block meets a range where the range has it
 meets-block : (first count block : ℕ) → ranges_meet block 1 first count ≡ is_between first count block
 meets-block first count block = elim (cases_Bool (is_between first count block)) [
@@ -53,7 +49,8 @@ meets-block first count block = elim (cases_Bool (is_between first count block))
       let parts = and_parts (nat_le first block) (nat_lt block (first + count)) inside in
       let low = leb-true first block parts.0 in
       let high = ltb-true block (first + count) parts.1 in
-      (λ i. (lt-ltb block (first + count) high i && lt-ltb first (block + 1) (omega arith) i) && (lt-ltb 0 1 (omega arith) i && lt-ltb 0 count (omega arith) i)) ∙ sym inside
+      (λ i. (lt-ltb block (first + count) high i && lt-ltb first (block + 1) (omega arith) i) && (lt-ltb 0 1 (omega arith) i && lt-ltb 0 count (omega arith) i))
+      ∙ sym inside
   | inr outside ↦ false_from_ne_true (ranges_meet block 1 first count) (λ meet.
       let parts = and_parts (nat_lt block (first + count) && nat_lt first (block + 1)) (nat_lt 0 1 && nat_lt 0 count) meet in
       let ends = and_parts (nat_lt block (first + count)) (nat_lt first (block + 1)) parts.0 in
@@ -71,23 +68,22 @@ module _ (s : PrimaryState) (h : PrimaryHistory) (first : ℕ) (bytes : List ℕ
   abbrev ways : List (ℕ × Item)
   ways = if stands (outward h) then under_way (outward h) else []
 
-  -- the block under way has a block of the range
-  abbrev in_way : ℕ × Item → Bool
-  in_way entry = elim entry.1 as (λ _. Bool) [ ResyncItem block contents ↦ covers write block | _ ↦ false ]
-
-  way-meets : list_any (meets first (length (whole_blocks bytes))) (map holding_item ways) ≡ list_any in_way (elim (stands (outward h)) as (λ _. List (ℕ × Item)) [ true ↦ under_way (outward h) | false ↦ [] ])
+  way-meets : list_any (meets first (length (whole_blocks bytes))) (map holding_item ways) ≡ list_any (has_block_of write) (ways_of h)
   way-meets = any-map (meets first (length (whole_blocks bytes))) holding_item ways ∙ go (stands (outward h))
     where
-      at-item : (item : Item) → is_resync item ≡ true → ranges_meet (first_of item) 1 first (length (whole_blocks bytes)) ≡ elim item as (λ _. Bool) [ ResyncItem block contents ↦ covers write block | _ ↦ false ]
+      at-item : (item : Item) → is_resync item ≡ true
+          → ranges_meet (first_of item) 1 first (length (whole_blocks bytes)) ≡ elim item as
+          (λ _. Bool) [ ResyncItem block contents ↦ covers write block | _ ↦ false ]
       at-item (ResyncItem block contents) is = meets-block first (length (whole_blocks bytes)) block
       at-item (WriteItem w) is = absurd (cc)
       at-item (BarrierItem epoch) is = absurd (cc)
       at-item (SyncUuidItem word) is = absurd (cc)
       at-item (UuidsItem tuple) is = absurd (cc)
 
-      go : (b : Bool) → list_any (λ entry. meets first (length (whole_blocks bytes)) (holding_item entry)) (if b then under_way (outward h) else []) ≡ list_any in_way (elim b as (λ _. List (ℕ × Item)) [ true ↦ under_way (outward h) | false ↦ [] ])
+      go : (b : Bool) → list_any (λ entry. meets first (length (whole_blocks bytes)) (holding_item entry)) (if b then under_way (outward h)
+          else []) ≡ list_any (has_block_of write) (elim b as (λ _. List (ℕ × Item)) [ true ↦ under_way (outward h) | false ↦ [] ])
       go false = refl
-      go true = any-at (λ entry. meets first (length (whole_blocks bytes)) (holding_item entry)) in_way (under_way (outward h)) (λ i entry at.
+      go true = any-at (λ entry. meets first (length (whole_blocks bytes)) (holding_item entry)) (has_block_of write) (under_way (outward h)) (λ i entry at.
           let stood = pick-filtered (λ (x : ℕ × Item). is_resync x.1 && not (was_resynced (outward h) x.0 x.1)) (placed (outward h).stream) i entry at in
           at-item entry.1 (and_parts (is_resync entry.1) (not (was_resynced (outward h) entry.0 entry.1)) stood.2).0)
 
@@ -95,33 +91,37 @@ module _ (s : PrimaryState) (h : PrimaryHistory) (first : ℕ) (bytes : List ℕ
   conflict-is : held.conflict first (length (whole_blocks bytes)) s.held ≡ conflict h write
   conflict-is =
       ap (held.conflict first (length (whole_blocks bytes))) left.rest.held
-      ∙ (ap (option_map (λ (x : Holding). x.number)) (find-append (meets first (length (whole_blocks bytes))) (map holding_item ways) (map holding_write (open_writes h)))
+      ∙ (ap (option_map (λ (x : Holding). x.number))
+      (find-append (meets first (length (whole_blocks bytes))) (map holding_item ways) (map holding_write (open_writes h)))
       ∙ by-way (find (meets first (length (whole_blocks bytes))) (map holding_item ways)) refl)
     where
       zeros : (xs : List (ℕ × Item)) (x : Holding) → find (meets first (length (whole_blocks bytes))) (map holding_item xs) ≡ Some x → x.number ≡ 0
       zeros [] x found = absurd (cc)
       zeros (e ∷ xs) x found = go (meets first (length (whole_blocks bytes)) (holding_item e)) refl (zeros xs x)
         where
-          go : (b : Bool) → meets first (length (whole_blocks bytes)) (holding_item e) ≡ b → (find (meets first (length (whole_blocks bytes))) (map holding_item xs) ≡ Some x → x.number ≡ 0) → x.number ≡ 0
-          go true is rest = let here : Some (holding_item e) ≡ Some x = ap (λ b. if b then Some (holding_item e) else find (meets first (length (whole_blocks bytes))) (map holding_item xs)) (sym is) ∙ found in let same : holding_item e ≡ x = cc in ap (λ (y : Holding). y.number) (sym same)
-          go false is rest = rest (ap (λ b. if b then Some (holding_item e) else find (meets first (length (whole_blocks bytes))) (map holding_item xs)) (sym is) ∙ found)
-
-      writes : Option ℕ
-      writes = slice_get (map (λ (a : Accepted). a.write.number) (filter (λ (a : Accepted). overlap a.write write) (open_writes h))) 0
-
-      model-by : Bool → Option ℕ
-      model-by b = if b then Some 0 else writes
+          go : (b : Bool) → meets first (length (whole_blocks bytes)) (holding_item e) ≡ b
+              → (find (meets first (length (whole_blocks bytes))) (map holding_item xs) ≡ Some x → x.number ≡ 0) → x.number ≡ 0
+          go true is rest = let here : Some (holding_item e) ≡ Some x = ap (λ b. if b then Some (holding_item e)
+              else find (meets first (length (whole_blocks bytes))) (map holding_item xs)) (sym is)
+              ∙ found in let same : holding_item e ≡ x = cc in ap (λ (y : Holding). y.number) (sym same)
+          go false is rest = rest (ap (λ b. if b then Some (holding_item e) else find (meets first (length (whole_blocks bytes))) (map holding_item xs))
+              (sym is) ∙ found)
 
       by-way : (v : Option Holding) → find (meets first (length (whole_blocks bytes))) (map holding_item ways) ≡ v
-          → option_map (λ (x : Holding). x.number) (elim v as (λ _. Option Holding) [ None ↦ find (meets first (length (whole_blocks bytes))) (map holding_write (open_writes h)) | Some x ↦ Some x ]) ≡ conflict h write
+          → option_map (λ (x : Holding). x.number)
+          (elim v as (λ _. Option Holding) [
+            | None ↦ find (meets first (length (whole_blocks bytes))) (map holding_write (open_writes h))
+            | Some x ↦ Some x
+          ]) ≡ conflict h write
       by-way (Some x) found =
           ap (λ n. Some n) (zeros ways x found)
-          ∙ sym (ap model-by (sym way-meets ∙ (any-some (meets first (length (whole_blocks bytes))) (map holding_item ways) ∙ ap is_some found)))
+          ∙ conflict-by h write true _ (sym (sym way-meets
+          ∙ (any-some (meets first (length (whole_blocks bytes))) (map holding_item ways) ∙ ap is_some found))) refl
       by-way None none =
           ap (option_map (λ (x : Holding). x.number)) (find-map (meets first (length (whole_blocks bytes))) holding_write (open_writes h))
           ∙ (images (find (λ a. meets first (length (whole_blocks bytes)) (holding_write a)) (open_writes h))
-          ∙ (sym (first-found (λ (a : Accepted). overlap a.write write) (λ (a : Accepted). a.write.number) (open_writes h))
-          ∙ sym (ap model-by (sym way-meets ∙ (any-some (meets first (length (whole_blocks bytes))) (map holding_item ways) ∙ ap is_some none)))))
+          ∙ conflict-by h write false _ (sym (sym way-meets
+          ∙ (any-some (meets first (length (whole_blocks bytes))) (map holding_item ways) ∙ ap is_some none))) refl)
         where
           images : (v : Option Accepted) → option_map (λ (x : Holding). x.number) (option_map holding_write v) ≡ option_map (λ (a : Accepted). a.write.number) v
           images None = refl
@@ -147,10 +147,11 @@ module _ (s : PrimaryState) (h : PrimaryHistory) (first : ℕ) (bytes : List ℕ
   many = ap length left.rest.log.writes ∙ length-map (unreleased h) _
 
   pub tests-are : (starved : Bool) → submit_tests first (length (whole_blocks bytes)) starved s ≡ step.submit_tests h first (whole_blocks bytes) starved
-  tests-are starved = λ i.
-      (not (is_range (left.rest.settings i) first (length (whole_blocks bytes))), BadRange) ∷ (not (stands-is i) && ((left.rest.tuple i).bitmap == 0), NotConnected) ∷ (nat_le 1048576 (left.rest.log.accepted i), JournalFull)
-      ∷ (nat_le (left.rest.settings i).backlog (many i), LogFull) ∷ (is_some (conflict-is i), Conflict (unwrap_or (conflict-is i) 0)) ∷ (can-begin-is s.activity h.settings.slots (extent_of first) (unreleased h) left.rest.activity i, ActivityFull)
-      ∷ (stream-full i, StreamFull) ∷ (starved, NoMemory) ∷ []
+  tests-are starved = tests-by h first (whole_blocks bytes) starved _ _ _ _ _ _ _
+      (λ i. is_range (left.rest.settings i) first (length (whole_blocks bytes))) (λ i. not (stands-is i) && ((left.rest.tuple i).bitmap == 0))
+      left.rest.log.accepted
+      (λ i. nat_le (left.rest.settings i).backlog (many i)) conflict-is
+      (can-begin-is s.activity h.settings.slots (extent_of first) (unreleased h) left.rest.activity) stream-full
 
 -- The primary accepts a write.
 pub submits-agree : SubmitsAgree
@@ -163,65 +164,36 @@ submits-agree first bytes starved s h reached left =
     known : IsOrdered h
     known = reached-ordered h reached
 
-    -- the tests from the second on, from the third on, ..
-    t7 : List Test
-    t7 = (starved, NoMemory) ∷ []
-
-    t6 : List Test
-    t6 = (stands (outward h) && nat_le 4294967288 (length (outward h).stream), StreamFull) ∷ t7
-
-    t5 : List Test
-    t5 = (activity_is_full h (extent_of first), ActivityFull) ∷ t6
-
-    t4 : List Test
-    t4 = (is_some (conflict h (submission h first (whole_blocks bytes))), Conflict (unwrap_or (conflict h (submission h first (whole_blocks bytes))) 0)) ∷ t5
-
-    t3 : List Test
-    t3 = (nat_le h.settings.backlog (length (unreleased h)), LogFull) ∷ t4
-
-    t2 : List Test
-    t2 = (nat_le 1048576 (length h.writes), JournalFull) ∷ t3
-
-    t1 : List Test
-    t1 = (not (stands (outward h)) && (h.tuple.bitmap == 0), NotConnected) ∷ t2
-
     done : first_refusal (step.submit_tests h first (whole_blocks bytes) starved) ≡ None
-        → Agrees reply.Ok (Ok (transition.submitted first (length (whole_blocks bytes)) bytes s).0, (transition.submitted first (length (whole_blocks bytes)) bytes s).1) (step.succeeding (what.Write (suc (length h.writes))) (submitted h first (whole_blocks bytes)))
+        → Agrees reply.Ok (
+          Ok (transition.submitted first (length (whole_blocks bytes)) bytes s).0,
+          (transition.submitted first (length (whole_blocks bytes)) bytes s).1,
+        )
+        (step.succeeding (what.Write (suc (length h.writes))) (submitted h first (whole_blocks bytes)))
     done none = by-stand (stands (outward h)) refl
       where
-        p1 : (not (is_range h.settings first (length (whole_blocks bytes))) ≡ false) × (first_refusal t1 ≡ None)
-        p1 = test-passed (not (is_range h.settings first (length (whole_blocks bytes)))) BadRange t1 none
-
-        p2 : ((not (stands (outward h)) && (h.tuple.bitmap == 0)) ≡ false) × (first_refusal t2 ≡ None)
-        p2 = test-passed (not (stands (outward h)) && (h.tuple.bitmap == 0)) NotConnected t2 p1.1
-
-        p3 : (nat_le 1048576 (length h.writes) ≡ false) × (first_refusal t3 ≡ None)
-        p3 = test-passed (nat_le 1048576 (length h.writes)) JournalFull t3 p2.1
-
-        p4 : (nat_le h.settings.backlog (length (unreleased h)) ≡ false) × (first_refusal t4 ≡ None)
-        p4 = test-passed (nat_le h.settings.backlog (length (unreleased h))) LogFull t4 p3.1
-
-        p5 : (is_some (conflict h (submission h first (whole_blocks bytes))) ≡ false) × (first_refusal t5 ≡ None)
-        p5 = test-passed (is_some (conflict h (submission h first (whole_blocks bytes)))) (Conflict (unwrap_or (conflict h (submission h first (whole_blocks bytes))) 0)) t5 p4.1
-
-        p6 : (activity_is_full h (extent_of first) ≡ false) × (first_refusal t6 ≡ None)
-        p6 = test-passed (activity_is_full h (extent_of first)) ActivityFull t6 p5.1
-
-        ranged : is_range h.settings first (length (whole_blocks bytes)) ≡ true
-        ranged = not-false (is_range h.settings first (length (whole_blocks bytes))) p1.0
+        passed : IsAccepted h first (whole_blocks bytes)
+        passed = accepted-by-tests h first (whole_blocks bytes) starved none
 
         may : MaySubmit h first (whole_blocks bytes)
-        may = record { range = ranged; free = p5.0; active = p6.0; connected = p2.0 }
+        may = record { range = passed.range; free = passed.free; active = passed.active; connected = passed.connected }
 
         range : HasRange h.settings first (length (whole_blocks bytes))
         range =
-            let outer = and_parts ((nat_lt 0 (length (whole_blocks bytes)) && nat_le (length (whole_blocks bytes)) 32) && nat_le (first + length (whole_blocks bytes)) h.settings.blocks) (extent_of first == extent_of (first + length (whole_blocks bytes) - 1)) ranged in
-            let inner = and_parts (nat_lt 0 (length (whole_blocks bytes)) && nat_le (length (whole_blocks bytes)) 32) (nat_le (first + length (whole_blocks bytes)) h.settings.blocks) outer.0 in
+            let outer = and_parts ((nat_lt 0 (length (whole_blocks bytes)) && nat_le (length (whole_blocks bytes)) 32)
+            && nat_le (first + length (whole_blocks bytes)) h.settings.blocks) (extent_of first == extent_of (first + length (whole_blocks bytes) - 1))
+            passed.range in
+            let inner = and_parts (nat_lt 0 (length (whole_blocks bytes)) && nat_le (length (whole_blocks bytes)) 32)
+            (nat_le (first + length (whole_blocks bytes)) h.settings.blocks) outer.0 in
             let sizes = and_parts (nat_lt 0 (length (whole_blocks bytes))) (nat_le (length (whole_blocks bytes)) 32) inner.0 in
-            record { some = ltb-true 0 (length (whole_blocks bytes)) sizes.0; inside = leb-true (first + length (whole_blocks bytes)) h.settings.blocks inner.1 }
+            record {
+              some = ltb-true 0 (length (whole_blocks bytes)) sizes.0;
+              inside = leb-true (first + length (whole_blocks bytes)) h.settings.blocks inner.1;
+            }
 
         begins : can_begin (extent_of first) s.activity ≡ true
-        begins = not-false (can_begin (extent_of first) s.activity) (can-begin-is s.activity h.settings.slots (extent_of first) (unreleased h) left.rest.activity ∙ p6.0)
+        begins = not-false (can_begin (extent_of first) s.activity)
+            (can-begin-is s.activity h.settings.slots (extent_of first) (unreleased h) left.rest.activity ∙ passed.active)
 
         number_is : s.log.accepted + 1 ≡ suc (length h.writes)
         number_is = let all = left.rest.log.accepted in omega arith
@@ -229,12 +201,13 @@ submits-agree first bytes starved s h reached left =
         -- the transition, by whether a stream stands and what the log accepted
         core-by : Bool → report.Accepted × LogState → Done × PrimaryState
         core-by b accepted = elim b [
-          | true ↦ core.following (what.Write accepted.0.number) accepted.0.barrier (core.appending (WriteItem (record { number = accepted.0.number; first = first; contents = whole_blocks bytes }) ∷ []) (record s {
-            log = accepted.1;
-            entries = s.entries ++ record { first = first; count = length (whole_blocks bytes); fate = core.Open; taken = false } ∷ [];
-            held = held.holding_too (holding accepted.0.number first (length (whole_blocks bytes))) s.held;
-            activity = begun (extent_of first) s.activity;
-          }))
+          | true ↦ core.following (what.Write accepted.0.number) accepted.0.barrier
+              (core.appending (WriteItem (record { number = accepted.0.number; first = first; contents = whole_blocks bytes }) ∷ []) (record s {
+                log = accepted.1;
+                entries = s.entries ++ record { first = first; count = length (whole_blocks bytes); fate = core.Open; taken = false } ∷ [];
+                held = held.holding_too (holding accepted.0.number first (length (whole_blocks bytes))) s.held;
+                activity = begun (extent_of first) s.activity;
+              }))
           | false ↦ core.following (what.Write accepted.0.number) None (record s {
             log = accepted.1;
             entries = s.entries ++ record { first = first; count = length (whole_blocks bytes); fate = core.Open; taken = false } ∷ [];
@@ -248,22 +221,50 @@ submits-agree first bytes starved s h reached left =
         answered got later = Agrees reply.Ok (Ok got.0, got.1) (step.succeeding (what.Write (suc (length h.writes))) later)
 
         by-stand : (b : Bool) → stands (outward h) ≡ b
-            → Agrees reply.Ok (Ok (transition.submitted first (length (whole_blocks bytes)) bytes s).0, (transition.submitted first (length (whole_blocks bytes)) bytes s).1) (step.succeeding (what.Write (suc (length h.writes))) (submitted h first (whole_blocks bytes)))
+            → Agrees reply.Ok (
+              Ok (transition.submitted first (length (whole_blocks bytes)) bytes s).0,
+              (transition.submitted first (length (whole_blocks bytes)) bytes s).1,
+            )
+            (step.succeeding (what.Write (suc (length h.writes))) (submitted h first (whole_blocks bytes)))
         by-stand true on =
-            subst (answered (transition.submitted first (length (whole_blocks bytes)) bytes s)) (sym (linked.submitted-is known.settings known.bound s h first bytes left known.ordered may range begins on))
+            subst (answered (transition.submitted first (length (whole_blocks bytes)) bytes s))
+            (sym (linked.submitted-is known.settings known.bound s h first bytes left known.ordered may range begins on))
             (subst (λ (x : Done × PrimaryState). answered x (linked.later known.settings known.bound s h first bytes left known.ordered may range begins on))
-            (sym (λ i. core-by ((stands-is s h first bytes left ∙ on) i) (linked.accepting-is known.settings known.bound s h first bytes left known.ordered may range begins on i)))
-            (subst (λ n. Agrees reply.Ok (Ok (core-by true (accepted-there)).0, (core-by true (accepted-there)).1) (step.succeeding (what.Write n) (linked.later known.settings known.bound s h first bytes left known.ordered may range begins on))) number_is
-            (from-follow _ _ (follow _ _ _ (linked.stream-due known.settings known.bound s h first bytes left known.ordered may range begins on (s.log.accepted + 1) refl) (what.Write (s.log.accepted + 1))))))
+            (sym (λ i. core-by ((stands-is s h first bytes left ∙ on) i)
+            (linked.accepting-is known.settings known.bound s h first bytes left known.ordered may range begins on i)))
+            (subst (λ n. Agrees reply.Ok (
+              Ok (core-by true (accepted-there)).0,
+              (core-by true (accepted-there)).1,
+            )
+            (step.succeeding (what.Write n) (linked.later known.settings known.bound s h first bytes left known.ordered may range begins on))) number_is
+            (from-follow _ _ (follow _ _ _ (linked.stream-due known.settings known.bound s h first bytes left known.ordered may range begins on
+            (s.log.accepted + 1) refl) (what.Write (s.log.accepted + 1))))))
           where
             accepted-there : report.Accepted × LogState
-            accepted-there = (record { number = s.log.accepted + 1; place = Some (length (outward h).stream); barrier = (linked.placed-there known.settings known.bound s h first bytes left known.ordered may range begins on).1.0 }, linked.l1 known.settings known.bound s h first bytes left known.ordered may range begins on)
+            accepted-there = (
+              record {
+                number = s.log.accepted + 1;
+                place = Some (length (outward h).stream);
+                barrier = (linked.placed-there known.settings known.bound s h first bytes left known.ordered may range begins on).1.0;
+              },
+              linked.l1 known.settings known.bound s h first bytes left known.ordered may range begins on,
+            )
         by-stand false down =
-            subst (answered (transition.submitted first (length (whole_blocks bytes)) bytes s)) (sym (alone.submitted-is known.settings known.bound s h first bytes left known.ordered may range begins down))
+            subst (answered (transition.submitted first (length (whole_blocks bytes)) bytes s))
+            (sym (alone.submitted-is known.settings known.bound s h first bytes left known.ordered may range begins down))
             (subst (λ (x : Done × PrimaryState). answered x (alone.later known.settings known.bound s h first bytes left known.ordered may range begins down))
-            (sym (λ i. core-by ((stands-is s h first bytes left ∙ down) i) (alone.accepting-is known.settings known.bound s h first bytes left known.ordered may range begins down i)))
-            (subst (λ n. Agrees reply.Ok (Ok (core-by false (accepted-alone)).0, (core-by false (accepted-alone)).1) (step.succeeding (what.Write n) (alone.later known.settings known.bound s h first bytes left known.ordered may range begins down))) number_is
-            (from-follow _ _ (follow _ _ _ (alone.alone-due known.settings known.bound s h first bytes left known.ordered may range begins down) (what.Write (s.log.accepted + 1))))))
+            (sym (λ i. core-by ((stands-is s h first bytes left ∙ down) i)
+            (alone.accepting-is known.settings known.bound s h first bytes left known.ordered may range begins down i)))
+            (subst (λ n. Agrees reply.Ok (
+              Ok (core-by false (accepted-alone)).0,
+              (core-by false (accepted-alone)).1,
+            )
+            (step.succeeding (what.Write n) (alone.later known.settings known.bound s h first bytes left known.ordered may range begins down))) number_is
+            (from-follow _ _ (follow _ _ _ (alone.alone-due known.settings known.bound s h first bytes left known.ordered may range begins down)
+            (what.Write (s.log.accepted + 1))))))
           where
             accepted-alone : report.Accepted × LogState
-            accepted-alone = (record { number = s.log.accepted + 1; place = None; barrier = None }, alone.l1 known.settings known.bound s h first bytes left known.ordered may range begins down)
+            accepted-alone = (
+              record { number = s.log.accepted + 1; place = None; barrier = None },
+              alone.l1 known.settings known.bound s h first bytes left known.ordered may range begins down,
+            )

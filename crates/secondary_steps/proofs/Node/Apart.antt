@@ -1,5 +1,6 @@
 -- Of what a secondary took on a connection no two items of one epoch share a block.
-use Rattle.std.proofs.Common.{ℕ, ◌+◌, ◌-◌, ◌≡◌, ◌<◌, ◌⊎◌, inl, inr, Bool, true, false, ◌&&◌, List, [], ◌∷◌, ◌++◌, length, map, Option, Some, None, slice_get, Ok, Err, refl, sym, ◌∙◌, ap, subst, arith, ◌==◌, nat_lt, nat_le}
+use Rattle.std.proofs.Common.{ℕ, ◌+◌, ◌-◌, ◌≡◌, ◌<◌, ◌⊎◌, inl, inr, Bool, true, false, ◌&&◌, List, [], ◌∷◌, ◌++◌, length, map, Option, Some, None, slice_get}
+use Rattle.std.proofs.Common.{Ok, Err, refl, sym, ◌∙◌, ap, subst, arith, ◌==◌, nat_lt, nat_le}
 use Rattle.std.specs.Prelude.{is_none}
 use Rattle.std.specs.List.{list_any}
 use Rattle.std.proofs.lemmas.Bool.{both_ways, eq-eqb, false_from_ne_true, ltb-true, not-true}
@@ -12,12 +13,16 @@ use Rattle.blocks.specs.declared.outcome.What.TheVariants as what
 use Rattle.blocks.specs.declared.outcome.Reply.{Reply}
 use Rattle.blocks.specs.declared.outcome.Reply.TheVariants as reply
 use Rattle.model.specs.Contents.{is_range}
-use Rattle.model.specs.Stream.{Item, WriteItem, ResyncItem, BarrierItem, SyncUuidItem, UuidsItem, contents_of, items_meet, items_of_epoch, epoch_of, last_epoch, placed, below}
+use Rattle.model.specs.Stream.{Item, WriteItem, ResyncItem, BarrierItem, SyncUuidItem, UuidsItem, contents_of, items_meet, items_of_epoch, epoch_of, last_epoch}
+use Rattle.model.specs.Stream.{placed, below}
 use Rattle.model.specs.Frames.{Packet, DataFrame, RsDataReplyFrame, BarrierFrame, UuidsFrame, SyncUuidFrame, Received}
 use Rattle.model.specs.Refusals.{Test}
 use Rattle.model.specs.Primary.{last_of, change_last}
-use Rattle.model.specs.Secondary.{Inward, SecondaryHistory, secondary_opening, inward, no_inward, with_inward, items_taken, received_item, is_in_resync, pending}
-use Rattle.model.specs.SecondarySteps.{Checked, has_place, is_above, is_apart, checked_if, checking, checking_hello, checking_item, adopting, take_item, receive, succeeding_secondary, opened_secondary, answering, barrier_answer, barriers_to_answer, applying, applied_answer, offsets_at, failing}
+use Rattle.model.specs.Secondary.{Inward, SecondaryHistory, secondary_opening, inward, no_inward, with_inward, items_taken, received_item, is_in_resync}
+use Rattle.model.specs.Secondary.{pending}
+use Rattle.model.specs.SecondarySteps.{Checked, has_place, is_above, is_apart, checked_if, checking, checking_hello, checking_item, adopting, take_item}
+use Rattle.model.specs.SecondarySteps.{receive, succeeding_secondary, opened_secondary, answering, barrier_answer, barriers_to_answer, applying, applied_answer}
+use Rattle.model.specs.SecondarySteps.{offsets_at, failing}
 use Rattle.model.specs.LocalRuns.{SecondaryEvent, OpensToo, Receives, Applies, FailsToApply, Acknowledges, ClosesToo, secondary_after, secondary_run}
 use Rattle.laws.proofs.Lists.Elements.{get-more}
 use Rattle.laws.proofs.Lists.Last.{change-twice, last-change, last-more}
@@ -25,7 +30,8 @@ use Rattle.laws.proofs.Lists.Picks.{any-filtered}
 use Rattle.laws.proofs.Lists.Each.{each-get}
 use Rattle.laws.proofs.Lists.Tests.{test-passed}
 use Rattle.laws.proofs.Secondary.Good.{IsGood, items-refusing}
-use Rattle.laws.proofs.Secondary.Moves.{framed, receipting, refused_end, pushed_one, closed_end, after-take, after-open, after-peer, after-fault, after-push, after-close}
+use Rattle.laws.proofs.Secondary.Moves.{framed, receipting, refused_end, pushed_one, closed_end, after-take, after-open, after-peer, after-fault, after-push}
+use Rattle.laws.proofs.Secondary.Moves.{after-close}
 use Rattle.laws.proofs.Secondary.Runs.{IsKept, tested-keeps, kept-after, kept-opening}
 use Rattle.laws.proofs.Secondary.Tuples.{taken-item, open-there}
 use Rattle.laws.proofs.Streams.Lawful.{epoch-end, meets-none}
@@ -35,20 +41,25 @@ use Rattle.secondary_steps.proofs.Judged.{early-items}
 
 -- No two items of one epoch share a block.
 pub record AreApart (items : List Item) : Type 0 where
-  pub apart : (place later : ℕ) (a b : Item) → place < later → epoch_of items place ≡ epoch_of items later → slice_get items place ≡ Some a → slice_get items later ≡ Some b → items_meet a b ≡ false
+  pub apart : (place later : ℕ) (a b : Item) → place < later → epoch_of items place ≡ epoch_of items later → slice_get items place ≡ Some a
+      → slice_get items later ≡ Some b → items_meet a b ≡ false
 
 none-apart : AreApart []
 none-apart = record { apart = λ place later a b before same ata atb. absurd (cc) }
 
 -- an item may follow that meets none of the last epoch
-apart-append : (items : List Item) (item : Item) → AreApart items → ((place : ℕ) (a : Item) → epoch_of items place ≡ last_epoch items → slice_get items place ≡ Some a → items_meet a item ≡ false) → AreApart (items ++ item ∷ [])
-apart-append items item old new = record { apart = λ place later a b before same ata atb. go place later a b before same (get-more items item place a ata) (get-more items item later b atb) }
+apart-append : (items : List Item) (item : Item) → AreApart items
+    → ((place : ℕ) (a : Item) → epoch_of items place ≡ last_epoch items → slice_get items place ≡ Some a → items_meet a item ≡ false)
+    → AreApart (items ++ item ∷ [])
+apart-append items item old new =
+    record { apart = λ place later a b before same ata atb. go place later a b before same (get-more items item place a ata) (get-more items item later b atb) }
   where
     grown : (place : ℕ) (a : Item) → slice_get items place ≡ Some a → epoch_of (items ++ item ∷ []) place ≡ epoch_of items place
     grown place a at = epoch-grows items (item ∷ []) place (let n = slice_get_within items place a at in omega arith)
 
     go : (place later : ℕ) (a b : Item) → place < later → epoch_of (items ++ item ∷ []) place ≡ epoch_of (items ++ item ∷ []) later
-        → (slice_get items place ≡ Some a) ⊎ ((place ≡ length items) × (a ≡ item)) → (slice_get items later ≡ Some b) ⊎ ((later ≡ length items) × (b ≡ item)) → items_meet a b ≡ false
+        → (slice_get items place ≡ Some a) ⊎ ((place ≡ length items) × (a ≡ item)) → (slice_get items later ≡ Some b) ⊎ ((later ≡ length items) × (b ≡ item))
+        → items_meet a b ≡ false
     go place later a b before same (inl ata) (inl atb) = old.apart place later a b before (sym (grown place a ata) ∙ (same ∙ grown later b atb)) ata atb
     go place later a b before same (inl ata) (inr last) =
         let end : epoch_of (items ++ item ∷ []) later ≡ last_epoch items = ap (epoch_of (items ++ item ∷ [])) last.0 ∙ epoch-end items (item ∷ []) in
@@ -57,43 +68,65 @@ apart-append items item old new = record { apart = λ place later a b before sam
     go place later a b before same (inr last) (inr end) = absurd (let n = end.0 in let e = last.0 in omega arith)
 
 -- what is tested on taking
-tested-apart : (items : List Item) (item : Item) → is_apart item items ≡ true → (place : ℕ) (a : Item) → epoch_of items place ≡ last_epoch items → slice_get items place ≡ Some a → items_meet a item ≡ false
+tested-apart : (items : List Item) (item : Item) → is_apart item items ≡ true → (place : ℕ) (a : Item) → epoch_of items place ≡ last_epoch items
+    → slice_get items place ≡ Some a → items_meet a item ≡ false
 tested-apart items item tested place a epoch at =
-    let none : list_any (λ (entry : ℕ × Item). items_meet entry.1 item) (items_of_epoch items (last_epoch items)) ≡ false = not-true (list_any (λ (entry : ℕ × Item). items_meet entry.1 item) (items_of_epoch items (last_epoch items))) tested in
+    let none : list_any (λ (entry : ℕ × Item). items_meet entry.1 item) (items_of_epoch items (last_epoch items)) ≡ false =
+    not-true (list_any (λ (entry : ℕ × Item). items_meet entry.1 item) (items_of_epoch items (last_epoch items))) tested in
     let here : 0 + place ≡ place = omega arith in
-    false_from_ne_true (items_meet a item) (λ met. both_ways (list_any (λ (entry : ℕ × Item). items_meet entry.1 item) (items_of_epoch items (last_epoch items))) none
+    false_from_ne_true (items_meet a item)
+    (λ met. both_ways (list_any (λ (entry : ℕ × Item). items_meet entry.1 item) (items_of_epoch items (last_epoch items))) none
     (any-filtered (λ (entry : ℕ × Item). items_meet entry.1 item) (λ entry. epoch_of items entry.0 == last_epoch items) (placed items) place (place, a)
     (placed-at 0 items place a at ∙ ap (λ (n : ℕ). Some (n, a)) here) (eq-eqb (epoch_of items place) (last_epoch items) epoch) met))
 
 -- A frame leaves the items apart, or is refused.
-fine-or-refused : (frame : Received) (c : Inward) (t : SecondaryHistory) → c.refused ≡ false → AreApart (items_taken c) → AreApart (items_taken (framed frame c)) ⊎ ((e : Refusal) × (checking frame c t ≡ Err e))
+fine-or-refused : (frame : Received) (c : Inward) (t : SecondaryHistory) → c.refused ≡ false → AreApart (items_taken c)
+    → AreApart (items_taken (framed frame c)) ⊎ ((e : Refusal) × (checking frame c t ≡ Err e))
 fine-or-refused (Err fault) c t plain was = inr (fault, refl)
 fine-or-refused (Ok packet) c t plain was = go (nat_lt (length c.taken) 3) refl
   where
     Outcome : Checked → Type 0
     Outcome v = AreApart (items_taken (framed (Ok packet) c)) ⊎ ((e : Refusal) × (v ≡ Err e))
 
-    with-item : (item : Item) → nat_lt (length c.taken) 3 ≡ false → received_item (Ok packet) ≡ Some item → ((place : ℕ) (a : Item) → epoch_of (items_taken c) place ≡ last_epoch (items_taken c) → slice_get (items_taken c) place ≡ Some a → items_meet a item ≡ false)
+    with-item : (item : Item) → nat_lt (length c.taken) 3 ≡ false → received_item (Ok packet) ≡ Some item
+        → ((place : ℕ) (a : Item) → epoch_of (items_taken c) place ≡ last_epoch (items_taken c) → slice_get (items_taken c) place ≡ Some a
+        → items_meet a item ≡ false)
         → AreApart (items_taken (framed (Ok packet) c))
     with-item item late brings new = subst AreApart (sym (taken-item (Ok packet) item c plain late brings)) (apart-append (items_taken c) item was new)
 
-    by-test : (a b : Bool) (item : Item) (name : What) (h : SecondaryHistory) → nat_lt (length c.taken) 3 ≡ false → received_item (Ok packet) ≡ Some item → (d : Bool) → is_apart item (items_taken c) ≡ d → AreApart (items_taken (framed (Ok packet) c)) ⊎ ((e : Refusal) × (checked_if (a && (b && d)) name h ≡ Err e))
+    by-test : (a b : Bool) (item : Item) (name : What) (h : SecondaryHistory) → nat_lt (length c.taken) 3 ≡ false → received_item (Ok packet) ≡ Some item
+        → (d : Bool) → is_apart item (items_taken c) ≡ d
+        → AreApart (items_taken (framed (Ok packet) c)) ⊎ ((e : Refusal) × (checked_if (a && (b && d)) name h ≡ Err e))
     by-test a b item name h late brings true is = inl (with-item item late brings (tested-apart (items_taken c) item is))
     by-test true true item name h late brings false is = inr (BadField, refl)
     by-test true false item name h late brings false is = inr (BadField, refl)
     by-test false b item name h late brings false is = inr (BadField, refl)
 
-    by-item : (p : Packet) → packet ≡ p → nat_lt (length c.taken) 3 ≡ false → AreApart (items_taken (framed (Ok packet) c)) ⊎ ((e : Refusal) × (checking_item p (length (items_taken c)) c t ≡ Err e))
-    by-item (DataFrame write at) is late = by-test (((at == length (items_taken c)) && has_place (length (items_taken c))) && is_range t.settings write.first (length write.contents)) (is_above write.number (items_taken c)) (WriteItem write)
+    by-item : (p : Packet) → packet ≡ p → nat_lt (length c.taken) 3 ≡ false
+        → AreApart (items_taken (framed (Ok packet) c)) ⊎ ((e : Refusal) × (checking_item p (length (items_taken c)) c t ≡ Err e))
+    by-item (DataFrame write at) is late =
+        by-test (((at == length (items_taken c)) && has_place (length (items_taken c))) && is_range t.settings write.first (length write.contents))
+        (is_above write.number (items_taken c)) (WriteItem write)
         (what.Frame _ _) _ late (ap (λ (p : Packet). received_item (Ok p)) is) (is_apart (WriteItem write) (items_taken c)) refl
-    by-item (RsDataReplyFrame block contents at) is late = by-test (((at == length (items_taken c)) && has_place (length (items_taken c))) && is_range t.settings block 1) (is_in_resync c) (ResyncItem block contents)
+    by-item (RsDataReplyFrame block contents at) is late =
+        by-test (((at == length (items_taken c)) && has_place (length (items_taken c))) && is_range t.settings block 1) (is_in_resync c)
+        (ResyncItem block contents)
         (what.Frame _ _) _ late (ap (λ (p : Packet). received_item (Ok p)) is) (is_apart (ResyncItem block contents) (items_taken c)) refl
-    by-item (BarrierFrame number) is late = inl (with-item (BarrierItem number) late (ap (λ (p : Packet). received_item (Ok p)) is) (λ place a epoch at. meets-none a (BarrierItem number) refl))
-    by-item (UuidsFrame tuple) is late = inl (with-item (UuidsItem tuple) late (ap (λ (p : Packet). received_item (Ok p)) is) (λ place a epoch at. meets-none a (UuidsItem tuple) refl))
-    by-item (SyncUuidFrame word) is late = inl (with-item (SyncUuidItem word) late (ap (λ (p : Packet). received_item (Ok p)) is) (λ place a epoch at. meets-none a (SyncUuidItem word) refl))
+    by-item (BarrierFrame number) is late =
+        inl (with-item (BarrierItem number) late (ap (λ (p : Packet). received_item (Ok p)) is) (λ place a epoch at. meets-none a (BarrierItem number) refl))
+    by-item (UuidsFrame tuple) is late =
+        inl (with-item (UuidsItem tuple) late (ap (λ (p : Packet). received_item (Ok p)) is) (λ place a epoch at. meets-none a (UuidsItem tuple) refl))
+    by-item (SyncUuidFrame word) is late =
+        inl (with-item (SyncUuidItem word) late (ap (λ (p : Packet). received_item (Ok p)) is) (λ place a epoch at. meets-none a (SyncUuidItem word) refl))
     by-item p is late = inr (BadCommand, refl)
 
-    go : (b : Bool) → nat_lt (length c.taken) 3 ≡ b → AreApart (items_taken (framed (Ok packet) c)) ⊎ ((e : Refusal) × (elim b as (λ _. Checked) [ true ↦ checking_hello (length c.taken) packet t | false ↦ checking_item packet (length (items_taken c)) c t ] ≡ Err e))
+    go : (b : Bool) → nat_lt (length c.taken) 3 ≡ b
+        → AreApart (items_taken (framed (Ok packet) c))
+        ⊎ ((e : Refusal) × (elim b as (λ _. Checked) [
+          | true ↦ checking_hello (length c.taken) packet t
+          | false ↦ checking_item packet
+              (length (items_taken c)) c t
+        ] ≡ Err e))
     go true early = inl (subst AreApart (sym (early-items (Ok packet) c plain (ltb-true (length c.taken) 3 early))) was)
     go false late = by-item packet refl late
 
@@ -101,7 +134,8 @@ fine-or-refused (Ok packet) c t plain was = go (nat_lt (length c.taken) 3) refl
 abbrev IsApart : SecondaryHistory → Type 0
 IsApart h = AreApart (items_taken (inward h))
 
-changed : (f : Inward → Inward) (h later : SecondaryHistory) → later.connections ≡ change_last f h.connections → AreApart (items_taken (f (inward h))) → IsApart later
+changed : (f : Inward → Inward) (h later : SecondaryHistory) → later.connections ≡ change_last f h.connections → AreApart (items_taken (f (inward h)))
+    → IsApart later
 changed f h later is fine = elim (last-change f (no_inward h) (no_inward later) h.connections) [
   | inl none ↦ subst (λ (l : List Inward). AreApart (items_taken (last_of (no_inward later) l))) (sym (is ∙ ap (change_last f) none)) none-apart
   | inr same ↦ subst (λ (c : Inward). AreApart (items_taken c)) (sym (ap (last_of (no_inward later)) is ∙ same)) fine
@@ -110,7 +144,8 @@ changed f h later is fine = elim (last-change f (no_inward h) (no_inward later) 
 apart-answering : (d : Inward) → AreApart (items_taken d) → AreApart (items_taken (answering d))
 apart-answering d fine = go d.closed
   where
-    go : (b : Bool) → AreApart (items_taken (elim b as (λ _. Inward) [ true ↦ d | false ↦ record d { due = d.due ++ map (barrier_answer d) (barriers_to_answer d) } ]))
+    go : (b : Bool) → AreApart (items_taken
+        (elim b as (λ _. Inward) [ true ↦ d | false ↦ record d { due = d.due ++ map (barrier_answer d) (barriers_to_answer d) } ]))
     go true = fine
     go false = fine
 
@@ -119,7 +154,10 @@ apart-applying asked place d fine = go (slice_get (items_taken d) place)
   where
     go : (v : Option Item) → AreApart (items_taken (elim v as (λ _. Inward) [
       | None ↦ d
-      | Some item ↦ record d { applied = d.applied ++ offsets_at place (below (length (contents_of item))); due = elim d.closed [ true ↦ d.due | false ↦ d.due ++ applied_answer asked place item ] }
+      | Some item ↦ record d {
+        applied = d.applied ++ offsets_at place (below (length (contents_of item)));
+        due = elim d.closed [ true ↦ d.due | false ↦ d.due ++ applied_answer asked place item ];
+      }
     ]))
     go None = fine
     go (Some item) = fine
@@ -128,14 +166,25 @@ apart-applying asked place d fine = go (slice_get (items_taken d) place)
 apart-take : (frame : Received) (h : SecondaryHistory) → (inward h).closed ≡ false → (inward h).refused ≡ false → IsApart h → IsApart (take_item frame h).1
 apart-take frame h stands plain was = elim (fine-or-refused frame (inward h) taken plain was) [
   | inl fine ↦ after-take IsApart h frame (record {
-    accepts = changed (λ x. answering (framed frame x)) h (with_inward answering taken) (change-twice (framed frame) answering h.connections) (apart-answering (framed frame c) fine);
-    receipts = λ write at is late. changed (λ x. answering (receipting (length (items_taken c)) write (framed frame x))) h (with_inward answering (with_inward (receipting (length (items_taken c)) write) taken))
-        (ap (λ l. change_last answering l) (change-twice (framed frame) (receipting (length (items_taken c)) write) h.connections) ∙ change-twice (λ x. receipting (length (items_taken c)) write (framed frame x)) answering h.connections)
+    accepts = changed (λ x. answering (framed frame x)) h (with_inward answering taken) (change-twice (framed frame) answering h.connections)
+        (apart-answering (framed frame c) fine);
+    receipts = λ write at is late. changed (λ x. answering (receipting (length (items_taken c)) write (framed frame x))) h
+        (with_inward answering (with_inward (receipting (length (items_taken c)) write) taken))
+        (ap (λ l. change_last answering l) (change-twice (framed frame) (receipting (length (items_taken c)) write) h.connections)
+        ∙ change-twice (λ x. receipting (length (items_taken c)) write (framed frame x)) answering h.connections)
         (apart-answering (receipting (length (items_taken c)) write (framed frame c)) fine);
-    adopts = λ item tuple consistent is late. changed (λ x. answering (framed frame x)) h (with_inward answering (adopting tuple consistent taken)) (change-twice (framed frame) answering h.connections) (apart-answering (framed frame c) fine);
+    adopts = λ item tuple consistent is late. changed (λ x. answering (framed frame x)) h (with_inward answering (adopting tuple consistent taken))
+        (change-twice (framed frame) answering h.connections) (apart-answering (framed frame c) fine);
     refuses = refused;
   })
-  | inr shut ↦ subst (λ (v : Checked). IsApart (elim v as (λ _. Reply × SecondaryHistory) [ Ok done ↦ succeeding_secondary done.0 done.1 | Err refusal ↦ (reply.Refused refusal, with_inward refused_end taken) ]).1) (sym shut.1) refused
+  | inr shut ↦ subst (λ (v : Checked). IsApart
+      (elim v as (λ _. Reply × SecondaryHistory) [
+        | Ok done ↦ succeeding_secondary done.0 done.1
+        | Err refusal ↦ (
+          reply.Refused refusal,
+          with_inward refused_end taken,
+        )
+      ]).1) (sym shut.1) refused
 ]
   where
     c : Inward
@@ -145,16 +194,19 @@ apart-take frame h stands plain was = elim (fine-or-refused frame (inward h) tak
     taken = with_inward (framed frame) h
 
     refused : IsApart (with_inward refused_end taken)
-    refused = changed (λ x. refused_end (framed frame x)) h (with_inward refused_end taken) (change-twice (framed frame) refused_end h.connections) (subst AreApart (sym (items-refusing frame c plain)) was)
+    refused = changed (λ x. refused_end (framed frame x)) h (with_inward refused_end taken) (change-twice (framed frame) refused_end h.connections)
+        (subst AreApart (sym (items-refusing frame c plain)) was)
 
 apart-receive : (frame : Option Received) (starved : Bool) (h : SecondaryHistory) → IsKept h → IsApart h → IsApart (receive frame starved h).1
-apart-receive frame starved h kept was = tested-keeps IsApart h (((inward h).closed, NotConnected) ∷ rest) (λ _. elim frame as (λ _. Reply × SecondaryHistory) [ None ↦ (reply.Refused NothingThere, h) | Some taken ↦ take_item taken h ])
+apart-receive frame starved h kept was = tested-keeps IsApart h (((inward h).closed, NotConnected) ∷ rest)
+    (λ _. elim frame as (λ _. Reply × SecondaryHistory) [ None ↦ (reply.Refused NothingThere, h) | Some taken ↦ take_item taken h ])
     was (λ passed. go frame (test-passed (inward h).closed NotConnected rest passed).0)
   where
     rest : List Test
     rest = (nat_le h.settings.pending (length (pending (inward h))), PendingFull) ∷ (starved, NoMemory) ∷ (is_none frame, NothingThere) ∷ []
 
-    go : (v : Option Received) → (inward h).closed ≡ false → IsApart (elim v as (λ _. Reply × SecondaryHistory) [ None ↦ (reply.Refused NothingThere, h) | Some taken ↦ take_item taken h ]).1
+    go : (v : Option Received) → (inward h).closed ≡ false
+        → IsApart (elim v as (λ _. Reply × SecondaryHistory) [ None ↦ (reply.Refused NothingThere, h) | Some taken ↦ take_item taken h ]).1
     go None stands = was
     go (Some taken) stands =
         let good = each-get IsGood h.connections (length h.connections - 1) (inward h) kept.good (open-there h stands) in
@@ -162,13 +214,19 @@ apart-receive frame starved h kept was = tested-keeps IsApart h (((inward h).clo
 
 -- Every step keeps them so.
 apart-after : (event : SecondaryEvent) (h : SecondaryHistory) → IsKept h → IsApart h → IsApart (secondary_after event h)
-apart-after (OpensToo unseen) h kept was = after-open IsApart unseen h was (λ shut. changed answering (opened_secondary unseen h) (with_inward answering (opened_secondary unseen h)) refl
-    (apart-answering (inward (opened_secondary unseen h)) (subst (λ (c : Inward). AreApart (items_taken c)) (sym (last-more (no_inward (opened_secondary unseen h)) _ h.connections)) none-apart)))
+apart-after (OpensToo unseen) h kept was =
+    after-open IsApart unseen h was (λ shut. changed answering (opened_secondary unseen h) (with_inward answering (opened_secondary unseen h)) refl
+    (apart-answering (inward (opened_secondary unseen h))
+    (subst (λ (c : Inward). AreApart (items_taken c)) (sym (last-more (no_inward (opened_secondary unseen h)) _ h.connections)) none-apart)))
 apart-after (Receives frame starved) h kept was = apart-receive frame starved h kept was
-apart-after (Applies place) h kept was = after-peer IsApart h place was (λ waits first. changed (λ x. answering (applying h.settings.protocol place x)) h (with_inward answering (with_inward (applying h.settings.protocol place) h)) (change-twice (applying h.settings.protocol place) answering h.connections)
+apart-after (Applies place) h kept was =
+    after-peer IsApart h place was (λ waits first. changed (λ x. answering (applying h.settings.protocol place x)) h
+    (with_inward answering (with_inward (applying h.settings.protocol place) h)) (change-twice (applying h.settings.protocol place) answering h.connections)
     (apart-answering (applying h.settings.protocol place (inward h)) (apart-applying h.settings.protocol place (inward h) was)))
-apart-after (FailsToApply place offsets) h kept was = after-fault IsApart h place offsets was (λ waits first. changed (failing place offsets) h (with_inward (failing place offsets) h) refl was)
-apart-after (Acknowledges room starved) h kept was = after-push IsApart h room starved was (λ stands some. changed pushed_one h (with_inward pushed_one h) refl was)
+apart-after (FailsToApply place offsets) h kept was = after-fault IsApart h place offsets was
+    (λ waits first. changed (failing place offsets) h (with_inward (failing place offsets) h) refl was)
+apart-after (Acknowledges room starved) h kept was = after-push IsApart h room starved was
+    (λ stands some. changed pushed_one h (with_inward pushed_one h) refl was)
 apart-after ClosesToo h kept was = after-close IsApart h was (λ stands. changed closed_end h (with_inward closed_end h) refl was)
 
 -- On every history that is reached its last connection is sound, and no two items of one epoch of it share a block.
@@ -178,8 +236,10 @@ pub record IsSettled (h : SecondaryHistory) : Type 0 where
 
 run-settled : (events : List SecondaryEvent) (h : SecondaryHistory) → IsSettled h → IsSettled (secondary_run events h)
 run-settled [] h is = is
-run-settled (event ∷ events) h is = run-settled events (secondary_after event h) (record { kept = kept-after event h is.kept; apart = apart-after event h is.kept is.apart })
+run-settled (event ∷ events) h is = run-settled events (secondary_after event h)
+    (record { kept = kept-after event h is.kept; apart = apart-after event h is.kept is.apart })
 
 -- Each reached history is.
 pub reached-settled : (h : SecondaryHistory) → IsReached h → IsSettled h
-reached-settled h is = subst IsSettled (sym is.reached) (run-settled is.events (secondary_opening is.settings is.disk is.tuple) (record { kept = kept-opening is.settings is.disk is.tuple; apart = none-apart }))
+reached-settled h is = subst IsSettled (sym is.reached)
+    (run-settled is.events (secondary_opening is.settings is.disk is.tuple) (record { kept = kept-opening is.settings is.disk is.tuple; apart = none-apart }))

@@ -10,13 +10,16 @@ use Rattle.secondary_steps.proofs.Node.Grows.{layers-none}
 
 -- Two parts lay the same over a block, where they agree on each item that touches it.
 pub layers-alike : (base : BlockMap) (start : ℕ) (items : List Item) (part other : Part) (block : ℕ)
-    → ((n : ℕ) (item : Item) → slice_get items n ≡ Some item → touches item block ≡ true → is_in part (start + n) (block - first_of item) ≡ is_in other (start + n) (block - first_of item))
+    → ((n : ℕ) (item : Item) → slice_get items n ≡ Some item → touches item block ≡ true
+    → is_in part (start + n) (block - first_of item) ≡ is_in other (start + n) (block - first_of item))
     → overlay base (layers_from start items part) block ≡ overlay base (layers_from start items other) block
 layers-alike base start [] part other block same = refl
 layers-alike base start (x ∷ items) part other block same =
     let here : start + 0 ≡ start = omega arith in
-    layers-alike (λ b. block_under (layer start part x) b (base b)) (suc start) items part other block (λ n item at touched. let on : suc start + n ≡ start + suc n = omega arith in rw on (same (suc n) item at touched))
-    ∙ overlay-same (λ b. block_under (layer start part x) b (base b)) (λ b. block_under (layer start other x) b (base b)) (layers_from (suc start) items other) block (elim (cases_Bool (touches x block)) [
+    layers-alike (λ b. block_under (layer start part x) b (base b)) (suc start) items part other block
+    (λ n item at touched. let on : suc start + n ≡ start + suc n = omega arith in rw on (same (suc n) item at touched))
+    ∙ overlay-same (λ b. block_under (layer start part x) b (base b)) (λ b. block_under (layer start other x) b (base b)) (layers_from (suc start) items other)
+    block (elim (cases_Bool (touches x block)) [
       | inr outside ↦ under-outside (layer start part x) block (base block) outside ∙ sym (under-outside (layer start other x) block (base block) outside)
       | inl inside ↦ under-alike (first_of x) (contents_of x) (λ offset. is_in part start offset) (λ offset. is_in other start offset) block (base block)
           (subst (λ (k : ℕ). is_in part k (block - first_of x) ≡ is_in other k (block - first_of x)) here (same 0 x refl inside))
@@ -26,14 +29,17 @@ layers-alike base start (x ∷ items) part other block same =
     layer place laid item = record { first = first_of item; contents = contents_of item; laid = λ offset. is_in laid place offset }
 
 -- What an item lays over a block that it touches stays, where no later one that touches it has a part there.
-pub layers-laid : (base : BlockMap) (start : ℕ) (items : List Item) (part : Part) (block place : ℕ) (item : Item) → slice_get items place ≡ Some item → touches item block ≡ true → is_in part (start + place) (block - first_of item) ≡ true
-    → ((n : ℕ) (later : Item) → place < n → slice_get items n ≡ Some later → touches later block ≡ true → is_in part (start + n) (block - first_of later) ≡ false)
+pub layers-laid : (base : BlockMap) (start : ℕ) (items : List Item) (part : Part) (block place : ℕ) (item : Item) → slice_get items place ≡ Some item
+    → touches item block ≡ true → is_in part (start + place) (block - first_of item) ≡ true
+    → ((n : ℕ) (later : Item) → place < n → slice_get items n ≡ Some later → touches later block ≡ true
+    → is_in part (start + n) (block - first_of later) ≡ false)
     → overlay base (layers_from start items part) block ≡ slice_get (contents_of item) (block - first_of item)
 layers-laid base start [] part block place item at touched laid later = absurd (cc)
 layers-laid base start (x ∷ items) part block zero item at touched laid later =
     let same : x ≡ item = cc in
     let here : start + 0 ≡ start = omega arith in
-    layers-alike (λ b. block_under (layer x) b (base b)) (suc start) items part [] block (λ n one there hit. let on : suc start + n ≡ start + suc n = omega arith in rw on (later (suc n) one (omega arith) there hit))
+    layers-alike (λ b. block_under (layer x) b (base b)) (suc start) items part [] block
+    (λ n one there hit. let on : suc start + n ≡ start + suc n = omega arith in rw on (later (suc n) one (omega arith) there hit))
     ∙ (layers-none (λ b. block_under (layer x) b (base b)) (suc start) items [] block (λ other offset inside. absurd (cc))
     ∙ (under-inside (layer x) block (base block) (subst (λ (i : Item). touches i block ≡ true) (sym same) touched)
     (subst (λ (i : Item). is_in part start (block - first_of i) ≡ true) (sym same) (subst (λ (k : ℕ). is_in part k (block - first_of item) ≡ true) here laid))
@@ -43,6 +49,7 @@ layers-laid base start (x ∷ items) part block zero item at touched laid later 
     layer one = record { first = first_of one; contents = contents_of one; laid = λ offset. is_in part start offset }
 layers-laid base start (x ∷ items) part block (suc place) item at touched laid later =
     let on : start + suc place ≡ suc start + place = omega arith in
-    layers-laid (λ b. block_under (record { first = first_of x; contents = contents_of x; laid = λ offset. is_in part start offset }) b (base b)) (suc start) items part block place item at touched
+    layers-laid (λ b. block_under (record { first = first_of x; contents = contents_of x; laid = λ offset. is_in part start offset }) b (base b))
+    (suc start) items part block place item at touched
     (subst (λ (k : ℕ). is_in part k (block - first_of item) ≡ true) on laid)
     (λ n one less there hit. let next : suc start + n ≡ start + suc n = omega arith in rw next (later (suc n) one (omega arith) there hit))

@@ -19,27 +19,33 @@ get-front (y ∷ xs) ys zero x at = at
 get-front (y ∷ xs) ys (suc n) x at = get-front xs ys n x at
 
 -- what was due is due, where what the end owes only grew
-pub still-due : (s t : SecondaryState) (h later : SecondaryHistory) (packet : Packet) → Leaves s h → Leaves t later → later.settings ≡ h.settings → Grows (inward h) (inward later)
+pub still-due : (s t : SecondaryState) (h later : SecondaryHistory) (packet : Packet) → Leaves s h → Leaves t later → later.settings ≡ h.settings
+    → Grows (inward h) (inward later)
     → due s ≡ Ok packet → is_some t.end ≡ true → due t ≡ Ok packet
 still-due s t h later packet left after same g is stands = go t.end after.last.end stands
   where
     grown : answers_due later.settings (inward later) ≡ answers_due h.settings (inward h) ++ g.more
     grown = ap (λ (x : Settings). hello_of x (inward later).hello ++ (inward later).due) same
         ∙ (ap (λ (x : Tuple). hello_of h.settings x ++ (inward later).due) g.hello
-        ∙ (ap (λ (l : List Packet). hello_of h.settings (inward h).hello ++ l) g.due ∙ sym (append_assoc (hello_of h.settings (inward h).hello) (inward h).due g.more)))
+        ∙ (ap (λ (l : List Packet). hello_of h.settings (inward h).hello ++ l) g.due
+        ∙ sym (append_assoc (hello_of h.settings (inward h).hello) (inward h).due g.more)))
 
     front : slice_get (answers_due later.settings (inward later)) (inward later).pushed ≡ Some packet
     front = ap (λ n. slice_get (answers_due later.settings (inward later)) n) g.pushed
-        ∙ (ap (λ (l : List Packet). slice_get l (inward h).pushed) grown ∙ get-front (answers_due h.settings (inward h)) g.more (inward h).pushed packet (due-same s h packet left is))
+        ∙ (ap (λ (l : List Packet). slice_get l (inward h).pushed) grown
+        ∙ get-front (answers_due h.settings (inward h)) g.more (inward h).pushed packet (due-same s h packet left is))
 
-    go : (v : Option EndState) → EndLeft v (inward later) → is_some v ≡ true → elim v as (λ _. Result Packet Refusal) [ None ↦ Err NotConnected | Some e ↦ ok_or (owed t.settings e) NothingThere ] ≡ Ok packet
+    go : (v : Option EndState) → EndLeft v (inward later) → is_some v ≡ true
+        → elim v as (λ _. Result Packet Refusal) [ None ↦ Err NotConnected | Some e ↦ ok_or (owed t.settings e) NothingThere ] ≡ Ok packet
     go None there none = absurd (cc)
-    go (Some e) there some = ap (λ (v : Option Packet). ok_or v NothingThere) (ap (λ (x : Settings). owed x e) after.settings ∙ (owed-same later.settings e (inward later) there ∙ front))
+    go (Some e) there some = ap (λ (v : Option Packet). ok_or v NothingThere) (ap (λ (x : Settings). owed x e) after.settings
+        ∙ (owed-same later.settings e (inward later) there ∙ front))
 
 -- a closed end after a close
 pub closes-end : (s : SecondaryState) (result : Result (Unit {0}) Refusal) (t : SecondaryState) → (result, t) ≡ close_end s → is_some t.end ≡ false
 closes-end s result t is = ap (λ (p : Result (Unit {0}) Refusal × SecondaryState). is_some p.1.end) is ∙ go s.end refl
   where
-    go : (v : Option EndState) → s.end ≡ v → is_some (tested {R = Unit {0}} s ((is_none v, NotConnected) ∷ []) (λ _. (Ok tt, record s { end = None }))).1.end ≡ false
+    go : (v : Option EndState) → s.end ≡ v
+        → is_some (tested {R = Unit {0}} s ((is_none v, NotConnected) ∷ []) (λ _. (Ok tt, record s { end = None }))).1.end ≡ false
     go None at = ap is_some at
     go (Some e) at = refl

@@ -1,5 +1,6 @@
 -- What a secondary's end owes only grows, and what lies on its disk stays as frames are taken.
-use Rattle.std.proofs.Common.{ℕ, suc, ◌≡◌, ◌+◌, ◌-◌, ◌<◌, ◌≤◌, Bool, true, false, ◌&&◌, List, [], ◌∷◌, ◌++◌, length, map, take, Option, slice_get, refl, sym, ◌∙◌, ap, subst, arith}
+use Rattle.std.proofs.Common.{ℕ, suc, ◌≡◌, ◌+◌, ◌-◌, ◌<◌, ◌≤◌, Bool, true, false, ◌&&◌, List, [], ◌∷◌, ◌++◌, length, map, take, Option, slice_get, refl, sym}
+use Rattle.std.proofs.Common.{◌∙◌, ap, subst, arith}
 use Rattle.std.specs.Prelude.{if◌then◌else◌}
 use Rattle.std.proofs.lemmas.Bool.{both_ways, false_from_ne_true}
 use Rattle.std.proofs.lemmas.List.{append_assoc, length-append, take-append-le}
@@ -26,8 +27,11 @@ pub record Grows (c d : Inward) : Type 0 where
   pub shut : c.closed ≡ true → d.closed ≡ true
 
 -- what was pushed is the same
-pub pushed-stays : (settings : Settings) (c d : Inward) → Grows c d → (c.closed ≡ false → c.pushed - 3 ≤ length c.due) → take d.pushed (answers_due settings d) ≡ take c.pushed (answers_due settings c)
-pushed-stays settings c d g bound = ap (λ n. take n (answers_due settings d)) g.pushed ∙ (ap (λ (t : Tuple). take c.pushed (hello_of settings t ++ d.due)) g.hello ∙ (ap (λ (l : List Packet). take c.pushed (hello_of settings c.hello ++ l)) g.due ∙ go c.closed refl))
+pub pushed-stays : (settings : Settings) (c d : Inward) → Grows c d → (c.closed ≡ false → c.pushed - 3 ≤ length c.due)
+    → take d.pushed (answers_due settings d) ≡ take c.pushed (answers_due settings c)
+pushed-stays settings c d g bound = ap (λ n. take n (answers_due settings d)) g.pushed
+    ∙ (ap (λ (t : Tuple). take c.pushed (hello_of settings t ++ d.due)) g.hello
+    ∙ (ap (λ (l : List Packet). take c.pushed (hello_of settings c.hello ++ l)) g.due ∙ go c.closed refl))
   where
     go : (b : Bool) → c.closed ≡ b → take c.pushed (hello_of settings c.hello ++ (c.due ++ g.more)) ≡ take c.pushed (hello_of settings c.hello ++ c.due)
     go true is = ap (λ (l : List Packet). take c.pushed (hello_of settings c.hello ++ l)) (ap (λ (l : List Packet). c.due ++ l) (g.none is) ∙ no-more c.due)
@@ -44,13 +48,15 @@ pushed-stays settings c d g bound = ap (λ n. take n (answers_due settings d)) g
 pub grows-answering : (c d : Inward) → Grows c d → Grows c (answering d)
 grows-answering c d g = go d.closed refl
   where
-    go : (b : Bool) → d.closed ≡ b → Grows c (elim b as (λ _. Inward) [ true ↦ d | false ↦ record d { due = d.due ++ map (barrier_answer d) (barriers_to_answer d) } ])
+    go : (b : Bool) → d.closed ≡ b → Grows c
+        (elim b as (λ _. Inward) [ true ↦ d | false ↦ record d { due = d.due ++ map (barrier_answer d) (barriers_to_answer d) } ])
     go true is = g
     go false is = record {
       hello = g.hello;
       pushed = g.pushed;
       more = g.more ++ map (barrier_answer d) (barriers_to_answer d);
-      due = ap (λ (l : List Packet). l ++ map (barrier_answer d) (barriers_to_answer d)) g.due ∙ append_assoc c.due g.more (map (barrier_answer d) (barriers_to_answer d));
+      due = ap (λ (l : List Packet). l ++ map (barrier_answer d) (barriers_to_answer d)) g.due
+          ∙ append_assoc c.due g.more (map (barrier_answer d) (barriers_to_answer d));
       none = λ was. absurd (both_ways d.closed is (g.shut was));
       shut = λ was. absurd (both_ways d.closed is (g.shut was));
     }
@@ -65,30 +71,37 @@ taken-answering d = go d.closed
 pub map-answering : (d : Inward) (block : ℕ) → map_of (answering d) block ≡ map_of d block
 map-answering d block = go d.closed
   where
-    go : (b : Bool) → map_of (elim b as (λ _. Inward) [ true ↦ d | false ↦ record d { due = d.due ++ map (barrier_answer d) (barriers_to_answer d) } ]) block ≡ map_of d block
+    go : (b : Bool) → map_of (elim b as (λ _. Inward) [ true ↦ d | false ↦ record d { due = d.due ++ map (barrier_answer d) (barriers_to_answer d) } ]) block ≡
+        map_of d block
     go true = refl
     go false = refl
 
 -- Items of which nothing is applied lay nothing over a disk.
 bare : (layer : Layer) (block : ℕ) (below : Option (List ℕ)) → layer.laid (block - layer.first) ≡ false → block_under layer block below ≡ below
-bare layer block below none = ap (λ b. if is_between layer.first (length layer.contents) block && b then slice_get layer.contents (block - layer.first) else below) none ∙ off (is_between layer.first (length layer.contents) block)
+bare layer block below none = ap (λ b. if is_between layer.first (length layer.contents) block && b then slice_get layer.contents (block - layer.first)
+    else below) none ∙ off (is_between layer.first (length layer.contents) block)
   where
     off : (a : Bool) → (if a && false then slice_get layer.contents (block - layer.first) else below) ≡ below
     off true = refl
     off false = refl
 
-pub layers-none : (base : BlockMap) (start : ℕ) (items : List Item) (part : Part) (block : ℕ) → ((place offset : ℕ) → is_in part place offset ≡ true → place < start) → overlay base (layers_from start items part) block ≡ base block
+pub layers-none : (base : BlockMap) (start : ℕ) (items : List Item) (part : Part) (block : ℕ)
+    → ((place offset : ℕ) → is_in part place offset ≡ true → place < start) → overlay base (layers_from start items part) block ≡ base block
 layers-none base start [] part block before = refl
 layers-none base start (x ∷ items) part block before =
     let layer : Layer = record { first = first_of x; contents = contents_of x; laid = λ offset. is_in part start offset } in
     layers-none (λ b. block_under layer b (base b)) (suc start) items part block (λ place offset inside. let less = before place offset inside in omega arith)
-    ∙ bare layer block (base block) (false_from_ne_true (is_in part start (block - first_of x)) (λ inside. let less = before start (block - first_of x) inside in omega arith))
+    ∙ bare layer block (base block)
+    (false_from_ne_true (is_in part start (block - first_of x)) (λ inside. let less = before start (block - first_of x) inside in omega arith))
 
-pub layers-more : (base : BlockMap) (start : ℕ) (items more : List Item) (part : Part) (block : ℕ) → ((place offset : ℕ) → is_in part place offset ≡ true → place < start + length items)
+pub layers-more : (base : BlockMap) (start : ℕ) (items more : List Item) (part : Part) (block : ℕ)
+    → ((place offset : ℕ) → is_in part place offset ≡ true → place < start + length items)
     → overlay base (layers_from start (items ++ more) part) block ≡ overlay base (layers_from start items part) block
-layers-more base start [] more part block before = layers-none base start more part block (λ place offset inside. let less = before place offset inside in omega arith)
+layers-more base start [] more part block before = layers-none base start more part block
+    (λ place offset inside. let less = before place offset inside in omega arith)
 layers-more base start (x ∷ items) more part block before =
-    layers-more (λ b. block_under (record { first = first_of x; contents = contents_of x; laid = λ offset. is_in part start offset }) b (base b)) (suc start) items more part block
+    layers-more (λ b. block_under (record { first = first_of x; contents = contents_of x; laid = λ offset. is_in part start offset }) b (base b))
+    (suc start) items more part block
     (λ place offset inside. let less = before place offset inside in omega arith)
 
 -- After a frame was taken: it stands last among those taken, the disk holds the same, and what is due grows.
@@ -104,7 +117,8 @@ record TookThere (c : Inward) (frame : Received) (d : Inward) : Type 0 where
   pub taken : d.taken ≡ c.taken ++ frame ∷ []
   pub map : (block : ℕ) → map_of d block ≡ map_of c block
 
-took-from : (h later : SecondaryHistory) (frame : Received) (d : Inward) → later.settings ≡ h.settings → inward later ≡ d → TookThere (inward h) frame d → Took h frame later
+took-from : (h later : SecondaryHistory) (frame : Received) (d : Inward) → later.settings ≡ h.settings → inward later ≡ d → TookThere (inward h) frame d
+    → Took h frame later
 took-from h later frame d same is took = record {
   settings = same;
   grows = subst (Grows (inward h)) (sym is) took.grows;
@@ -120,15 +134,19 @@ then-answering c d frame took = record {
 }
 
 -- A frame is taken at an open end of which the part applied names only places that were taken.
-pub takes : (h : SecondaryHistory) (frame : Received) → (inward h).closed ≡ false → (inward h).refused ≡ false → ((place offset : ℕ) → is_in (inward h).applied place offset ≡ true → place < length (items_taken (inward h)))
+pub takes : (h : SecondaryHistory) (frame : Received) → (inward h).closed ≡ false → (inward h).refused ≡ false
+    → ((place offset : ℕ) → is_in (inward h).applied place offset ≡ true → place < length (items_taken (inward h)))
     → Took h frame (take_item frame h).1
 takes h frame stands plain named = after-take (Took h frame) h frame (record {
-  accepts = took-from h accepted frame (answering (framed frame c)) refl (inward-of (λ x. answering (framed frame x)) h accepted (change-twice (framed frame) answering h.connections) some) (then-answering c (framed frame c) frame plainly);
+  accepts = took-from h accepted frame (answering (framed frame c)) refl
+      (inward-of (λ x. answering (framed frame x)) h accepted (change-twice (framed frame) answering h.connections) some)
+      (then-answering c (framed frame c) frame plainly);
   receipts = λ write at is late.
       let later : SecondaryHistory = with_inward answering (with_inward (receipting (length (items_taken c)) write) (with_inward (framed frame) h)) in
       took-from h later frame (answering (receipting (length (items_taken c)) write (framed frame c))) refl
       (inward-of (λ x. answering (receipting (length (items_taken c)) write (framed frame x))) h later
-      (ap (λ l. change_last answering l) (change-twice (framed frame) (receipting (length (items_taken c)) write) h.connections) ∙ change-twice (λ x. receipting (length (items_taken c)) write (framed frame x)) answering h.connections) some)
+      (ap (λ l. change_last answering l) (change-twice (framed frame) (receipting (length (items_taken c)) write) h.connections)
+      ∙ change-twice (λ x. receipting (length (items_taken c)) write (framed frame x)) answering h.connections) some)
       (then-answering c (receipting (length (items_taken c)) write (framed frame c)) frame (record {
         grows = record { hello = refl; pushed = refl; more = _; due = refl; none = λ was. absurd (both_ways c.closed stands was); shut = λ was. was };
         taken = refl;
@@ -136,12 +154,15 @@ takes h frame stands plain named = after-take (Took h frame) h frame (record {
       }));
   adopts = λ item tuple consistent is late.
       let later : SecondaryHistory = with_inward answering (adopting tuple consistent (with_inward (framed frame) h)) in
-      took-from h later frame (answering (framed frame c)) refl (inward-of (λ x. answering (framed frame x)) h later (change-twice (framed frame) answering h.connections) some) (then-answering c (framed frame c) frame plainly);
-  refuses = took-from h shut frame (refused_end (framed frame c)) refl (inward-of (λ x. refused_end (framed frame x)) h shut (change-twice (framed frame) refused_end h.connections) some) (record {
-    grows = record { hello = refl; pushed = refl; more = []; due = sym (no-more c.due); none = λ was. refl; shut = λ was. refl };
-    taken = refl;
-    map = λ block. ap (λ (l : List Item). overlay c.base (layers_from 0 l c.applied) block) (items-refusing frame c plain);
-  });
+      took-from h later frame (answering (framed frame c)) refl
+      (inward-of (λ x. answering (framed frame x)) h later (change-twice (framed frame) answering h.connections) some)
+      (then-answering c (framed frame c) frame plainly);
+  refuses = took-from h shut frame (refused_end (framed frame c)) refl
+      (inward-of (λ x. refused_end (framed frame x)) h shut (change-twice (framed frame) refused_end h.connections) some) (record {
+        grows = record { hello = refl; pushed = refl; more = []; due = sym (no-more c.due); none = λ was. refl; shut = λ was. refl };
+        taken = refl;
+        map = λ block. ap (λ (l : List Item). overlay c.base (layers_from 0 l c.applied) block) (items-refusing frame c plain);
+      });
 })
   where
     c : Inward

@@ -11,7 +11,8 @@ use Rattle.secondary_steps.specs.Leaves.{EndLeft, Leaves}
 three : (n : ℕ) → nat_le 3 (min n 3) ≡ nat_le 3 n
 three n = grind (arith, nat_tests)
 
-pub hello-done : (v : Option EndState) (c : Inward) → EndLeft v c → elim v as (λ _. Bool) [ None ↦ false | Some e ↦ nat_le 3 e.heard && nat_le 3 e.said ] ≡ (not c.closed && hello_is_done c)
+pub hello-done : (v : Option EndState) (c : Inward) → EndLeft v c
+    → elim v as (λ _. Bool) [ None ↦ false | Some e ↦ nat_le 3 e.heard && nat_le 3 e.said ] ≡ (not c.closed && hello_is_done c)
 hello-done None c left = ap (λ b. not b && hello_is_done c) (sym left)
 hello-done (Some e) c left =
     ap (λ n. nat_le 3 n && nat_le 3 e.said) left.heard ∙ ap (λ n. nat_le 3 (min (length c.taken) 3) && nat_le 3 n) left.said

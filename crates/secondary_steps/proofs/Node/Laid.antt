@@ -1,5 +1,6 @@
 -- The disk after blocks of an item that may be applied were written, whole or in part: what the connection has with them.
-use Rattle.std.proofs.Common.{ℕ, zero, suc, ◌≡◌, ◌+◌, ◌-◌, ◌<◌, ◌≤◌, ◌⊎◌, inl, inr, Bool, true, false, cond, ◌&&◌, ◌||◌, List, [], ◌∷◌, ◌++◌, length, take, Some, None, slice_get, refl, sym, ◌∙◌, ap, subst, arith, ◌==◌, nat_lt, nat_le}
+use Rattle.std.proofs.Common.{ℕ, zero, suc, ◌≡◌, ◌+◌, ◌-◌, ◌<◌, ◌≤◌, ◌⊎◌, inl, inr, Bool, true, false, cond, ◌&&◌, ◌||◌, List, [], ◌∷◌, ◌++◌, length, take}
+use Rattle.std.proofs.Common.{Some, None, slice_get, refl, sym, ◌∙◌, ap, subst, arith, ◌==◌, nat_lt, nat_le}
 use Rattle.std.specs.Prelude.{filter}
 use Rattle.std.specs.List.{list_any}
 use Rattle.std.proofs.lemmas.Bool.{cases_Bool, cases_lt, both_ways, eq-eqb, eqb-true, false_from_ne_true, lt-ltb, le-leb, or_cases, or_right, and_from}
@@ -15,7 +16,8 @@ use Rattle.laws.proofs.Lists.Elements.{same-at}
 use Rattle.laws.proofs.Lists.Picks.{any-pick, pick-any, filtered-pick, pick-filtered, pick-below}
 use Rattle.laws.proofs.Secondary.Sound.{IsSound, Started}
 use Rattle.laws.proofs.Streams.Parts.{in-append, in-offsets}
-use Rattle.secondary_steps.proofs.Apart.{below-has, meet-back}
+use Rattle.laws.proofs.Lists.Picks.{below-has}
+use Rattle.secondary_steps.proofs.Apart.{meet-back}
 use Rattle.secondary_steps.proofs.Node.Apart.{AreApart}
 use Rattle.secondary_steps.proofs.Node.Disk.{layers-alike, layers-laid, written-inside, written-before, written-after}
 
@@ -40,7 +42,8 @@ epoch-rises items place later before = let less = go items place later before in
     go (x ∷ items) (suc place) (suc later) before = by (is_barrier x) (go items place later (omega arith))
       where
         by : (b : Bool) → barriers_in (take place items) ≤ barriers_in (take later items)
-            → length (cond b (x ∷ filter is_barrier (take place items)) (filter is_barrier (take place items))) ≤ length (cond b (x ∷ filter is_barrier (take later items)) (filter is_barrier (take later items)))
+            → length (cond b (x ∷ filter is_barrier (take place items)) (filter is_barrier (take place items))) ≤ length
+            (cond b (x ∷ filter is_barrier (take later items)) (filter is_barrier (take later items)))
         by true less = omega arith
         by false less = less
 
@@ -60,7 +63,8 @@ in-has place [] offset = refl
 in-has place (x ∷ offsets) offset = λ i. (eq-eqb place place refl i && (x == offset)) || in-has place offsets offset i
 
 -- An item that may be applied lies over everything else that is.
-pub laid-map : (c : Inward) (place : ℕ) (item : Item) (s : IsSound c) → Started c place s → AreApart (items_taken c) → slice_get (items_taken c) place ≡ Some item → (offsets : List ℕ) (device new : List (List ℕ))
+pub laid-map : (c : Inward) (place : ℕ) (item : Item) (s : IsSound c) → Started c place s → AreApart (items_taken c)
+    → slice_get (items_taken c) place ≡ Some item → (offsets : List ℕ) (device new : List (List ℕ))
     → ((block : ℕ) → slice_get device block ≡ map_of c block) → ((block : ℕ) → LaidAt item offsets device new block)
     → (block : ℕ) → slice_get new block ≡ overlay c.base (layers_from 0 (items_taken c) (c.applied ++ offsets_at place offsets)) block
 laid-map c place item s start apart there offsets device new same laid block = elim (laid block) [
@@ -78,13 +82,16 @@ laid-map c place item s start apart there offsets device new same laid block = e
     is-laid listed =
         let here : 0 + place ≡ place = omega arith in
         subst (λ (n : ℕ). is_in part n (block - first_of item) ≡ true) (sym here) (in-append c.applied (offsets_at place offsets) place (block - first_of item)
-        ∙ or_right (is_in c.applied place (block - first_of item)) (is_in (offsets_at place offsets) place (block - first_of item)) (in-has place offsets (block - first_of item) ∙ listed))
+        ∙ or_right (is_in c.applied place (block - first_of item)) (is_in (offsets_at place offsets) place (block - first_of item))
+        (in-has place offsets (block - first_of item) ∙ listed))
 
-    none-later : (n : ℕ) (one : Item) → place < n → slice_get items n ≡ Some one → touches item block ≡ true → touches one block ≡ true → is_in part (0 + n) (block - first_of one) ≡ false
+    none-later : (n : ℕ) (one : Item) → place < n → slice_get items n ≡ Some one → touches item block ≡ true → touches one block ≡ true
+        → is_in part (0 + n) (block - first_of one) ≡ false
     none-later n one less at touched also = false_from_ne_true (is_in part (0 + n) (block - first_of one)) (λ inside.
         let here : 0 + n ≡ n = omega arith in
         elim (or_cases (is_in c.applied n (block - first_of one)) (is_in (offsets_at place offsets) n (block - first_of one))
-        (sym (in-append c.applied (offsets_at place offsets) n (block - first_of one)) ∙ subst (λ (k : ℕ). is_in part k (block - first_of one) ≡ true) here inside)) [
+        (sym (in-append c.applied (offsets_at place offsets) n (block - first_of one))
+        ∙ subst (λ (k : ℕ). is_in part k (block - first_of one) ≡ true) here inside)) [
           | inl before ↦
               let upto = s.after n (block - first_of one) before in
               let from = start.not_before in
@@ -94,16 +101,21 @@ laid-map c place item s start apart there offsets device new same laid block = e
           | inr added ↦ absurd (let equal = in-offsets place offsets n (block - first_of one) added in omega arith)
         ])
 
-    not-new : (n : ℕ) (one : Item) → slice_get items n ≡ Some one → touches one block ≡ true → (touches item block ≡ true → has offsets (block - first_of item) ≡ false) → is_in part (0 + n) (block - first_of one) ≡ is_in c.applied (0 + n) (block - first_of one)
+    not-new : (n : ℕ) (one : Item) → slice_get items n ≡ Some one → touches one block ≡ true
+        → (touches item block ≡ true → has offsets (block - first_of item) ≡ false)
+        → is_in part (0 + n) (block - first_of one) ≡ is_in c.applied (0 + n) (block - first_of one)
     not-new n one at touched bare =
-        let none : is_in (offsets_at place offsets) (0 + n) (block - first_of one) ≡ false = false_from_ne_true (is_in (offsets_at place offsets) (0 + n) (block - first_of one)) (λ inside.
+        let none : is_in (offsets_at place offsets) (0 + n) (block - first_of one) ≡ false =
+        false_from_ne_true (is_in (offsets_at place offsets) (0 + n) (block - first_of one)) (λ inside.
         let equal : place ≡ n = let is = in-offsets place offsets (0 + n) (block - first_of one) inside in omega arith in
         let is : one ≡ item = same-at items place one item (subst (λ (k : ℕ). slice_get items k ≡ Some one) (sym equal) at) there in
         let here : 0 + n ≡ place = omega arith in
-        let listed : has offsets (block - first_of item) ≡ true = sym (in-has place offsets (block - first_of item)) ∙ subst (λ (x : Item). is_in (offsets_at place offsets) place (block - first_of x) ≡ true) is
+        let listed : has offsets (block - first_of item) ≡ true = sym (in-has place offsets (block - first_of item))
+        ∙ subst (λ (x : Item). is_in (offsets_at place offsets) place (block - first_of x) ≡ true) is
         (subst (λ (k : ℕ). is_in (offsets_at place offsets) k (block - first_of one) ≡ true) here inside) in
         both_ways (has offsets (block - first_of item)) (bare (subst (λ (x : Item). touches x block ≡ true) is touched)) listed) in
-        in-append c.applied (offsets_at place offsets) (0 + n) (block - first_of one) ∙ (ap (λ b. is_in c.applied (0 + n) (block - first_of one) || b) none ∙ or-false (is_in c.applied (0 + n) (block - first_of one)))
+        in-append c.applied (offsets_at place offsets) (0 + n) (block - first_of one)
+        ∙ (ap (λ b. is_in c.applied (0 + n) (block - first_of one) || b) none ∙ or-false (is_in c.applied (0 + n) (block - first_of one)))
       where
         or-false : (b : Bool) → (b || false) ≡ b
         or-false true = refl
@@ -123,14 +135,19 @@ module _ (item : Item) (device : List (List ℕ)) (inside : first_of item + leng
   has-below n k less = let place = below-has n k less in any-pick (λ x. x == k) (below n) place.0 k place.1 (eq-eqb k k refl)
 
   -- of the first so many blocks
-  pub kept-laid : (kept : ℕ) → kept ≤ size → (block : ℕ) → LaidAt item (within size (below kept)) device (overwritten device first (take kept (contents_of item))) block
+  pub kept-laid : (kept : ℕ) → kept ≤ size → (block : ℕ)
+      → LaidAt item (within size (below kept)) device (overwritten device first (take kept (contents_of item))) block
   kept-laid kept few block = elim (cases_lt block first) [
-    | inl before ↦ inr (written-before device (take kept (contents_of item)) first block (omega arith) before, λ touched. absurd (let there = (between-parts first size block touched).0 in omega arith))
+    | inl before ↦ inr (
+      written-before device (take kept (contents_of item)) first block (omega arith) before,
+      λ touched. absurd (let there = (between-parts first size block touched).0 in omega arith),
+    )
     | inr from ↦ elim (cases_lt block (first + kept)) [
       | inl new ↦ inl (
         and_from (nat_le first block) (nat_lt block (first + size)) (le-leb first block from) (lt-ltb block (first + size) (omega arith)),
         kept-has (block - first) (omega arith),
-        written-inside device (take kept (contents_of item)) first block (omega arith) from (let long = long-take kept (contents_of item) few in omega arith) ∙ get-take kept (contents_of item) (block - first) (omega arith),
+        written-inside device (take kept (contents_of item)) first block (omega arith) from (let long = long-take kept (contents_of item) few in omega arith)
+            ∙ get-take kept (contents_of item) (block - first) (omega arith),
       )
       | inr old ↦ inr (
         written-after device (take kept (contents_of item)) first block (omega arith) (let long = long-take kept (contents_of item) few in omega arith),
@@ -164,14 +181,20 @@ module _ (item : Item) (device : List (List ℕ)) (inside : first_of item + leng
   -- of all of them
   pub whole-laid : (block : ℕ) → LaidAt item (below size) device (overwritten device first (contents_of item)) block
   whole-laid block = elim (cases_lt block first) [
-    | inl before ↦ inr (written-before device (contents_of item) first block (omega arith) before, λ touched. absurd (let there = (between-parts first size block touched).0 in omega arith))
+    | inl before ↦ inr (
+      written-before device (contents_of item) first block (omega arith) before,
+      λ touched. absurd (let there = (between-parts first size block touched).0 in omega arith),
+    )
     | inr from ↦ elim (cases_lt block (first + size)) [
       | inl new ↦ inl (
         and_from (nat_le first block) (nat_lt block (first + size)) (le-leb first block from) (lt-ltb block (first + size) new),
         has-below size (block - first) (omega arith),
         written-inside device (contents_of item) first block (omega arith) from new,
       )
-      | inr old ↦ inr (written-after device (contents_of item) first block (omega arith) old, λ touched. absurd (let there = (between-parts first size block touched).1 in omega arith))
+      | inr old ↦ inr (
+        written-after device (contents_of item) first block (omega arith) old,
+        λ touched. absurd (let there = (between-parts first size block touched).1 in omega arith),
+      )
     ]
   ]
 
@@ -215,17 +238,29 @@ module _ (item : Item) (device : List (List ℕ)) (inside : first_of item + leng
           let before : block < first + size = parts.1 in
           let at : first + (block - first) ≡ block = omega arith in
           by touched at (omega arith) (is.each (first + (block - first))) refl
-      | inr outside ↦ inr (elim (is.each block) [ inl old ↦ old | inr new ↦ past outside new.0 new.1 ], λ touched. absurd (both_ways (touches item block) outside touched))
+      | inr outside ↦ inr (
+        elim (is.each block) [ inl old ↦ old | inr new ↦ past outside new.0 new.1 ],
+        λ touched. absurd (both_ways (touches item block) outside touched),
+      )
     ]
       where
-        by : touches item block ≡ true → first + (block - first) ≡ block → block - first < size → (v : Old (first + (block - first)) ⊎ New (first + (block - first))) → is.each (first + (block - first)) ≡ v → LaidAt item (within size torn_offsets) device torn block
+        by : touches item block ≡ true → first + (block - first) ≡ block → block - first < size
+            → (v : Old (first + (block - first)) ⊎ New (first + (block - first))) → is.each (first + (block - first)) ≡ v
+            → LaidAt item (within size torn_offsets) device torn block
         by touched at less (inl old) here = inr (subst Old at old, λ hit. not-picked (block - first) (ap is_new here))
         by touched at less (inr new) here = inl (touched, picked (block - first) less (ap is_new here), (subst New at new).1)
 
-        past : touches item block ≡ false → first ≤ block → slice_get torn block ≡ slice_get (contents_of item) (block - first) → slice_get torn block ≡ slice_get device block
+        past : touches item block ≡ false → first ≤ block → slice_get torn block ≡ slice_get (contents_of item) (block - first)
+            → slice_get torn block ≡ slice_get device block
         past outside from new = elim (cases_lt block (first + size)) [
-          | inl within_it ↦ absurd (both_ways (touches item block) outside (and_from (nat_le first block) (nat_lt block (first + size)) (le-leb first block from) (lt-ltb block (first + size) within_it)))
+          | inl within_it ↦ absurd (both_ways (touches item block) outside
+              (and_from (nat_le first block) (nat_lt block (first + size)) (le-leb first block from) (lt-ltb block (first + size) within_it)))
           | inr behind ↦
               let none : slice_get torn block ≡ None = new ∙ slice_get_past (contents_of item) (block - first) (omega arith) in
-              none ∙ sym (slice_get_past device block (elim (slice_get_cases torn block).1 [ inl some ↦ absurd (let at = some.2 in cc) | inr short ↦ let long = is.size in let less = short.0 in omega arith ]))
+              none ∙ sym (slice_get_past device block
+              (elim (slice_get_cases torn block).1 [
+                | inl some ↦ absurd (let at = some.2 in cc)
+                | inr short ↦ let long = is.size in let less =
+                    short.0 in omega arith
+              ]))
         ]

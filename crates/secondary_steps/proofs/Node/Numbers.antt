@@ -9,7 +9,8 @@ use Rattle.blocks.specs.declared.outcome.What.TheVariants as what
 use Rattle.blocks.specs.declared.command.Command.TheVariants as command
 use Rattle.model.specs.Frames.{Packet, DataFrame, RsDataReplyFrame, BarrierFrame, ProtocolFrame, UuidsFrame, SizesFrame, SyncUuidFrame, Received}
 use Rattle.model.specs.Acknowledgements.{same_protocol}
-use Rattle.secondary_steps.specs.Core.{EndState, SecondaryState, Judged, judged_if, judging_hello, judging_item, judging, hearing, taking, take_at, close_end, tested}
+use Rattle.secondary_steps.specs.Core.{EndState, SecondaryState, Judged, judged_if, judging_hello, judging_item, judging, hearing, taking, take_at, close_end}
+use Rattle.secondary_steps.specs.Core.{tested}
 
 -- what is judged keeps the number
 abbrev Keeps : ℕ → Judged → Type 0
@@ -42,12 +43,14 @@ keeps : (frame : Received) (e : EndState) (s : SecondaryState) → Keeps s.numbe
 keeps (Err fault) e s = tt
 keeps (Ok packet) e s = go (nat_lt e.heard 3)
   where
-    go : (early : Bool) → Keeps s.number (if early then judging_hello e.heard packet (record s { end = Some (hearing e) }) else judging_item packet (hearing e) (record s { end = Some (hearing e) }))
+    go : (early : Bool) → Keeps s.number (if early then judging_hello e.heard packet (record s { end = Some (hearing e) })
+        else judging_item packet (hearing e) (record s { end = Some (hearing e) }))
     go true = keeps-hello e.heard packet (record s { end = Some (hearing e) })
     go false = keeps-item packet (hearing e) (record s { end = Some (hearing e) })
 
 -- A frame that is taken leaves it.
-pub takes-number : (frame : Received) (v : Option EndState) (s : SecondaryState) (result : Result Done Refusal) (t : SecondaryState) → (result, t) ≡ take_at frame v s → t.number ≡ s.number
+pub takes-number : (frame : Received) (v : Option EndState) (s : SecondaryState) (result : Result Done Refusal) (t : SecondaryState)
+    → (result, t) ≡ take_at frame v s → t.number ≡ s.number
 takes-number frame v s result t is = ap (λ (p : Result Done Refusal × SecondaryState). p.1.number) is ∙ go v
   where
     judged : (j : Judged) → Keeps s.number j → (taking j s).1.number ≡ s.number

@@ -24,7 +24,8 @@ after-step (FailsToApply place offsets) h = refl
 after-step (Acknowledges room starved) h = refl
 after-step ClosesToo h = refl
 
-run-snoc : (event : SecondaryEvent) (events : List SecondaryEvent) (h : SecondaryHistory) → secondary_run (events ++ event ∷ []) h ≡ (secondary_step event (secondary_run events h)).1
+run-snoc : (event : SecondaryEvent) (events : List SecondaryEvent) (h : SecondaryHistory)
+    → secondary_run (events ++ event ∷ []) h ≡ (secondary_step event (secondary_run events h)).1
 run-snoc event [] h = after-step event h
 run-snoc event (e ∷ events) h = run-snoc event events (secondary_after e h)
 
@@ -37,7 +38,8 @@ reached-step event h is = record {
   sized = is.sized;
   tuple = is.tuple;
   events = is.events ++ event ∷ [];
-  reached = ap (λ (g : SecondaryHistory). (secondary_step event g).1) is.reached ∙ sym (run-snoc event is.events (secondary_opening is.settings is.disk is.tuple));
+  reached = ap (λ (g : SecondaryHistory). (secondary_step event g).1) is.reached
+      ∙ sym (run-snoc event is.events (secondary_opening is.settings is.disk is.tuple));
 }
 
 -- The call answers what the step answers, and leaves what it leaves.
@@ -46,7 +48,8 @@ pub record NodeAgrees (said : Reply) (next : NodeState) (step : Reply × Seconda
   pub leaves : NodeLeaves next step.1
 
 -- A call that agrees with the step on every history is the step.
-pub node-steps : (event : SecondaryEvent) (n : NodeState) (reply : Reply) (next : NodeState) → ((h : SecondaryHistory) → NodeLeaves n h → NodeAgrees reply next (secondary_step event h)) → NodeSteps event n reply next
+pub node-steps : (event : SecondaryEvent) (n : NodeState) (reply : Reply) (next : NodeState)
+    → ((h : SecondaryHistory) → NodeLeaves n h → NodeAgrees reply next (secondary_step event h)) → NodeSteps event n reply next
 node-steps event n reply next agrees = record {
   said = λ h has. (agrees h has.leaves).reply;
   after = λ h has. record { leaves = (agrees h has.leaves).leaves; reached = reached-step event h has.reached };
@@ -57,7 +60,8 @@ pub node-had : (event : SecondaryEvent) (n : NodeState) (reply : Reply) (next : 
 node-had event n reply next is steps = record { history = (secondary_step event is.history).1; has = steps.after is.history is.has }
 
 -- A step that only tests refuse or let pass.
-did : (h : SecondaryHistory) (tests : List Test) (done : Unit {0} → Reply × SecondaryHistory) (d : Done) → reply.Ok d ≡ (tested_secondary h tests done).0 → tested_secondary h tests done ≡ done tt
+did : (h : SecondaryHistory) (tests : List Test) (done : Unit {0} → Reply × SecondaryHistory) (d : Done) → reply.Ok d ≡ (tested_secondary h tests done).0
+    → tested_secondary h tests done ≡ done tt
 did h tests done d is = go (first_refusal tests) is
   where
     go : (v : Option Refusal) → reply.Ok d ≡ (elim v as (λ _. Reply × SecondaryHistory) [ Some refusal ↦ (reply.Refused refusal, h) | None ↦ done tt ]).0
@@ -65,7 +69,8 @@ did h tests done d is = go (first_refusal tests) is
     go (Some refusal) is = absurd (cc)
     go None is = refl
 
-did-not : (h : SecondaryHistory) (tests : List Test) (done : Unit {0} → Reply × SecondaryHistory) (e : Refusal) → (reply.Refused e ≡ (done tt).0 → (done tt).1 ≡ h) → reply.Refused e ≡ (tested_secondary h tests done).0 → (tested_secondary h tests done).1 ≡ h
+did-not : (h : SecondaryHistory) (tests : List Test) (done : Unit {0} → Reply × SecondaryHistory) (e : Refusal)
+    → (reply.Refused e ≡ (done tt).0 → (done tt).1 ≡ h) → reply.Refused e ≡ (tested_secondary h tests done).0 → (tested_secondary h tests done).1 ≡ h
 did-not h tests done e other is = go (first_refusal tests) is
   where
     go : (v : Option Refusal) → reply.Refused e ≡ (elim v as (λ _. Reply × SecondaryHistory) [ Some refusal ↦ (reply.Refused refusal, h) | None ↦ done tt ]).0
@@ -79,35 +84,55 @@ IsStill (Receives (Some frame) starved) = ⊥
 IsStill event = Unit {0}
 
 -- What refuses such an event changes nothing.
-pub refused-same : (event : SecondaryEvent) → IsStill event → (h : SecondaryHistory) (e : Refusal) → reply.Refused e ≡ (secondary_step event h).0 → (secondary_step event h).1 ≡ h
-refused-same (OpensToo unseen) still h e is = did-not h (step.open_secondary_tests h) (λ _. step.succeeding_secondary what.Nothing (step.opened_secondary unseen h)) e (λ no. absurd (cc)) is
+pub refused-same : (event : SecondaryEvent) → IsStill event → (h : SecondaryHistory) (e : Refusal) → reply.Refused e ≡ (secondary_step event h).0
+    → (secondary_step event h).1 ≡ h
+refused-same (OpensToo unseen) still h e is = did-not h (step.open_secondary_tests h)
+    (λ _. step.succeeding_secondary what.Nothing (step.opened_secondary unseen h)) e (λ no. absurd (cc)) is
 refused-same (Receives (Some frame) starved) still h e is = absurd still
 refused-same (Receives None starved) still h e is =
-    did-not h (((inward h).closed, NotConnected) ∷ (nat_le h.settings.pending (length (pending (inward h))), PendingFull) ∷ (starved, NoMemory) ∷ (true, NothingThere) ∷ []) (λ _. (reply.Refused NothingThere, h)) e (λ same. refl) is
-refused-same (Applies place) still h e is = did-not h (step.peer_tests h place) (λ _. step.succeeding_secondary what.Nothing (with_inward (step.applying h.settings.protocol place) h)) e (λ no. absurd (cc)) is
-refused-same (FailsToApply place offsets) still h e is = did-not h (step.peer_tests h place) (λ _. (reply.Ok (done_with what.Nothing), with_inward (step.failing place offsets) h)) e (λ no. absurd (cc)) is
-refused-same (Acknowledges room starved) still h e is = did-not h (step.ack_out_tests h room starved) (λ _. (reply.Ok (done_with (step.answering_with h)), with_inward pushed_one h)) e (λ no. absurd (cc)) is
-refused-same ClosesToo still h e is = did-not h (((inward h).closed, NotConnected) ∷ []) (λ _. (reply.Ok (done_with what.Nothing), with_inward closed_end h)) e (λ no. absurd (cc)) is
+    did-not h (((inward h).closed, NotConnected) ∷ (nat_le h.settings.pending (length (pending (inward h))), PendingFull) ∷ (starved, NoMemory) ∷ (
+      true,
+      NothingThere,
+    ) ∷ []) (λ _. (reply.Refused NothingThere, h)) e (λ same. refl) is
+refused-same (Applies place) still h e is =
+    did-not h (step.peer_tests h place) (λ _. step.succeeding_secondary what.Nothing (with_inward (step.applying h.settings.protocol place) h)) e
+    (λ no. absurd (cc)) is
+refused-same (FailsToApply place offsets) still h e is =
+    did-not h (step.peer_tests h place) (λ _. (reply.Ok (done_with what.Nothing), with_inward (step.failing place offsets) h)) e (λ no. absurd (cc)) is
+refused-same (Acknowledges room starved) still h e is = did-not h (step.ack_out_tests h room starved)
+    (λ _. (reply.Ok (done_with (step.answering_with h)), with_inward pushed_one h)) e (λ no. absurd (cc)) is
+refused-same ClosesToo still h e is = did-not h (((inward h).closed, NotConnected) ∷ []) (λ _. (reply.Ok (done_with what.Nothing), with_inward closed_end h)) e
+    (λ no. absurd (cc)) is
 
 -- A call that is refused, and leaves the node, is the step.
-pub node-refused : (event : SecondaryEvent) → IsStill event → (n : NodeState) (e : Refusal) → ((h : SecondaryHistory) → Leaves n.core h → reply.Refused e ≡ (secondary_step event h).0) → NodeSteps event n (reply.Refused e) n
+pub node-refused : (event : SecondaryEvent) → IsStill event → (n : NodeState) (e : Refusal)
+    → ((h : SecondaryHistory) → Leaves n.core h → reply.Refused e ≡ (secondary_step event h).0) → NodeSteps event n (reply.Refused e) n
 node-refused event still n e is = node-steps event n (reply.Refused e) n (λ h leaves. record {
   reply = is h leaves.core;
   leaves = subst (NodeLeaves n) (sym (refused-same event still h e (is h leaves.core))) leaves;
 })
 
 -- What the steps that are done lead to.
-pub opens-to : (unseen : ℕ) (h : SecondaryHistory) (d : Done) → reply.Ok d ≡ (step.open_secondary unseen h).0 → (step.open_secondary unseen h).1 ≡ with_inward step.answering (step.opened_secondary unseen h)
-opens-to unseen h d is = ap (λ (p : Reply × SecondaryHistory). p.1) (did h (step.open_secondary_tests h) (λ _. step.succeeding_secondary what.Nothing (step.opened_secondary unseen h)) d is)
+pub opens-to : (unseen : ℕ) (h : SecondaryHistory) (d : Done) → reply.Ok d ≡ (step.open_secondary unseen h).0
+    → (step.open_secondary unseen h).1 ≡ with_inward step.answering (step.opened_secondary unseen h)
+opens-to unseen h d is = ap (λ (p : Reply × SecondaryHistory). p.1)
+    (did h (step.open_secondary_tests h) (λ _. step.succeeding_secondary what.Nothing (step.opened_secondary unseen h)) d is)
 
-pub applies-to : (place : ℕ) (h : SecondaryHistory) (d : Done) → reply.Ok d ≡ (step.peer place h).0 → (step.peer place h).1 ≡ with_inward step.answering (with_inward (step.applying h.settings.protocol place) h)
-applies-to place h d is = ap (λ (p : Reply × SecondaryHistory). p.1) (did h (step.peer_tests h place) (λ _. step.succeeding_secondary what.Nothing (with_inward (step.applying h.settings.protocol place) h)) d is)
+pub applies-to : (place : ℕ) (h : SecondaryHistory) (d : Done) → reply.Ok d ≡ (step.peer place h).0
+    → (step.peer place h).1 ≡ with_inward step.answering (with_inward (step.applying h.settings.protocol place) h)
+applies-to place h d is = ap (λ (p : Reply × SecondaryHistory). p.1)
+    (did h (step.peer_tests h place) (λ _. step.succeeding_secondary what.Nothing (with_inward (step.applying h.settings.protocol place) h)) d is)
 
-pub fails-to : (place : ℕ) (offsets : List ℕ) (h : SecondaryHistory) (d : Done) → reply.Ok d ≡ (step.peer_fault place offsets h).0 → (step.peer_fault place offsets h).1 ≡ with_inward (step.failing place offsets) h
-fails-to place offsets h d is = ap (λ (p : Reply × SecondaryHistory). p.1) (did h (step.peer_tests h place) (λ _. (reply.Ok (done_with what.Nothing), with_inward (step.failing place offsets) h)) d is)
+pub fails-to : (place : ℕ) (offsets : List ℕ) (h : SecondaryHistory) (d : Done) → reply.Ok d ≡ (step.peer_fault place offsets h).0
+    → (step.peer_fault place offsets h).1 ≡ with_inward (step.failing place offsets) h
+fails-to place offsets h d is = ap (λ (p : Reply × SecondaryHistory). p.1)
+    (did h (step.peer_tests h place) (λ _. (reply.Ok (done_with what.Nothing), with_inward (step.failing place offsets) h)) d is)
 
-pub pushes-to : (room starved : Bool) (h : SecondaryHistory) (d : Done) → reply.Ok d ≡ (step.ack_out room starved h).0 → (step.ack_out room starved h).1 ≡ with_inward pushed_one h
-pushes-to room starved h d is = ap (λ (p : Reply × SecondaryHistory). p.1) (did h (step.ack_out_tests h room starved) (λ _. (reply.Ok (done_with (step.answering_with h)), with_inward pushed_one h)) d is)
+pub pushes-to : (room starved : Bool) (h : SecondaryHistory) (d : Done) → reply.Ok d ≡ (step.ack_out room starved h).0
+    → (step.ack_out room starved h).1 ≡ with_inward pushed_one h
+pushes-to room starved h d is = ap (λ (p : Reply × SecondaryHistory). p.1)
+    (did h (step.ack_out_tests h room starved) (λ _. (reply.Ok (done_with (step.answering_with h)), with_inward pushed_one h)) d is)
 
 pub closes-to : (h : SecondaryHistory) (d : Done) → reply.Ok d ≡ (step.close_secondary h).0 → (step.close_secondary h).1 ≡ with_inward closed_end h
-closes-to h d is = ap (λ (p : Reply × SecondaryHistory). p.1) (did h (((inward h).closed, NotConnected) ∷ []) (λ _. (reply.Ok (done_with what.Nothing), with_inward closed_end h)) d is)
+closes-to h d is = ap (λ (p : Reply × SecondaryHistory). p.1)
+    (did h (((inward h).closed, NotConnected) ∷ []) (λ _. (reply.Ok (done_with what.Nothing), with_inward closed_end h)) d is)

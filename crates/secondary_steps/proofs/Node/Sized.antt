@@ -54,9 +54,11 @@ some-after disk (d ∷ ds) block chained some =
 -- The device has each of its blocks on every history that is reached.
 some-block : (h : SecondaryHistory) → IsReached h → (block : ℕ) → block < h.settings.blocks → is_some (secondary_map h block) ≡ true
 some-block h is block less =
-    let same : Same (secondary_opening is.settings is.disk is.tuple) h = subst (Same (secondary_opening is.settings is.disk is.tuple)) (sym is.reached) (same-run is.events (secondary_opening is.settings is.disk is.tuple)) in
+    let same : Same (secondary_opening is.settings is.disk is.tuple) h = subst (Same (secondary_opening is.settings is.disk is.tuple)) (sym is.reached)
+    (same-run is.events (secondary_opening is.settings is.disk is.tuple)) in
     let blocks : h.settings.blocks ≡ is.settings.blocks = ap (λ (s : Settings). s.blocks) same.settings in
-    let opening : is_some (h.opening_map block) ≡ true = ap (λ (m : BlockMap). is_some (m block)) same.opening ∙ (is.sized block ∙ lt-ltb block is.settings.blocks (omega (arith, blocks))) in
+    let opening : is_some (h.opening_map block) ≡ true = ap (λ (m : BlockMap). is_some (m block)) same.opening
+    ∙ (is.sized block ∙ lt-ltb block is.settings.blocks (omega (arith, blocks))) in
     ap is_some (last-disk (no_inward h) h.connections block) ∙ some-after h.opening_map h.connections block (reached-settled h is).kept.chained opening
 
 -- The disk of a node is as long as that.
@@ -66,7 +68,8 @@ disk-long n had = elim (cases_lt (length n.disk) n.core.settings.blocks) [
   | inl short ↦
       let has = had.has in
       let blocks : n.core.settings.blocks ≡ had.history.settings.blocks = ap (λ (s : Settings). s.blocks) has.leaves.core.settings in
-      let some : is_some (slice_get n.disk (length n.disk)) ≡ true = ap is_some (has.leaves.disk (length n.disk)) ∙ some-block had.history has.reached (length n.disk) (omega (arith, blocks)) in
+      let some : is_some (slice_get n.disk (length n.disk)) ≡ true = ap is_some (has.leaves.disk (length n.disk))
+      ∙ some-block had.history has.reached (length n.disk) (omega (arith, blocks)) in
       let none : slice_get n.disk (length n.disk) ≡ None = slice_get_past n.disk (length n.disk) (omega arith) in
       absurd (let one = sym (ap is_some none) ∙ some in cc)
 ]

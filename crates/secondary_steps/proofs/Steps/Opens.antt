@@ -1,5 +1,6 @@
 -- A new secondary, opening and closing.
-use Rattle.std.proofs.Common.{ℕ, ◌≡◌, ◌<◌, nat_le, arith, Option, Bool, true, false, not, ◌&&◌, ◌||◌, List, [], ◌∷◌, length, Some, None, Ok, refl, sym, ◌∙◌, ap, subst, nat_lt}
+use Rattle.std.proofs.Common.{ℕ, ◌≡◌, ◌<◌, nat_le, arith, Option, Bool, true, false, not, ◌&&◌, ◌||◌, List, [], ◌∷◌, length, Some, None, Ok, refl, sym, ◌∙◌, ap}
+use Rattle.std.proofs.Common.{subst, nat_lt}
 use Rattle.std.specs.Prelude.{is_some, is_none}
 use Rattle.std.proofs.lemmas.Bool.{lt-leb, lt-ltb, both_ways}
 use Rattle.blocks.specs.declared.settings.Settings.{Settings}
@@ -24,15 +25,25 @@ fresh-is settings disk tuple = record {
   settings = refl;
   tuple = refl;
   consistent = refl;
-  last = record { number = refl; intake = intake-none settings.blocks; named = λ place offset inside. absurd (cc); pending = refl; applied = refl; failed = refl; end = refl };
+  last = record {
+    number = refl;
+    intake = intake-none settings.blocks;
+    named = λ place offset inside. absurd (cc);
+    pending = refl;
+    applied = refl;
+    failed = refl;
+    end = refl;
+  };
 }
 
 -- the tests of an opening are the same
 open-same : (s : SecondaryState) (h : SecondaryHistory) → Leaves s h → open_tests s ≡ step.open_secondary_tests h
 open-same s h left =
-    let count : length s.pending ≡ length (pending (inward h)) = ap length left.last.pending ∙ length-map (pending_in (items_taken (inward h))) (pending (inward h)) in
+    let count : length s.pending ≡ length (pending (inward h)) = ap length left.last.pending
+    ∙ length-map (pending_in (items_taken (inward h))) (pending (inward h)) in
     let waits : nat_lt 0 (length s.pending) ≡ not (is_drained h) = ap (nat_lt 0) count ∙ some-or-none (length (pending (inward h))) in
-    ap (λ b. (b, NotDrained) ∷ []) (ap (λ b. b || nat_lt 0 (length s.pending)) (end-open s.end (inward h) left.last.end) ∙ (ap (λ b. not (inward h).closed || b) waits ∙ either (inward h).closed (is_drained h)))
+    ap (λ b. (b, NotDrained) ∷ []) (ap (λ b. b || nat_lt 0 (length s.pending)) (end-open s.end (inward h) left.last.end)
+    ∙ (ap (λ b. not (inward h).closed || b) waits ∙ either (inward h).closed (is_drained h)))
   where
     either : (a b : Bool) → (not a || not b) ≡ not (a && b)
     either true true = refl
@@ -42,7 +53,8 @@ open-same s h left =
 -- the secondary opens its end
 pub opens-agree : OpensAgree
 opens-agree unseen s h left = tested-agrees plainly s h (open_tests s) (step.open_secondary_tests h)
-    (λ _. (Ok tt, opened (step.next_number unseen h) s)) (λ _. step.succeeding_secondary what.Nothing (step.opened_secondary unseen h)) (open-same s h left) left (λ none. record {
+    (λ _. (Ok tt, opened (step.next_number unseen h) s)) (λ _. step.succeeding_secondary what.Nothing (step.opened_secondary unseen h))
+    (open-same s h left) left (λ none. record {
       reply = refl;
       leaves = record {
         settings = left.settings;
@@ -55,22 +67,46 @@ opens-agree unseen s h left = tested-agrees plainly s h (open_tests s) (step.ope
           pending = empty none;
           applied = refl;
           failed = refl;
-          end = record { stands = refl; plain = refl; hello = left.tuple; heard = refl; said = refl; owed = omega arith; due = refl; answered = λ epoch from. sym (none-below epoch from); within = omega arith; sizes = refl };
+          end = record {
+            stands = refl;
+            plain = refl;
+            hello = left.tuple;
+            heard = refl;
+            said = refl;
+            owed = omega arith;
+            due = refl;
+            answered = λ epoch from. sym (none-below epoch from);
+            within = omega arith;
+            sizes = refl;
+          };
         });
       };
     })
   where
     new : Inward
-    new = record { number = step.next_number unseen h; base = secondary_map h; hello = h.tuple; taken = []; refused = false; applied = []; gone = []; due = []; pushed = 0; closed = false }
+    new = record {
+      number = step.next_number unseen h;
+      base = secondary_map h;
+      hello = h.tuple;
+      taken = [];
+      refused = false;
+      applied = [];
+      gone = [];
+      due = [];
+      pushed = 0;
+      closed = false;
+    }
 
     ends : inward (with_inward step.answering (step.opened_secondary unseen h)) ≡ new
-    ends = inward-with step.answering (step.opened_secondary unseen h) (append-one h.connections new) ∙ ap step.answering (last-more (no_inward (step.opened_secondary unseen h)) new h.connections)
+    ends = inward-with step.answering (step.opened_secondary unseen h) (append-one h.connections new)
+        ∙ ap step.answering (last-more (no_inward (step.opened_secondary unseen h)) new h.connections)
 
     none-below : (epoch : ℕ) → 0 < epoch → nat_le epoch 0 ≡ false
     none-below epoch from = lt-leb epoch 0 from
 
     empty : first_refusal (step.open_secondary_tests h) ≡ None → s.pending ≡ []
-    empty none = nothing s.pending (both (is_some s.end) (nat_lt 0 (length s.pending)) (passed (is_some s.end || nat_lt 0 (length s.pending)) NotDrained [] (ap first_refusal (open-same s h left) ∙ none)).0)
+    empty none = nothing s.pending (both (is_some s.end) (nat_lt 0 (length s.pending))
+        (passed (is_some s.end || nat_lt 0 (length s.pending)) NotDrained [] (ap first_refusal (open-same s h left) ∙ none)).0)
       where
         both : (a b : Bool) → (a || b) ≡ false → b ≡ false
         both true b is = absurd (cc)
@@ -83,12 +119,23 @@ opens-agree unseen s h left = tested-agrees plainly s h (open_tests s) (step.ope
 -- what failed stays so at a closed end
 pub shut : (v : Option ℕ) (c : Inward) → FailedLeft v c → FailedLeft v (closed_end c)
 shut None c left = left
-shut (Some epoch) c left = record { place = left.place; item = left.item; at = left.at; has_blocks = left.has_blocks; gone = left.gone; epoch_is = left.epoch_is; later = left.later; waiting = left.waiting; closed = refl }
+shut (Some epoch) c left = record {
+  place = left.place;
+  item = left.item;
+  at = left.at;
+  has_blocks = left.has_blocks;
+  gone = left.gone;
+  epoch_is = left.epoch_is;
+  later = left.later;
+  waiting = left.waiting;
+  closed = refl;
+}
 
 -- it closes its end
 pub closes-agree : ClosesAgree
 closes-agree s h left = tested-agrees plainly s h ((is_none s.end, NotConnected) ∷ []) (((inward h).closed, NotConnected) ∷ [])
-    (λ _. (Ok tt, record s { end = None })) (λ _. (reply.Ok (done_with what.Nothing), with_inward closed_end h)) (ap (λ b. (b, NotConnected) ∷ []) (end-closed s.end (inward h) left.last.end)) left (λ none.
+    (λ _. (Ok tt, record s { end = None })) (λ _. (reply.Ok (done_with what.Nothing), with_inward closed_end h))
+    (ap (λ b. (b, NotConnected) ∷ []) (end-closed s.end (inward h) left.last.end)) left (λ none.
     let stands = (passed (inward h).closed NotConnected [] none).0 in
     record {
       reply = refl;

@@ -1,5 +1,6 @@
 -- Pushing the frames that are due.
-use Rattle.std.proofs.Common.{ℕ, zero, suc, ◌≡◌, ◌+◌, ◌-◌, ◌<◌, inl, inr, true, false, not, List, [], ◌∷◌, ◌++◌, length, drop, Option, Some, None, Result, Ok, Err, slice_get, refl, sym, ◌∙◌, ap, subst, arith, nat_lt, nat_le}
+use Rattle.std.proofs.Common.{ℕ, zero, suc, ◌≡◌, ◌+◌, ◌-◌, ◌<◌, inl, inr, true, false, not, List, [], ◌∷◌, ◌++◌, length, drop, Option, Some, None, Result, Ok}
+use Rattle.std.proofs.Common.{Err, slice_get, refl, sym, ◌∙◌, ap, subst, arith, nat_lt, nat_le}
 use Rattle.std.specs.Prelude.{is_none, ok_or, option_map, if◌then◌else◌}
 use Rattle.std.proofs.lemmas.Bool.{lt-ltb, le-ltb, le-leb, lt-leb, cases_lt}
 use Rattle.std.proofs.lemmas.List.{length-append}
@@ -45,14 +46,16 @@ owed-same settings e d left = elim (cases_lt d.pushed 3) [
       let goes_on : nat_lt e.said 3 ≡ true = pushing-goes-on e d left.said ∙ lt-ltb d.pushed 3 early in
       let said : e.said ≡ d.pushed = omega (arith, left.said) in
       ap (λ b. if b then slice_get (hello_of settings e.hello) e.said else slice_get e.due 0) goes_on
-      ∙ (ap (slice_get (hello_of settings e.hello)) said ∙ (ap (λ t. slice_get (hello_of settings t) d.pushed) left.hello ∙ sym (get-before (hello_of settings d.hello) d.due d.pushed early)))
+      ∙ (ap (slice_get (hello_of settings e.hello)) said
+      ∙ (ap (λ t. slice_get (hello_of settings t) d.pushed) left.hello ∙ sym (get-before (hello_of settings d.hello) d.due d.pushed early)))
   | inr late ↦
       let over : nat_lt e.said 3 ≡ false = pushing-goes-on e d left.said ∙ le-ltb d.pushed 3 late in
       let index : (d.pushed - 3) + 0 ≡ d.pushed - 3 = omega arith in
       let all : 3 + (d.pushed - 3) ≡ d.pushed = omega arith in
       ap (λ b. if b then slice_get (hello_of settings e.hello) e.said else slice_get e.due 0) over
       ∙ (ap (λ (l : List Packet). slice_get l 0) left.due
-      ∙ (get-drop (d.pushed - 3) 0 d.due ∙ (ap (slice_get d.due) index ∙ (sym (get-past (hello_of settings d.hello) d.due (d.pushed - 3)) ∙ ap (slice_get (answers_due settings d)) all))))
+      ∙ (get-drop (d.pushed - 3) 0 d.due
+      ∙ (ap (slice_get d.due) index ∙ (sym (get-past (hello_of settings d.hello) d.due (d.pushed - 3)) ∙ ap (slice_get (answers_due settings d)) all))))
 ]
 
 -- there is a frame exactly where not all were pushed
@@ -68,10 +71,12 @@ none-owed (x ∷ xs) (suc n) = none-owed xs n ∙ shift (length xs) n
     ]
 
 -- the frame that is due is the history's
-pub due-same : (s : SecondaryState) (h : SecondaryHistory) (packet : Packet) → Leaves s h → due s ≡ Ok packet → slice_get (answers_due h.settings (inward h)) (inward h).pushed ≡ Some packet
+pub due-same : (s : SecondaryState) (h : SecondaryHistory) (packet : Packet) → Leaves s h → due s ≡ Ok packet
+    → slice_get (answers_due h.settings (inward h)) (inward h).pushed ≡ Some packet
 due-same s h packet left is = go s.end left.last.end is
   where
-    go : (v : Option EndState) → EndLeft v (inward h) → elim v as (λ _. Result Packet Refusal) [ None ↦ Err NotConnected | Some e ↦ ok_or (owed s.settings e) NothingThere ] ≡ Ok packet
+    go : (v : Option EndState) → EndLeft v (inward h)
+        → elim v as (λ _. Result Packet Refusal) [ None ↦ Err NotConnected | Some e ↦ ok_or (owed s.settings e) NothingThere ] ≡ Ok packet
         → slice_get (answers_due h.settings (inward h)) (inward h).pushed ≡ Some packet
     go None shut is = absurd (cc)
     go (Some e) there is = sym (owed-same h.settings e (inward h) there) ∙ (ap (λ (x : Settings). owed x e) (sym left.settings) ∙ some (owed s.settings e) is)
@@ -83,7 +88,17 @@ due-same s h packet left is = go s.end left.last.end is
 -- what failed stays so as a frame is pushed
 pushed-failed : (v : Option ℕ) (c : Inward) → FailedLeft v c → FailedLeft v (pushed_one c)
 pushed-failed None c left = left
-pushed-failed (Some epoch) c left = record { place = left.place; item = left.item; at = left.at; has_blocks = left.has_blocks; gone = left.gone; epoch_is = left.epoch_is; later = left.later; waiting = left.waiting; closed = left.closed }
+pushed-failed (Some epoch) c left = record {
+  place = left.place;
+  item = left.item;
+  at = left.at;
+  has_blocks = left.has_blocks;
+  gone = left.gone;
+  epoch_is = left.epoch_is;
+  later = left.later;
+  waiting = left.waiting;
+  closed = left.closed;
+}
 
 -- it pushes a frame
 pub pushes-agree : PushesAgree
@@ -102,19 +117,24 @@ pushes-agree room starved s h left = go s.end refl left.last.end
           | Ok packet ↦ tested s ((starved, NoMemory) ∷ (not room, LinkFull) ∷ []) (λ _. (Ok (done_with (what.Frame (command_of packet) None)), sent s))
         ]) (step.ack_out room starved h)
     with e is there None none =
-        let all : nat_le (length (answers_due h.settings (inward h))) (inward h).pushed ≡ true = sym (none-owed (answers_due h.settings (inward h)) (inward h).pushed) ∙ ap is_none none in
+        let all : nat_le (length (answers_due h.settings (inward h))) (inward h).pushed ≡ true =
+        sym (none-owed (answers_due h.settings (inward h)) (inward h).pushed) ∙ ap is_none none in
         rw (there.stands, all) (record { reply = refl; leaves = left })
     with e is there (Some packet) some =
-        let more : nat_le (length (answers_due h.settings (inward h))) (inward h).pushed ≡ false = sym (none-owed (answers_due h.settings (inward h)) (inward h).pushed) ∙ ap is_none some in
+        let more : nat_le (length (answers_due h.settings (inward h))) (inward h).pushed ≡ false =
+        sym (none-owed (answers_due h.settings (inward h)) (inward h).pushed) ∙ ap is_none some in
         let within = slice_get_within (answers_due h.settings (inward h)) (inward h).pushed packet some in
         let size = length-append (hello_of h.settings (inward h).hello) (inward h).due in
-        let name : step.answering_with h ≡ what.Frame (command_of packet) None = ap (λ (v : Option Packet). elim v as (λ _. What) [ None ↦ what.Nothing | Some p ↦ what.Frame (command_of p) None ]) some in
+        let name : step.answering_with h ≡ what.Frame (command_of packet) None =
+        ap (λ (v : Option Packet). elim v as (λ _. What) [ None ↦ what.Nothing | Some p ↦ what.Frame (command_of p) None ]) some in
         let same : step.ack_out_tests h room starved ≡ (false, NotConnected) ∷ (false, NothingThere) ∷ (starved, NoMemory) ∷ (not room, LinkFull) ∷ [] =
         λ i. (there.stands i, NotConnected) ∷ (more i, NothingThere) ∷ (starved, NoMemory) ∷ (not room, LinkFull) ∷ [] in
-        subst (λ (ts : List Test). Agrees (λ done. done) (tested s ((starved, NoMemory) ∷ (not room, LinkFull) ∷ []) (λ _. (Ok (done_with (what.Frame (command_of packet) None)), sent s)))
+        subst (λ (ts : List Test). Agrees (λ done. done)
+        (tested s ((starved, NoMemory) ∷ (not room, LinkFull) ∷ []) (λ _. (Ok (done_with (what.Frame (command_of packet) None)), sent s)))
         (step.tested_secondary h ts (λ _. (reply.Ok (done_with (step.answering_with h)), with_inward pushed_one h)))) (sym same)
         (tested-agrees (λ done. done) s h ((starved, NoMemory) ∷ (not room, LinkFull) ∷ []) ((starved, NoMemory) ∷ (not room, LinkFull) ∷ [])
-        (λ _. (Ok (done_with (what.Frame (command_of packet) None)), sent s)) (λ _. (reply.Ok (done_with (step.answering_with h)), with_inward pushed_one h)) refl left (λ pass. record {
+        (λ _. (Ok (done_with (what.Frame (command_of packet) None)), sent s)) (λ _. (reply.Ok (done_with (step.answering_with h)), with_inward pushed_one h))
+        refl left (λ pass. record {
           reply = ap (λ n. reply.Ok (done_with n)) (sym name);
           leaves = record {
             settings = left.settings;
@@ -127,18 +147,22 @@ pushes-agree room starved s h left = go s.end refl left.last.end
               pending = left.last.pending;
               applied = left.last.applied;
               failed = pushed-failed s.failed (inward h) left.last.failed;
-              end = subst (λ (v : Option EndState). EndLeft (option_map pushing v) (pushed_one (inward h))) (sym is) (end-pushes e (inward h) there (omega arith));
+              end = subst (λ (v : Option EndState). EndLeft (option_map pushing v) (pushed_one (inward h))) (sym is)
+                  (end-pushes e (inward h) there (omega arith));
             });
           };
         }))
 
-    go : (v : Option EndState) → s.end ≡ v → EndLeft v (inward h) → Agrees (λ done. done) (elim (elim v as (λ _. Result Packet Refusal) [ None ↦ Err NotConnected | Some e ↦ ok_or (owed s.settings e) NothingThere ]) as (λ _. Result Done Refusal × SecondaryState) [
-      | Err refusal ↦ (Err refusal, s)
-      | Ok packet ↦ tested s ((starved, NoMemory) ∷ (not room, LinkFull) ∷ []) (λ _. (Ok (done_with (what.Frame (command_of packet) None)), sent s))
-    ]) (step.ack_out room starved h)
+    go : (v : Option EndState) → s.end ≡ v → EndLeft v (inward h)
+        → Agrees (λ done. done) (elim (elim v as (λ _. Result Packet Refusal) [ None ↦ Err NotConnected | Some e ↦ ok_or (owed s.settings e) NothingThere ]) as
+        (λ _. Result Done Refusal × SecondaryState) [
+          | Err refusal ↦ (Err refusal, s)
+          | Ok packet ↦ tested s ((starved, NoMemory) ∷ (not room, LinkFull) ∷ []) (λ _. (Ok (done_with (what.Frame (command_of packet) None)), sent s))
+        ]) (step.ack_out room starved h)
     go None is shut = rw shut (record { reply = refl; leaves = left })
     go (Some e) is there =
-        let same : owed s.settings e ≡ slice_get (answers_due h.settings (inward h)) (inward h).pushed = ap (λ (x : Settings). owed x e) left.settings ∙ owed-same h.settings e (inward h) there in
+        let same : owed s.settings e ≡ slice_get (answers_due h.settings (inward h)) (inward h).pushed = ap (λ (x : Settings). owed x e) left.settings
+        ∙ owed-same h.settings e (inward h) there in
         subst (λ (v : Option Packet). Agrees (λ done. done) (elim (ok_or v NothingThere) as (λ _. Result Done Refusal × SecondaryState) [
           | Err refusal ↦ (Err refusal, s)
           | Ok packet ↦ tested s ((starved, NoMemory) ∷ (not room, LinkFull) ∷ []) (λ _. (Ok (done_with (what.Frame (command_of packet) None)), sent s))

@@ -1,7 +1,7 @@
 -- Taking a frame, whatever frame it is.
-use Rattle.std.proofs.Common.{ℕ, suc, ◌≡◌, ◌+◌, ◌-◌, ◌<◌, inl, inr, Bool, true, false, cond, ◌&&◌, ◌||◌, List, [], ◌∷◌, ◌++◌, length, map, filter, Option, Some, None, Result, Ok, Err, refl, sym, ◌∙◌, ap, subst, arith, ◌==◌, nat_lt, nat_le, ◌≤◌}
+use Rattle.std.proofs.Common.{ℕ, suc, ◌≡◌, ◌+◌, ◌-◌, ◌<◌, inl, inr, Bool, true, false, cond, ◌&&◌, ◌||◌, List, [], ◌∷◌, ◌++◌, length, map, filter, Option, Some}
+use Rattle.std.proofs.Common.{None, Result, Ok, Err, refl, sym, ◌∙◌, ap, subst, arith, ◌==◌, nat_lt, nat_le, ◌≤◌}
 use Rattle.std.specs.Prelude.{is_none, option_map, if◌then◌else◌}
-use Rattle.std.specs.List.{list_any}
 use Rattle.std.proofs.lemmas.Bool.{and_parts, ltb-true, leb-true}
 use Rattle.std.proofs.lemmas.List.{append-nil}
 use Rattle.blocks.specs.declared.tuple.Tuple.{Tuple}
@@ -16,18 +16,21 @@ use Rattle.blocks.specs.declared.outcome.What.TheVariants as what
 use Rattle.blocks.specs.declared.command.Command.TheVariants as command
 use Rattle.model.specs.Contents.{Write, is_range, extent_of}
 use Rattle.model.specs.Stream.{Item, WriteItem, ResyncItem, BarrierItem, SyncUuidItem, UuidsItem, last_epoch, has_blocks, placed, barriers_in}
-use Rattle.model.specs.Frames.{Packet, DataFrame, RsDataReplyFrame, BarrierFrame, ProtocolFrame, UuidsFrame, SizesFrame, SyncUuidFrame, RecvAckFrame, WriteAckFrame, RsWriteAckFrame, BarrierAckFrame, Received}
+use Rattle.model.specs.Frames.{Packet, DataFrame, RsDataReplyFrame, BarrierFrame, ProtocolFrame, UuidsFrame, SizesFrame, SyncUuidFrame, RecvAckFrame}
+use Rattle.model.specs.Frames.{WriteAckFrame, RsWriteAckFrame, BarrierAckFrame, Received}
 use Rattle.model.specs.Refusals.{done_with}
 use Rattle.model.specs.Primary.{last_of, change_last}
 use Rattle.model.specs.Secondary.{Inward, SecondaryHistory, no_inward, inward, items_taken, is_pending, pending, received_item, with_inward}
 use Rattle.model.specs.SecondarySteps.{Checked, has_place, is_above}
 use Rattle.model.specs.SecondarySteps as step
 use Rattle.laws.proofs.Lists.Last.{change-twice, last-change}
+use Rattle.laws.proofs.Rules.BarrierAnswers.{AnswerNone, none-answer}
 use Rattle.laws.proofs.Secondary.Good.{items-refusing}
 use Rattle.laws.proofs.Secondary.Moves.{framed, refused_end}
 use Rattle.laws.proofs.Secondary.Tuples.{taken-item}
 use Rattle.peerdisk.specs.Pending.{Pending}
-use Rattle.secondary_steps.specs.Core.{Intake, EndState, SecondaryState, Judged, judging, judging_hello, judging_item, hearing, owing, receipt, and_item, waiting, is_apart, follows, answering, taking, take_frame, take_at}
+use Rattle.secondary_steps.specs.Core.{Intake, EndState, SecondaryState, Judged, judging, judging_hello, judging_item, hearing, owing, receipt, and_item}
+use Rattle.secondary_steps.specs.Core.{waiting, is_apart, follows, answering, taking, take_frame, take_at}
 use Rattle.secondary_steps.specs.Leaves.{Leaves, LeavesLast, LeavesEnd, EndLeft, FailedLeft, intake_of, pending_in}
 use Rattle.secondary_steps.specs.Steps.{ReceivesAgree, Agrees}
 use Rattle.secondary_steps.proofs.Answering.{answering-open, left-answering}
@@ -51,7 +54,8 @@ leaves-follows s h left = record {
         let same : inward (with_inward step.answering h) ≡ inward h =
         ap (λ (l : List Inward). last_of (no_inward h) (change_last step.answering l)) none ∙ sym (ap (last_of (no_inward h)) none) in
         let shut : (inward h).closed ≡ true = ap (λ (l : List Inward). (last_of (no_inward h) l).closed) none in
-        let still : step.answering (inward h) ≡ inward h = ap (λ b. elim b as (λ _. Inward) [ true ↦ d | false ↦ record d { due = d.due ++ map (step.barrier_answer d) (step.barriers_to_answer d) } ]) shut in
+        let still : step.answering (inward h) ≡ inward h =
+        ap (λ b. elim b as (λ _. Inward) [ true ↦ d | false ↦ record d { due = d.due ++ map (step.barrier_answer d) (step.barriers_to_answer d) } ]) shut in
         subst (LeavesLast h.settings.blocks (follows s)) (still ∙ sym same) (go s.end refl left.last.end)
     | inr is ↦ subst (LeavesLast h.settings.blocks (follows s)) (sym is) (go s.end refl left.last.end)
   ];
@@ -61,33 +65,40 @@ leaves-follows s h left = record {
     d = inward h
 
     go : (v : Option EndState) → s.end ≡ v → EndLeft v (inward h) → LeavesLast h.settings.blocks (follows s) (step.answering (inward h))
-    go None is shut = subst (LeavesLast h.settings.blocks (follows s)) (sym (ap (λ b. elim b as (λ _. Inward) [ true ↦ d | false ↦ record d { due = d.due ++ map (step.barrier_answer d) (step.barriers_to_answer d) } ]) shut)) (record {
-      number = left.last.number;
-      intake = left.last.intake;
-      named = left.last.named;
-      pending = left.last.pending;
-      applied = left.last.applied;
-      failed = left.last.failed;
-      end = subst (λ (v : Option EndState). EndLeft (option_map (answering s.pending) v) (inward h)) (sym is) shut;
-    })
+    go None is shut = subst (LeavesLast h.settings.blocks (follows s))
+        (sym (ap (λ b. elim b as (λ _. Inward) [ true ↦ d | false ↦ record d { due = d.due ++ map (step.barrier_answer d) (step.barriers_to_answer d) } ])
+        shut)) (record {
+          number = left.last.number;
+          intake = left.last.intake;
+          named = left.last.named;
+          pending = left.last.pending;
+          applied = left.last.applied;
+          failed = left.last.failed;
+          end = subst (λ (v : Option EndState). EndLeft (option_map (answering s.pending) v) (inward h)) (sym is) shut;
+        })
     go (Some e) is there =
         let whole = open-whole s.failed (inward h) left.last.failed there.stands in
-        let there_after : LeavesEnd (answering s.pending e) (step.answering (inward h)) = left-answering e (inward h) s.pending whole.1 left.last.pending there in
+        let there_after : LeavesEnd (answering s.pending e) (step.answering (inward h)) =
+        left-answering e (inward h) s.pending whole.1 left.last.pending there in
         let opens = answering-open (inward h) there.stands in
-        let after : LeavesEnd (answering s.pending e) (record d { due = d.due ++ map (step.barrier_answer d) (step.barriers_to_answer d) }) = subst (LeavesEnd (answering s.pending e)) opens there_after in
+        let after : LeavesEnd (answering s.pending e) (record d { due = d.due ++ map (step.barrier_answer d) (step.barriers_to_answer d) }) =
+        subst (LeavesEnd (answering s.pending e)) opens there_after in
         subst (LeavesLast h.settings.blocks (follows s)) (sym opens) (record {
           number = left.last.number;
           intake = left.last.intake;
           named = left.last.named;
           pending = left.last.pending;
           applied = left.last.applied;
-          failed = subst (λ (v : Option ℕ). FailedLeft v (record d { due = d.due ++ map (step.barrier_answer d) (step.barriers_to_answer d) })) (sym whole.0) whole.1;
-          end = subst (λ (v : Option EndState). EndLeft (option_map (answering s.pending) v) (record d { due = d.due ++ map (step.barrier_answer d) (step.barriers_to_answer d) })) (sym is) after;
+          failed = subst (λ (v : Option ℕ). FailedLeft v (record d { due = d.due ++ map (step.barrier_answer d) (step.barriers_to_answer d) }))
+              (sym whole.0) whole.1;
+          end = subst (λ (v : Option EndState). EndLeft (option_map (answering s.pending) v)
+              (record d { due = d.due ++ map (step.barrier_answer d) (step.barriers_to_answer d) })) (sym is) after;
         })
 
 -- Judging.
 
-module _ (frame : Received) (s : SecondaryState) (h : SecondaryHistory) (e : EndState) (is : s.end ≡ Some e) (left : Leaves s h) (there : LeavesEnd e (inward h)) where
+module _ (frame : Received) (s : SecondaryState) (h : SecondaryHistory) (e : EndState) (is : s.end ≡ Some e) (left : Leaves s h)
+    (there : LeavesEnd e (inward h)) where
   abbrev d : Inward
   d = inward h
 
@@ -110,7 +121,8 @@ module _ (frame : Received) (s : SecondaryState) (h : SecondaryHistory) (e : End
 
   -- the end that has taken a frame without an item
   end-same : items_taken (framed frame (inward h)) ≡ items_taken (inward h) → LeavesEnd (hearing e) (framed frame (inward h))
-  end-same items = end-takes e (inward h) frame [] [] e.due (inward h).due there (items ∙ sym (append-nil (items_taken (inward h)))) refl (sym (append-nil e.due)) (sym (append-nil (inward h).due)) (λ epoch. refl)
+  end-same items = end-takes e (inward h) frame [] [] e.due (inward h).due there (items ∙ sym (append-nil (items_taken (inward h)))) refl
+      (sym (append-nil e.due)) (sym (append-nil (inward h).due)) none-answer
 
   -- a frame of the hello leaves the items
   hello-left : length (inward h).taken < 3 → Leaves (record s { end = Some (hearing e) }) (with_inward (framed frame) h)
@@ -121,7 +133,8 @@ module _ (frame : Received) (s : SecondaryState) (h : SecondaryHistory) (e : End
         settings = left.settings;
         tuple = left.tuple;
         consistent = left.consistent;
-        last = subst (LeavesLast h.settings.blocks (record s { end = Some (hearing e) })) (sym framed-is) (last-same h.settings.blocks s heard (hearing e) d (framed frame d) left.last items refl whole.1 whole.1 refl end refl refl refl refl whole.0 refl);
+        last = subst (LeavesLast h.settings.blocks (record s { end = Some (hearing e) })) (sym framed-is)
+            (last-same h.settings.blocks s heard (hearing e) d (framed frame d) left.last items refl whole.1 whole.1 refl end refl refl refl refl whole.0 refl);
       }
 
   -- An item of the stream, whose frame brings it, and these acknowledgements due.
@@ -140,14 +153,19 @@ module _ (frame : Received) (s : SecondaryState) (h : SecondaryHistory) (e : End
     item-there = taken-item frame item (inward h) there.plain late brings
 
     -- what an item leaves
-    item-left : (waits : Bool) (t : SecondaryState) (later : SecondaryHistory) (due : List Packet) (end : EndState) → later.settings ≡ h.settings → has_blocks item ≡ waits → inward later ≡ with_due due → LeavesEnd end (with_due due)
-        → t.settings ≡ later.settings → t.tuple ≡ later.tuple → t.consistent ≡ later.consistent → t.number ≡ s.number → t.intake ≡ intake_of h.settings.blocks (items_taken (inward h) ++ item ∷ [])
+    item-left : (waits : Bool) (t : SecondaryState) (later : SecondaryHistory) (due : List Packet) (end : EndState) → later.settings ≡ h.settings
+        → has_blocks item ≡ waits → inward later ≡ with_due due → LeavesEnd end (with_due due)
+        → t.settings ≡ later.settings → t.tuple ≡ later.tuple → t.consistent ≡ later.consistent → t.number ≡ s.number
+        → t.intake ≡ intake_of h.settings.blocks (items_taken (inward h) ++ item ∷ [])
         → t.pending ≡ s.pending ++ cond waits (place_of ∷ []) [] → t.items_applied ≡ s.items_applied → t.failed ≡ s.failed → t.end ≡ Some end → Leaves t later
     item-left waits t later due end same_settings blocks form left_end settings tuple consistent number intake waiting_is count failed end_is = record {
       settings = settings;
       tuple = tuple;
       consistent = consistent;
-      last = subst (λ (x : Settings). LeavesLast x.blocks t (inward later)) (sym same_settings) (subst (LeavesLast h.settings.blocks t) (sym form) (last-item h.settings.blocks s t end d (with_due due) item waits left.last there.stands item-there refl refl refl left_end blocks number intake waiting_is count failed end_is));
+      last = subst (λ (x : Settings). LeavesLast x.blocks t (inward later)) (sym same_settings)
+          (subst (LeavesLast h.settings.blocks t) (sym form)
+          (last-item h.settings.blocks s t end d (with_due due) item waits left.last there.stands item-there refl refl refl left_end blocks number intake
+          waiting_is count failed end_is));
     }
 
     -- what is kept, by what the items are
@@ -159,9 +177,10 @@ module _ (frame : Received) (s : SecondaryState) (h : SecondaryHistory) (e : End
     waits-there = λ k. s.pending ++ record { place = (left.last.intake k).places; epoch = suc (left.last.intake k).barriers; item = item } ∷ []
 
     -- the end that has taken the item, where it ends no epoch
-    end-there-with : (packets : List Packet) → barriers_in (item ∷ []) ≡ 0 → ((epoch : ℕ) → list_any (step.is_barrier_answer epoch) packets ≡ false)
+    end-there-with : (packets : List Packet) → barriers_in (item ∷ []) ≡ 0 → AnswerNone packets
         → LeavesEnd (record (hearing e) { due = e.due ++ packets }) (with_due ((inward h).due ++ packets))
-    end-there-with packets plain other = end-takes e (inward h) frame (item ∷ []) packets (e.due ++ packets) ((inward h).due ++ packets) there item-there plain refl refl other
+    end-there-with packets plain other = end-takes e (inward h) frame (item ∷ []) packets (e.due ++ packets) ((inward h).due ++ packets) there item-there plain
+        refl refl other
 
   -- what is tested behind a test matters only where that holds
   if-front : (front x y : Bool) → (front ≡ true → x ≡ y) → (front && x) ≡ (front && y)
@@ -172,33 +191,43 @@ module _ (frame : Received) (s : SecondaryState) (h : SecondaryHistory) (e : End
   inside : (before : Bool) (first count : ℕ) → (before && is_range h.settings first count) ≡ true → first + count ≤ h.settings.blocks
   inside before first count holds =
       let range = (and_parts before (is_range h.settings first count) holds).1 in
-      let fits = (and_parts ((nat_lt 0 count && nat_le count 32) && nat_le (first + count) h.settings.blocks) (extent_of first == extent_of (first + count - 1)) range).0 in
+      let fits = (and_parts ((nat_lt 0 count && nat_le count 32) && nat_le (first + count) h.settings.blocks) (extent_of first == extent_of (first + count - 1))
+      range).0 in
       leb-true (first + count) h.settings.blocks (and_parts (nat_lt 0 count && nat_le count 32) (nat_le (first + count) h.settings.blocks) fits).1
 
   -- A write.
   data-same : (write : Write) (at : ℕ) → nat_lt (length (inward h).taken) 3 ≡ false → received_item frame ≡ Some (WriteItem write)
-      → SameJudged (judging_item (DataFrame write at) (hearing e) (record s { end = Some (hearing e) })) (step.checking_item (DataFrame write at) (length (items_taken (inward h))) (inward h) (with_inward (framed frame) h))
+      → SameJudged (judging_item (DataFrame write at) (hearing e) (record s { end = Some (hearing e) }))
+      (step.checking_item (DataFrame write at) (length (items_taken (inward h))) (inward h) (with_inward (framed frame) h))
   data-same write at late brings =
       let item : Item = WriteItem write in
       let all : List Item = items_taken (inward h) in
       let count : ℕ = length write.contents in
       let asked : Protocol = h.settings.protocol in
       let i : Intake = intake_of h.settings.blocks all in
-      let tests : Settings → Intake → Bool = λ x j. ((((at == j.places) && has_place j.places) && is_range x write.first count) && (((j.places == 0) || nat_lt j.highest write.number) && is_apart write.first count j)) in
+      let tests : Settings → Intake → Bool =
+      λ x j. ((((at == j.places) && has_place j.places) && is_range x write.first count)
+      && (((j.places == 0) || nat_lt j.highest write.number) && is_apart write.first count j)) in
       let one : tests s.settings s.intake ≡ tests h.settings i = λ k. tests (left.settings k) (left.last.intake k) in
       let front : Bool = ((at == length all) && has_place (length all)) && is_range h.settings write.first count in
       let two = ap (λ b. front && (b && is_apart write.first count i)) (sym (above-highest write.number all)) in
-      let three = if-front front _ _ (λ holds. ap (λ b. is_above write.number all && b) (sym (apart-by-blocks h.settings.blocks all item (inside ((at == length all) && has_place (length all)) write.first count holds)))) in
-      same-if _ _ (one ∙ (two ∙ three)) _ _ (λ k. what.Frame command.Data (Some (left.last.intake k).places)) _ (step.receiving (length all) item taken) (λ good.
-      let above = (and_parts (is_above write.number all) (step.is_apart item all) (and_parts front (is_above write.number all && step.is_apart item all) good).1).0 in
+      let three = if-front front _ _ (λ holds. ap (λ b. is_above write.number all && b)
+      (sym (apart-by-blocks h.settings.blocks all item (inside ((at == length all) && has_place (length all)) write.first count holds)))) in
+      same-if _ _ (one ∙ (two ∙ three)) _ _ (λ k. what.Frame command.Data (Some (left.last.intake k).places)) _ (step.receiving (length all) item taken)
+      (λ good.
+      let above = (and_parts (is_above write.number all) (step.is_apart item all)
+      (and_parts front (is_above write.number all && step.is_apart item all) good).1).0 in
       let packets : List Packet = receipt asked (length all) item in
       let rest = receiving-rest (length all) item taken in
       let form : inward (step.receiving (length all) item taken) ≡ record (framed frame (inward h)) { due = (inward h).due ++ packets } =
-      receiving-is asked (length all) item taken refl (λ none. some (unchanged h.connections none)) ∙ ap (λ (c : Inward). record c { due = c.due ++ packets }) framed-is in
+      receiving-is asked (length all) item taken refl (λ none. some (unchanged h.connections none))
+      ∙ ap (λ (c : Inward). record c { due = c.due ++ packets }) framed-is in
       let end_is : Some (owing (receipt s.settings.protocol s.intake.places item) (hearing e)) ≡ Some (record (hearing e) { due = e.due ++ packets }) =
       λ k. Some (record (hearing e) { due = e.due ++ receipt (left.settings k).protocol (left.last.intake k).places item }) in
-      item-left late item brings true _ (step.receiving (length all) item taken) ((inward h).due ++ packets) (record (hearing e) { due = e.due ++ packets }) rest.0 (blocks-of good) form
-      (end-there-with late item brings packets refl (receipt-other asked (length all) item)) (left.settings ∙ sym rest.0) (left.tuple ∙ sym rest.1) (left.consistent ∙ sym rest.2) refl
+      item-left late item brings true _ (step.receiving (length all) item taken) ((inward h).due ++ packets) (record (hearing e) { due = e.due ++ packets })
+      rest.0 (blocks-of good) form
+      (end-there-with late item brings packets refl (receipt-other asked (length all) item)) (left.settings ∙ sym rest.0) (left.tuple
+      ∙ sym rest.1) (left.consistent ∙ sym rest.2) refl
       (kept late item brings ∙ sym (intake-write h.settings.blocks all write above)) (waits-there late item brings) refl refl end_is)
     where
       unchanged : (l : List Inward) → change_last (framed frame) l ≡ [] → l ≡ []
@@ -206,29 +235,42 @@ module _ (frame : Received) (s : SecondaryState) (h : SecondaryHistory) (e : End
       unchanged (x ∷ []) none = absurd (cc)
       unchanged (x ∷ y ∷ l) none = absurd (cc)
 
-      blocks-of : ((((at == length (items_taken (inward h))) && has_place (length (items_taken (inward h)))) && is_range h.settings write.first (length write.contents))
-          && (is_above write.number (items_taken (inward h)) && step.is_apart (WriteItem write) (items_taken (inward h)))) ≡ true → has_blocks (WriteItem write) ≡ true
+      blocks-of : ((((at == length (items_taken (inward h))) && has_place (length (items_taken (inward h)))) && is_range h.settings write.first
+          (length write.contents))
+          && (is_above write.number (items_taken (inward h)) && step.is_apart (WriteItem write) (items_taken (inward h)))) ≡ true
+          → has_blocks (WriteItem write) ≡ true
       blocks-of good =
           let n : ℕ = length write.contents in
           let range = (and_parts ((at == length (items_taken (inward h))) && has_place (length (items_taken (inward h)))) (is_range h.settings write.first n)
-          (and_parts (((at == length (items_taken (inward h))) && has_place (length (items_taken (inward h)))) && is_range h.settings write.first n) (is_above write.number (items_taken (inward h)) && step.is_apart (WriteItem write) (items_taken (inward h))) good).0).1 in
-          (and_parts (nat_lt 0 n) (nat_le n 32) (and_parts (nat_lt 0 n && nat_le n 32) (nat_le (write.first + n) h.settings.blocks) (and_parts ((nat_lt 0 n && nat_le n 32) && nat_le (write.first + n) h.settings.blocks) (extent_of write.first == extent_of (write.first + n - 1)) range).0).0).0
+          (and_parts (((at == length (items_taken (inward h))) && has_place (length (items_taken (inward h)))) && is_range h.settings write.first n)
+          (is_above write.number (items_taken (inward h)) && step.is_apart (WriteItem write) (items_taken (inward h))) good).0).1 in
+          (and_parts (nat_lt 0 n) (nat_le n 32)
+          (and_parts (nat_lt 0 n && nat_le n 32) (nat_le (write.first + n) h.settings.blocks)
+          (and_parts ((nat_lt 0 n && nat_le n 32) && nat_le (write.first + n) h.settings.blocks) (extent_of write.first == extent_of (write.first + n - 1))
+          range).0).0).0
 
   -- an item that makes nothing due when it is taken
-  plain-left : (item : Item) (waits : Bool) (t : SecondaryState) (later : SecondaryHistory) → nat_lt (length (inward h).taken) 3 ≡ false → received_item frame ≡ Some item → has_blocks item ≡ waits → barriers_in (item ∷ []) ≡ 0
-      → later.connections ≡ change_last (framed frame) h.connections → later.settings ≡ h.settings → t.settings ≡ later.settings → t.tuple ≡ later.tuple → t.consistent ≡ later.consistent → t.number ≡ s.number
-      → t.intake ≡ intake_of h.settings.blocks (items_taken (inward h) ++ item ∷ []) → t.pending ≡ s.pending ++ cond waits (record { place = length (items_taken (inward h)); epoch = last_epoch (items_taken (inward h)); item = item } ∷ []) []
+  plain-left : (item : Item) (waits : Bool) (t : SecondaryState) (later : SecondaryHistory) → nat_lt (length (inward h).taken) 3 ≡ false
+      → received_item frame ≡ Some item → has_blocks item ≡ waits → barriers_in (item ∷ []) ≡ 0
+      → later.connections ≡ change_last (framed frame) h.connections → later.settings ≡ h.settings → t.settings ≡ later.settings → t.tuple ≡ later.tuple
+      → t.consistent ≡ later.consistent → t.number ≡ s.number
+      → t.intake ≡ intake_of h.settings.blocks (items_taken (inward h) ++ item ∷ [])
+      → t.pending ≡ s.pending ++ cond waits
+      (record { place = length (items_taken (inward h)); epoch = last_epoch (items_taken (inward h)); item = item } ∷ []) []
       → t.items_applied ≡ s.items_applied → t.failed ≡ s.failed → t.end ≡ Some (hearing e) → Leaves t later
   plain-left item waits t later late brings blocks plain connections same_settings settings tuple consistent number intake waiting_is count failed end_is =
       let none : (inward h).due ++ [] ≡ (inward h).due = append-nil (inward h).due in
       let none_e : e.due ++ [] ≡ e.due = append-nil e.due in
       let end : LeavesEnd (hearing e) (framed frame (inward h)) =
-      end-takes e (inward h) frame (item ∷ []) [] e.due (inward h).due there (taken-item frame item (inward h) there.plain late brings) plain (sym none_e) (sym none) (λ epoch. refl) in
-      item-left late item brings waits t later (inward h).due (hearing e) same_settings blocks (inward-of (framed frame) h later connections some) end settings tuple consistent number intake waiting_is count failed end_is
+      end-takes e (inward h) frame (item ∷ []) [] e.due (inward h).due there (taken-item frame item (inward h) there.plain late brings) plain (sym none_e)
+      (sym none) none-answer in
+      item-left late item brings waits t later (inward h).due (hearing e) same_settings blocks (inward-of (framed frame) h later connections some) end settings
+      tuple consistent number intake waiting_is count failed end_is
 
   -- A block of a resync.
   resync-same : (block : ℕ) (contents : List ℕ) (at : ℕ) → nat_lt (length (inward h).taken) 3 ≡ false → received_item frame ≡ Some (ResyncItem block contents)
-      → SameJudged (judging_item (RsDataReplyFrame block contents at) (hearing e) (record s { end = Some (hearing e) })) (step.checking_item (RsDataReplyFrame block contents at) (length (items_taken (inward h))) (inward h) (with_inward (framed frame) h))
+      → SameJudged (judging_item (RsDataReplyFrame block contents at) (hearing e) (record s { end = Some (hearing e) }))
+      (step.checking_item (RsDataReplyFrame block contents at) (length (items_taken (inward h))) (inward h) (with_inward (framed frame) h))
   resync-same block contents at late brings =
       let item : Item = ResyncItem block contents in
       let all : List Item = items_taken (inward h) in
@@ -236,50 +278,63 @@ module _ (frame : Received) (s : SecondaryState) (h : SecondaryHistory) (e : End
       let tests : Settings → Intake → Bool = λ x j. ((((at == j.places) && has_place j.places) && is_range x block 1) && (j.resync && is_apart block 1 j)) in
       let one : tests s.settings s.intake ≡ tests h.settings i = λ k. tests (left.settings k) (left.last.intake k) in
       let front : Bool = ((at == length all) && has_place (length all)) && is_range h.settings block 1 in
-      let two = if-front front _ _ (λ holds. ap (λ b. i.resync && b) (sym (apart-by-blocks h.settings.blocks all item (inside ((at == length all) && has_place (length all)) block 1 holds)))) in
+      let two = if-front front _ _ (λ holds. ap (λ b. i.resync && b)
+      (sym (apart-by-blocks h.settings.blocks all item (inside ((at == length all) && has_place (length all)) block 1 holds)))) in
       same-if _ _ (one ∙ two) _ _ (λ k. what.Frame command.RsDataReply (Some (left.last.intake k).places)) _ taken (λ good.
-      plain-left item true _ taken late brings refl refl refl refl left.settings left.tuple left.consistent refl (kept late item brings ∙ sym (intake-resync h.settings.blocks all block contents)) (waits-there late item brings) refl refl refl)
+      plain-left item true _ taken late brings refl refl refl refl left.settings left.tuple left.consistent refl (kept late item brings
+      ∙ sym (intake-resync h.settings.blocks all block contents)) (waits-there late item brings) refl refl refl)
 
   -- The end of an epoch.
   barrier-same : (number : ℕ) → nat_lt (length (inward h).taken) 3 ≡ false → received_item frame ≡ Some (BarrierItem number)
-      → SameJudged (judging_item (BarrierFrame number) (hearing e) (record s { end = Some (hearing e) })) (step.checking_item (BarrierFrame number) (length (items_taken (inward h))) (inward h) (with_inward (framed frame) h))
+      → SameJudged (judging_item (BarrierFrame number) (hearing e) (record s { end = Some (hearing e) }))
+      (step.checking_item (BarrierFrame number) (length (items_taken (inward h))) (inward h) (with_inward (framed frame) h))
   barrier-same number late brings =
       let item : Item = BarrierItem number in
       let all : List Item = items_taken (inward h) in
       let i : Intake = intake_of h.settings.blocks all in
       let tests : Intake → Bool = λ j. has_place j.places && (number == suc j.barriers) in
-      let end : LeavesEnd (record (hearing e) { sizes = e.sizes ++ i.writes ∷ [] }) (framed frame (inward h)) = end-barrier e (inward h) frame number there (taken-item frame item (inward h) there.plain late brings) in
-      let end_is : Some (record (hearing e) { sizes = e.sizes ++ s.intake.writes ∷ [] }) ≡ Some (record (hearing e) { sizes = e.sizes ++ i.writes ∷ [] }) = λ k. Some (record (hearing e) { sizes = e.sizes ++ (left.last.intake k).writes ∷ [] }) in
+      let end : LeavesEnd (record (hearing e) { sizes = e.sizes ++ i.writes ∷ [] }) (framed frame (inward h)) = end-barrier e (inward h) frame number there
+      (taken-item frame item (inward h) there.plain late brings) in
+      let end_is : Some (record (hearing e) { sizes = e.sizes ++ s.intake.writes ∷ [] }) ≡ Some (record (hearing e) { sizes = e.sizes ++ i.writes ∷ [] }) =
+      λ k. Some (record (hearing e) { sizes = e.sizes ++ (left.last.intake k).writes ∷ [] }) in
       same-if _ _ (λ k. tests (left.last.intake k)) _ _ (λ k. what.Frame command.Barrier (Some (left.last.intake k).places)) _ taken (λ good.
-      item-left late item brings false _ taken (inward h).due (record (hearing e) { sizes = e.sizes ++ i.writes ∷ [] }) refl refl framed-is end left.settings left.tuple left.consistent refl (kept late item brings ∙ sym (intake-barrier h.settings.blocks all number))
+      item-left late item brings false _ taken (inward h).due (record (hearing e) { sizes = e.sizes ++ i.writes ∷ [] }) refl refl framed-is end left.settings
+      left.tuple left.consistent refl (kept late item brings ∙ sym (intake-barrier h.settings.blocks all number))
       (sym (append-nil s.pending)) refl refl end_is)
 
   -- A resync begins.
   start-same : (word : ℕ) → nat_lt (length (inward h).taken) 3 ≡ false → received_item frame ≡ Some (SyncUuidItem word)
-      → SameJudged (judging_item (SyncUuidFrame word) (hearing e) (record s { end = Some (hearing e) })) (step.checking_item (SyncUuidFrame word) (length (items_taken (inward h))) (inward h) (with_inward (framed frame) h))
+      → SameJudged (judging_item (SyncUuidFrame word) (hearing e) (record s { end = Some (hearing e) }))
+      (step.checking_item (SyncUuidFrame word) (length (items_taken (inward h))) (inward h) (with_inward (framed frame) h))
   start-same word late brings =
       let item : Item = SyncUuidItem word in
       let all : List Item = items_taken (inward h) in
       let i : Intake = intake_of h.settings.blocks all in
       let tests : Intake → Bool = λ j. (has_place j.places && (j.places == 0)) && nat_lt 0 word in
-      same-if _ _ (λ k. tests (left.last.intake k)) _ _ (λ k. what.Frame command.SyncUuid (Some (left.last.intake k).places)) _ (step.adopting (record h.tuple { current = word }) false taken) (λ good.
+      same-if _ _ (λ k. tests (left.last.intake k)) _ _ (λ k. what.Frame command.SyncUuid (Some (left.last.intake k).places)) _
+      (step.adopting (record h.tuple { current = word }) false taken) (λ good.
       let first = (and_parts (has_place (length all)) (length all == 0) (and_parts (has_place (length all) && (length all == 0)) (nat_lt 0 word) good).0).1 in
-      plain-left item false _ (step.adopting (record h.tuple { current = word }) false taken) late brings refl refl refl refl left.settings (ap (λ (x : Tuple). record x { current = word }) left.tuple) refl refl
+      plain-left item false _ (step.adopting (record h.tuple { current = word }) false taken) late brings refl refl refl refl left.settings
+      (ap (λ (x : Tuple). record x { current = word }) left.tuple) refl refl
       (kept late item brings ∙ sym (intake-start h.settings.blocks all word first)) (sym (append-nil s.pending)) refl refl refl)
 
   -- It ends.
   end-same-too : (tuple : Tuple) → nat_lt (length (inward h).taken) 3 ≡ false → received_item frame ≡ Some (UuidsItem tuple)
-      → SameJudged (judging_item (UuidsFrame tuple) (hearing e) (record s { end = Some (hearing e) })) (step.checking_item (UuidsFrame tuple) (length (items_taken (inward h))) (inward h) (with_inward (framed frame) h))
+      → SameJudged (judging_item (UuidsFrame tuple) (hearing e) (record s { end = Some (hearing e) }))
+      (step.checking_item (UuidsFrame tuple) (length (items_taken (inward h))) (inward h) (with_inward (framed frame) h))
   end-same-too tuple late brings =
       let item : Item = UuidsItem tuple in
       let all : List Item = items_taken (inward h) in
       let tests : Intake → Bool = λ j. has_place j.places && j.resync in
-      same-if _ _ (λ k. tests (left.last.intake k)) _ _ (λ k. what.Frame command.Uuids (Some (left.last.intake k).places)) _ (step.adopting tuple true taken) (λ good.
-      plain-left item false _ (step.adopting tuple true taken) late brings refl refl refl refl left.settings refl refl refl (kept late item brings ∙ sym (intake-end h.settings.blocks all tuple)) (sym (append-nil s.pending)) refl refl refl)
+      same-if _ _ (λ k. tests (left.last.intake k)) _ _ (λ k. what.Frame command.Uuids (Some (left.last.intake k).places)) _ (step.adopting tuple true taken)
+      (λ good.
+      plain-left item false _ (step.adopting tuple true taken) late brings refl refl refl refl left.settings refl refl refl (kept late item brings
+      ∙ sym (intake-end h.settings.blocks all tuple)) (sym (append-nil s.pending)) refl refl refl)
 
   -- The hello is over, and a packet is judged as an item; one that is none is refused.
   late-same : (packet : Packet) → frame ≡ Ok packet → nat_lt (length (inward h).taken) 3 ≡ false
-      → SameJudged (judging_item packet (hearing e) (record s { end = Some (hearing e) })) (step.checking_item packet (length (items_taken (inward h))) (inward h) (with_inward (framed frame) h))
+      → SameJudged (judging_item packet (hearing e) (record s { end = Some (hearing e) }))
+      (step.checking_item packet (length (items_taken (inward h))) (inward h) (with_inward (framed frame) h))
   late-same (DataFrame write at) is_frame late = data-same write at late (ap received_item is_frame)
   late-same (RsDataReplyFrame block contents at) is_frame late = resync-same block contents at late (ap received_item is_frame)
   late-same (BarrierFrame number) is_frame late = barrier-same number late (ap received_item is_frame)
@@ -297,18 +352,32 @@ module _ (frame : Received) (s : SecondaryState) (h : SecondaryHistory) (e : End
   judged-same (Err fault) is_frame = refl
   judged-same (Ok packet) is_frame = go (nat_lt (length (inward h).taken) 3) refl
     where
-      go : (b : Bool) → nat_lt (length (inward h).taken) 3 ≡ b → SameJudged (judging (Ok packet) e s) (step.checking (Ok packet) (inward h) (with_inward (framed frame) h))
+      go : (b : Bool) → nat_lt (length (inward h).taken) 3 ≡ b
+          → SameJudged (judging (Ok packet) e s) (step.checking (Ok packet) (inward h) (with_inward (framed frame) h))
       go true early =
           let less : length (inward h).taken < 3 = ltb-true (length (inward h).taken) 3 early in
           let goes_on : nat_lt e.heard 3 ≡ true = hello-goes-on e (inward h) there.heard ∙ early in
           let count : length (inward h).taken ≡ e.heard = omega (arith, there.heard) in
-          subst (λ (b : Bool). SameJudged (if b then judging_hello e.heard packet heard else judging_item packet (hearing e) heard) (step.checking (Ok packet) (inward h) taken)) (sym goes_on)
-          (subst (λ (b : Bool). SameJudged (judging_hello e.heard packet heard) (elim b as (λ _. Checked) [ true ↦ step.checking_hello (length (inward h).taken) packet taken | false ↦ step.checking_item packet (length (items_taken (inward h))) (inward h) taken ])) (sym early)
-          (subst (λ (n : ℕ). SameJudged (judging_hello e.heard packet heard) (step.checking_hello n packet taken)) (sym count) (hello-same e.heard packet heard taken (hello-left less))))
+          subst (λ (b : Bool). SameJudged (if b then judging_hello e.heard packet heard
+          else judging_item packet (hearing e) heard) (step.checking (Ok packet) (inward h) taken)) (sym goes_on)
+          (subst (λ (b : Bool). SameJudged (judging_hello e.heard packet heard)
+          (elim b as (λ _. Checked) [
+            | true ↦ step.checking_hello (length (inward h).taken) packet taken
+            | false ↦ step.checking_item packet
+                (length (items_taken (inward h))) (inward h) taken
+          ])) (sym early)
+          (subst (λ (n : ℕ). SameJudged (judging_hello e.heard packet heard) (step.checking_hello n packet taken)) (sym count)
+          (hello-same e.heard packet heard taken (hello-left less))))
       go false late =
           let over : nat_lt e.heard 3 ≡ false = hello-goes-on e (inward h) there.heard ∙ late in
-          subst (λ (b : Bool). SameJudged (if b then judging_hello e.heard packet heard else judging_item packet (hearing e) heard) (step.checking (Ok packet) (inward h) taken)) (sym over)
-          (subst (λ (b : Bool). SameJudged (judging_item packet (hearing e) heard) (elim b as (λ _. Checked) [ true ↦ step.checking_hello (length (inward h).taken) packet taken | false ↦ step.checking_item packet (length (items_taken (inward h))) (inward h) taken ])) (sym late)
+          subst (λ (b : Bool). SameJudged (if b then judging_hello e.heard packet heard
+          else judging_item packet (hearing e) heard) (step.checking (Ok packet) (inward h) taken)) (sym over)
+          (subst (λ (b : Bool). SameJudged (judging_item packet (hearing e) heard)
+          (elim b as (λ _. Checked) [
+            | true ↦ step.checking_hello (length (inward h).taken) packet taken
+            | false ↦ step.checking_item packet
+                (length (items_taken (inward h))) (inward h) taken
+          ])) (sym late)
           (late-same packet is_frame late))
 
   -- a protocol error closes the end
@@ -316,7 +385,8 @@ module _ (frame : Received) (s : SecondaryState) (h : SecondaryHistory) (e : End
   refused-left =
       let items : items_taken (refused_end (framed frame (inward h))) ≡ items_taken (inward h) = items-refusing frame (inward h) there.plain in
       let form : inward (with_inward refused_end (with_inward (framed frame) h)) ≡ refused_end (framed frame (inward h)) =
-      inward-of (λ c. refused_end (framed frame c)) h (with_inward refused_end (with_inward (framed frame) h)) (change-twice (framed frame) refused_end h.connections) some in
+      inward-of (λ c. refused_end (framed frame c)) h (with_inward refused_end (with_inward (framed frame) h))
+      (change-twice (framed frame) refused_end h.connections) some in
       record {
         settings = left.settings;
         tuple = left.tuple;
@@ -333,8 +403,10 @@ module _ (frame : Received) (s : SecondaryState) (h : SecondaryHistory) (e : End
       }
 
 -- A frame is taken at an open end.
-take-agrees : (frame : Received) (s : SecondaryState) (h : SecondaryHistory) (e : EndState) → s.end ≡ Some e → Leaves s h → LeavesEnd e (inward h) → Agrees (λ done. done) (take_frame frame e s) (step.take_item frame h)
-take-agrees frame s h e is left there = go (judging frame e s) (step.checking frame (inward h) (with_inward (framed frame) h)) (judged-same frame s h e is left there frame refl)
+take-agrees : (frame : Received) (s : SecondaryState) (h : SecondaryHistory) (e : EndState) → s.end ≡ Some e → Leaves s h → LeavesEnd e (inward h)
+    → Agrees (λ done. done) (take_frame frame e s) (step.take_item frame h)
+take-agrees frame s h e is left there = go (judging frame e s) (step.checking frame (inward h) (with_inward (framed frame) h))
+    (judged-same frame s h e is left there frame refl)
   where
     go : (j : Judged) (c : Checked) → SameJudged j c
         → Agrees (λ done. done) (taking j s) (elim c as (λ _. Reply × SecondaryHistory) [
@@ -354,19 +426,26 @@ pub receives-agree : ReceivesAgree
 receives-agree frame starved s h left =
     tested-agrees (λ done. done) s h
     ((is_none s.end, NotConnected) ∷ (nat_le s.settings.pending (length s.pending), PendingFull) ∷ (starved, NoMemory) ∷ (is_none frame, NothingThere) ∷ [])
-    (((inward h).closed, NotConnected) ∷ (nat_le h.settings.pending (length (pending (inward h))), PendingFull) ∷ (starved, NoMemory) ∷ (is_none frame, NothingThere) ∷ [])
+    (((inward h).closed, NotConnected) ∷ (nat_le h.settings.pending (length (pending (inward h))), PendingFull) ∷ (starved, NoMemory) ∷ (
+      is_none frame,
+      NothingThere,
+    ) ∷ [])
     (λ _. elim frame as (λ _. Result Done Refusal × SecondaryState) [ None ↦ (Err NothingThere, s) | Some taken ↦ take_at taken s.end s ])
     (λ _. elim frame as (λ _. Reply × SecondaryHistory) [ None ↦ (reply.Refused NothingThere, h) | Some taken ↦ step.take_item taken h ])
-    (λ k. (end-closed s.end (inward h) left.last.end k, NotConnected) ∷ (nat_le (left.settings k).pending (count k), PendingFull) ∷ (starved, NoMemory) ∷ (is_none frame, NothingThere) ∷ [])
+    (λ k. (end-closed s.end (inward h) left.last.end k, NotConnected) ∷ (nat_le (left.settings k).pending (count k), PendingFull) ∷ (starved, NoMemory) ∷
+    (is_none frame, NothingThere) ∷ [])
     left (λ none.
-    let stands = (passed (inward h).closed NotConnected ((nat_le h.settings.pending (length (pending (inward h))), PendingFull) ∷ (starved, NoMemory) ∷ (is_none frame, NothingThere) ∷ []) none).0 in
+    let stands = (passed (inward h).closed NotConnected
+    ((nat_le h.settings.pending (length (pending (inward h))), PendingFull) ∷ (starved, NoMemory) ∷ (is_none frame, NothingThere) ∷ []) none).0 in
     go frame (end-there s.end (end-closed s.end (inward h) left.last.end ∙ stands)))
   where
     count : length s.pending ≡ length (pending (inward h))
     count = ap length left.last.pending ∙ length-map (pending_in (items_taken (inward h))) (pending (inward h))
 
     go : (f : Option Received) → ((e : EndState) × (s.end ≡ Some e))
-        → Agrees (λ done. done) (elim f as (λ _. Result Done Refusal × SecondaryState) [ None ↦ (Err NothingThere, s) | Some taken ↦ take_at taken s.end s ]) (elim f as (λ _. Reply × SecondaryHistory) [ None ↦ (reply.Refused NothingThere, h) | Some taken ↦ step.take_item taken h ])
+        → Agrees (λ done. done) (elim f as (λ _. Result Done Refusal × SecondaryState) [ None ↦ (Err NothingThere, s) | Some taken ↦ take_at taken s.end s ])
+        (elim f as (λ _. Reply × SecondaryHistory) [ None ↦ (reply.Refused NothingThere, h) | Some taken ↦ step.take_item taken h ])
     go None e = record { reply = refl; leaves = left }
     go (Some taken) e =
-        subst (λ (v : Option EndState). Agrees (λ done. done) (take_at taken v s) (step.take_item taken h)) (sym e.1) (take-agrees taken s h e.0 e.1 left (subst (λ (v : Option EndState). EndLeft v (inward h)) e.1 left.last.end))
+        subst (λ (v : Option EndState). Agrees (λ done. done) (take_at taken v s) (step.take_item taken h)) (sym e.1)
+        (take-agrees taken s h e.0 e.1 left (subst (λ (v : Option EndState). EndLeft v (inward h)) e.1 left.last.end))

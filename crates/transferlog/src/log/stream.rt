@@ -1,5 +1,5 @@
 //! The connection's stream in the transfer log: its items, its epochs, and its end.
-ghost use Rattle.std.specs.Prelude.{◌≡◌, ◌<◌, OnErr, IsOk, IfOk, IfErr, None};
+ghost use Rattle.std.specs.Prelude.{◌≡◌, ◌-◌, ◌<◌, OnErr, IsOk, IfOk, IfErr, None};
 ghost use Rattle.transferlog.specs.Log.{barrier_acked, connecting, drained, may_confirm, resync_acked, resync_placed, uuids_placed};
 ghost use Rattle.blocks.specs.declared.refusal.Refusal.TheVariants.{NoMemory};
 
@@ -8,10 +8,11 @@ use crate::protocol::asks_answers;
 use blocks::Refusal;
 
 impl TransferLog {
-    /// A stream begins, on the connection with this number. It takes no memory.
+    /// A stream begins, on the connection with this number, which is counted from 1. It takes no memory.
     pub fn connect(&mut self, connection: u32)
-        requires { self.old.state.connection ≡ None }
-        ensures { self.new.state ≡ connecting connection self.old.state }
+        requires counted { 0 < connection }
+        requires closed { self.old.state.connection ≡ None }
+        ensures { self.new.state ≡ connecting (connection - 1) self.old.state }
     {
         self.released.clear();
         self.completed.clear();

@@ -1,16 +1,17 @@
 //! The life of a write in the transfer log, from its acceptance to its completion.
-ghost use Rattle.std.specs.Prelude.{◌≡◌, ◌+◌, ◌<◌, ◌≤◌, ◌++◌, ◌⊎◌, ◌↔◌, length, take, drop, replicate, OnErr, IsErrOf, IsOk, IfOk, IfErr, OnOk, IsSomeAnd, true, false};
+ghost use Rattle.std.specs.Prelude.{◌≡◌, ◌+◌, ◌<◌, ◌≤◌, ◌++◌, ◌⊎◌, ◌↔◌, length, take, drop, replicate, OnErr, IsErrOf, IsOk, IfOk, IfErr, IfSome, OnOk, IsSomeAnd, true, false};
 ghost use Rattle.std.specs.Option.{option_map};
 ghost use Rattle.transferlog.specs.Log.{accepting, acked, changing, home_in, local_done, local_fault, sent};
+ghost use Rattle.transferlog.specs.Fields.{index_of};
 ghost use Rattle.transferlog.specs.Ring.{changed, write_at};
 ghost use Rattle.transferlog.specs.declared.local.Local.TheVariants.{Waiting};
 ghost use Rattle.blocks.specs.declared.refusal.Refusal.TheVariants.{LogFull, NoMemory};
 
 use super::TransferLog;
 use crate::protocol::{answers_sent, is_asked};
-use crate::report::{Accepted, Answer, Named, note};
+use crate::report::{Accepted, Answer, Named, note, note_completed};
 use crate::write::{Change, Write};
-use blocks::{Range, Refusal};
+use blocks::{Range, Refusal, StreamPosition};
 use bytes::Bytes;
 use epochs::Epochs;
 
@@ -55,6 +56,7 @@ impl TransferLog {
         self.ring.reserve()?;
         let number = self.accepted + 1;
         let (home, barrier) = home_in(self.connection, number, &mut self.epochs)?;
+        let place = place_in(&home);
         self.released.clear();
         self.completed.clear();
         self.accepted = number;
@@ -67,7 +69,7 @@ impl TransferLog {
         self.ring.push(Write::new(number, range, contents, home));
         Ok(Accepted {
             number,
-            place: place_in(home),
+            place,
             barrier,
         })
     }
@@ -123,8 +125,10 @@ impl TransferLog {
     {
         self.released.clear();
         self.completed.clear();
-        let turn = self.ring.change(number, change)?;
-        note(&mut self.completed, turn.completion);
+        let Some(turn) = self.ring.change(number, change) else {
+            return None;
+        };
+        note_completed(&mut self.completed, turn.completion);
         note(
             &mut self.released,
             self.ring.release(number, self.confirmed),
@@ -141,10 +145,11 @@ fn home_in(
     connection: Option<u32>,
     number: u64,
     epochs: &mut Epochs,
-) -> Result<(Option<(u32, u32)>, Option<u32>), Refusal>
+) -> Result<(Option<StreamPosition>, Option<u32>), Refusal>
+    requires counted { IfSome connection (λ number. 0 < number) }
     requires room { epochs.old.state.places < 4294967290 }
     requires rising { 0 < epochs.old.state.size → epochs.old.state.first + epochs.old.state.size ≤ number }
-    ensures home { IfOk result (λ home. (home.0, (home.1, epochs.new.state)) ≡ home_in connection number epochs.old.state) }
+    ensures home { IfOk result (λ home. (home.0, (home.1, epochs.new.state)) ≡ home_in (index_of connection) number epochs.old.state) }
     ensures refused { IfErr result (λ e. e ≡ NoMemory) }
     ensures unchanged { OnErr result (epochs.new.state ≡ epochs.old.state) }
     ensures roomy { 0 < epochs.old.spare → IsOk result }
@@ -153,15 +158,17 @@ fn home_in(
         return Ok((None, None));
     };
     let (place, barrier) = epochs.place(number)?;
-    Ok((Some((connection, place)), barrier))
+    Ok((Some(StreamPosition::new(connection, place)), barrier))
 }
 
 // The place of a home.
-fn place_in(home: Option<(u32, u32)>) -> Option<u32>
-    ensures { result ≡ option_map (λ h. h.1) home }
+fn place_in(home: &Option<StreamPosition>) -> Option<u32>
+    ensures { result ≡ option_map (λ h. h.place) home.now }
 {
-    let (_, place) = home?;
-    Some(place)
+    match home {
+        Some(home) => Some(home.place()),
+        None => None,
+    }
 }
 
 // Writes the number over so many others, from `at` on.

@@ -10,6 +10,7 @@ use Rattle.generations.proofs.words.fresh.Goals as goal
 pub returns-clause-fresh : goal.returns-clause-fresh
 returns-clause-fresh c =
     let nowhere : list_any (stands_in c.args.word) c.args.known.now ≡ false =
-    sym (any_from_yields_List (stands_in c.args.word) _ _ c.any.result c.any.ensures.ran (YieldsList-from_slice c.args.known.now cc) (λ x b q k. search (rules, tests))) ∙ c.if-any.false in
+    sym (any_from_yields_List (stands_in c.args.word) _ _ c.any.result c.any.ensures.ran (YieldsList-from_slice c.args.known.now cc)
+    (λ x b q k. search (rules, tests))) ∙ c.if-any.false in
     let some : nat_lt 0 c.args.word ≡ true = grind (arith, nat_tests) in
     rw (some, nowhere) (search rules)

@@ -17,7 +17,8 @@ not-both alike other is told differs = both_ways other (told ∙ ap not is) diff
 
 pub returns-then-ne-clause-settings : goal.returns-then-ne-clause-settings
 returns-then-ne-clause-settings g c = λ p s hp hs is same.
-    let alike : are_alike c.settings.result c.settings-settings.result ≡ true = same-alike _ _ (c.settings.ensures s hs ∙ sym same ∙ sym (c.settings-settings.ensures p hp)) in
+    let alike : are_alike c.settings.result c.settings-settings.result ≡ true = same-alike _ _ (c.settings.ensures s hs ∙ sym same
+    ∙ sym (c.settings-settings.ensures p hp)) in
     not-both (are_alike c.settings.result c.settings-settings.result) c.ne.result alike c.ne.ensures c.if-ne.true
 
 pub returns-clause-left : goal.returns-clause-left
@@ -25,16 +26,19 @@ returns-clause-left g c = λ p s hp hs. record {
   settings = c.settings-settings.ensures p hp;
   own = c.tuple.ensures p hp;
   peer = elim c.if-is_consistent.branch [
-    | then-is_consistent w ↦ w.peer-is ∙ w.tuple-peer.ensures s hs ∙ ap (λ (b : Bool). if b then s.tuple else unknown) (sym w.if-is_consistent.true ∙ c.is_consistent.ensures s hs)
+    | then-is_consistent w ↦ w.peer-is ∙ w.tuple-peer.ensures s hs
+        ∙ ap (λ (b : Bool). if b then s.tuple else unknown) (sym w.if-is_consistent.true ∙ c.is_consistent.ensures s hs)
     | else-is_consistent w ↦ w.peer-is ∙ ap (λ (b : Bool). if b then s.tuple else unknown) (sym w.if-is_consistent.false ∙ c.is_consistent.ensures s hs)
   ];
-  marks = marks-left p c.in_ok-marks.marks.items c.settings-settings.result.blocks (ap (λ (x : Settings). x.blocks) (c.settings-settings.ensures p hp)) (c.in_ok-marks.ensures.marks p hp);
+  marks = marks-left p c.in_ok-marks.marks.items c.settings-settings.result.blocks (ap (λ (x : Settings). x.blocks) (c.settings-settings.ensures p hp))
+      (c.in_ok-marks.ensures.marks p hp);
 }
 
 pub returns-clause-sound : goal.returns-clause-sound
 returns-clause-sound g c = λ p s hp hs joined honest grounded.
     let rest : is_at_rest p s ≡ true = at-rest p s
-    (not-false (outward p).closed (sym (c.is_open.ensures p hp) ∙ c.if-is_open.false)) (not-false (inward s).closed (sym (c.is_open-else-is_open.ensures s hs) ∙ c.if-is_open-2.false))
+    (not-false (outward p).closed (sym (c.is_open.ensures p hp) ∙ c.if-is_open.false)) (not-false (inward s).closed (sym (c.is_open-else-is_open.ensures s hs)
+    ∙ c.if-is_open-2.false))
     (sym (c.is_drained.ensures s hs) ∙ c.if-not-is_drained.false) (ap is_some (sym (c.next_local.ensures p hp)) ∙ sym c.is_some.ensures ∙ c.if-is_some.false) in
     let alike : are_alike c.settings.result c.settings-settings.result ≡ true = not-false _ (sym c.ne.ensures ∙ c.if-ne.false) in
     let same : p.settings ≡ s.settings = sym (c.settings-settings.ensures p hp) ∙ sym (alike-same _ _ alike) ∙ c.settings.ensures s hs in

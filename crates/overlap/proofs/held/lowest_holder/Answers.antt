@@ -27,5 +27,6 @@ returns-then-start-first c =
 
 pub loop-start-preserved : goal.loop-start-preserved
 loop-start-preserved c =
-    goes_on c.args.first c.loop-start.holdings c.next_back.new.self (c.in-Some.start.now, c.in-Some.holder.now) c.loop-start.lowest c.with_holder-lowest.result _
+    goes_on c.args.first c.loop-start.holdings c.next_back.new.self (c.in-Some.start.now, c.in-Some.holder.now) c.loop-start.lowest c.with_holder-lowest.result
+    _
     c.in-Some.ensures.steps c.loop-start.invariant.0 c.loop-start.invariant.1 c.with_holder-lowest.ensures

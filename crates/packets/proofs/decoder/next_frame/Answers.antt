@@ -13,7 +13,8 @@ use Rattle.packets.proofs.decoder.next_frame.Goals as goal
 
 pub overflow_sub-missing : goal.overflow_sub-missing
 overflow_sub-missing c =
-    let judged : IsJudged (Ok (Some c.in-Some.header)) (c.args.front.now ++ c.args.piece.now) = subst (λ o. IsJudged (Ok o) (c.args.front.now ++ c.args.piece.now)) c.in-Some.is c.in_ok-header.ensures in
+    let judged : IsJudged (Ok (Some c.in-Some.header)) (c.args.front.now ++ c.args.piece.now) =
+    subst (λ o. IsJudged (Ok o) (c.args.front.now ++ c.args.piece.now)) c.in-Some.is c.in_ok-header.ensures in
     omega (arith, part_within c.args.header c.args.front.now c.args.piece.now c.in-Some.header c.requires judged.1)
 
 -- a frame is as long as its header says
@@ -27,14 +28,17 @@ pub packet_of-requires-clause-whole : goal.packet_of-requires-clause-whole
 packet_of-requires-clause-whole c =
     let h = c.in-Some.header in
     let front = c.args.front.now in
-    let judged : IsJudged (Ok (Some h)) (front ++ c.args.piece.now) = subst (λ o. IsJudged (Ok o) (front ++ c.args.piece.now)) c.in-Some.is c.in_ok-header.ensures in
-    frame_length c.args.header front c.args.piece.now c.split_at.result.0.now c.in_ok-frame.frame h c.requires judged c.if-piece-missing.false c.split_at.ensures.front c.in_ok-frame.ensures.joined
+    let judged : IsJudged (Ok (Some h)) (front ++ c.args.piece.now) =
+    subst (λ o. IsJudged (Ok o) (front ++ c.args.piece.now)) c.in-Some.is c.in_ok-header.ensures in
+    frame_length c.args.header front c.args.piece.now c.split_at.result.0.now c.in_ok-frame.frame h c.requires judged c.if-piece-missing.false
+    c.split_at.ensures.front c.in_ok-frame.ensures.joined
 
 pub packet_of-requires-clause-row : goal.packet_of-requires-clause-row
 packet_of-requires-clause-row c =
     let h = c.in-Some.header in
     let front = c.args.front.now in
-    let judged : IsJudged (Ok (Some h)) (front ++ c.args.piece.now) = subst (λ o. IsJudged (Ok o) (front ++ c.args.piece.now)) c.in-Some.is c.in_ok-header.ensures in
+    let judged : IsJudged (Ok (Some h)) (front ++ c.args.piece.now) =
+    subst (λ o. IsJudged (Ok o) (front ++ c.args.piece.now)) c.in-Some.is c.in_ok-header.ensures in
     header_length _ h judged.1
 
 pub returns-in_err-packet_of : goal.returns-in_err-packet_of
@@ -44,8 +48,10 @@ returns-in_err-packet_of c =
     let piece = c.args.piece.now in
     let frame = c.in_ok-frame.frame in
     let judged : IsJudged (Ok (Some h)) (front ++ piece) = subst (λ o. IsJudged (Ok o) (front ++ piece)) c.in-Some.is c.in_ok-header.ensures in
-    let long = frame_length c.args.header front piece c.split_at.result.0.now frame h c.requires judged c.if-piece-missing.false c.split_at.ensures.front c.in_ok-frame.ensures.joined in
-    let is = joined_whole front piece c.split_at.result.0.now c.split_at.result.1.now frame (8 + h.len - length front) h c.split_at.ensures.front c.split_at.ensures.back
+    let long = frame_length c.args.header front piece c.split_at.result.0.now frame h c.requires judged c.if-piece-missing.false c.split_at.ensures.front
+    c.in_ok-frame.ensures.joined in
+    let is = joined_whole front piece c.split_at.result.0.now c.split_at.result.1.now frame (8 + h.len - length front) h c.split_at.ensures.front
+    c.split_at.ensures.back
     c.in_ok-frame.ensures.joined long judged.1 (λ i. omega (arith, c.type_inv.front i)) (λ i. omega (arith, c.type_inv.piece i)) in
     let rest : length (drop 8 frame) ≡ h.len = omega (arith, length-drop 8 frame, long) in
     let row : is_length h.command (length (drop 8 frame)) ≡ true = ap (is_length h.command) rest ∙ header_length _ h judged.1 in
@@ -60,8 +66,10 @@ returns c =
     let piece = c.args.piece.now in
     let frame = c.in_ok-frame.frame in
     let judged : IsJudged (Ok (Some h)) (front ++ piece) = subst (λ o. IsJudged (Ok o) (front ++ piece)) c.in-Some.is c.in_ok-header.ensures in
-    let long = frame_length c.args.header front piece c.split_at.result.0.now frame h c.requires judged c.if-piece-missing.false c.split_at.ensures.front c.in_ok-frame.ensures.joined in
-    let is = joined_whole front piece c.split_at.result.0.now c.split_at.result.1.now frame (8 + h.len - length front) h c.split_at.ensures.front c.split_at.ensures.back
+    let long = frame_length c.args.header front piece c.split_at.result.0.now frame h c.requires judged c.if-piece-missing.false c.split_at.ensures.front
+    c.in_ok-frame.ensures.joined in
+    let is = joined_whole front piece c.split_at.result.0.now c.split_at.result.1.now frame (8 + h.len - length front) h c.split_at.ensures.front
+    c.split_at.ensures.back
     c.in_ok-frame.ensures.joined long judged.1 (λ i. omega (arith, c.type_inv.front i)) (λ i. omega (arith, c.type_inv.piece i)) in
     let said : payload_at h.command (drop 8 frame) ≡ Ok c.in_ok-packet_of.field-0 = sym c.packet_of.ensures ∙ c.in_ok-packet_of.was in
     whole_goes (front ++ piece) frame c.split_at.result.1.now h c.in_ok-packet_of.field-0 is said

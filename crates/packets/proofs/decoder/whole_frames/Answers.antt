@@ -16,7 +16,8 @@ smaller front piece after p e = omega (arith, ap length e, length-append front p
 pub loop-packet-smaller : goal.loop-packet-smaller
 loop-packet-smaller c =
     let bytes = c.loop-packet.front.now ++ c.loop-packet.piece.now in
-    let goes : Advances (Ok (Whole c.in-Whole.packet c.in-Whole.after)) bytes = subst (λ (n : Next). Advances (Ok n) bytes) c.in-Whole.is c.in_ok-packet.ensures in
+    let goes : Advances (Ok (Whole c.in-Whole.packet c.in-Whole.after)) bytes =
+    subst (λ (n : Next). Advances (Ok n) bytes) c.in-Whole.is c.in_ok-packet.ensures in
     omega (arith, smaller c.loop-packet.front.now c.loop-packet.piece.now c.in-Whole.after.now c.in-Whole.packet goes.1)
 
 pub loop-packet-preserved : goal.loop-packet-preserved

@@ -33,11 +33,13 @@ returns-in-Ok-clause-spellable c =
 
 pub returns-in-Ok-clause-short : goal.returns-in-Ok-clause-short
 returns-in-Ok-clause-short c =
-    spelled_short c.in-Ok.packet c.args.frame (answers_headed c.args.frame c.in_ok-header.header (Ok c.in-Ok.packet) c.in_ok-header.ensures.headed c.in-Ok.ensures).1
+    spelled_short c.in-Ok.packet c.args.frame
+    (answers_headed c.args.frame c.in_ok-header.header (Ok c.in-Ok.packet) c.in_ok-header.ensures.headed c.in-Ok.ensures).1
 
 pub returns-in-Err-clause-is : goal.returns-in-Err-clause-is
 returns-in-Err-clause-is c =
-    fields_refused c.args.hello c.args.frame c.in_ok-header.header c.in-Err.fault c.fault_in_hello.result c.is_awaited.result c.in_ok-header.ensures.headed c.in-Err.ensures c.is_awaited.ensures c.fault_in_hello.ensures
+    fields_refused c.args.hello c.args.frame c.in_ok-header.header c.in-Err.fault c.fault_in_hello.result c.is_awaited.result c.in_ok-header.ensures.headed
+    c.in-Err.ensures c.is_awaited.ensures c.fault_in_hello.ensures
 
 pub returns-in-Err-clause-faults : goal.returns-in-Err-clause-faults
 returns-in-Err-clause-faults c =

@@ -13,12 +13,17 @@ use Rattle.packets.proofs.stream.decode_all.Goals as goal
 abbrev IsRead : List ℕ → Result Transcript Refusal → Type 0
 IsRead stream r = IfOk r (λ t. (rest : List ℕ) × Reads stream t.packets.items rest t.fault)
 
-decodes : {X : Type 0} (f : X → List ℕ) (pieces : List X) (r : Result Transcript Refusal) → IsRead (flat_map f pieces) r → IfOk r (λ t. Decodes (map f pieces) t.packets.items t.fault)
-decodes f pieces (Ok t) read = (read.0, subst (λ (stream : List ℕ). Reads stream t.packets.items read.0 t.fault) (sym (flat_map-map (λ piece. piece) f pieces)) read.1)
+decodes : {X : Type 0} (f : X → List ℕ) (pieces : List X) (r : Result Transcript Refusal) → IsRead (flat_map f pieces) r
+    → IfOk r (λ t. Decodes (map f pieces) t.packets.items t.fault)
+decodes f pieces (Ok t) read = (
+  read.0,
+  subst (λ (stream : List ℕ). Reads stream t.packets.items read.0 t.fault) (sym (flat_map-map (λ piece. piece) f pieces)) read.1,
+)
 decodes f pieces (Err e) read = tt
 
 read_once : (stream : List ℕ) (r : Result Transcript Refusal) → IsRead stream r
-    → IfOk r (λ t. (others : List (List ℕ)) (packets : List Packet) (fault : Option Refusal) → flat_map (λ piece. piece) others ≡ stream → Decodes others packets fault → (t.packets.items ≡ packets) × (t.fault ≡ fault))
+    → IfOk r (λ t. (others : List (List ℕ)) (packets : List Packet) (fault : Option Refusal) → flat_map (λ piece. piece) others ≡ stream
+    → Decodes others packets fault → (t.packets.items ≡ packets) × (t.fault ≡ fault))
 read_once stream (Ok t) read =
     λ others packets fault e other.
     let again : Reads stream packets other.0 fault = subst (λ (bytes : List ℕ). Reads bytes packets other.0 fault) e other.1 in

@@ -9,7 +9,8 @@ returns-in-Err c =
     let known : c.in-Err.fault ≡ NoMemory → ⊥ = search rules in
     let stops = c.in-Err.ensures.fault known c.loop-piece.invariant.running in
     record {
-      read = piece_stops (λ piece. piece.now) c.args.pieces.now c.loop-piece.piece-index _ c.loop-piece.decoder.rest stops.0 c.loop-piece.packets.items c.feed.new.out.items c.in-Err.fault
+      read = piece_stops (λ piece. piece.now) c.args.pieces.now c.loop-piece.piece-index _ c.loop-piece.decoder.rest stops.0 c.loop-piece.packets.items
+          c.feed.new.out.items c.in-Err.fault
           c.loop-piece-test.true c.loop-piece.invariant.given stops.1 stops.2;
       refused = tt;
     }

@@ -8,7 +8,8 @@ use Rattle.pair.proofs.Running.{all-ran, none-ran, one-ran}
 use Rattle.pair.proofs.runs.run.Goals as goal
 
 pub loop-event-init : goal.loop-event-init
-loop-event-init c = none-ran c.args.events.now c.in-Ok.replies.items (vec_len c.in-Ok.replies) (vec_capacity c.in-Ok.replies) c.args.pair c.in-Ok.ensures.items c.in-Ok.ensures.len c.in-Ok.ensures.capacity
+loop-event-init c = none-ran c.args.events.now c.in-Ok.replies.items (vec_len c.in-Ok.replies) (vec_capacity c.in-Ok.replies) c.args.pair c.in-Ok.ensures.items
+    c.in-Ok.ensures.len c.in-Ok.ensures.capacity
 
 pub push_reserved-requires : goal.push_reserved-requires
 push_reserved-requires c =
@@ -20,9 +21,12 @@ push_reserved-requires c =
 pub loop-event-preserved : goal.loop-event-preserved
 loop-event-preserved c =
     let grown : vec_capacity c.push_reserved.new.self ≡ vec_capacity c.loop-event.replies = c.push_reserved.ensures.capacity in
-    subst (λ n. HasRun c.args.events.now (c.loop-event.event-index + 1) c.push_reserved.new.self.items (vec_len c.push_reserved.new.self) n c.args.pair c.step-reply.new.self) (sym grown)
-    (one-ran c.args.events.now c.loop-event.event-index c.loop-event.replies.items c.push_reserved.new.self.items (vec_len c.loop-event.replies) (vec_capacity c.loop-event.replies) (vec_len c.push_reserved.new.self)
-    c.args.pair c.loop-event.pair c.step-reply.new.self c.event-item.result c.step-reply.result c.loop-event.invariant c.loop-event-test.true c.event-item.is c.step-reply.ensures.step c.push_reserved.ensures.items c.push_reserved.ensures.len)
+    subst (λ n. HasRun c.args.events.now (c.loop-event.event-index + 1) c.push_reserved.new.self.items (vec_len c.push_reserved.new.self) n c.args.pair
+    c.step-reply.new.self) (sym grown)
+    (one-ran c.args.events.now c.loop-event.event-index c.loop-event.replies.items c.push_reserved.new.self.items (vec_len c.loop-event.replies)
+    (vec_capacity c.loop-event.replies) (vec_len c.push_reserved.new.self)
+    c.args.pair c.loop-event.pair c.step-reply.new.self c.event-item.result c.step-reply.result c.loop-event.invariant c.loop-event-test.true c.event-item.is
+    c.step-reply.ensures.step c.push_reserved.ensures.items c.push_reserved.ensures.len)
 
 -- every event has its reply
 ended : (c : goal.After-loop-event) → c.loop-event.event-index ≡ length c.args.events.now
@@ -35,10 +39,14 @@ pub returns-clause-each : goal.returns-clause-each
 returns-clause-each c = c.loop-event.invariant.told ∙ ended c
 
 pub returns-clause-replies : goal.returns-clause-replies
-returns-clause-replies c h has = (all-ran c.args.events.now c.loop-event.event-index c.loop-event.replies.items (vec_len c.loop-event.replies) (vec_capacity c.loop-event.replies) c.args.pair c.loop-event.pair c.loop-event.invariant (ended c)).said h has
+returns-clause-replies c h has =
+    (all-ran c.args.events.now c.loop-event.event-index c.loop-event.replies.items (vec_len c.loop-event.replies)
+    (vec_capacity c.loop-event.replies) c.args.pair c.loop-event.pair c.loop-event.invariant (ended c)).said h has
 
 pub returns-clause-history : goal.returns-clause-history
-returns-clause-history c h has = (all-ran c.args.events.now c.loop-event.event-index c.loop-event.replies.items (vec_len c.loop-event.replies) (vec_capacity c.loop-event.replies) c.args.pair c.loop-event.pair c.loop-event.invariant (ended c)).after h has
+returns-clause-history c h has =
+    (all-ran c.args.events.now c.loop-event.event-index c.loop-event.replies.items (vec_len c.loop-event.replies)
+    (vec_capacity c.loop-event.replies) c.args.pair c.loop-event.pair c.loop-event.invariant (ended c)).after h has
 
 pub returns-clause-honest : goal.returns-clause-honest
 returns-clause-honest c h has = (has-clauses h has.run).honest (answered (map event_of c.args.events.now) c.loop-event.replies.items)

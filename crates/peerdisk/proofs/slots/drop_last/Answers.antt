@@ -8,7 +8,8 @@ returns-in-Some-Some-clause-last g c =
     let slots = c.pop_back.new.self.items in
     let popped : c.pop_back.result ≡ Some (Some e) = cc in
     let was : c.args.slots.now.items ≡ slots ++ Some e ∷ [] = rw popped at c.pop_back.ensures.items in
-    filled-last c.args.items.now c.remove.new.self c.args.slots.now.items slots e (deque_len c.pop_back.new.self) was (omega (arith, c.pop_back.new.self.ok)) c.requires.held c.remove.ensures.updates
+    filled-last c.args.items.now c.remove.new.self c.args.slots.now.items slots e (deque_len c.pop_back.new.self) was (omega (arith, c.pop_back.new.self.ok))
+    c.requires.held c.remove.ensures.updates
 
 pub returns-in-Some-Some-clause-held : goal.returns-in-Some-Some-clause-held
 returns-in-Some-Some-clause-held g c =

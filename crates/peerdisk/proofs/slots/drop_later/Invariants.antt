@@ -9,8 +9,10 @@ use Rattle.peerdisk.proofs.slots.drop_later.Given as goal
 abbrev pub invariant-loop-last : goal.invariant-loop-last
 invariant-loop-last g l = record {
   order : AreInOrder (pending_from 0 (filled l.items l.slots.items));
-  items : (first : ℕ) → kept l.epoch (pending_from first (filled l.items l.slots.items)) ≡ kept l.epoch (pending_from first (filled l.fn.items l.fn.slots.items));
-  count : (first : ℕ) → l.dropped + length (pending_from first (filled l.items l.slots.items)) ≡ length (pending_from first (filled l.fn.items l.fn.slots.items));
+  items : (first : ℕ) → kept l.epoch (pending_from first (filled l.items l.slots.items)) ≡ kept l.epoch
+      (pending_from first (filled l.fn.items l.fn.slots.items));
+  count : (first : ℕ) → l.dropped + length (pending_from first (filled l.items l.slots.items)) ≡ length
+      (pending_from first (filled l.fn.items l.fn.slots.items));
   held : Holds l.items l.slots.items;
   many : slab_len l.items + l.dropped ≡ slab_len l.fn.items;
   room : l.items.capacity ≡ l.fn.items.capacity;

@@ -20,5 +20,11 @@ loop-slots-preserved c =
 
 pub returns-clause-slots : goal.returns-clause-slots
 returns-clause-slots c =
-    let full : length c.loop-slots.slots.items ≡ c.args.len = omega (arith, c.loop-slots-test.false, c.len.ensures, c.loop-slots.slots.ok, c.loop-slots.invariant.len) in
+    let full : length c.loop-slots.slots.items ≡ c.args.len = omega (
+      arith,
+      c.loop-slots-test.false,
+      c.len.ensures,
+      c.loop-slots.slots.ok,
+      c.loop-slots.invariant.len,
+    ) in
     sym (padded-full c.args.len c.loop-slots.slots.items full) ∙ c.loop-slots.invariant.slots

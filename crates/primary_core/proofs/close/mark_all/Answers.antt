@@ -15,7 +15,8 @@ loop-write-init c = record {
 
 pub mark-requires : goal.mark-requires
 mark-requires c =
-    let inside = each-found (IsInside (length c.args.marks.now)) (is_from c.loop-write.number) c.in-Some.write.now c.args.log.now.state.writes c.requires (sym c.in-Some.ensures.first) in
+    let inside = each-found (IsInside (length c.args.marks.now)) (is_from c.loop-write.number) c.in-Some.write.now c.args.log.now.state.writes c.requires
+    (sym c.in-Some.ensures.first) in
     omega (arith, inside.inside, c.range.ensures.first, c.range.ensures.count, c.loop-write.invariant.size)
 
 pub overflow_add-number : goal.overflow_add-number
@@ -34,11 +35,13 @@ loop-write-preserved c =
     let was = c.loop-write.invariant in
     let new : c.mark.new.self ≡ marking (is_between w.first w.count) marks =
     c.mark.ensures
-    ∙ (ap (λ (k : ℕ). marking (is_between k c.range.result.count) marks) c.range.ensures.first ∙ ap (λ (k : ℕ). marking (is_between w.first k) marks) c.range.ensures.count) in
+    ∙ (ap (λ (k : ℕ). marking (is_between k c.range.result.count) marks) c.range.ensures.first
+    ∙ ap (λ (k : ℕ). marking (is_between w.first k) marks) c.range.ensures.count) in
     rw (c.number-number.ensures, new) (record {
       size = length-marking 0 (is_between w.first w.count) marks ∙ was.size;
       rest = mark-step ws c.loop-write.number w c.args.marks.now marks c.in-Some.ensures.rises (sym c.in-Some.ensures.first) was.rest;
     })
 
 pub returns : goal.returns
-returns c = mark-all c.args.log.now.state.writes c.loop-write.number c.args.marks.now c.loop-write.marks (sym c.in_default.ensures.first) c.loop-write.invariant.rest
+returns c = mark-all c.args.log.now.state.writes c.loop-write.number c.args.marks.now c.loop-write.marks
+    (sym c.in_default.ensures.first) c.loop-write.invariant.rest

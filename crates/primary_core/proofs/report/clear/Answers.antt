@@ -9,8 +9,10 @@ loop-block-preserved c =
     let new = c.loop-block.marks in
     let block = c.loop-block.block in
     elim c.if-clears.branch [
-      | then-clears w ↦ rw (w.marks-is, w.clear.ensures) (cleared-next c.args.write.now latest c.args.marks.now new block (omega (arith, c.requires.inside)) (sym c.clears.ensures ∙ w.if-clears.true) c.loop-block.invariant)
-      | else-clears w ↦ rw w.marks-is (cleared-not c.args.write.now latest c.args.marks.now new block (sym c.clears.ensures ∙ w.if-clears.false) c.loop-block.invariant)
+      | then-clears w ↦ rw (w.marks-is, w.clear.ensures) (cleared-next c.args.write.now latest c.args.marks.now new block (omega (arith, c.requires.inside))
+          (sym c.clears.ensures ∙ w.if-clears.true) c.loop-block.invariant)
+      | else-clears w ↦ rw w.marks-is (cleared-not c.args.write.now latest c.args.marks.now new block (sym c.clears.ensures
+          ∙ w.if-clears.false) c.loop-block.invariant)
     ]
 
 pub loop-block-init : goal.loop-block-init

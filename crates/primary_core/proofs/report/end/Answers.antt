@@ -14,4 +14,6 @@ none-less extent (a ∷ active) none = go (extent == a.extent) (none-less extent
     go false rest none = ap (λ more. a ∷ more) (rest none)
 
 pub returns-else-writes-gt0 : goal.returns-else-writes-gt0
-returns-else-writes-gt0 c = ap (λ (more : List Active). record c.args.activity.now { active = more }) (none-less (c.args.first.0 / 1024) c.args.activity.now.active (let count = c.writes.ensures in let extent = c.extent.ensures in (let zero : c.writes.result ≡ 0 = omega (arith, c.if-writes-gt0.false) in cc)))
+returns-else-writes-gt0 c = ap (λ (more : List Active). record c.args.activity.now { active = more })
+    (none-less (c.args.first.0 / 1024) c.args.activity.now.active
+    (let count = c.writes.ensures in let extent = c.extent.ensures in (let zero : c.writes.result ≡ 0 = omega (arith, c.if-writes-gt0.false) in cc)))

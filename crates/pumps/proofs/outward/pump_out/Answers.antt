@@ -9,7 +9,8 @@ returns-then-write_all-bytes-clause-written g c =
     let bytes = c.bytes-bytes.result.now in
     let n = c.write_all.result in (
       drop n bytes,
-      carried_out _ _ _ _ _ _ c.gather.new.buffer (take n bytes) (drop n bytes) c.loop.invariant c.gather.ensures.popped c.write_all.ensures.written (take-append-drop n bytes ∙ c.bytes-bytes.ensures.value)
+      carried_out _ _ _ _ _ _ c.gather.new.buffer (take n bytes) (drop n bytes) c.loop.invariant c.gather.ensures.popped c.write_all.ensures.written
+          (take-append-drop n bytes ∙ c.bytes-bytes.ensures.value)
           c.bytes-bytes.ensures.few,
     )
 

@@ -6,5 +6,7 @@ pub loop-count-preserved : goal.loop-count-preserved
 loop-count-preserved g c =
     let bytes = c.args.bytes.now in
     let sent = c.loop-count.invariant in
-    let more = c.write_once-more in
-    (within_rest bytes c.loop-count.count more.result sent.0 more.ensures.within, append_more _ _ _ bytes c.loop-count.count more.result sent.1 more.ensures.written)
+    let more = c.write_once-more in (
+      within_rest bytes c.loop-count.count more.result sent.0 more.ensures.within,
+      append_more _ _ _ bytes c.loop-count.count more.result sent.1 more.ensures.written,
+    )

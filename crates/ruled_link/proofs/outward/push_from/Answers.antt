@@ -18,6 +18,8 @@ loop-at-preserved g c =
       row = ap (λ (x : EndState). x.row) went ∙ c.loop-at.invariant.row;
       started = omega (arith, c.loop-at.invariant.started, c.min-end.ensures, c.saturating_add.ensures, c.loop-at-test.true);
       within = omega (arith, c.min-end.ensures);
-      pushed = pushed_more c.args.number c.args.bytes.now c.args.from c.loop-at.at c.min-end.result c.args.pieces.now.pieces c.loop-at.pieces.pieces c.push_bytes.new.self.pieces _
-          (omega (arith, c.min-end.ensures, c.saturating_add.ensures, c.loop-at-test.true)) refl (ap (λ (x : EndState). x.pieces) went) c.loop-at.invariant.pushed;
+      pushed = pushed_more c.args.number c.args.bytes.now c.args.from c.loop-at.at c.min-end.result c.args.pieces.now.pieces c.loop-at.pieces.pieces
+          c.push_bytes.new.self.pieces _
+          (omega (arith, c.min-end.ensures, c.saturating_add.ensures, c.loop-at-test.true)) refl (ap (λ (x : EndState). x.pieces) went)
+          c.loop-at.invariant.pushed;
     }

@@ -20,7 +20,8 @@ loop-offset-preserved g c =
     let whole : 4096 * (length c.loop-offset.bytes / 4096) ≡ length c.loop-offset.bytes = rw size c.requires.whole in
     record {
       same = c.in_ok-read.ensures.same ∙ c.loop-offset.invariant.same;
-      read = read-more _ _ _ _ _ c.loop-offset.invariant.read (sym (ap (λ d. slice_get d (c.args.first.0 + c.loop-offset.offset)) c.loop-offset.invariant.same) ∙ c.in_ok-read.ensures.read) (omega (arith, c.read.auto.buffer)) less whole;
+      read = read-more _ _ _ _ _ c.loop-offset.invariant.read (sym (ap (λ d. slice_get d (c.args.first.0 + c.loop-offset.offset)) c.loop-offset.invariant.same)
+          ∙ c.in_ok-read.ensures.read) (omega (arith, c.read.auto.buffer)) less whole;
       uncounted = c.in_ok-read.ensures.uncounted ∙ c.loop-offset.invariant.uncounted;
       works = λ steady. c.in_ok-read.ensures.still_steady (c.loop-offset.invariant.works steady);
     }

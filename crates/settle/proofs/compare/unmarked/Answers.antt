@@ -9,7 +9,8 @@ use Rattle.secondary.specs.State.{node as secondary_node}
 use Rattle.secondary_steps.specs.Node.{NodeHas as SecondaryHas}
 use Rattle.settle.proofs.Comparing.{many, many-none, many-next, many-all}
 use Rattle.settle.proofs.compare.unmarked.Goals as goal
-use Rattle.settle.proofs.compare.unmarked.Goals.{then-branch+then-not-is_marked, else-branch, else-branch-via-then-branch+else-not-is_marked, else-branch-via-else-branch}
+use Rattle.settle.proofs.compare.unmarked.Goals.{then-branch+then-not-is_marked, else-branch, else-branch-via-then-branch+else-not-is_marked}
+use Rattle.settle.proofs.compare.unmarked.Goals.{else-branch-via-else-branch}
 
 add-none : (n : ℕ) → n + 0 ≡ n
 add-none n = omega arith
@@ -28,9 +29,15 @@ loop-number-init g c = record {
 
 pub loop-number-preserved : goal.loop-number-preserved
 loop-number-preserved g c = record {
-  primary = c.in_ok-differs.ensures.primary ∙ λ i. record (c.loop-number.invariant.primary i) { faults = c.differs.new.primary.faults; steady = c.differs.new.primary.steady };
-  secondary = c.in_ok-differs.ensures.secondary ∙ λ i. record (c.loop-number.invariant.secondary i) { faults = c.differs.new.secondary.faults; steady = c.differs.new.secondary.steady };
-  uncounted = (c.in_ok-differs.ensures.uncounted.0 ∙ c.loop-number.invariant.uncounted.0, c.in_ok-differs.ensures.uncounted.1 ∙ c.loop-number.invariant.uncounted.1);
+  primary = c.in_ok-differs.ensures.primary
+      ∙ λ i. record (c.loop-number.invariant.primary i) { faults = c.differs.new.primary.faults; steady = c.differs.new.primary.steady };
+  secondary = c.in_ok-differs.ensures.secondary
+      ∙ λ i. record (c.loop-number.invariant.secondary i) { faults = c.differs.new.secondary.faults; steady = c.differs.new.secondary.steady };
+  uncounted = (
+    c.in_ok-differs.ensures.uncounted.0 ∙ c.loop-number.invariant.uncounted.0,
+    c.in_ok-differs.ensures.uncounted.1
+        ∙ c.loop-number.invariant.uncounted.1,
+  );
   works = λ one two. let was = c.loop-number.invariant.works one two in let works = c.in_ok-differs.ensures.works was.0 was.1 in (works.0, works.1);
   local = c.differs.auto.local ∙ c.loop-number.invariant.local;
   peer = c.differs.auto.peer ∙ c.loop-number.invariant.peer;
@@ -40,11 +47,13 @@ loop-number-preserved g c = record {
   ];
   count = λ p s hp hs.
       let here : PrimaryHas (primary_node c.loop-number.primary) p = subst (λ v. PrimaryHas v p) (sym (ap primary_node c.loop-number.invariant.primary)) hp in
-      let there : SecondaryHas (secondary_node c.loop-number.secondary) s = subst (λ v. SecondaryHas v s) (sym (ap secondary_node c.loop-number.invariant.secondary)) hs in
+      let there : SecondaryHas (secondary_node c.loop-number.secondary) s =
+      subst (λ v. SecondaryHas v s) (sym (ap secondary_node c.loop-number.invariant.secondary)) hs in
       let number : c.from.result ≡ c.loop-number.number = c.from.ensures in
       let differs : c.in_ok-differs.field-0 ≡ not (same_block (local_map p c.loop-number.number) (secondary_map s c.loop-number.number)) =
       c.in_ok-differs.ensures.differs p s here there ∙ λ i. not (same_block (local_map p (number i)) (secondary_map s (number i))) in
-      let after : PrimaryHas (primary_node c.differs.new.primary) p = subst (λ v. PrimaryHas v p) (sym (ap primary_node c.in_ok-differs.ensures.primary)) here in
+      let after : PrimaryHas (primary_node c.differs.new.primary) p = subst (λ v. PrimaryHas v p) (sym (ap primary_node c.in_ok-differs.ensures.primary))
+      here in
       let was = c.loop-number.invariant.count p s hp hs in
       elim c.if-branch.branch [
         | then-branch+then-not-is_marked w ↦
@@ -55,13 +64,15 @@ loop-number-preserved g c = record {
               let marked : true ≡ is_marked p c.loop-number.number = sym v.if-not-is_marked.false ∙ (v.is_marked.ensures p after ∙ ap (is_marked p) number) in
               sym (add-none c.loop-number.count) ∙ many-next p s c.loop-number.number c.loop-number.count true true was (sym v.if-branch.true ∙ differs) marked
           | else-branch-via-else-branch v ↦
-              sym (add-none c.loop-number.count) ∙ many-next p s c.loop-number.number c.loop-number.count false (is_marked p c.loop-number.number) was (sym v.if-branch.false ∙ differs) refl
+              sym (add-none c.loop-number.count)
+              ∙ many-next p s c.loop-number.number c.loop-number.count false (is_marked p c.loop-number.number) was (sym v.if-branch.false ∙ differs) refl
         ]
       ];
 }
 
 pub returns-clause-count : goal.returns-clause-count
 returns-clause-count g c = λ p s hp hs.
-    let blocks : c.max-blocks.result ≡ max p.settings.blocks s.settings.blocks = c.max-blocks.ensures ∙ λ i. max (c.settings.ensures p hp i).blocks (c.settings-2.ensures s hs i).blocks in
+    let blocks : c.max-blocks.result ≡ max p.settings.blocks s.settings.blocks = c.max-blocks.ensures
+    ∙ λ i. max (c.settings.ensures p hp i).blocks (c.settings-2.ensures s hs i).blocks in
     let ended : c.loop-number.number ≡ c.max-blocks.result = omega (arith, c.loop-number-test.false, c.loop-number.auto.number-end) in
     c.loop-number.invariant.count p s hp hs ∙ (ap (many p s) (ended ∙ blocks) ∙ many-all p s)

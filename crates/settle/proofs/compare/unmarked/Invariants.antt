@@ -17,5 +17,6 @@ invariant-loop-number g l = record {
   local : length l.local ≡ 4096;
   peer : length l.peer ≡ 4096;
   few : l.count ≤ l.number;
-  count : (p : PrimaryHistory) (s : SecondaryHistory) → PrimaryHas (primary_node l.fn.primary) p → SecondaryHas (secondary_node l.fn.secondary) s → l.count ≡ many p s l.number;
+  count : (p : PrimaryHistory) (s : SecondaryHistory) → PrimaryHas (primary_node l.fn.primary) p → SecondaryHas (secondary_node l.fn.secondary) s
+      → l.count ≡ many p s l.number;
 }

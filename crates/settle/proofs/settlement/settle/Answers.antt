@@ -9,8 +9,14 @@ use Rattle.settle.proofs.Settling.{kept-settles, settled-says, settled-says-anyh
 use Rattle.settle.proofs.settlement.settle.Goals as goal
 
 -- a secondary's last connection is not numbered above the primary's last one
-few : (v : PrimaryView) (w : SecondaryView) → w.core.number ≤ v.core.connections → (p : PrimaryHistory) (s : SecondaryHistory) → PrimaryHas (primary_node v) p → SecondaryHas (secondary_node w) s → (inward s).number ≤ length p.connections
-few v w least p s hp hs = let number = hs.leaves.core.last.number in let connections = hp.leaves.core.rest.connections in omega (arith, least, number, connections)
+few : (v : PrimaryView) (w : SecondaryView) → w.core.number ≤ v.core.connections → (p : PrimaryHistory) (s : SecondaryHistory) → PrimaryHas (primary_node v) p
+    → SecondaryHas (secondary_node w) s → (inward s).number ≤ length p.connections
+few v w least p s hp hs = let number = hs.leaves.core.last.number in let connections = hp.leaves.core.rest.connections in omega (
+  arith,
+  least,
+  number,
+  connections,
+)
 
 pub returns-clause-kept : goal.returns-clause-kept
 returns-clause-kept g c = search rules

@@ -7,4 +7,5 @@ use Rattle.volume.proofs.session.into_nodes.Goals as goal
 
 pub returns-clause-joined : goal.returns-clause-joined
 returns-clause-joined g c = λ p s had held.
-    c.join_nodes.ensures.joined p s (subst (λ (v : PrimaryView). PrimaryHas v p) c.join_nodes.ensures.primary had) (subst (λ (v : SecondaryView). SecondaryHas v s) c.join_nodes.ensures.secondary held)
+    c.join_nodes.ensures.joined p s (subst (λ (v : PrimaryView). PrimaryHas v p) c.join_nodes.ensures.primary had)
+    (subst (λ (v : SecondaryView). SecondaryHas v s) c.join_nodes.ensures.secondary held)

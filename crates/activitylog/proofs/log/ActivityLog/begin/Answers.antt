@@ -44,29 +44,36 @@ returns-then-one_more-clause-begun c =
 pub returns-then-one_more-clause-full : goal.returns-then-one_more-clause-full
 returns-then-one_more-clause-full c =
     let is = known c.args.extent.0 c.self.inside.active c.one_more.new.active c.one_more.result c.one_more.ensures c.if-one_more.true in
-    let can : can_begin c.args.extent.0 c.args.self.now ≡ true = rw (← c.self.view_is) (can-known c.self.inside.slots c.args.extent.0 c.self.inside.active.entries is.0 is.1) in
+    let can : can_begin c.args.extent.0 c.args.self.now ≡ true =
+    rw (← c.self.view_is) (can-known c.self.inside.slots c.args.extent.0 c.self.inside.active.entries is.0 is.1) in
     (λ e. absurd (cc), λ e. absurd (cc))
 
 pub invariant_of-self-then-len-self : goal.invariant_of-self-then-len-self
 invariant_of-self-then-len-self c =
     let no = unknown c.args.extent.0 c.self.inside.active c.one_more.new.active c.one_more.result c.one_more.ensures c.if-one_more.false in
     let len = rw no.1 at c.len.ensures.len in
-    let new = rw no.1 at c.in_ok-put.ensures.entries ∙ ap (λ es. lru_cache es c.self.inside.active.cap) (put-new c.self.inside.active c.args.extent.0 1 c.self.inside.slots c.self.invariant.1 c.self.invariant.2 no.0) in
+    let new = rw no.1 at c.in_ok-put.ensures.entries
+    ∙ ap (λ es. lru_cache es c.self.inside.active.cap)
+    (put-new c.self.inside.active c.args.extent.0 1 c.self.inside.slots c.self.invariant.1 c.self.invariant.2 no.0) in
     rw new (c.self.invariant.0, c.self.invariant.1, omega (arith, len))
 
 pub returns-then-len-self-clause-begun : goal.returns-then-len-self-clause-begun
 returns-then-len-self-clause-begun c =
     let no = unknown c.args.extent.0 c.self.inside.active c.one_more.new.active c.one_more.result c.one_more.ensures c.if-one_more.false in
     let len = rw no.1 at c.len.ensures.len in
-    let new = rw no.1 at c.in_ok-put.ensures.entries ∙ ap (λ es. lru_cache es c.self.inside.active.cap) (put-new c.self.inside.active c.args.extent.0 1 c.self.inside.slots c.self.invariant.1 c.self.invariant.2 no.0) in
+    let new = rw no.1 at c.in_ok-put.ensures.entries
+    ∙ ap (λ es. lru_cache es c.self.inside.active.cap)
+    (put-new c.self.inside.active c.args.extent.0 1 c.self.inside.slots c.self.invariant.1 c.self.invariant.2 no.0) in
     rw (new, ← c.self.view_is) (begun-free c.self.inside.slots c.args.extent.0 c.self.inside.active.entries no.0 (omega (arith, len)))
 
 pub returns-in_default-clause-full : goal.returns-in_default-clause-full
 returns-in_default-clause-full c =
     let no = unknown c.args.extent.0 c.self.inside.active c.one_more.new.active c.one_more.result c.one_more.ensures c.if-one_more.false in
     let len = rw no.1 at c.len.ensures.len in
-    let nothing : oldest_idle (active_of c.self.inside.active.entries) ≡ None = sym (rw no.1 at c.in_default.ensures) in
-    (λ e. rw (← c.self.view_is) (can-full c.self.inside.slots c.args.extent.0 c.self.inside.active.entries no.0 (omega (arith, len)) ∙ ap is_some nothing), λ e. refl)
+    let nothing : oldest_idle (active_of c.self.inside.active.entries) ≡ None = sym (rw no.1 at c.in_default.ensures) in (
+      λ e. rw (← c.self.view_is) (can-full c.self.inside.slots c.args.extent.0 c.self.inside.active.entries no.0 (omega (arith, len)) ∙ ap is_some nothing),
+      λ e. refl,
+    )
 
 pub invariant_of-self-2 : goal.invariant_of-self-2
 invariant_of-self-2 c =
@@ -74,8 +81,11 @@ invariant_of-self-2 c =
     let len = rw no.1 at c.len.ensures.len in
     let oldest : oldest_idle (active_of c.self.inside.active.entries) ≡ Some c.in-Some.idle = sym (rw no.1 at c.in-Some.ensures) in
     let other = other_key c.self.inside.slots c.args.extent.0 c.self.inside.active.entries no.0 (omega (arith, len)) c.in-Some.idle oldest in
-    let new = rw no.1 at c.in_ok-put-2.ensures.entries ∙ ap (λ es. lru_cache es c.self.inside.active.cap) (put-new c.self.inside.active c.args.extent.0 1 c.self.inside.slots c.self.invariant.1 c.self.invariant.2 no.0) in
-    let long = length-removed c.in-Some.idle c.self.inside.active.entries (active-lookup c.in-Some.idle c.self.inside.active.entries ∙ oldest-active c.in-Some.idle (active_of c.self.inside.active.entries) oldest) in
+    let new = rw no.1 at c.in_ok-put-2.ensures.entries
+    ∙ ap (λ es. lru_cache es c.self.inside.active.cap)
+    (put-new c.self.inside.active c.args.extent.0 1 c.self.inside.slots c.self.invariant.1 c.self.invariant.2 no.0) in
+    let long = length-removed c.in-Some.idle c.self.inside.active.entries (active-lookup c.in-Some.idle c.self.inside.active.entries
+    ∙ oldest-active c.in-Some.idle (active_of c.self.inside.active.entries) oldest) in
     rw (c.pop.ensures.entries, new, other) (c.self.invariant.0, c.self.invariant.1, omega (arith, long, c.self.invariant.2))
 
 pub returns-clause-begun : goal.returns-clause-begun
@@ -84,5 +94,8 @@ returns-clause-begun c =
     let len = rw no.1 at c.len.ensures.len in
     let distinct = rw no.1 at c.len.ensures.valid.0 in
     let oldest : oldest_idle (active_of c.self.inside.active.entries) ≡ Some c.in-Some.idle = sym (rw no.1 at c.in-Some.ensures) in
-    let new = rw no.1 at c.in_ok-put-2.ensures.entries ∙ ap (λ es. lru_cache es c.self.inside.active.cap) (put-new c.self.inside.active c.args.extent.0 1 c.self.inside.slots c.self.invariant.1 c.self.invariant.2 no.0) in
-    rw (c.pop.ensures.entries, new, ← c.self.view_is) (begun-full c.self.inside.slots c.args.extent.0 c.self.inside.active.entries no.0 (omega (arith, len)) c.in-Some.idle oldest distinct)
+    let new = rw no.1 at c.in_ok-put-2.ensures.entries
+    ∙ ap (λ es. lru_cache es c.self.inside.active.cap)
+    (put-new c.self.inside.active c.args.extent.0 1 c.self.inside.slots c.self.invariant.1 c.self.invariant.2 no.0) in
+    rw (c.pop.ensures.entries, new, ← c.self.view_is)
+    (begun-full c.self.inside.slots c.args.extent.0 c.self.inside.active.entries no.0 (omega (arith, len)) c.in-Some.idle oldest distinct)

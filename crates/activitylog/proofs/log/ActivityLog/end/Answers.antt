@@ -16,13 +16,16 @@ overflow_sub-writes c =
 
 pub invariant_of-self : goal.invariant_of-self
 invariant_of-self c = elim c.match-peek_mut.branch [
-  | in-Some w ↦ (let long = length-set_value (nat_eq c.args.extent.0) c.self.inside.active.entries (w.in-Some.writes.now - 1) in rw w.self-inside-is (c.self.invariant.0, c.self.invariant.1, omega (arith, c.self.invariant.2)))
+  | in-Some w ↦ (let long = length-set_value (nat_eq c.args.extent.0) c.self.inside.active.entries (w.in-Some.writes.now - 1) in rw w.self-inside-is
+      (c.self.invariant.0, c.self.invariant.1, omega (arith, c.self.invariant.2)))
   | in_default w ↦ rw w.self-inside-is c.self.invariant
 ]
 
 pub returns : goal.returns
 returns c = elim c.match-peek_mut.branch [
-  | in-Some w ↦ (let has : lookup (nat_eq c.args.extent.0) c.self.inside.active.entries ≡ Some w.in-Some.writes.now = sym w.in-Some.ensures.value in rw (w.self-inside-is, ← c.self.view_is, active-set c.args.extent.0 w.in-Some.writes.now c.self.inside.active.entries has) refl)
+  | in-Some w ↦ (let has : lookup (nat_eq c.args.extent.0) c.self.inside.active.entries ≡ Some w.in-Some.writes.now =
+      sym w.in-Some.ensures.value in rw (w.self-inside-is, ← c.self.view_is, active-set c.args.extent.0 w.in-Some.writes.now c.self.inside.active.entries has)
+      refl)
   | in_default w ↦ (let has : lookup (nat_eq c.args.extent.0) c.self.inside.active.entries ≡ None = sym w.in_default.ensures.value in
       let writes = ap (λ o. unwrap_or o 0) has in
       let some : 0 < writes_of c.args.extent.0 (active_of c.self.inside.active.entries) = rw (ap (λ s. s.active) c.self.view_is) c.requires in

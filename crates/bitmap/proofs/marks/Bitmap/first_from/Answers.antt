@@ -19,7 +19,8 @@ none_in_word n words word q none same = go (cases_lt q n)
     go (inr past) = marked-past (marks_of n words) q (omega (arith, length-bits 0 n words))
 
 -- what is before a block, or in one part of the device with it
-up_to : (xs : List Bool) (from block end : ℕ) → ((q : ℕ) → from ≤ q → q < block → marked xs q ≡ false) → ((q : ℕ) → block ≤ q → q < end → marked xs q ≡ false) → (q : ℕ) → from ≤ q → q < end → marked xs q ≡ false
+up_to : (xs : List Bool) (from block end : ℕ) → ((q : ℕ) → from ≤ q → q < block → marked xs q ≡ false) → ((q : ℕ) → block ≤ q → q < end → marked xs q ≡ false)
+    → (q : ℕ) → from ≤ q → q < end → marked xs q ≡ false
 up_to xs from block end before after q start stop = go (cases_lt q block)
   where
     go : (q < block) ⊎ (block ≤ q) → marked xs q ≡ false
@@ -33,7 +34,8 @@ loop-block-preserved-then-index-eq0 c =
     record {
       from = omega (arith, c.loop-block.invariant.from);
       none = up_to c.args.self.now c.args.from.0 c.loop-block.block ((c.loop-block.block / 1024 + 1) * 1024) c.loop-block.invariant.none
-          (λ q start stop. rw (← c.self.view_is) (count_in-none (marks_of c.self.inside.blocks c.self.inside.words.items) (c.loop-block.block / 1024) q (omega (arith, c.self.invariant.counted (c.loop-block.block / 1024))) (omega arith)));
+          (λ q start stop. rw (← c.self.view_is) (count_in-none (marks_of c.self.inside.blocks c.self.inside.words.items) (c.loop-block.block / 1024) q
+          (omega (arith, c.self.invariant.counted (c.loop-block.block / 1024))) (omega arith)));
     }
 
 pub loop-block-preserved-then-index-eq0-2 : goal.loop-block-preserved-then-index-eq0-2
@@ -43,7 +45,8 @@ loop-block-preserved-then-index-eq0-2 c =
     record {
       from = omega (arith, c.loop-block.invariant.from);
       none = up_to c.args.self.now c.args.from.0 c.loop-block.block ((c.loop-block.block / 64 + 1) * 64) c.loop-block.invariant.none
-          (λ q start stop. rw (← c.self.view_is) (none_in_word c.self.inside.blocks c.self.inside.words.items (c.loop-block.block / 64) q (omega arith) (omega arith)));
+          (λ q start stop. rw (← c.self.view_is) (none_in_word c.self.inside.blocks c.self.inside.words.items (c.loop-block.block / 64) q (omega arith)
+          (omega arith)));
     }
 
 pub loop-block-preserved : goal.loop-block-preserved
@@ -54,7 +57,8 @@ loop-block-preserved c = record {
 }
 
 -- the first of those from a block on
-first_is : (xs : List Bool) (from block : ℕ) → from ≤ block → block < length xs → marked xs block ≡ true → ((q : ℕ) → from ≤ q → q < block → marked xs q ≡ false) → Some block ≡ first_marked from xs
+first_is : (xs : List Bool) (from block : ℕ) → from ≤ block → block < length xs → marked xs block ≡ true
+    → ((q : ℕ) → from ≤ q → q < block → marked xs q ≡ false) → Some block ≡ first_marked from xs
 first_is xs from block start within is none =
     let reached : nat_le from block ≡ true = le-leb from block start in
     sym (find-below_some (λ b. nat_le from b && marked xs b) (length xs) block within (rw (reached, is) refl) (λ q h. go q h (cases_lt q from)))
@@ -73,7 +77,8 @@ none_is xs from block all none = sym (find-below_none (λ b. nat_le from b && ma
 pub returns-then-is_marked : goal.returns-then-is_marked
 returns-then-is_marked c =
     let long : length c.args.self.now ≡ c.self.inside.blocks = rw (← c.self.view_is) (length-bits 0 c.self.inside.blocks c.self.inside.words.items) in
-    first_is c.args.self.now c.args.from.0 c.loop-block.block c.loop-block.invariant.from (omega arith) (sym c.is_marked.ensures ∙ c.if-is_marked.true) c.loop-block.invariant.none
+    first_is c.args.self.now c.args.from.0 c.loop-block.block c.loop-block.invariant.from (omega arith) (sym c.is_marked.ensures
+    ∙ c.if-is_marked.true) c.loop-block.invariant.none
 
 pub returns : goal.returns
 returns c =

@@ -22,7 +22,8 @@ beq_other false false is = absurd (cc)
 
 pub returns-then-is_marked-mark : goal.returns-then-is_marked-mark
 returns-then-is_marked-mark c =
-    let same : c.args.mark ≡ marked c.args.self.now c.args.block = sym (beq_same c.is_marked.result c.args.mark c.if-is_marked-mark.true) ∙ c.is_marked.ensures in
+    let same : c.args.mark ≡ marked c.args.self.now c.args.block = sym (beq_same c.is_marked.result c.args.mark c.if-is_marked-mark.true)
+    ∙ c.is_marked.ensures in
     rw same (sym (set_same c.args.self.now c.args.block))
 
 pub index_mut-requires : goal.index_mut-requires
@@ -62,14 +63,20 @@ overflow_sub-index_mut c =
     let in_device : c.args.block < length (marks_of c.self.inside.blocks c.self.inside.words.items) = rw c.self.view_is c.requires in
     let read = get_or_read c.self.inside.counts.items _ _ (omega (arith, c.self.invariant.enough_counts)) c.index_mut-else-mark.ensures.value 0 in
     let off = c.if-mark.false in
-    let was : marked (marks_of c.self.inside.blocks c.self.inside.words.items) c.args.block ≡ not false = rw c.self.view_is (sym c.is_marked.ensures ∙ beq_other c.is_marked.result c.args.mark c.if-is_marked-mark.false ∙ ap not off) in
-    omega (arith, c.self.invariant.counted (c.args.block / 1024), count_in-set (marks_of c.self.inside.blocks c.self.inside.words.items) c.args.block false in_device was)
+    let was : marked (marks_of c.self.inside.blocks c.self.inside.words.items) c.args.block ≡ not false = rw c.self.view_is (sym c.is_marked.ensures
+    ∙ beq_other c.is_marked.result c.args.mark c.if-is_marked-mark.false ∙ ap not off) in
+    omega (
+      arith,
+      c.self.invariant.counted (c.args.block / 1024),
+      count_in-set (marks_of c.self.inside.blocks c.self.inside.words.items) c.args.block false in_device was,
+    )
 
 pub overflow_sub-self : goal.overflow_sub-self
 overflow_sub-self c =
     let in_device : c.args.block < length (marks_of c.self.inside.blocks c.self.inside.words.items) = rw c.self.view_is c.requires in
     let off = c.if-mark.false in
-    let was : marked (marks_of c.self.inside.blocks c.self.inside.words.items) c.args.block ≡ not false = rw c.self.view_is (sym c.is_marked.ensures ∙ beq_other c.is_marked.result c.args.mark c.if-is_marked-mark.false ∙ ap not off) in
+    let was : marked (marks_of c.self.inside.blocks c.self.inside.words.items) c.args.block ≡ not false = rw c.self.view_is (sym c.is_marked.ensures
+    ∙ beq_other c.is_marked.result c.args.mark c.if-is_marked-mark.false ∙ ap not off) in
     omega (arith, c.self.invariant.totalled, count-set (marks_of c.self.inside.blocks c.self.inside.words.items) c.args.block false in_device was)
 
 pub invariant_of-self : goal.invariant_of-self
@@ -79,8 +86,10 @@ invariant_of-self c =
     let word = get_or_read c.self.inside.words.items _ _ (omega (arith, c.self.invariant.enough_words)) c.index_mut.ensures.value 0 in
     let read = get_or_read c.self.inside.counts.items _ _ (omega (arith, c.self.invariant.enough_counts)) c.index_mut-then-mark.ensures.value 0 in
     let on = c.if-mark.true in
-    let was : marked (marks_of c.self.inside.blocks c.self.inside.words.items) c.args.block ≡ not true = rw c.self.view_is (sym c.is_marked.ensures ∙ beq_other c.is_marked.result c.args.mark c.if-is_marked-mark.false ∙ ap not on) in
-    rw word (turned-counted c.self.inside.blocks c.self.inside.words.items c.self.inside.counts.items c.self.inside.total c.args.block true (c.index_mut-then-mark.result.now + 1) (c.self.inside.total + 1) c.self.invariant (omega arith) was (omega arith) (omega arith))
+    let was : marked (marks_of c.self.inside.blocks c.self.inside.words.items) c.args.block ≡ not true = rw c.self.view_is (sym c.is_marked.ensures
+    ∙ beq_other c.is_marked.result c.args.mark c.if-is_marked-mark.false ∙ ap not on) in
+    rw word (turned-counted c.self.inside.blocks c.self.inside.words.items c.self.inside.counts.items c.self.inside.total c.args.block true
+    (c.index_mut-then-mark.result.now + 1) (c.self.inside.total + 1) c.self.invariant (omega arith) was (omega arith) (omega arith))
 
 pub invariant_of-self-else-mark : goal.invariant_of-self-else-mark
 invariant_of-self-else-mark c =
@@ -89,10 +98,12 @@ invariant_of-self-else-mark c =
     let word = get_or_read c.self.inside.words.items _ _ (omega (arith, c.self.invariant.enough_words)) c.index_mut.ensures.value 0 in
     let read = get_or_read c.self.inside.counts.items _ _ (omega (arith, c.self.invariant.enough_counts)) c.index_mut-else-mark.ensures.value 0 in
     let off = c.if-mark.false in
-    let was : marked (marks_of c.self.inside.blocks c.self.inside.words.items) c.args.block ≡ not false = rw c.self.view_is (sym c.is_marked.ensures ∙ beq_other c.is_marked.result c.args.mark c.if-is_marked-mark.false ∙ ap not off) in
+    let was : marked (marks_of c.self.inside.blocks c.self.inside.words.items) c.args.block ≡ not false = rw c.self.view_is (sym c.is_marked.ensures
+    ∙ beq_other c.is_marked.result c.args.mark c.if-is_marked-mark.false ∙ ap not off) in
     let some_here = count_in-set (marks_of c.self.inside.blocks c.self.inside.words.items) c.args.block false in_device was in
     let some = count-set (marks_of c.self.inside.blocks c.self.inside.words.items) c.args.block false in_device was in
-    rw word (turned-counted c.self.inside.blocks c.self.inside.words.items c.self.inside.counts.items c.self.inside.total c.args.block false (c.index_mut-else-mark.result.now - 1) (c.self.inside.total - 1) c.self.invariant (omega arith) was
+    rw word (turned-counted c.self.inside.blocks c.self.inside.words.items c.self.inside.counts.items c.self.inside.total c.args.block false
+    (c.index_mut-else-mark.result.now - 1) (c.self.inside.total - 1) c.self.invariant (omega arith) was
     (omega (arith, c.self.invariant.counted (c.args.block / 1024))) (omega (arith, c.self.invariant.totalled)))
 
 pub returns-then-mark : goal.returns-then-mark
@@ -101,13 +112,17 @@ returns-then-mark c =
     let in_device : c.args.block < length (marks_of c.self.inside.blocks c.self.inside.words.items) = rw c.self.view_is c.requires in
     let word = get_or_read c.self.inside.words.items _ _ (omega (arith, c.self.invariant.enough_words)) c.index_mut.ensures.value 0 in
     let on = c.if-mark.true in
-    let was : marked (marks_of c.self.inside.blocks c.self.inside.words.items) c.args.block ≡ not c.args.mark = rw c.self.view_is (sym c.is_marked.ensures ∙ beq_other c.is_marked.result c.args.mark c.if-is_marked-mark.false) in
-    rw (word, ← c.self.view_is) (marks-turned c.self.inside.blocks c.self.inside.words.items c.args.block c.args.mark (omega arith) (omega (arith, c.self.invariant.enough_words)) was)
+    let was : marked (marks_of c.self.inside.blocks c.self.inside.words.items) c.args.block ≡ not c.args.mark = rw c.self.view_is (sym c.is_marked.ensures
+    ∙ beq_other c.is_marked.result c.args.mark c.if-is_marked-mark.false) in
+    rw (word, ← c.self.view_is) (marks-turned c.self.inside.blocks c.self.inside.words.items c.args.block c.args.mark (omega arith)
+    (omega (arith, c.self.invariant.enough_words)) was)
 
 pub returns-else-mark : goal.returns-else-mark
 returns-else-mark c =
     let long = length-bits 0 c.self.inside.blocks c.self.inside.words.items in
     let in_device : c.args.block < length (marks_of c.self.inside.blocks c.self.inside.words.items) = rw c.self.view_is c.requires in
     let word = get_or_read c.self.inside.words.items _ _ (omega (arith, c.self.invariant.enough_words)) c.index_mut.ensures.value 0 in
-    let was : marked (marks_of c.self.inside.blocks c.self.inside.words.items) c.args.block ≡ not c.args.mark = rw c.self.view_is (sym c.is_marked.ensures ∙ beq_other c.is_marked.result c.args.mark c.if-is_marked-mark.false) in
-    rw (word, ← c.self.view_is) (marks-turned c.self.inside.blocks c.self.inside.words.items c.args.block c.args.mark (omega arith) (omega (arith, c.self.invariant.enough_words)) was)
+    let was : marked (marks_of c.self.inside.blocks c.self.inside.words.items) c.args.block ≡ not c.args.mark = rw c.self.view_is (sym c.is_marked.ensures
+    ∙ beq_other c.is_marked.result c.args.mark c.if-is_marked-mark.false) in
+    rw (word, ← c.self.view_is) (marks-turned c.self.inside.blocks c.self.inside.words.items c.args.block c.args.mark (omega arith)
+    (omega (arith, c.self.invariant.enough_words)) was)

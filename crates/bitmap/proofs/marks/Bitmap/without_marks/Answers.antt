@@ -34,7 +34,8 @@ pub invariant_of-result : goal.invariant_of-result
 invariant_of-result c =
     let words : c.in_ok-words.words.items ≡ replicate c.div_ceil.result 0 = c.in_ok-words.ensures.items_if_clones_equal (λ y e. e) in
     let counts : c.in_ok-counts.counts.items ≡ replicate c.div_ceil-2.result 0 = c.in_ok-counts.ensures.items_if_clones_equal (λ y e. e) in
-    rw (words, counts) (no_counts c.args.blocks c.div_ceil.result c.div_ceil-2.result c.requires (omega (arith, c.div_ceil.ensures)) (omega (arith, c.div_ceil-2.ensures)))
+    rw (words, counts) (no_counts c.args.blocks c.div_ceil.result c.div_ceil-2.result c.requires (omega (arith, c.div_ceil.ensures))
+    (omega (arith, c.div_ceil-2.ensures)))
 
 pub returns-clause-made : goal.returns-clause-made
 returns-clause-made c =

@@ -17,4 +17,5 @@ are_words n words counts total is = record {
     go b (inr past) = is.rest b past ∙ sym (marked-past (marks_of n words) b (omega (arith, length-bits 0 n words)))
 
 pub returns : goal.returns
-returns c = rw (← c.self.view_is, c.deref.ensures.value) (are_words c.self.inside.blocks c.self.inside.words.items c.self.inside.counts.items c.self.inside.total c.self.invariant)
+returns c = rw (← c.self.view_is, c.deref.ensures.value)
+    (are_words c.self.inside.blocks c.self.inside.words.items c.self.inside.counts.items c.self.inside.total c.self.invariant)

@@ -28,4 +28,5 @@ returns-clause-read c =
     let part : take 4096 (drop (4096 * c.args.block.0) bytes) ≡ c.get.new.buffer =
     ap (λ n. take 4096 (drop n bytes)) place ∙ (ap (λ (l : List ℕ). take 4096 (drop (c.args.block.0 * 4096) l)) (sym c.deref.ensures.value)
     ∙ (ap (λ n. take n (drop (c.args.block.0 * 4096) c.deref.result.now)) (sym c.requires.whole) ∙ sym c.get.ensures)) in
-    ap (λ (l : List (List ℕ)). slice_get l c.args.block.0) (sym c.self.view_is) ∙ (slice_get-cut 4096 (length bytes / 4096) c.args.block.0 bytes below ∙ ap Some part)
+    ap (λ (l : List (List ℕ)). slice_get l c.args.block.0) (sym c.self.view_is)
+    ∙ (slice_get-cut 4096 (length bytes / 4096) c.args.block.0 bytes below ∙ ap Some part)

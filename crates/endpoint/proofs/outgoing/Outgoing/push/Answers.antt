@@ -26,4 +26,5 @@ returns-clause-pushed g c =
 
 pub returns-in-Err-clause-in_part : goal.returns-in-Err-clause-in_part
 returns-in-Err-clause-in_part g c =
-    part_meant (g.O.FrameOut.state c.offer.new.self).partly c.args.packet c.in_ok-frame.frame c.in-Err.ensures.in_part c.requires.spellable c.in_ok-frame.ensures.spelled
+    part_meant (g.O.FrameOut.state c.offer.new.self).partly c.args.packet c.in_ok-frame.frame c.in-Err.ensures.in_part c.requires.spellable
+    c.in_ok-frame.ensures.spelled

@@ -32,4 +32,5 @@ with_queue sent number past queue (Some q) left is gone whole =
 
 pub returns-clause-with_queue : goal.returns-clause-with_queue
 returns-clause-with_queue c =
-    rw (← c.self.view_is) (with_queue c.self.inside.sent.went.frames c.self.inside.number c.self.inside.sent.went.past c.self.inside.queue c.take.result c.take.new.self c.take.ensures.value c.take.ensures.after c.self.invariant)
+    rw (← c.self.view_is) (with_queue c.self.inside.sent.went.frames c.self.inside.number c.self.inside.sent.went.past c.self.inside.queue c.take.result
+    c.take.new.self c.take.ensures.value c.take.ensures.after c.self.invariant)

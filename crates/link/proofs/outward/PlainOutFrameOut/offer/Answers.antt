@@ -12,4 +12,5 @@ put_in queue new frame sent more whole put added x is =
     cc
 
 pub invariant_of-self-2 : goal.invariant_of-self-2
-invariant_of-self-2 c = put_in c.in-Some.queue c.offer.new.self c.args.frame _ _ (c.self.invariant c.in-Some.queue c.in-Some.is) c.in_ok-offer.ensures.put (ap (λ (w : Went). w.frames) c.and-sent.ensures)
+invariant_of-self-2 c = put_in c.in-Some.queue c.offer.new.self c.args.frame _ _ (c.self.invariant c.in-Some.queue c.in-Some.is) c.in_ok-offer.ensures.put
+    (ap (λ (w : Went). w.frames) c.and-sent.ensures)

@@ -15,8 +15,10 @@ pub loop-rest-preserved : goal.loop-rest-preserved
 loop-rest-preserved c =
     let adds = c.in_ok-take.ensures.adds in
     record {
-      continues = continues_on (fed c.args.self.now c.args.piece.now) c.loop-rest.self c.take.new.self c.split_at.result.0.now c.split_at.result.1.now c.loop-rest.rest.now
-          c.args.out.now.bytes.items c.loop-rest.out.bytes.items c.take.new.out.bytes.items c.args.out.now.requests.items c.loop-rest.out.requests.items c.take.new.out.requests.items
+      continues = continues_on (fed c.args.self.now c.args.piece.now) c.loop-rest.self c.take.new.self c.split_at.result.0.now c.split_at.result.1.now
+          c.loop-rest.rest.now
+          c.args.out.now.bytes.items c.loop-rest.out.bytes.items c.take.new.out.bytes.items c.args.out.now.requests.items c.loop-rest.out.requests.items
+          c.take.new.out.requests.items
           (parts c.portion.result c.loop-rest.rest.now c.split_at.result.0.now c.split_at.result.1.now c.split_at.ensures.front c.split_at.ensures.back)
           c.loop-rest.invariant.continues adds;
       begins = begins_more _ _ _ _ c.loop-rest.invariant.begins adds.sent;
@@ -26,4 +28,5 @@ loop-rest-preserved c =
 pub returns-clause-adds : goal.returns-clause-adds
 returns-clause-adds c =
     continues_end (fed c.args.self.now c.args.piece.now) c.loop-rest.self c.loop-rest.rest.now c.args.out.now.bytes.items c.loop-rest.out.bytes.items
-    c.args.out.now.requests.items c.loop-rest.out.requests.items (eqb-true _ _ (sym c.is_empty.ensures ∙ c.loop-rest-test.false)) c.loop-rest.invariant.continues
+    c.args.out.now.requests.items c.loop-rest.out.requests.items (eqb-true _ _ (sym c.is_empty.ensures ∙ c.loop-rest-test.false))
+    c.loop-rest.invariant.continues

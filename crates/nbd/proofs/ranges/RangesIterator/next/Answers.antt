@@ -12,7 +12,8 @@ returns-then-self-eq0-clause-steps c =
 
 pub returns-clause-steps : goal.returns-clause-steps
 returns-clause-steps c =
-    next_is c.self.inside.first_block c.self.inside.block_count c.min-2.result c.args.self.now c.self.view_is (omega arith) (grind (arith, common_steps, c.min.ensures, c.min-2.ensures))
+    next_is c.self.inside.first_block c.self.inside.block_count c.min-2.result c.args.self.now c.self.view_is (omega arith)
+    (grind (arith, common_steps, c.min.ensures, c.min-2.ensures))
 
 pub returns-clause-goes : goal.returns-clause-goes
 returns-clause-goes c =

@@ -25,22 +25,29 @@ no_key n number is = go (get nat_cmp n number) refl
 
 pub invariant_of-self-then-is_err : goal.invariant_of-self-then-is_err
 invariant_of-self-then-is_err c =
-    let none = absent c.self.inside.by_number c.self.inside.by_first c.self.invariant c.args.range.first.0 c.args.range.count c.args.range.some (rw c.self.view_is c.requires.apart) in
+    let none = absent c.self.inside.by_number c.self.inside.by_first c.self.invariant c.args.range.first.0 c.args.range.count c.args.range.some
+    (rw c.self.view_is c.requires.apart) in
     tied-same c.self.inside.by_number c.insert-2.new.self c.self.inside.by_first c.remove.new.self c.self.invariant (search rules)
-    (λ q. updated_back c.args.range.first.0 q _ (get nat_cmp c.self.inside.by_first q) (get nat_cmp c.insert.new.self q) (get nat_cmp c.remove.new.self q) (get nat_cmp c.self.inside.by_first) none refl (c.in_ok-insert.ensures.updates.0 q) (c.remove.ensures.updates.0 q))
+    (λ q. updated_back c.args.range.first.0 q _ (get nat_cmp c.self.inside.by_first q) (get nat_cmp c.insert.new.self q) (get nat_cmp c.remove.new.self q)
+    (get nat_cmp c.self.inside.by_first) none refl (c.in_ok-insert.ensures.updates.0 q) (c.remove.ensures.updates.0 q))
 
 pub invariant_of-self-else-is_err : goal.invariant_of-self-else-is_err
 invariant_of-self-else-is_err c =
-    let none = absent c.self.inside.by_number c.self.inside.by_first c.self.invariant c.args.range.first.0 c.args.range.count c.args.range.some (rw c.self.view_is c.requires.apart) in
+    let none = absent c.self.inside.by_number c.self.inside.by_first c.self.invariant c.args.range.first.0 c.args.range.count c.args.range.some
+    (rw c.self.view_is c.requires.apart) in
     let failed : is_err c.insert-2.result ≡ false = cc in
     let put = on_ok c.insert-2.result _ failed c.insert-2.ensures.updates in
-    tied-hold c.self.inside.by_number c.self.inside.by_first c.self.invariant c.insert-2.new.self c.insert.new.self c.args.number (record { first = c.args.range.first.0; count = c.args.range.count })
+    tied-hold c.self.inside.by_number c.self.inside.by_first c.self.invariant c.insert-2.new.self c.insert.new.self c.args.number
+    (record { first = c.args.range.first.0; count = c.args.range.count })
     c.insert-2.ensures.ordered c.args.range.some (no_key c.self.inside.by_number c.args.number (rw c.self.view_is c.requires.new)) none
-    (clear-of c.self.inside.by_number c.self.inside.by_first c.self.invariant c.args.range.first.0 c.args.range.count c.args.range.some (rw c.self.view_is c.requires.apart))
+    (clear-of c.self.inside.by_number c.self.inside.by_first c.self.invariant c.args.range.first.0 c.args.range.count c.args.range.some
+    (rw c.self.view_is c.requires.apart))
     (λ q. updated c.args.number q _ _ _ (put.0 q)) (λ q. updated c.args.range.first.0 q _ _ _ (c.in_ok-insert.ensures.updates.0 q))
 
 pub returns-clause-held : goal.returns-clause-held
 returns-clause-held c =
     let failed : is_err c.insert-2.result ≡ false = cc in
     let put = on_ok c.insert-2.result _ failed c.insert-2.ensures.entries in
-    ap holdings put ∙ rw (← c.self.view_is) (holdings-insert c.args.number (record { first = c.args.range.first.0; count = c.args.range.count }) c.self.inside.by_number.entries (rw c.self.view_is c.requires.new))
+    ap holdings put ∙ rw (← c.self.view_is)
+    (holdings-insert c.args.number (record { first = c.args.range.first.0; count = c.args.range.count }) c.self.inside.by_number.entries
+    (rw c.self.view_is c.requires.new))

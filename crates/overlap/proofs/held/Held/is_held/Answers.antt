@@ -23,4 +23,5 @@ returns-then-number-highest c = rw (← c.self.view_is) (c.contains_key.ensures 
 pub returns-else-number-highest : goal.returns-else-number-highest
 returns-else-number-highest c =
     let higher : c.in-Some.highest.now < c.args.number = omega (arith, c.if-number-highest.false) in
-    lt-leb c.args.number c.in-Some.highest.now higher ∙ rw (← c.self.view_is) (above c.self.inside.by_number c.args.number c.in-Some.highest.now c.in-Some.ensures.greatest higher)
+    lt-leb c.args.number c.in-Some.highest.now higher
+    ∙ rw (← c.self.view_is) (above c.self.inside.by_number c.args.number c.in-Some.highest.now c.in-Some.ensures.greatest higher)

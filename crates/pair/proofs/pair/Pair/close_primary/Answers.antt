@@ -8,9 +8,16 @@ use Rattle.pair.proofs.pair.Pair.close_primary.Goals as goal
 
 pub invariant_of-self : goal.invariant_of-self
 invariant_of-self c =
-    primary-is ClosePrimaryEvent (is_starved c.close.result) (record { primary = c.self.inside.primary; secondary = c.self.inside.secondary }) c.close.new.self _ c.self.invariant
-    (primary-step ClosePrimaryEvent (is_starved c.close.result) close_primary (λ h. refl) (record { primary = c.self.inside.primary; secondary = c.self.inside.secondary }) c.close.new.self _ c.close.ensures.step)
-    (ap (λ (v : PrimaryView). v.outgoing) c.close.ensures.rest) (ap (λ (v : PrimaryView). v.incoming) c.close.ensures.rest) (ap (λ (v : PrimaryView). v.steady) c.close.ensures.rest ∙ c.self.invariant.local)
+    primary-is ClosePrimaryEvent (is_starved c.close.result) (record { primary = c.self.inside.primary; secondary = c.self.inside.secondary }) c.close.new.self
+    _ c.self.invariant
+    (primary-step ClosePrimaryEvent (is_starved c.close.result) close_primary (λ h. refl)
+    (record { primary = c.self.inside.primary; secondary = c.self.inside.secondary }) c.close.new.self _ c.close.ensures.step)
+    (ap (λ (v : PrimaryView). v.outgoing) c.close.ensures.rest) (ap (λ (v : PrimaryView). v.incoming) c.close.ensures.rest)
+    (ap (λ (v : PrimaryView). v.steady) c.close.ensures.rest ∙ c.self.invariant.local)
 
 pub returns : goal.returns
-returns c = record { step = rw (← c.self.view_is) (primary-step ClosePrimaryEvent (is_starved c.close.result) close_primary (λ h. refl) (record { primary = c.self.inside.primary; secondary = c.self.inside.secondary }) c.close.new.self _ c.close.ensures.step) }
+returns c = record {
+  step = rw (← c.self.view_is)
+      (primary-step ClosePrimaryEvent (is_starved c.close.result) close_primary (λ h. refl)
+      (record { primary = c.self.inside.primary; secondary = c.self.inside.secondary }) c.close.new.self _ c.close.ensures.step);
+}

@@ -8,9 +8,16 @@ use Rattle.pair.proofs.pair.Pair.close_secondary.Goals as goal
 
 pub invariant_of-self : goal.invariant_of-self
 invariant_of-self c =
-    secondary-is CloseSecondaryEvent (is_starved c.close.result) (record { primary = c.self.inside.primary; secondary = c.self.inside.secondary }) c.close.new.self _ c.self.invariant
-    (secondary-step CloseSecondaryEvent (is_starved c.close.result) close_secondary (λ h. refl) (record { primary = c.self.inside.primary; secondary = c.self.inside.secondary }) c.close.new.self _ c.close.ensures.step)
-    (ap (λ (v : SecondaryView). v.outgoing) c.close.ensures.rest) (ap (λ (v : SecondaryView). v.incoming) c.close.ensures.rest) (ap (λ (v : SecondaryView). v.steady) c.close.ensures.rest ∙ c.self.invariant.peer)
+    secondary-is CloseSecondaryEvent (is_starved c.close.result) (record { primary = c.self.inside.primary; secondary = c.self.inside.secondary })
+    c.close.new.self _ c.self.invariant
+    (secondary-step CloseSecondaryEvent (is_starved c.close.result) close_secondary (λ h. refl)
+    (record { primary = c.self.inside.primary; secondary = c.self.inside.secondary }) c.close.new.self _ c.close.ensures.step)
+    (ap (λ (v : SecondaryView). v.outgoing) c.close.ensures.rest) (ap (λ (v : SecondaryView). v.incoming) c.close.ensures.rest)
+    (ap (λ (v : SecondaryView). v.steady) c.close.ensures.rest ∙ c.self.invariant.peer)
 
 pub returns : goal.returns
-returns c = record { step = rw (← c.self.view_is) (secondary-step CloseSecondaryEvent (is_starved c.close.result) close_secondary (λ h. refl) (record { primary = c.self.inside.primary; secondary = c.self.inside.secondary }) c.close.new.self _ c.close.ensures.step) }
+returns c = record {
+  step = rw (← c.self.view_is)
+      (secondary-step CloseSecondaryEvent (is_starved c.close.result) close_secondary (λ h. refl)
+      (record { primary = c.self.inside.primary; secondary = c.self.inside.secondary }) c.close.new.self _ c.close.ensures.step);
+}

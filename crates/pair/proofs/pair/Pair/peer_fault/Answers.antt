@@ -8,9 +8,16 @@ use Rattle.pair.proofs.pair.Pair.peer_fault.Goals as goal
 
 pub invariant_of-self : goal.invariant_of-self
 invariant_of-self c =
-    secondary-is (PeerFaultEvent c.args.place c.args.kept) (is_starved c.peer_fault.result) (record { primary = c.self.inside.primary; secondary = c.self.inside.secondary }) c.peer_fault.new.self _ c.self.invariant
-    (secondary-step (PeerFaultEvent c.args.place c.args.kept) (is_starved c.peer_fault.result) (peer_fault_kept c.args.place c.args.kept) (λ h. refl) (record { primary = c.self.inside.primary; secondary = c.self.inside.secondary }) c.peer_fault.new.self _ c.peer_fault.ensures.step)
-    (ap (λ (v : SecondaryView). v.outgoing) c.peer_fault.ensures.rest) (ap (λ (v : SecondaryView). v.incoming) c.peer_fault.ensures.rest) (c.peer_fault.ensures.works c.self.invariant.peer)
+    secondary-is (PeerFaultEvent c.args.place c.args.kept) (is_starved c.peer_fault.result)
+    (record { primary = c.self.inside.primary; secondary = c.self.inside.secondary }) c.peer_fault.new.self _ c.self.invariant
+    (secondary-step (PeerFaultEvent c.args.place c.args.kept) (is_starved c.peer_fault.result) (peer_fault_kept c.args.place c.args.kept) (λ h. refl)
+    (record { primary = c.self.inside.primary; secondary = c.self.inside.secondary }) c.peer_fault.new.self _ c.peer_fault.ensures.step)
+    (ap (λ (v : SecondaryView). v.outgoing) c.peer_fault.ensures.rest) (ap (λ (v : SecondaryView). v.incoming) c.peer_fault.ensures.rest)
+    (c.peer_fault.ensures.works c.self.invariant.peer)
 
 pub returns : goal.returns
-returns c = record { step = rw (← c.self.view_is) (secondary-step (PeerFaultEvent c.args.place c.args.kept) (is_starved c.peer_fault.result) (peer_fault_kept c.args.place c.args.kept) (λ h. refl) (record { primary = c.self.inside.primary; secondary = c.self.inside.secondary }) c.peer_fault.new.self _ c.peer_fault.ensures.step) }
+returns c = record {
+  step = rw (← c.self.view_is)
+      (secondary-step (PeerFaultEvent c.args.place c.args.kept) (is_starved c.peer_fault.result) (peer_fault_kept c.args.place c.args.kept) (λ h. refl)
+      (record { primary = c.self.inside.primary; secondary = c.self.inside.secondary }) c.peer_fault.new.self _ c.peer_fault.ensures.step);
+}

@@ -10,47 +10,63 @@ use Rattle.pair.proofs.pair.Pair.receive.Goals as goal
 
 pub invariant_of-self : goal.invariant_of-self
 invariant_of-self c =
-    receive-none-is (record { primary = c.self.inside.primary; secondary = c.self.inside.secondary }) c.give_outward.new.self c.receive.new.self c.receive.result c.self.invariant
-    (subst (λ (q : Option QueueState). GivenOut q c.self.inside.primary.outgoing c.give_outward.new.self.outgoing) c.in_default.is c.give_outward.ensures.given) c.give_outward.ensures.rest c.receive.ensures.step c.receive.ensures.rest
+    receive-none-is (record { primary = c.self.inside.primary; secondary = c.self.inside.secondary }) c.give_outward.new.self c.receive.new.self
+    c.receive.result c.self.invariant
+    (subst (λ (q : Option QueueState). GivenOut q c.self.inside.primary.outgoing c.give_outward.new.self.outgoing) c.in_default.is c.give_outward.ensures.given)
+    c.give_outward.ensures.rest c.receive.ensures.step c.receive.ensures.rest
 
 pub returns-in_default : goal.returns-in_default
 returns-in_default c = record {
   step = rw (← c.self.view_is)
-      (receive-none-step (record { primary = c.self.inside.primary; secondary = c.self.inside.secondary }) c.give_outward.new.self c.receive.new.self c.receive.result c.self.invariant
-      (subst (λ (q : Option QueueState). GivenOut q c.self.inside.primary.outgoing c.give_outward.new.self.outgoing) c.in_default.is c.give_outward.ensures.given) c.give_outward.ensures.rest c.receive.ensures.step c.receive.ensures.rest);
+      (receive-none-step (record { primary = c.self.inside.primary; secondary = c.self.inside.secondary }) c.give_outward.new.self c.receive.new.self
+      c.receive.result c.self.invariant
+      (subst (λ (q : Option QueueState). GivenOut q c.self.inside.primary.outgoing c.give_outward.new.self.outgoing) c.in_default.is
+      c.give_outward.ensures.given) c.give_outward.ensures.rest c.receive.ensures.step c.receive.ensures.rest);
 }
 
 -- The queue goes over, and comes back.
 
 pub lay_inward-requires : goal.lay_inward-requires
 lay_inward-requires c =
-    may-lay c.self.inside.primary.core.settings.link (state (record { primary = c.self.inside.primary; secondary = c.self.inside.secondary })).there c.in-Some.queue c.give_outward.new.self.outgoing c.self.invariant.pair.there c.in-Some.ensures.given
+    may-lay c.self.inside.primary.core.settings.link (state (record { primary = c.self.inside.primary; secondary = c.self.inside.secondary })).there
+    c.in-Some.queue c.give_outward.new.self.outgoing c.self.invariant.pair.there c.in-Some.ensures.given
 
 pub invariant_of-self-in_default-give_inward : goal.invariant_of-self-in_default-give_inward
 invariant_of-self-in_default-give_inward c =
-    absurd (never-kept (record { primary = c.self.inside.primary; secondary = c.self.inside.secondary }) c.give_outward.new.self c.lay_inward.new.self c.receive-done.new.self c.give_inward.new.self c.in-Some.queue c.receive-done.result c.self.invariant c.in-Some.ensures.given c.lay_inward.ensures.laid c.receive-done.ensures.step
+    absurd (never-kept (record { primary = c.self.inside.primary; secondary = c.self.inside.secondary }) c.give_outward.new.self c.lay_inward.new.self
+    c.receive-done.new.self c.give_inward.new.self c.in-Some.queue c.receive-done.result c.self.invariant c.in-Some.ensures.given c.lay_inward.ensures.laid
+    c.receive-done.ensures.step
     c.give_inward.result c.in_default-give_inward.is c.give_inward.ensures.given)
 
 pub returns-in_default-give_inward : goal.returns-in_default-give_inward
 returns-in_default-give_inward c =
-    absurd (never-kept (record { primary = c.self.inside.primary; secondary = c.self.inside.secondary }) c.give_outward.new.self c.lay_inward.new.self c.receive-done.new.self c.give_inward.new.self c.in-Some.queue c.receive-done.result c.self.invariant c.in-Some.ensures.given c.lay_inward.ensures.laid c.receive-done.ensures.step
+    absurd (never-kept (record { primary = c.self.inside.primary; secondary = c.self.inside.secondary }) c.give_outward.new.self c.lay_inward.new.self
+    c.receive-done.new.self c.give_inward.new.self c.in-Some.queue c.receive-done.result c.self.invariant c.in-Some.ensures.given c.lay_inward.ensures.laid
+    c.receive-done.ensures.step
     c.give_inward.result c.in_default-give_inward.is c.give_inward.ensures.given)
 
 pub lay_outward-requires : goal.lay_outward-requires
 lay_outward-requires c =
-    may-lay-back c.self.inside.primary.core.settings.link (state (record { primary = c.self.inside.primary; secondary = c.self.inside.secondary })).there c.in-Some.queue c.in-Some-give_inward.queue c.receive-done.ensures.step.frame c.receive-done.result
-    c.give_outward.new.self.outgoing c.lay_inward.new.self.incoming c.receive-done.new.self.incoming c.give_inward.new.self.incoming c.self.invariant.pair.there c.in-Some.ensures.given c.lay_inward.ensures.laid c.receive-done.ensures.step.link c.in-Some-give_inward.ensures.given
+    may-lay-back c.self.inside.primary.core.settings.link (state (record { primary = c.self.inside.primary; secondary = c.self.inside.secondary })).there
+    c.in-Some.queue c.in-Some-give_inward.queue c.receive-done.ensures.step.frame c.receive-done.result
+    c.give_outward.new.self.outgoing c.lay_inward.new.self.incoming c.receive-done.new.self.incoming c.give_inward.new.self.incoming c.self.invariant.pair.there
+    c.in-Some.ensures.given c.lay_inward.ensures.laid c.receive-done.ensures.step.link c.in-Some-give_inward.ensures.given
 
 pub invariant_of-self-2 : goal.invariant_of-self-2
 invariant_of-self-2 c =
-    receive-is (record { primary = c.self.inside.primary; secondary = c.self.inside.secondary }) c.give_outward.new.self c.lay_outward.new.self c.lay_inward.new.self c.receive-done.new.self c.give_inward.new.self c.in-Some.queue c.in-Some-give_inward.queue c.receive-done.result c.self.invariant
-    c.in-Some.ensures.given c.give_outward.ensures.rest c.lay_inward.ensures.laid c.lay_inward.ensures.rest c.receive-done.ensures.step c.receive-done.ensures.rest c.in-Some-give_inward.ensures.given c.give_inward.ensures.rest
+    receive-is (record { primary = c.self.inside.primary; secondary = c.self.inside.secondary }) c.give_outward.new.self c.lay_outward.new.self
+    c.lay_inward.new.self c.receive-done.new.self c.give_inward.new.self c.in-Some.queue c.in-Some-give_inward.queue c.receive-done.result c.self.invariant
+    c.in-Some.ensures.given c.give_outward.ensures.rest c.lay_inward.ensures.laid c.lay_inward.ensures.rest c.receive-done.ensures.step
+    c.receive-done.ensures.rest c.in-Some-give_inward.ensures.given c.give_inward.ensures.rest
     c.lay_outward.ensures.laid c.lay_outward.ensures.rest c.told_there.ensures
 
 pub returns : goal.returns
 returns c = record {
   step = rw (← c.self.view_is)
-      (receive-step (record { primary = c.self.inside.primary; secondary = c.self.inside.secondary }) c.give_outward.new.self c.lay_outward.new.self c.lay_inward.new.self c.receive-done.new.self c.give_inward.new.self c.in-Some.queue c.in-Some-give_inward.queue c.receive-done.result c.self.invariant
-      c.in-Some.ensures.given c.give_outward.ensures.rest c.lay_inward.ensures.laid c.lay_inward.ensures.rest c.receive-done.ensures.step c.receive-done.ensures.rest c.in-Some-give_inward.ensures.given c.give_inward.ensures.rest
+      (receive-step (record { primary = c.self.inside.primary; secondary = c.self.inside.secondary }) c.give_outward.new.self c.lay_outward.new.self
+      c.lay_inward.new.self c.receive-done.new.self c.give_inward.new.self c.in-Some.queue c.in-Some-give_inward.queue c.receive-done.result
+      c.self.invariant
+      c.in-Some.ensures.given c.give_outward.ensures.rest c.lay_inward.ensures.laid c.lay_inward.ensures.rest c.receive-done.ensures.step
+      c.receive-done.ensures.rest c.in-Some-give_inward.ensures.given c.give_inward.ensures.rest
       c.lay_outward.ensures.laid c.lay_outward.ensures.rest c.told_there.ensures);
 }

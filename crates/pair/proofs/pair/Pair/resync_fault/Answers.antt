@@ -8,9 +8,16 @@ use Rattle.pair.proofs.pair.Pair.resync_fault.Goals as goal
 
 pub invariant_of-self : goal.invariant_of-self
 invariant_of-self c =
-    primary-is ResyncFaultEvent (is_starved c.resync_fault.result) (record { primary = c.self.inside.primary; secondary = c.self.inside.secondary }) c.resync_fault.new.self _ c.self.invariant
-    (primary-step ResyncFaultEvent (is_starved c.resync_fault.result) (resync_fault (is_starved c.resync_fault.result)) (λ h. refl) (record { primary = c.self.inside.primary; secondary = c.self.inside.secondary }) c.resync_fault.new.self _ c.resync_fault.ensures.step)
-    (ap (λ (v : PrimaryView). v.outgoing) c.resync_fault.ensures.rest) (ap (λ (v : PrimaryView). v.incoming) c.resync_fault.ensures.rest) (c.resync_fault.ensures.works c.self.invariant.local)
+    primary-is ResyncFaultEvent (is_starved c.resync_fault.result) (record { primary = c.self.inside.primary; secondary = c.self.inside.secondary })
+    c.resync_fault.new.self _ c.self.invariant
+    (primary-step ResyncFaultEvent (is_starved c.resync_fault.result) (resync_fault (is_starved c.resync_fault.result)) (λ h. refl)
+    (record { primary = c.self.inside.primary; secondary = c.self.inside.secondary }) c.resync_fault.new.self _ c.resync_fault.ensures.step)
+    (ap (λ (v : PrimaryView). v.outgoing) c.resync_fault.ensures.rest) (ap (λ (v : PrimaryView). v.incoming) c.resync_fault.ensures.rest)
+    (c.resync_fault.ensures.works c.self.invariant.local)
 
 pub returns : goal.returns
-returns c = record { step = rw (← c.self.view_is) (primary-step ResyncFaultEvent (is_starved c.resync_fault.result) (resync_fault (is_starved c.resync_fault.result)) (λ h. refl) (record { primary = c.self.inside.primary; secondary = c.self.inside.secondary }) c.resync_fault.new.self _ c.resync_fault.ensures.step) }
+returns c = record {
+  step = rw (← c.self.view_is)
+      (primary-step ResyncFaultEvent (is_starved c.resync_fault.result) (resync_fault (is_starved c.resync_fault.result)) (λ h. refl)
+      (record { primary = c.self.inside.primary; secondary = c.self.inside.secondary }) c.resync_fault.new.self _ c.resync_fault.ensures.step);
+}

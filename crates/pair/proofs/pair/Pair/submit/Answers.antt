@@ -9,9 +9,17 @@ use Rattle.pair.proofs.pair.Pair.submit.Goals as goal
 
 pub invariant_of-self : goal.invariant_of-self
 invariant_of-self c =
-    primary-is (SubmitEvent c.args.first (whole_blocks c.args.contents.now)) (is_starved c.submit.result) (record { primary = c.self.inside.primary; secondary = c.self.inside.secondary }) c.submit.new.self _ c.self.invariant
-    (primary-step (SubmitEvent c.args.first (whole_blocks c.args.contents.now)) (is_starved c.submit.result) (submit c.args.first (whole_blocks c.args.contents.now) (is_starved c.submit.result)) (λ h. refl) (record { primary = c.self.inside.primary; secondary = c.self.inside.secondary }) c.submit.new.self _ c.submit.ensures.step)
-    (ap (λ (v : PrimaryView). v.outgoing) c.submit.ensures.rest) (ap (λ (v : PrimaryView). v.incoming) c.submit.ensures.rest) (ap (λ (v : PrimaryView). v.steady) c.submit.ensures.rest ∙ c.self.invariant.local)
+    primary-is (SubmitEvent c.args.first (whole_blocks c.args.contents.now)) (is_starved c.submit.result)
+    (record { primary = c.self.inside.primary; secondary = c.self.inside.secondary }) c.submit.new.self _ c.self.invariant
+    (primary-step (SubmitEvent c.args.first (whole_blocks c.args.contents.now)) (is_starved c.submit.result)
+    (submit c.args.first (whole_blocks c.args.contents.now) (is_starved c.submit.result)) (λ h. refl)
+    (record { primary = c.self.inside.primary; secondary = c.self.inside.secondary }) c.submit.new.self _ c.submit.ensures.step)
+    (ap (λ (v : PrimaryView). v.outgoing) c.submit.ensures.rest) (ap (λ (v : PrimaryView). v.incoming) c.submit.ensures.rest)
+    (ap (λ (v : PrimaryView). v.steady) c.submit.ensures.rest ∙ c.self.invariant.local)
 
 pub returns : goal.returns
-returns c = record { step = rw (← c.self.view_is) (primary-step (SubmitEvent c.args.first (whole_blocks c.args.contents.now)) (is_starved c.submit.result) (submit c.args.first (whole_blocks c.args.contents.now) (is_starved c.submit.result)) (λ h. refl) (record { primary = c.self.inside.primary; secondary = c.self.inside.secondary }) c.submit.new.self _ c.submit.ensures.step) }
+returns c = record {
+  step = rw (← c.self.view_is) (primary-step (SubmitEvent c.args.first (whole_blocks c.args.contents.now)) (is_starved c.submit.result)
+      (submit c.args.first (whole_blocks c.args.contents.now) (is_starved c.submit.result)) (λ h. refl)
+      (record { primary = c.self.inside.primary; secondary = c.self.inside.secondary }) c.submit.new.self _ c.submit.ensures.step);
+}

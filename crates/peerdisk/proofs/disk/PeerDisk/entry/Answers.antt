@@ -13,7 +13,8 @@ returns-then-place-self g c =
 pub returns-then-index-len : goal.returns-then-index-len
 returns-then-index-len g c =
     let s = c.self.inside in
-    rw (← c.self.view_is) (sym (at-past c.args.place s.first (filled s.items s.slots.items) (omega (arith, c.from-place.ensures, c.if-place-self.false, c.if-index-len.true, s.slots.ok, c.len.ensures, length-filled s.items s.slots.items))))
+    rw (← c.self.view_is) (sym (at-past c.args.place s.first (filled s.items s.slots.items)
+    (omega (arith, c.from-place.ensures, c.if-place-self.false, c.if-index-len.true, s.slots.ok, c.len.ensures, length-filled s.items s.slots.items))))
 
 pub returns-in_err-entry : goal.returns-in_err-entry
 returns-in_err-entry g c =
@@ -34,4 +35,5 @@ returns g c =
     let inside : i < length s.slots.items = omega (arith, c.if-index-len.false, s.slots.ok, c.len.ensures) in
     let at : c.args.place ≡ s.first + i = omega (arith, c.from-place.ensures, c.if-place-self.false) in
     let read = get_or_read s.slots.items i c.index.result.now inside c.index.ensures None in
-    rw (← c.self.view_is) (sym (at-filled c.args.place s.first i e c.index-2.result.now s.items s.slots.items at (sym (c.in_ok-entry.ensures.value ∙ read)) c.index-2.ensures))
+    rw (← c.self.view_is) (sym (at-filled c.args.place s.first i e c.index-2.result.now s.items s.slots.items at (sym (c.in_ok-entry.ensures.value ∙ read))
+    c.index-2.ensures))

@@ -40,20 +40,30 @@ invariant_of-self g c =
     let stored : IsStored f.items f.first f.slots.items f.count (deque_len f.slots) (deque_capacity f.slots) f.limit = elim c.if-is_empty.branch [
       | then-is_empty w ↦
           let empty : deque_len s.slots ≡ 0 = grind (arith, nat_tests, c.is_empty.ensures, w.if-is_empty.true) in
-          rw w.self-inside-is (grown-stored s.items s.first c.from-place.result s.slots.items s.count (deque_len s.slots) (deque_len s.slots) cap cap s.limit c.self.invariant long refl (omega (arith, c.from-place.ensures, c.ranges.place.fits)) (λ (more : 0 < deque_len s.slots). absurd (omega (arith, empty, more))) room)
+          rw w.self-inside-is (grown-stored s.items s.first c.from-place.result s.slots.items s.count (deque_len s.slots)
+          (deque_len s.slots) cap cap s.limit c.self.invariant long refl (omega (arith, c.from-place.ensures, c.ranges.place.fits))
+          (λ (more : 0 < deque_len s.slots). absurd (omega (arith, empty, more))) room)
       | else-is_empty w ↦ rw w.self-inside-is c.self.invariant
     ] in
     let row = filled f.items f.slots.items in
     let left : pending_from f.first row ≡ old.pending = elim c.if-is_empty.branch [
       | then-is_empty w ↦
           let empty : deque_len s.slots ≡ 0 = grind (arith, nat_tests, c.is_empty.ensures, w.if-is_empty.true) in
-          rw w.self-inside-is (no-items c.from-place.result s.first (filled s.items s.slots.items) (omega (arith, long, empty, length-filled s.items s.slots.items)) ∙ pending)
+          rw w.self-inside-is (no-items c.from-place.result s.first (filled s.items s.slots.items)
+          (omega (arith, long, empty, length-filled s.items s.slots.items)) ∙ pending)
       | else-is_empty w ↦ rw w.self-inside-is pending
     ] in
     let above : All (λ p. p.place < c.args.place) (pending_from f.first row) = rw left c.requires.above in
     let begin : length row ≡ 0 → c.args.place ≡ f.first = λ (none : length row ≡ 0). elim c.if-is_empty.branch [
       | then-is_empty w ↦ omega (arith, ap (λ x. x.first) w.self-inside-is, c.from-place.ensures)
-      | else-is_empty w ↦ absurd (let more : 0 < deque_len s.slots = grind (arith, nat_tests, c.is_empty.ensures, w.if-is_empty.false) in omega (arith, ap (λ x. length x.slots.items) w.self-inside-is, more, long, none, length-filled f.items f.slots.items))
+      | else-is_empty w ↦ absurd (let more : 0 < deque_len s.slots = grind (arith, nat_tests, c.is_empty.ensures, w.if-is_empty.false) in omega (
+        arith,
+        ap (λ x. length x.slots.items) w.self-inside-is,
+        more,
+        long,
+        none,
+        length-filled f.items f.slots.items,
+      ))
     ] in
     let from : f.first ≤ c.args.place = from-first c.args.place f.first row stored.row.begins begin above in
     let n = c.from-place.result - f.first in
@@ -65,9 +75,12 @@ invariant_of-self g c =
     let held : Holds f.items holes = rw c.put_holes.ensures.slots (held-padded f.items n f.slots.items stored.held) in
     let e : Entry = record { epoch = c.args.epoch; key = put.result } in
     let full : Filled _ = record { epoch = c.args.epoch; item = c.args.item } in
-    let was : filled items slots ≡ filled f.items holes ++ Some full ∷ [] = rw c.push_back_reserved.ensures.items (filled-put f.items items holes e c.args.item held put.ensures.was_vacant put.ensures.updates) in
-    let padding : pending_from f.first (filled f.items holes) ≡ pending_from f.first (take n row) = rw c.put_holes.ensures.slots (pending-padded f.first f.items n f.slots.items) in
-    let pushed = put-last c.args.place f.first n full row (filled f.items holes) (filled items slots) was padding at (omega (arith, c.put_holes.ensures.len, c.put_holes.new.slots.ok, length-filled f.items holes)) above in
+    let was : filled items slots ≡ filled f.items holes ++ Some full ∷ [] = rw c.push_back_reserved.ensures.items
+    (filled-put f.items items holes e c.args.item held put.ensures.was_vacant put.ensures.updates) in
+    let padding : pending_from f.first (filled f.items holes) ≡ pending_from f.first (take n row) =
+    rw c.put_holes.ensures.slots (pending-padded f.first f.items n f.slots.items) in
+    let pushed = put-last c.args.place f.first n full row (filled f.items holes) (filled items slots) was padding at
+    (omega (arith, c.put_holes.ensures.len, c.put_holes.new.slots.ok, length-filled f.items holes)) above in
     let late : All (λ p. p.epoch ≤ c.args.epoch) (pending_from f.first row) = rw left c.requires.no_earlier in
     record {
       row = record {
@@ -96,20 +109,30 @@ returns-clause-put g c =
     let stored : IsStored f.items f.first f.slots.items f.count (deque_len f.slots) (deque_capacity f.slots) f.limit = elim c.if-is_empty.branch [
       | then-is_empty w ↦
           let empty : deque_len s.slots ≡ 0 = grind (arith, nat_tests, c.is_empty.ensures, w.if-is_empty.true) in
-          rw w.self-inside-is (grown-stored s.items s.first c.from-place.result s.slots.items s.count (deque_len s.slots) (deque_len s.slots) cap cap s.limit c.self.invariant long refl (omega (arith, c.from-place.ensures, c.ranges.place.fits)) (λ (more : 0 < deque_len s.slots). absurd (omega (arith, empty, more))) room)
+          rw w.self-inside-is (grown-stored s.items s.first c.from-place.result s.slots.items s.count (deque_len s.slots)
+          (deque_len s.slots) cap cap s.limit c.self.invariant long refl (omega (arith, c.from-place.ensures, c.ranges.place.fits))
+          (λ (more : 0 < deque_len s.slots). absurd (omega (arith, empty, more))) room)
       | else-is_empty w ↦ rw w.self-inside-is c.self.invariant
     ] in
     let row = filled f.items f.slots.items in
     let left : pending_from f.first row ≡ old.pending = elim c.if-is_empty.branch [
       | then-is_empty w ↦
           let empty : deque_len s.slots ≡ 0 = grind (arith, nat_tests, c.is_empty.ensures, w.if-is_empty.true) in
-          rw w.self-inside-is (no-items c.from-place.result s.first (filled s.items s.slots.items) (omega (arith, long, empty, length-filled s.items s.slots.items)) ∙ pending)
+          rw w.self-inside-is (no-items c.from-place.result s.first (filled s.items s.slots.items)
+          (omega (arith, long, empty, length-filled s.items s.slots.items)) ∙ pending)
       | else-is_empty w ↦ rw w.self-inside-is pending
     ] in
     let above : All (λ p. p.place < c.args.place) (pending_from f.first row) = rw left c.requires.above in
     let begin : length row ≡ 0 → c.args.place ≡ f.first = λ (none : length row ≡ 0). elim c.if-is_empty.branch [
       | then-is_empty w ↦ omega (arith, ap (λ x. x.first) w.self-inside-is, c.from-place.ensures)
-      | else-is_empty w ↦ absurd (let more : 0 < deque_len s.slots = grind (arith, nat_tests, c.is_empty.ensures, w.if-is_empty.false) in omega (arith, ap (λ x. length x.slots.items) w.self-inside-is, more, long, none, length-filled f.items f.slots.items))
+      | else-is_empty w ↦ absurd (let more : 0 < deque_len s.slots = grind (arith, nat_tests, c.is_empty.ensures, w.if-is_empty.false) in omega (
+        arith,
+        ap (λ x. length x.slots.items) w.self-inside-is,
+        more,
+        long,
+        none,
+        length-filled f.items f.slots.items,
+      ))
     ] in
     let from : f.first ≤ c.args.place = from-first c.args.place f.first row stored.row.begins begin above in
     let n = c.from-place.result - f.first in
@@ -121,9 +144,12 @@ returns-clause-put g c =
     let held : Holds f.items holes = rw c.put_holes.ensures.slots (held-padded f.items n f.slots.items stored.held) in
     let e : Entry = record { epoch = c.args.epoch; key = put.result } in
     let full : Filled _ = record { epoch = c.args.epoch; item = c.args.item } in
-    let was : filled items slots ≡ filled f.items holes ++ Some full ∷ [] = rw c.push_back_reserved.ensures.items (filled-put f.items items holes e c.args.item held put.ensures.was_vacant put.ensures.updates) in
-    let padding : pending_from f.first (filled f.items holes) ≡ pending_from f.first (take n row) = rw c.put_holes.ensures.slots (pending-padded f.first f.items n f.slots.items) in
-    let pushed = put-last c.args.place f.first n full row (filled f.items holes) (filled items slots) was padding at (omega (arith, c.put_holes.ensures.len, c.put_holes.new.slots.ok, length-filled f.items holes)) above in
+    let was : filled items slots ≡ filled f.items holes ++ Some full ∷ [] = rw c.push_back_reserved.ensures.items
+    (filled-put f.items items holes e c.args.item held put.ensures.was_vacant put.ensures.updates) in
+    let padding : pending_from f.first (filled f.items holes) ≡ pending_from f.first (take n row) =
+    rw c.put_holes.ensures.slots (pending-padded f.first f.items n f.slots.items) in
+    let pushed = put-last c.args.place f.first n full row (filled f.items holes) (filled items slots) was padding at
+    (omega (arith, c.put_holes.ensures.len, c.put_holes.new.slots.ok, length-filled f.items holes)) above in
     let whole = pushed ∙ ap (λ ps. ps ++ of_filled c.args.place full ∷ []) left in
     let limit : f.limit ≡ old.limit = elim c.if-is_empty.branch [
       | then-is_empty w ↦ rw w.self-inside-is (ap (λ s. s.limit) same)

@@ -13,8 +13,10 @@ overflow_sub-wanted g c =
     elim c.if-len-eq0.branch [
       | then-len-eq0 w ↦ omega (arith, w.first-is)
       | else-len-eq0 w ↦
-          let above : All (λ p. p.place < c.args.place) (pending_from s.first (filled s.items s.slots.items)) = rw (ap (λ s. s.pending) c.self.view_is) c.requires.above in
-          let less = begins_at c.args.place s.first (filled s.items s.slots.items) c.self.invariant.row.begins (omega (arith, w.if-len-eq0.false, c.len-len.ensures, s.slots.ok, length-filled s.items s.slots.items)) above in
+          let above : All (λ p. p.place < c.args.place) (pending_from s.first (filled s.items s.slots.items)) =
+          rw (ap (λ s. s.pending) c.self.view_is) c.requires.above in
+          let less = begins_at c.args.place s.first (filled s.items s.slots.items) c.self.invariant.row.begins
+          (omega (arith, w.if-len-eq0.false, c.len-len.ensures, s.slots.ok, length-filled s.items s.slots.items)) above in
           omega (arith, w.first-is, less, c.from-place.ensures)
     ]
 
@@ -35,8 +37,11 @@ invariant_of-self-2 g c =
     elim c.if-wanted-capacity.branch [
       | then-wanted-capacity+in_ok-reserve_exact w ↦
           let e = w.in_ok-reserve_exact.ensures in
-          rw (w.self-inside-is, e.items) (grown-stored s.items s.first first s.slots.items s.count len _ (deque_capacity s.slots) _ s.limit c.self.invariant long e.len low begin (omega (arith, e.ok, w.if-wanted-capacity.true, w.max.ensures)))
-      | else-wanted-capacity w ↦ rw w.self-inside-is (grown-stored s.items s.first first s.slots.items s.count len len (deque_capacity s.slots) (deque_capacity s.slots) s.limit c.self.invariant long refl low begin (omega (arith, w.if-wanted-capacity.false, c.capacity.ensures)))
+          rw (w.self-inside-is, e.items) (grown-stored s.items s.first first s.slots.items s.count len _ (deque_capacity s.slots) _ s.limit c.self.invariant
+          long e.len low begin (omega (arith, e.ok, w.if-wanted-capacity.true, w.max.ensures)))
+      | else-wanted-capacity w ↦ rw w.self-inside-is
+          (grown-stored s.items s.first first s.slots.items s.count len len (deque_capacity s.slots) (deque_capacity s.slots) s.limit c.self.invariant long refl
+          low begin (omega (arith, w.if-wanted-capacity.false, c.capacity.ensures)))
     ]
 
 pub returns-clause-same : goal.returns-clause-same
@@ -47,7 +52,8 @@ returns-clause-same g c =
     let pending = ap (λ s. s.pending) c.self.view_is in
     let limit = ap (λ s. s.limit) c.self.view_is in
     let left : pending_from first row ≡ c.args.self.now.pending = elim c.if-len-eq0.branch [
-      | then-len-eq0 w ↦ no-items first s.first row (omega (arith, w.if-len-eq0.true, c.len-len.ensures, s.slots.ok, length-filled s.items s.slots.items)) ∙ pending
+      | then-len-eq0 w ↦ no-items first s.first row (omega (arith, w.if-len-eq0.true, c.len-len.ensures, s.slots.ok, length-filled s.items s.slots.items))
+          ∙ pending
       | else-len-eq0 w ↦ rw w.first-is pending
     ] in
     elim c.if-wanted-capacity.branch [

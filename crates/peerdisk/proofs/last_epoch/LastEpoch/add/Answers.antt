@@ -21,7 +21,8 @@ loop-index-preserved c =
       begun = i.begun;
       past = All-set (λ stamp. stamp ≤ c.self.inside.epoch) now c.loop-index.index c.self.inside.epoch (omega arith) i.past;
       long = length-set now c.loop-index.index c.self.inside.epoch ∙ i.long;
-      added = added-one c.self.inside.epoch c.args.range.first.0 c.loop-index.index (stamped c.self.inside.epoch c.self.inside.stamps.items) now (omega (arith, c.loop-index.auto.index)) (omega (arith, c.loop-index-test.true, c.requires, same, size, i.long)) i.added;
+      added = added-one c.self.inside.epoch c.args.range.first.0 c.loop-index.index (stamped c.self.inside.epoch c.self.inside.stamps.items) now
+          (omega (arith, c.loop-index.auto.index)) (omega (arith, c.loop-index-test.true, c.requires, same, size, i.long)) i.added;
     }
 
 pub returns : goal.returns
@@ -29,7 +30,14 @@ returns c =
     let i = c.loop-index.invariant in
     let now = c.loop-index.self-inside.stamps.items in
     let epoch = c.self.inside.epoch in
-    let end : c.loop-index.index ≡ c.args.range.first.0 + c.args.range.count = omega (arith, c.loop-index.auto.index, c.loop-index.auto.index-end, c.loop-index-test.false) in
-    let added : AddedTo c.args.range.first.0 (c.args.range.first.0 + c.args.range.count) (stamped epoch c.self.inside.stamps.items) (stamped epoch now) = rw (← end) i.added in
+    let end : c.loop-index.index ≡ c.args.range.first.0 + c.args.range.count = omega (
+      arith,
+      c.loop-index.auto.index,
+      c.loop-index.auto.index-end,
+      c.loop-index-test.false,
+    ) in
+    let added : AddedTo c.args.range.first.0 (c.args.range.first.0 + c.args.range.count) (stamped epoch c.self.inside.stamps.items) (stamped epoch now) =
+    rw (← end) i.added in
     let long = length-map now (λ stamp. stamp == epoch) ∙ i.long ∙ sym (length-map c.self.inside.stamps.items (λ stamp. stamp == epoch)) in
-    rw (← c.self.view_is) (rw i.epoch (added-all c.args.range.first.0 c.args.range.count (stamped epoch c.self.inside.stamps.items) (stamped epoch now) long added))
+    rw (← c.self.view_is) (rw i.epoch
+    (added-all c.args.range.first.0 c.args.range.count (stamped epoch c.self.inside.stamps.items) (stamped epoch now) long added))

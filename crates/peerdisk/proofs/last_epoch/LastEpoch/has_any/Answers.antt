@@ -20,7 +20,8 @@ returns-then-index-epoch c =
     let within : c.loop-index.index < length stamps = omega (arith, c.loop-index-test.true, c.requires, same, length-map stamps (λ stamp. stamp == epoch)) in
     let is : (x == epoch) ≡ true = grind (arith, nat_tests, c.if-index-epoch.true) in
     let here = stamp-at epoch stamps c.args.range.first.0 c.loop-index.index x c.loop-index.auto.index within c.index.ensures ∙ is in
-    rw (← c.self.view_is) (sym (any-found (λ offset. has (stamped epoch stamps) (c.args.range.first.0 + offset)) c.args.range.count (c.loop-index.index - c.args.range.first.0) (omega (arith, c.loop-index.auto.index, c.loop-index-test.true)) here))
+    rw (← c.self.view_is) (sym (any-found (λ offset. has (stamped epoch stamps) (c.args.range.first.0 + offset)) c.args.range.count
+    (c.loop-index.index - c.args.range.first.0) (omega (arith, c.loop-index.auto.index, c.loop-index-test.true)) here))
 
 pub loop-index-preserved : goal.loop-index-preserved
 loop-index-preserved c =
@@ -31,4 +32,5 @@ loop-index-preserved c =
     let within : c.loop-index.index < length stamps = omega (arith, c.loop-index-test.true, c.requires, same, length-map stamps (λ stamp. stamp == epoch)) in
     let other : (x == epoch) ≡ false = grind (arith, nat_tests, c.if-index-epoch.false) in
     let here = stamp-at epoch stamps c.args.range.first.0 c.loop-index.index x c.loop-index.auto.index within c.index.ensures ∙ other in
-    any-more (λ offset. has (stamped epoch stamps) (c.args.range.first.0 + offset)) (c.loop-index.index - c.args.range.first.0) (c.loop-index.index + 1 - c.args.range.first.0) (omega (arith, c.loop-index.auto.index)) c.loop-index.invariant here
+    any-more (λ offset. has (stamped epoch stamps) (c.args.range.first.0 + offset)) (c.loop-index.index - c.args.range.first.0)
+    (c.loop-index.index + 1 - c.args.range.first.0) (omega (arith, c.loop-index.auto.index)) c.loop-index.invariant here

@@ -59,8 +59,11 @@ invariant_of-self g c =
     } in
     let bytes : c.deref.result.now ≡ c.contents.result.now = search rules in
     let blocks : blocks_of 4096 c.deref.result.now ≡ c.in_ok-write.write.now.blocks = ap (blocks_of 4096) bytes ∙ c.contents.ensures.blocks in
-    let after = armed-write c.self.inside.store c.arm.new.self c.write.new.self c.args.kept c.range-2.result.first.0 (blocks_of 4096 c.deref.result.now) c.arm.ensures c.write.ensures.after in
-    kept-blocks-is v c.args.number c.in_ok-write.write.now c.in_ok-write.ensures.write _ c.local_failed.new.self.state c.write.new.self.disk c.write.new.self.faults (is_steady c.write.new.self) c.self.invariant c.args.kept c.local_failed.ensures (ap (λ (s : FaultState). s.disk) after ∙ (λ i. overwritten c.self.inside.store.disk (c.range-2.ensures.first i) (take c.args.kept (blocks i))))
+    let after = armed-write c.self.inside.store c.arm.new.self c.write.new.self c.args.kept c.range-2.result.first.0
+    (blocks_of 4096 c.deref.result.now) c.arm.ensures c.write.ensures.after in
+    kept-blocks-is v c.args.number c.in_ok-write.write.now c.in_ok-write.ensures.write _ c.local_failed.new.self.state c.write.new.self.disk
+    c.write.new.self.faults (is_steady c.write.new.self) c.self.invariant c.args.kept c.local_failed.ensures (ap (λ (s : FaultState). s.disk) after
+    ∙ (λ i. overwritten c.self.inside.store.disk (c.range-2.ensures.first i) (take c.args.kept (blocks i))))
 
 pub returns-clause-step : goal.returns-clause-step
 returns-clause-step g c =
@@ -74,6 +77,9 @@ returns-clause-step g c =
     } in
     let bytes : c.deref.result.now ≡ c.contents.result.now = search rules in
     let blocks : blocks_of 4096 c.deref.result.now ≡ c.in_ok-write.write.now.blocks = ap (blocks_of 4096) bytes ∙ c.contents.ensures.blocks in
-    let after = armed-write c.self.inside.store c.arm.new.self c.write.new.self c.args.kept c.range-2.result.first.0 (blocks_of 4096 c.deref.result.now) c.arm.ensures c.write.ensures.after in
+    let after = armed-write c.self.inside.store c.arm.new.self c.write.new.self c.args.kept c.range-2.result.first.0
+    (blocks_of 4096 c.deref.result.now) c.arm.ensures c.write.ensures.after in
     let few : c.args.kept ≤ c.in_ok-write.write.now.count = subst (λ n. c.args.kept ≤ n) c.range.ensures.count c.if-kept-range.false in
-    rw (← c.self.view_is) (kept-steps v c.args.number c.in_ok-write.write.now c.in_ok-write.ensures.write _ c.local_failed.new.self.state c.write.new.self.disk c.write.new.self.faults (is_steady c.write.new.self) c.args.kept few c.local_failed.ensures (ap (λ (s : FaultState). s.disk) after ∙ (λ i. overwritten c.self.inside.store.disk (c.range-2.ensures.first i) (take c.args.kept (blocks i)))))
+    rw (← c.self.view_is) (kept-steps v c.args.number c.in_ok-write.write.now c.in_ok-write.ensures.write _ c.local_failed.new.self.state c.write.new.self.disk
+    c.write.new.self.faults (is_steady c.write.new.self) c.args.kept few c.local_failed.ensures (ap (λ (s : FaultState). s.disk) after
+    ∙ (λ i. overwritten c.self.inside.store.disk (c.range-2.ensures.first i) (take c.args.kept (blocks i)))))

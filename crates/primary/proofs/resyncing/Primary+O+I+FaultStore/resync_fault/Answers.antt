@@ -33,7 +33,8 @@ returns-in_err-bytes-clause-step g c =
 
 pub read-requires-clause-inside : goal.read-requires-clause-inside
 read-requires-clause-inside g c =
-    subst (λ (s : FaultState). c.in_ok-block.block.0 < length s.disk) (sym c.arm_read.ensures) (chosen-inside _ _ c.self.invariant.had (is-chosen _ _ c.in_ok-block.ensures.block))
+    subst (λ (s : FaultState). c.in_ok-block.block.0 < length s.disk) (sym c.arm_read.ensures)
+    (chosen-inside _ _ c.self.invariant.had (is-chosen _ _ c.in_ok-block.ensures.block))
 
 pub invariant_of-self-2 : goal.invariant_of-self-2
 invariant_of-self-2 g c =
@@ -45,7 +46,8 @@ invariant_of-self-2 g c =
       faults = c.self.inside.store.faults;
       steady = is_steady c.self.inside.store;
     } in
-    same-is v c.resync_block.new.self.state c.read.new.self.disk c.read.new.self.faults (is_steady c.read.new.self) c.self.invariant c.resync_block.ensures.same (ap (λ (s : FaultState). s.disk) (armed-read c.self.inside.store c.arm_read.new.self c.read.new.self c.arm_read.ensures c.read.ensures.after))
+    same-is v c.resync_block.new.self.state c.read.new.self.disk c.read.new.self.faults (is_steady c.read.new.self) c.self.invariant c.resync_block.ensures.same
+    (ap (λ (s : FaultState). s.disk) (armed-read c.self.inside.store c.arm_read.new.self c.read.new.self c.arm_read.ensures c.read.ensures.after))
 
 pub returns-clause-step : goal.returns-clause-step
 returns-clause-step g c =
@@ -57,7 +59,8 @@ returns-clause-step g c =
       faults = c.self.inside.store.faults;
       steady = is_steady c.self.inside.store;
     } in
-    rw (← c.self.view_is) (fault-fails v c.resync_block.new.self.state c.read.new.self.disk _ c.resync_block.ensures.same c.in_ok-block.ensures.block (ap (λ (s : FaultState). s.disk) (armed-read c.self.inside.store c.arm_read.new.self c.read.new.self c.arm_read.ensures c.read.ensures.after)))
+    rw (← c.self.view_is) (fault-fails v c.resync_block.new.self.state c.read.new.self.disk _ c.resync_block.ensures.same c.in_ok-block.ensures.block
+    (ap (λ (s : FaultState). s.disk) (armed-read c.self.inside.store c.arm_read.new.self c.read.new.self c.arm_read.ensures c.read.ensures.after)))
 
 pub returns-clause-works : goal.returns-clause-works
 returns-clause-works g c =
@@ -69,4 +72,5 @@ returns-clause-works g c =
       faults = c.self.inside.store.faults;
       steady = is_steady c.self.inside.store;
     } in
-    steady-again v _ c.self.inside.store c.read.new.self c.self.view_is refl (armed-read c.self.inside.store c.arm_read.new.self c.read.new.self c.arm_read.ensures c.read.ensures.after)
+    steady-again v _ c.self.inside.store c.read.new.self c.self.view_is refl
+    (armed-read c.self.inside.store c.arm_read.new.self c.read.new.self c.arm_read.ensures c.read.ensures.after)

@@ -27,7 +27,8 @@ pub returns-then-not-is_found-clause-found : goal.returns-then-not-is_found-clau
 returns-then-not-is_found-clause-found g c = λ h has.
     let core : CoreState = c.clear_confirmed.new.self in
     let r = c.receipt-item.result in
-    let was : IsConfirming core.state c.args.receipts.now c.loop-receipt.receipt-index c.loop-receipt.self-inside.core.confirmed = c.loop-receipt.invariant.confirming in
+    let was : IsConfirming core.state c.args.receipts.now c.loop-receipt.receipt-index c.loop-receipt.self-inside.core.confirmed =
+    c.loop-receipt.invariant.confirming in
     let there : c.loop-receipt.self-inside.core.state ≡ core.state = ap (λ (k : CoreState). k.state) c.loop-receipt.invariant.state in
     let left : Leaves core.state h = subst (λ (s : PrimaryState). Leaves s h)
     (sym (ap (λ (k : CoreState). k.state) c.clear_confirmed.ensures.cleared ∙ ap (λ (v : PrimaryView). v.core) c.self.view_is)) has.leaves.core in
@@ -37,12 +38,15 @@ returns-then-not-is_found-clause-found g c = λ h has.
     elim c.then-not-is_found.branch [
       | then-not-is_found-via-then-not-is_found w ↦
           let missing : is_found r core.state ≡ false = sym (ap (is_found r) there) ∙ (sym c.is_found.ensures ∙ w.if-not-is_found.true) in
-          sym (ap not (strange-missing core.state c.args.receipts.now c.loop-receipt.receipt-index c.loop-receipt.self-inside.core.confirmed was r next h (journal-has core.state h has.reached left) missing))
+          sym (ap not (strange-missing core.state c.args.receipts.now c.loop-receipt.receipt-index c.loop-receipt.self-inside.core.confirmed was r next h
+          (journal-has core.state h has.reached left) missing))
       | then-not-is_found-via-else-not-is_found+then-not-confirm_entry w ↦
           let found : is_found r core.state ≡ true = sym (ap (is_found r) there) ∙ (sym c.is_found.ensures ∙ w.if-not-is_found.false) in
           let given : is_unconfirmed r.number c.loop-receipt.self-inside.core.confirmed ≡ false =
-          sym (w.confirm_entry.ensures.found ∙ ap (λ n. is_unconfirmed n c.loop-receipt.self-inside.core.confirmed) w.number.ensures) ∙ w.if-not-confirm_entry.true in
-          sym (ap not (strange-given core.state c.args.receipts.now c.loop-receipt.receipt-index c.loop-receipt.self-inside.core.confirmed was r next h (journal-has core.state h has.reached left) found given))
+          sym (w.confirm_entry.ensures.found ∙ ap (λ n. is_unconfirmed n c.loop-receipt.self-inside.core.confirmed) w.number.ensures)
+          ∙ w.if-not-confirm_entry.true in
+          sym (ap not (strange-given core.state c.args.receipts.now c.loop-receipt.receipt-index c.loop-receipt.self-inside.core.confirmed was r next h
+          (journal-has core.state h has.reached left) found given))
     ]
 
 pub loop-receipt-preserved : goal.loop-receipt-preserved
@@ -77,5 +81,7 @@ loop-receipt-preserved g c =
 
 pub returns-clause-found : goal.returns-clause-found
 returns-clause-found g c = λ h has.
-    confirming-all c.clear_confirmed.new.self.state c.args.receipts.now c.loop-receipt.receipt-index c.loop-receipt.self-inside.core.confirmed c.loop-receipt.invariant.confirming c.loop-receipt-test.false h has.reached
-    (subst (λ (s : PrimaryState). Leaves s h) (sym (ap (λ (k : CoreState). k.state) c.clear_confirmed.ensures.cleared ∙ ap (λ (v : PrimaryView). v.core) c.self.view_is)) has.leaves.core)
+    confirming-all c.clear_confirmed.new.self.state c.args.receipts.now c.loop-receipt.receipt-index c.loop-receipt.self-inside.core.confirmed
+    c.loop-receipt.invariant.confirming c.loop-receipt-test.false h has.reached
+    (subst (λ (s : PrimaryState). Leaves s h) (sym (ap (λ (k : CoreState). k.state) c.clear_confirmed.ensures.cleared
+    ∙ ap (λ (v : PrimaryView). v.core) c.self.view_is)) has.leaves.core)

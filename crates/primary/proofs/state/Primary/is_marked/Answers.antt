@@ -5,4 +5,5 @@ use Rattle.primary.specs.State.{PrimaryView}
 use Rattle.primary.proofs.state.Primary.is_marked.Goals as goal
 
 pub returns : goal.returns
-returns g c = λ h has. c.is_marked.ensures ∙ (ap (λ (v : PrimaryView). marked v.core.marks c.args.block.0) c.self.view_is ∙ says-marked _ h c.args.block.0 has.leaves.core)
+returns g c = λ h has. c.is_marked.ensures
+    ∙ (ap (λ (v : PrimaryView). marked v.core.marks c.args.block.0) c.self.view_is ∙ says-marked _ h c.args.block.0 has.leaves.core)

@@ -19,7 +19,8 @@ returns g c = λ h has.
       | in-Some w ↦ w.pushed-is ∙ (w.pushed-pushed.ensures ∙ ap (λ o. min (length (pushed_of o)) 18446744073709551615) (sym w.in-Some.is))
       | in-None w ↦ w.pushed-is ∙ ap (λ o. min (length (pushed_of o)) 18446744073709551615) (sym w.in-None.is)
     ] in
-    let view : length (pushed_of c.self.inside.outgoing) ≡ length (pushed_of c.args.self.now.outgoing) = ap (λ (v : PrimaryView). length (pushed_of v.outgoing)) c.self.view_is in
+    let view : length (pushed_of c.self.inside.outgoing) ≡ length (pushed_of c.args.self.now.outgoing) =
+    ap (λ (v : PrimaryView). length (pushed_of v.outgoing)) c.self.view_is in
     let many = pushed-many (node c.args.self.now) h has in
     let sent = says-sent (node c.args.self.now) h has in
     let exact : c.match-self.pushed ≡ length (pushed_of c.args.self.now.outgoing) = omega (arith, pushed, view, many.1) in

@@ -11,4 +11,5 @@ use Rattle.primary.proofs.state.Primary.may_open.Goals as goal
 pub returns : goal.returns
 returns g c h has =
     ap refusal_in c.may_open.ensures ∙ told-refusal (open_tests c.args.sync c.args.loss false c.self.inside.core.state)
-    ∙ ap first_refusal (open-tests-same c.args.sync c.args.loss c.self.inside.core.state h (subst (λ (v : PrimaryView). NodeHas (node v) h) (sym c.self.view_is) has).leaves.core)
+    ∙ ap first_refusal (open-tests-same c.args.sync c.args.loss c.self.inside.core.state h
+    (subst (λ (v : PrimaryView). NodeHas (node v) h) (sym c.self.view_is) has).leaves.core)

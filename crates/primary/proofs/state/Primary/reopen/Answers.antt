@@ -24,15 +24,21 @@ returns-clause-link g c = search rules
 pub invariant_of-self-2 : goal.invariant_of-self-2
 invariant_of-self-2 g c =
     let same : c.match-self-2.self-inside.core ≡ c.open.new.self = elim c.match-self-2.branch [
-      | in-Some-incoming w ↦ ap (λ x. x.core) w.self-inside-is ∙ elim c.match-self.branch [ in-Some u ↦ ap (λ x. x.core) u.self-inside-is | in_default u ↦ ap (λ x. x.core) u.self-inside-is ]
-      | in_default-incoming w ↦ ap (λ x. x.core) w.self-inside-is ∙ elim c.match-self.branch [ in-Some u ↦ ap (λ x. x.core) u.self-inside-is | in_default u ↦ ap (λ x. x.core) u.self-inside-is ]
+      | in-Some-incoming w ↦ ap (λ x. x.core) w.self-inside-is
+          ∙ elim c.match-self.branch [ in-Some u ↦ ap (λ x. x.core) u.self-inside-is | in_default u ↦ ap (λ x. x.core) u.self-inside-is ]
+      | in_default-incoming w ↦ ap (λ x. x.core) w.self-inside-is
+          ∙ elim c.match-self.branch [ in-Some u ↦ ap (λ x. x.core) u.self-inside-is | in_default u ↦ ap (λ x. x.core) u.self-inside-is ]
     ] in
-    reopen-is _ c.self.invariant _ c.args.sync c.args.loss _ c.in_ok-open.was c.open.ensures c.connections-number.result _ c.connections-number.ensures (ap (λ x. x.state) same) (rw c.self.view_is (returns-clause-link g c))
+    reopen-is _ c.self.invariant _ c.args.sync c.args.loss _ c.in_ok-open.was c.open.ensures c.connections-number.result _ c.connections-number.ensures
+    (ap (λ x. x.state) same) (rw c.self.view_is (returns-clause-link g c))
 
 pub returns-clause-step : goal.returns-clause-step
 returns-clause-step g c =
     let same : c.match-self-2.self-inside.core ≡ c.open.new.self = elim c.match-self-2.branch [
-      | in-Some-incoming w ↦ ap (λ x. x.core) w.self-inside-is ∙ elim c.match-self.branch [ in-Some u ↦ ap (λ x. x.core) u.self-inside-is | in_default u ↦ ap (λ x. x.core) u.self-inside-is ]
-      | in_default-incoming w ↦ ap (λ x. x.core) w.self-inside-is ∙ elim c.match-self.branch [ in-Some u ↦ ap (λ x. x.core) u.self-inside-is | in_default u ↦ ap (λ x. x.core) u.self-inside-is ]
+      | in-Some-incoming w ↦ ap (λ x. x.core) w.self-inside-is
+          ∙ elim c.match-self.branch [ in-Some u ↦ ap (λ x. x.core) u.self-inside-is | in_default u ↦ ap (λ x. x.core) u.self-inside-is ]
+      | in_default-incoming w ↦ ap (λ x. x.core) w.self-inside-is
+          ∙ elim c.match-self.branch [ in-Some u ↦ ap (λ x. x.core) u.self-inside-is | in_default u ↦ ap (λ x. x.core) u.self-inside-is ]
     ] in
-    reopen-steps _ c.self.invariant _ c.args.sync c.args.loss _ c.in_ok-open.was c.open.ensures _ c.connections-number.result _ c.self.view_is (invariant_of-self-2 g c) c.connections-number.ensures (ap (λ x. x.state) same) (returns-clause-link g c)
+    reopen-steps _ c.self.invariant _ c.args.sync c.args.loss _ c.in_ok-open.was c.open.ensures _ c.connections-number.result _ c.self.view_is
+    (invariant_of-self-2 g c) c.connections-number.ensures (ap (λ x. x.state) same) (returns-clause-link g c)

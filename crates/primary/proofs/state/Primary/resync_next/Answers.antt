@@ -29,7 +29,8 @@ returns-in_err-bytes-clause-step g c =
       steady = g.S.Store.steady c.self.inside.store;
     } in
     let refused : c.from_residual-in_err-bytes.result ≡ Err NoMemory = search rules in
-    rw (← c.self.view_is) (copy-starved v c.resync_block.new.self.state (g.S.Store.contents c.self.inside.store) (g.S.Store.faults c.self.inside.store) (g.S.Store.steady c.self.inside.store) _ _ c.resync_block.ensures.same c.in_ok-block.ensures.block refl refl refused)
+    rw (← c.self.view_is) (copy-starved v c.resync_block.new.self.state (g.S.Store.contents c.self.inside.store) (g.S.Store.faults c.self.inside.store)
+    (g.S.Store.steady c.self.inside.store) _ _ c.resync_block.ensures.same c.in_ok-block.ensures.block refl refl refused)
 
 pub read-requires-clause-inside : goal.read-requires-clause-inside
 read-requires-clause-inside g c = chosen-inside _ _ c.self.invariant.had (is-chosen _ _ c.in_ok-block.ensures.block)
@@ -44,7 +45,8 @@ invariant_of-self-then-is_err g c =
       faults = g.S.Store.faults c.self.inside.store;
       steady = g.S.Store.steady c.self.inside.store;
     } in
-    same-is v c.resync_block.new.self.state (g.S.Store.contents c.read.new.self) (g.S.Store.faults c.read.new.self) (g.S.Store.steady c.read.new.self) c.self.invariant c.resync_block.ensures.same c.read.ensures.same
+    same-is v c.resync_block.new.self.state (g.S.Store.contents c.read.new.self) (g.S.Store.faults c.read.new.self)
+    (g.S.Store.steady c.read.new.self) c.self.invariant c.resync_block.ensures.same c.read.ensures.same
 
 pub returns-then-is_err-clause-step : goal.returns-then-is_err-clause-step
 returns-then-is_err-clause-step g c =
@@ -56,7 +58,9 @@ returns-then-is_err-clause-step g c =
       faults = g.S.Store.faults c.self.inside.store;
       steady = g.S.Store.steady c.self.inside.store;
     } in
-    rw (← c.self.view_is) (copy-failed v c.resync_block.new.self.state (g.S.Store.contents c.read.new.self) (g.S.Store.faults c.read.new.self) (g.S.Store.steady c.read.new.self) _ c.resync_block.ensures.same c.in_ok-block.ensures.block c.read.ensures.same (on-err c.read.result c.is_err.result c.is_err.ensures.value c.if-is_err.true c.read.ensures.counted))
+    rw (← c.self.view_is) (copy-failed v c.resync_block.new.self.state (g.S.Store.contents c.read.new.self) (g.S.Store.faults c.read.new.self)
+    (g.S.Store.steady c.read.new.self) _ c.resync_block.ensures.same c.in_ok-block.ensures.block c.read.ensures.same
+    (on-err c.read.result c.is_err.result c.is_err.ensures.value c.if-is_err.true c.read.ensures.counted))
 
 pub invariant_of-self-in_err-contents : goal.invariant_of-self-in_err-contents
 invariant_of-self-in_err-contents g c =
@@ -68,7 +72,8 @@ invariant_of-self-in_err-contents g c =
       faults = g.S.Store.faults c.self.inside.store;
       steady = g.S.Store.steady c.self.inside.store;
     } in
-    same-is v c.resync_block.new.self.state (g.S.Store.contents c.read.new.self) (g.S.Store.faults c.read.new.self) (g.S.Store.steady c.read.new.self) c.self.invariant c.resync_block.ensures.same c.read.ensures.same
+    same-is v c.resync_block.new.self.state (g.S.Store.contents c.read.new.self) (g.S.Store.faults c.read.new.self)
+    (g.S.Store.steady c.read.new.self) c.self.invariant c.resync_block.ensures.same c.read.ensures.same
 
 pub returns-in_err-contents-clause-step : goal.returns-in_err-contents-clause-step
 returns-in_err-contents-clause-step g c =
@@ -81,7 +86,9 @@ returns-in_err-contents-clause-step g c =
       steady = g.S.Store.steady c.self.inside.store;
     } in
     let refused : c.from_residual-in_err-contents.result ≡ Err NoMemory = search rules in
-    rw (← c.self.view_is) (copy-starved v c.resync_block.new.self.state (g.S.Store.contents c.read.new.self) (g.S.Store.faults c.read.new.self) (g.S.Store.steady c.read.new.self) _ _ c.resync_block.ensures.same c.in_ok-block.ensures.block c.read.ensures.same (on-ok c.read.result c.is_err.result c.is_err.ensures.value c.if-is_err.false c.read.ensures.uncounted) refused)
+    rw (← c.self.view_is) (copy-starved v c.resync_block.new.self.state (g.S.Store.contents c.read.new.self) (g.S.Store.faults c.read.new.self)
+    (g.S.Store.steady c.read.new.self) _ _ c.resync_block.ensures.same c.in_ok-block.ensures.block c.read.ensures.same
+    (on-ok c.read.result c.is_err.result c.is_err.ensures.value c.if-is_err.false c.read.ensures.uncounted) refused)
 
 pub returns-in_err-contents-clause-starved : goal.returns-in_err-contents-clause-starved
 returns-in_err-contents-clause-starved g c =
@@ -106,7 +113,8 @@ returns-in_err-contents-clause-works g c =
       faults = g.S.Store.faults c.self.inside.store;
       steady = g.S.Store.steady c.self.inside.store;
     } in
-    still-steady v _ _ _ c.self.view_is (on-ok c.read.result c.is_err.result c.is_err.ensures.value c.if-is_err.false c.read.ensures.uncounted) c.read.ensures.still_steady
+    still-steady v _ _ _ c.self.view_is (on-ok c.read.result c.is_err.result c.is_err.ensures.value c.if-is_err.false c.read.ensures.uncounted)
+    c.read.ensures.still_steady
 
 pub invariant_of-self-2 : goal.invariant_of-self-2
 invariant_of-self-2 g c =
@@ -118,7 +126,11 @@ invariant_of-self-2 g c =
       faults = g.S.Store.faults c.self.inside.store;
       steady = g.S.Store.steady c.self.inside.store;
     } in
-    copied-is v c.resync_block.new.self.state _ (g.S.Store.contents c.read.new.self) (g.S.Store.faults c.read.new.self) (g.S.Store.steady c.read.new.self) _ _ _ c.self.invariant c.resync_block.ensures.same c.in_ok-block.ensures.block c.read.ensures.same (read-held (g.S.Store.contents c.self.inside.store) c.in_ok-block.block.0 _ _ _ _ (on-ok c.read.result c.is_err.result c.is_err.ensures.value c.if-is_err.false c.read.ensures.read) c.in_ok-contents.ensures.ok (c.read.auto.buffer ∙ c.deref_mut.ensures.len)) c.resync_read.ensures
+    copied-is v c.resync_block.new.self.state _ (g.S.Store.contents c.read.new.self) (g.S.Store.faults c.read.new.self) (g.S.Store.steady c.read.new.self) _ _ _
+    c.self.invariant c.resync_block.ensures.same c.in_ok-block.ensures.block c.read.ensures.same
+    (read-held (g.S.Store.contents c.self.inside.store) c.in_ok-block.block.0 _ _ _ _
+    (on-ok c.read.result c.is_err.result c.is_err.ensures.value c.if-is_err.false c.read.ensures.read) c.in_ok-contents.ensures.ok (c.read.auto.buffer
+    ∙ c.deref_mut.ensures.len)) c.resync_read.ensures
 
 pub returns-clause-step : goal.returns-clause-step
 returns-clause-step g c =
@@ -130,7 +142,12 @@ returns-clause-step g c =
       faults = g.S.Store.faults c.self.inside.store;
       steady = g.S.Store.steady c.self.inside.store;
     } in
-    rw (← c.self.view_is) (copy-done v c.resync_block.new.self.state _ (g.S.Store.contents c.read.new.self) (g.S.Store.faults c.read.new.self) (g.S.Store.steady c.read.new.self) _ _ _ c.resync_block.ensures.same c.in_ok-block.ensures.block c.read.ensures.same (on-ok c.read.result c.is_err.result c.is_err.ensures.value c.if-is_err.false c.read.ensures.uncounted) (read-held (g.S.Store.contents c.self.inside.store) c.in_ok-block.block.0 _ _ _ _ (on-ok c.read.result c.is_err.result c.is_err.ensures.value c.if-is_err.false c.read.ensures.read) c.in_ok-contents.ensures.ok (c.read.auto.buffer ∙ c.deref_mut.ensures.len)) c.resync_read.ensures)
+    rw (← c.self.view_is) (copy-done v c.resync_block.new.self.state _ (g.S.Store.contents c.read.new.self) (g.S.Store.faults c.read.new.self)
+    (g.S.Store.steady c.read.new.self) _ _ _ c.resync_block.ensures.same c.in_ok-block.ensures.block c.read.ensures.same
+    (on-ok c.read.result c.is_err.result c.is_err.ensures.value c.if-is_err.false c.read.ensures.uncounted)
+    (read-held (g.S.Store.contents c.self.inside.store) c.in_ok-block.block.0 _ _ _ _
+    (on-ok c.read.result c.is_err.result c.is_err.ensures.value c.if-is_err.false c.read.ensures.read) c.in_ok-contents.ensures.ok (c.read.auto.buffer
+    ∙ c.deref_mut.ensures.len)) c.resync_read.ensures)
 
 pub returns-clause-works : goal.returns-clause-works
 returns-clause-works g c =
@@ -142,4 +159,5 @@ returns-clause-works g c =
       faults = g.S.Store.faults c.self.inside.store;
       steady = g.S.Store.steady c.self.inside.store;
     } in
-    still-steady v _ _ _ c.self.view_is (on-ok c.read.result c.is_err.result c.is_err.ensures.value c.if-is_err.false c.read.ensures.uncounted) c.read.ensures.still_steady
+    still-steady v _ _ _ c.self.view_is (on-ok c.read.result c.is_err.result c.is_err.ensures.value c.if-is_err.false c.read.ensures.uncounted)
+    c.read.ensures.still_steady

@@ -34,7 +34,8 @@ returns-in_err-push-clause-step g c =
 pub returns-in_err-push-clause-link : goal.returns-in_err-push-clause-link
 returns-in_err-push-clause-link g c =
     let refused : c.from_residual-in_err-push.result ≡ Err c.in_err-push.field-0.0 = search rules in
-    part-sent c.in-Some.outgoing c.push.new.self _ _ _ (ap (λ v. v.outgoing) (sym c.self.view_is) ∙ c.in-Some.is) refused c.in_err-push.ensures.unchanged c.in_err-push.ensures.full
+    part-sent c.in-Some.outgoing c.push.new.self _ _ _ (ap (λ v. v.outgoing) (sym c.self.view_is)
+    ∙ c.in-Some.is) refused c.in_err-push.ensures.unchanged c.in_err-push.ensures.full
 
 pub returns-in_err-push-clause-memory : goal.returns-in_err-push-clause-memory
 returns-in_err-push-clause-memory g c =

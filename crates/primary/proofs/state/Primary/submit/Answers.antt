@@ -18,4 +18,5 @@ pub returns-clause-step : goal.returns-clause-step
 returns-clause-step g c = rw (← c.self.view_is) (submit-steps _ c.self.invariant _ c.args.first c.args.bytes.now _ _ c.in_ok-done.was c.submit.ensures)
 
 pub returns-clause-number : goal.returns-clause-number
-returns-clause-number g c = submit-named _ _ c.args.first c.args.bytes.now _ _ c.self.invariant c.in_ok-done.was c.submit.ensures ∙ ap what.Write (sym c.accepted.ensures)
+returns-clause-number g c = submit-named _ _ c.args.first c.args.bytes.now _ _ c.self.invariant c.in_ok-done.was c.submit.ensures
+    ∙ ap what.Write (sym c.accepted.ensures)

@@ -1,7 +1,7 @@
 use Rattle.std.proofs.Common.{◌≡◌, ◌∙◌, Err, rules, sym, ap}
 use Rattle.std.specs.Prelude.{ok_or}
 use Rattle.blocks.specs.declared.refusal.Refusal.TheVariants.{NotCompleted}
-use Rattle.primary.proofs.Telling.{receipt-is, receipt-refused, receipt-given, receipt-counts}
+use Rattle.primary.proofs.Telling.{receipt-is, receipt-refused, receipt-given}
 use Rattle.primary.proofs.state.Primary.take_completed.Goals as goal
 use Rattle.primary.proofs.state.Primary.take_completed.Goals.{in-Some, in-None}
 
@@ -13,9 +13,6 @@ returns-in_err-entry-clause-step g c =
     let refused : c.from_residual.result ≡ Err c.in_err-entry.field-0.0 = search rules in
     rw (← c.self.view_is) (receipt-refused _ c.self.invariant c.args.number _ _ c.take_completed.ensures _ _ c.in_err-entry.was refused)
 
-pub of-requires : goal.of-requires
-of-requires g c = receipt-counts _ c.self.invariant c.args.number _ _ c.take_completed.ensures c.in_ok-entry.entry c.connections-connections.result c.connections-connections.ensures c.connections-connections.type_inv c.in_ok-entry.was
-
 pub invariant_of-self-2 : goal.invariant_of-self-2
 invariant_of-self-2 g c = receipt-is _ c.self.invariant c.args.number _ _ c.take_completed.ensures
 
@@ -25,4 +22,5 @@ returns-clause-step g c =
       | in-Some w ↦ w.result-is ∙ ap (λ r. ok_or r NotCompleted) (sym w.in-Some.is)
       | in-None w ↦ w.result-is ∙ ap (λ r. ok_or r NotCompleted) (sym w.in-None.is)
     ] in
-    rw (← c.self.view_is) (receipt-given _ c.self.invariant c.args.number _ _ c.take_completed.ensures c.in_ok-entry.entry _ c.in_ok-entry.was (told ∙ ap (λ r. ok_or r NotCompleted) c.of.ensures))
+    rw (← c.self.view_is) (receipt-given _ c.self.invariant c.args.number _ _ c.take_completed.ensures c.in_ok-entry.entry _ c.in_ok-entry.was (told
+    ∙ ap (λ r. ok_or r NotCompleted) c.of.ensures))

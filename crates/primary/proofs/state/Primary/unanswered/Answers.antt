@@ -5,4 +5,5 @@ use Rattle.primary.specs.State.{PrimaryView}
 use Rattle.primary.proofs.state.Primary.unanswered.Goals as goal
 
 pub returns : goal.returns
-returns g c = λ h has. c.unanswered_writes.ensures ∙ (ap (λ (v : PrimaryView). length (filter is_unanswered v.core.log.writes)) c.self.view_is ∙ says-unanswered _ h has.reached has.leaves.core)
+returns g c = λ h has. c.unanswered_writes.ensures
+    ∙ (ap (λ (v : PrimaryView). length (filter is_unanswered v.core.log.writes)) c.self.view_is ∙ says-unanswered _ h has.reached has.leaves.core)

@@ -31,7 +31,8 @@ begin-requires-clause-few c =
 
 -- what the steps made of the state
 module _ (c : goal.After-push_reserved-2) where
-  logs : (let got : Accepted × LogState = (c.in_ok-accepted.accepted, c.accept.new.self.state) in got ≡ accepting c.args.range.first.0 c.args.range.count c.args.contents c.self.inside.log.state)
+  logs : (let got : Accepted × LogState =
+      (c.in_ok-accepted.accepted, c.accept.new.self.state) in got ≡ accepting c.args.range.first.0 c.args.range.count c.args.contents c.self.inside.log.state)
   logs = c.in_ok-accepted.ensures.accepted ∙ ap (accepting c.args.range.first.0 c.args.range.count c.args.contents) c.in_ok-reserve-3.ensures.same
 
   number-is : c.accepted-number.result ≡ c.self.inside.log.state.accepted
@@ -83,7 +84,14 @@ invariant_of-self-2 c =
         standing = rw (log, items) after.standing;
         places = rw (log, items) after.places;
       };
-      flagged = omega (arith, is.flagged, c.in_ok-reserve.ensures.len, c.in_ok-reserve-4.ensures.len, c.push_reserved.ensures.len, c.push_reserved-2.ensures.len);
+      flagged = omega (
+        arith,
+        is.flagged,
+        c.in_ok-reserve.ensures.len,
+        c.in_ok-reserve-4.ensures.len,
+        c.push_reserved.ensures.len,
+        c.push_reserved-2.ensures.len,
+      );
       writers = rw (log, held-is c) (writers-next s.log.state.accepted first count s.held is.writers);
       room = elim (owing-left v.state.end s.log.state.connection first count contents s.log.state refl) [
         | inl two ↦ rw (log, items) (omega (arith, two, c.in_ok-reserve-2.ensures.room))

@@ -13,15 +13,22 @@ pub invariant_of-self : goal.invariant_of-self
 invariant_of-self c =
     let s = c.self.inside in
     let is = c.self.invariant in
-    let same = acked-not c.args.kind (named (meaning.named c.args.ack)) s.log.state c.acked.new.self.state c.acked.result c.in_err-barrier.field-0.0 (c.acked.ensures ∙ ap (λ of. acked c.args.kind of c.self.inside.log.state) c.as_named.ensures) c.in_err-barrier.was in
+    let same = acked-not c.args.kind (named (meaning.named c.args.ack)) s.log.state c.acked.new.self.state c.acked.result c.in_err-barrier.field-0.0
+    (c.acked.ensures ∙ ap (λ of. acked c.args.kind of c.self.inside.log.state) c.as_named.ensures) c.in_err-barrier.was in
     core-logged s c.acked.new.self None is
-    (record { sound = rw same is.sound.log; accepted = ap (λ l. l.accepted) same; connection = ap (λ l. l.connection) same; appends = rw same (nothing-appended s.log.state.epochs) })
+    (record {
+      sound = rw same is.sound.log;
+      accepted = ap (λ l. l.accepted) same;
+      connection = ap (λ l. l.connection) same;
+      appends = rw same (nothing-appended s.log.state.epochs);
+    })
 
 pub invariant_of-self-2 : goal.invariant_of-self-2
 invariant_of-self-2 c =
     let s = c.self.inside in
     core-logged s c.acked.new.self c.in_ok-barrier.barrier c.self.invariant
-    (acked-steps s.settings c.args.kind (named (meaning.named c.args.ack)) s.log.state c.acked.new.self.state c.acked.result c.in_ok-barrier.barrier (c.acked.ensures ∙ ap (λ of. acked c.args.kind of c.self.inside.log.state) c.as_named.ensures) c.in_ok-barrier.was c.self.invariant.sound.log)
+    (acked-steps s.settings c.args.kind (named (meaning.named c.args.ack)) s.log.state c.acked.new.self.state c.acked.result c.in_ok-barrier.barrier
+    (c.acked.ensures ∙ ap (λ of. acked c.args.kind of c.self.inside.log.state) c.as_named.ensures) c.in_ok-barrier.was c.self.invariant.sound.log)
 
 pub follow-requires : goal.follow-requires
 follow-requires c =
@@ -29,7 +36,8 @@ follow-requires c =
     record {
       room =
           room-logged (state_of s) c.acked.new.self.state c.in_ok-barrier.barrier _ c.self.invariant.room
-          (acked-steps s.settings c.args.kind (named (meaning.named c.args.ack)) s.log.state c.acked.new.self.state c.acked.result c.in_ok-barrier.barrier (c.acked.ensures ∙ ap (λ of. acked c.args.kind of c.self.inside.log.state) c.as_named.ensures) c.in_ok-barrier.was c.self.invariant.sound.log);
+          (acked-steps s.settings c.args.kind (named (meaning.named c.args.ack)) s.log.state c.acked.new.self.state c.acked.result c.in_ok-barrier.barrier
+          (c.acked.ensures ∙ ap (λ of. acked c.args.kind of c.self.inside.log.state) c.as_named.ensures) c.in_ok-barrier.was c.self.invariant.sound.log);
     }
 
 pub returns-in_err-barrier : goal.returns-in_err-barrier
@@ -39,4 +47,6 @@ returns-in_err-barrier c =
     let e = c.in_err-barrier.field-0.0 in
     let ack = meaning.named c.args.ack in
     let refused : c.from_residual.result ≡ Err e = search rules in
-    rw refused (answered-err (what.Frame c.args.command None) c.args.kind ack v.state c.acked.new.self.state c.acked.result e (c.acked.ensures ∙ ap (λ of. acked c.args.kind of c.self.inside.log.state) c.as_named.ensures) c.in_err-barrier.was ∙ ap (λ x. answered (what.Frame c.args.command None) c.args.kind ack x.state) c.self.view_is)
+    rw refused (answered-err (what.Frame c.args.command None) c.args.kind ack v.state c.acked.new.self.state c.acked.result e (c.acked.ensures
+    ∙ ap (λ of. acked c.args.kind of c.self.inside.log.state) c.as_named.ensures) c.in_err-barrier.was
+    ∙ ap (λ x. answered (what.Frame c.args.command None) c.args.kind ack x.state) c.self.view_is)

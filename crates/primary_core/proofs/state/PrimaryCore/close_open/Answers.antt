@@ -14,4 +14,8 @@ returns c e loss =
     let lose = λ (x : PrimaryState). record x { tuple = if stands x then lost c.args.loss x.tuple else x.tuple } in
     let drained = c.drain-completed.ensures ∙ ap without_stream (c.lose.ensures ∙ ap lose c.mark_unreleased.ensures) in
     ap (λ (x : PrimaryState). (c.drain-completed.result, x)) c.report.ensures.state
-    ∙ (ap (λ (p : ℕ × PrimaryState). (p.0, reporting p.1)) drained ∙ ap (λ (word : ℕ). ((without_stream (lose (mark s))).0, reporting (without_stream (record (mark s) { tuple = if stands s then lost word s.tuple else s.tuple })).1)) (sym loss))
+    ∙ (ap (λ (p : ℕ × PrimaryState). (p.0, reporting p.1)) drained
+    ∙ ap (λ (word : ℕ). (
+      (without_stream (lose (mark s))).0,
+      reporting (without_stream (record (mark s) { tuple = if stands s then lost word s.tuple else s.tuple })).1,
+    )) (sym loss))

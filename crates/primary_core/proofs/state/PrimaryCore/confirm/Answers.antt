@@ -10,15 +10,22 @@ pub invariant_of-self : goal.invariant_of-self
 invariant_of-self c =
     let s = c.self.inside in
     let is = c.self.invariant in
-    let same = confirmed-not c.args.number c.args.size s.log.state c.barrier_acked.new.self.state c.barrier_acked.result c.in_err-barrier_acked.field-0.0 c.barrier_acked.ensures c.in_err-barrier_acked.was in
+    let same = confirmed-not c.args.number c.args.size s.log.state c.barrier_acked.new.self.state c.barrier_acked.result c.in_err-barrier_acked.field-0.0
+    c.barrier_acked.ensures c.in_err-barrier_acked.was in
     core-logged s c.barrier_acked.new.self None is
-    (record { sound = rw same is.sound.log; accepted = ap (λ l. l.accepted) same; connection = ap (λ l. l.connection) same; appends = rw same (nothing-appended s.log.state.epochs) })
+    (record {
+      sound = rw same is.sound.log;
+      accepted = ap (λ l. l.accepted) same;
+      connection = ap (λ l. l.connection) same;
+      appends = rw same (nothing-appended s.log.state.epochs);
+    })
 
 pub invariant_of-self-2 : goal.invariant_of-self-2
 invariant_of-self-2 c =
     let s = c.self.inside in
     core-logged s c.barrier_acked.new.self None c.self.invariant
-    (confirmed-steps s.settings c.args.number c.args.size s.log.state c.barrier_acked.new.self.state c.barrier_acked.result c.in_ok-barrier_acked.field-0 c.barrier_acked.ensures c.in_ok-barrier_acked.was c.self.invariant.sound.log)
+    (confirmed-steps s.settings c.args.number c.args.size s.log.state c.barrier_acked.new.self.state c.barrier_acked.result c.in_ok-barrier_acked.field-0
+    c.barrier_acked.ensures c.in_ok-barrier_acked.was c.self.invariant.sound.log)
 
 pub follow-requires : goal.follow-requires
 follow-requires c =
@@ -26,7 +33,8 @@ follow-requires c =
     record {
       room =
           room-logged (state_of s) c.barrier_acked.new.self.state None _ c.self.invariant.room
-          (confirmed-steps s.settings c.args.number c.args.size s.log.state c.barrier_acked.new.self.state c.barrier_acked.result c.in_ok-barrier_acked.field-0 c.barrier_acked.ensures c.in_ok-barrier_acked.was c.self.invariant.sound.log);
+          (confirmed-steps s.settings c.args.number c.args.size s.log.state c.barrier_acked.new.self.state c.barrier_acked.result c.in_ok-barrier_acked.field-0
+          c.barrier_acked.ensures c.in_ok-barrier_acked.was c.self.invariant.sound.log);
     }
 
 pub returns-in_err-barrier_acked : goal.returns-in_err-barrier_acked
@@ -36,4 +44,5 @@ returns-in_err-barrier_acked c e is =
     let refusal = c.in_err-barrier_acked.field-0.0 in
     let refused : c.from_residual.result ≡ Err refusal = search rules in
     let may = sym (c.is_going_on.ensures e is) ∙ c.if-is_going_on.false in
-    rw refused (confirmed-err c.args.number c.args.size e v.state c.barrier_acked.new.self.state c.barrier_acked.result refusal may c.barrier_acked.ensures c.in_err-barrier_acked.was ∙ ap (λ x. confirmed c.args.number c.args.size e x.state) c.self.view_is)
+    rw refused (confirmed-err c.args.number c.args.size e v.state c.barrier_acked.new.self.state c.barrier_acked.result refusal may c.barrier_acked.ensures
+    c.in_err-barrier_acked.was ∙ ap (λ x. confirmed c.args.number c.args.size e x.state) c.self.view_is)

@@ -9,5 +9,7 @@ returns-then-meets c =
     let s = c.self.inside in
     let first = c.args.range.first.0 in
     let count = c.args.range.count in
-    let under = held-under c.under_way.result c.in-Some.way s.unsent.items s.end s.held (c.under_way.ensures ∙ ap (λ v. way_in v.state.end) (sym c.self.view_is)) c.in-Some.is in
-    conflict-block first count c.in-Some.way.block.0 s.held (sym c.meets.ensures ∙ c.if-meets.true) ∙ (ap (conflict first count) (sym under) ∙ ap (λ v. conflict first count v.state.held) c.self.view_is)
+    let under = held-under c.under_way.result c.in-Some.way s.unsent.items s.end s.held (c.under_way.ensures
+    ∙ ap (λ v. way_in v.state.end) (sym c.self.view_is)) c.in-Some.is in
+    conflict-block first count c.in-Some.way.block.0 s.held (sym c.meets.ensures ∙ c.if-meets.true)
+    ∙ (ap (conflict first count) (sym under) ∙ ap (λ v. conflict first count v.state.held) c.self.view_is)

@@ -32,4 +32,5 @@ returns c =
     let s = c.self.inside in
     let v = core_of s in
     let held : s.held ≡ without 0 (held_at s.end s.held) = sym (without-block s.log.state.accepted s.end s.held c.self.invariant.writers) in
-    seen-as v c.args.self.now without_stream _ c.self.view_is (rw (← held) (ap (λ (p : ℕ × LogState). (p.0, record v.state { held = s.held; log = p.1; end = None })) c.drain-completed.ensures))
+    seen-as v c.args.self.now without_stream _ c.self.view_is
+    (rw (← held) (ap (λ (p : ℕ × LogState). (p.0, record v.state { held = s.held; log = p.1; end = None })) c.drain-completed.ensures))

@@ -33,7 +33,8 @@ invariant_of-self c =
 pub returns-clause-state : goal.returns-clause-state
 returns-clause-state c =
     let s = c.self.inside in
-    let entries = whole s.entries.len s.entries.items c.set_fate.new.entries (omega (arith, c.set_fate.auto.entries, c.deref_mut.ensures.len)) ∙ c.set_fate.ensures in
+    let entries = whole s.entries.len s.entries.items c.set_fate.new.entries (omega (arith, c.set_fate.auto.entries, c.deref_mut.ensures.len))
+    ∙ c.set_fate.ensures in
     let held : held_at s.end c.release.new.self ≡ without c.args.number (held_at s.end s.held) =
     ap (held_at s.end) c.release.ensures ∙ sym (without-held c.args.number s.end s.held c.requires.numbered) in
     rw (← c.self.view_is) (rw (entries, c.deref_mut.ensures.value, held, c.mark.ensures) refl)

@@ -16,13 +16,15 @@ use Rattle.primary_core.proofs.state.PrimaryCore.local_failed.Goals as goal
 pub invariant_of-self : goal.invariant_of-self
 invariant_of-self c =
     core-logged c.self.inside c.local_fault-barrier.new.self c.local_fault-barrier.result c.self.invariant
-    (steps-changing c.self.inside.settings c.args.number failing c.self.inside.log.state c.local_fault-barrier.new.self.state c.local_fault-barrier.result keeps-failing c.local_fault-barrier.ensures c.self.invariant.sound.log)
+    (steps-changing c.self.inside.settings c.args.number failing c.self.inside.log.state c.local_fault-barrier.new.self.state c.local_fault-barrier.result
+    keeps-failing c.local_fault-barrier.ensures c.self.invariant.sound.log)
 
 pub follow-requires : goal.follow-requires
 follow-requires c = record {
   room =
       room-logged (state_of c.self.inside) c.local_fault-barrier.new.self.state c.local_fault-barrier.result _ c.self.invariant.room
-      (steps-changing c.self.inside.settings c.args.number failing c.self.inside.log.state c.local_fault-barrier.new.self.state c.local_fault-barrier.result keeps-failing c.local_fault-barrier.ensures c.self.invariant.sound.log);
+      (steps-changing c.self.inside.settings c.args.number failing c.self.inside.log.state c.local_fault-barrier.new.self.state c.local_fault-barrier.result
+      keeps-failing c.local_fault-barrier.ensures c.self.invariant.sound.log);
 }
 
 pub returns : goal.returns
@@ -34,11 +36,15 @@ returns c =
     let w = c.in_ok-local_write.field-0.now in
     let ready = unfinished number s w write.0 write.1 in
     let given : t ≡ given_up number w.first w.count s =
-    ap (λ v. v.state) c.self.view_is ∙ (c.give_up.ensures.state ∙ ap (λ (k : ℕ). given_up number k c.range-range.result.count s) c.range-range.ensures.first ∙ ap (λ (k : ℕ). given_up number w.first k s) c.range-range.ensures.count) in
+    ap (λ v. v.state) c.self.view_is ∙ (c.give_up.ensures.state ∙ ap (λ (k : ℕ). given_up number k c.range-range.result.count s) c.range-range.ensures.first
+    ∙ ap (λ (k : ℕ). given_up number w.first k s) c.range-range.ensures.count) in
     let failed : transition.failing number s ≡ given_up number w.first w.count s = rw (write.0, transition.failing) refl in
     let step = log.local_fault number t.log in
     let r : Done × PrimaryState = (c.follow.result, c.follow.new.self.state) in
-    let done = follows-logged t what.Nothing step c.local_fault-barrier.result c.local_fault-barrier.new.self.state r c.local_fault-barrier.ensures c.follow.ensures
-    ∙ (ap (λ (x : PrimaryState). logged what.Nothing (log.local_fault number x.log) x) given ∙ ap (logged what.Nothing (log.local_fault number s.log)) (sym failed)) in
-    passes s ((not (is_unfinished number s), UnknownJob) ∷ []) (λ _. let after = logged what.Nothing (log.local_fault number s.log) (transition.failing number s) in (Ok after.0, after.1)) (Ok r.0, r.1)
+    let done = follows-logged t what.Nothing step c.local_fault-barrier.result c.local_fault-barrier.new.self.state r c.local_fault-barrier.ensures
+    c.follow.ensures
+    ∙ (ap (λ (x : PrimaryState). logged what.Nothing (log.local_fault number x.log) x) given
+    ∙ ap (logged what.Nothing (log.local_fault number s.log)) (sym failed)) in
+    passes s ((not (is_unfinished number s), UnknownJob) ∷ [])
+    (λ _. let after = logged what.Nothing (log.local_fault number s.log) (transition.failing number s) in (Ok after.0, after.1)) (Ok r.0, r.1)
     (rw ready refl) (ap (λ (p : Done × PrimaryState). (Ok p.0, p.1)) done)

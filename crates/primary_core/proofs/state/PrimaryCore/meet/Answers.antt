@@ -18,11 +18,14 @@ returns c e is =
     let ends = sym (ap (option_map (end_of items)) c.in-Some.is) ∙ here in
     let same : end_of items c.in-Some.end ≡ e = cc in
     let sync : stands_in e.sync peer ≡ false = ap (λ (x : EndState). stands_in x.sync peer) (sym same) ∙ (sym c.stands_in.ensures ∙ c.if-stands_in.false) in
-    let loss : stands_in e.loss peer ≡ false = ap (λ (x : EndState). stands_in x.loss peer) (sym same) ∙ (sym c.stands_in-else-stands_in.ensures ∙ c.if-stands_in-2.false) in
+    let loss : stands_in e.loss peer ≡ false = ap (λ (x : EndState). stands_in x.loss peer) (sym same)
+    ∙ (sym c.stands_in-else-stands_in.ensures ∙ c.if-stands_in-2.false) in
     let decided = c.in_ok-decided.decided in
     let allowed = ap (λ x. decision x.state.tuple peer) (sym c.self.view_is) ∙ (sym c.decide.ensures ∙ c.in_ok-decided.was) in
     let seen : PrimaryState = record v.state { peer = Some peer } in
     let begun = c.begin.ensures (hearing e) (ap (λ (x : PrimaryState). x.end) c.hear.ensures ∙ ap (option_map hearing) here)
     ∙ (ap (begun_with decided (hearing e)) c.hear.ensures
-    ∙ (begun-over decided (hearing e) seen (option_map hearing v.state.end) ∙ ap (λ x. begun_with decided (hearing e) (record x.state { peer = Some peer })) c.self.view_is)) in
-    meets peer (hearing e) s decided (c.follow.result, c.follow.new.self.state) (rw (sync, loss) refl) allowed (c.follow.ensures ∙ ap (following (what.Decided decided) None) begun)
+    ∙ (begun-over decided (hearing e) seen (option_map hearing v.state.end)
+    ∙ ap (λ x. begun_with decided (hearing e) (record x.state { peer = Some peer })) c.self.view_is)) in
+    meets peer (hearing e) s decided (c.follow.result, c.follow.new.self.state) (rw (sync, loss) refl) allowed (c.follow.ensures
+    ∙ ap (following (what.Decided decided) None) begun)

@@ -22,6 +22,10 @@ invariant_of-result c =
 
 pub returns-clause-fresh : goal.returns-clause-fresh
 returns-clause-fresh c = (
-  record { in_range = c.in_ok-check.ensures.accepted.0 refl; size = omega (arith, c.if-marks-settings.false); generation = omega (arith, c.if-tuple-eq0.false) },
+  record {
+    in_range = c.in_ok-check.ensures.accepted.0 refl;
+    size = omega (arith, c.if-marks-settings.false);
+    generation = omega (arith, c.if-tuple-eq0.false);
+  },
   rw (c.in_ok-new.ensures.empty, c.in_ok-from_marks.ensures.made, c.new-2.ensures.items, c.new-4.ensures, c.in_ok-new-2.ensures.fresh) refl,
 )

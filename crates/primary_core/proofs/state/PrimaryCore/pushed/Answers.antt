@@ -30,7 +30,8 @@ invariant_of-self-in-Some-write c =
     } in
     let answers = answers_sent s.log.state.protocol in
     core-logged (record s { unsent = left }) c.sent-barrier.new.self c.sent-barrier.result popped
-    (steps-changing s.settings c.in-Some-write.number (sending answers) s.log.state c.sent-barrier.new.self.state c.sent-barrier.result (keeps-sending answers) c.sent-barrier.ensures is.sound.log)
+    (steps-changing s.settings c.in-Some-write.number (sending answers) s.log.state c.sent-barrier.new.self.state c.sent-barrier.result
+    (keeps-sending answers) c.sent-barrier.ensures is.sound.log)
 
 pub returns-in-Some-write : goal.returns-in-Some-write
 returns-in-Some-write c e is over =
@@ -49,8 +50,10 @@ returns-in-Some-write c e is over =
     let write = is-write (is_write item) (number_of item) number c.write.result c.write.ensures c.in-Some-write.is in
     let named : what.Frame c.command.result (Some c.next_place-place.result) ≡ name =
     ap (λ (command : Command). what.Frame command (Some c.next_place-place.result)) (c.command.ensures place)
-    ∙ ap (λ (k : ℕ). what.Frame (command_of (frame_of place item)) (Some k)) (c.next_place-place.ensures e is ∙ ap (λ x. next_place e x.state) (sym c.self.view_is)) in
-    let done = follows-logged t (what.Frame c.command.result (Some c.next_place-place.result)) (log.sent number t.log) c.sent-barrier.result c.sent-barrier.new.self.state r c.sent-barrier.ensures c.follow.ensures in
+    ∙ ap (λ (k : ℕ). what.Frame (command_of (frame_of place item)) (Some k)) (c.next_place-place.ensures e is
+    ∙ ap (λ x. next_place e x.state) (sym c.self.view_is)) in
+    let done = follows-logged t (what.Frame c.command.result (Some c.next_place-place.result)) (log.sent number t.log) c.sent-barrier.result
+    c.sent-barrier.new.self.state r c.sent-barrier.ensures c.follow.ensures in
     let after : t ≡ next = ap (λ (o : Option EndState). record v.state { end = o }) (parts.1 left.items) in
     let pushes : pushed_item name (Some item) next ≡ logged name (log.sent (number_of item) next.log) next = rw write.0 refl in
     done

@@ -38,7 +38,8 @@ returns-clause-state c =
     let s = c.self.inside in
     let completed = s.log.state.completed in
     let entries = whole s.entries.len s.entries.items c.enter.new.entries (omega (arith, c.enter.auto.entries, c.deref_mut.ensures.len))
-    ∙ (c.enter.ensures ∙ (ap (λ (l : List Completed). entering l c.deref_mut.result.now) c.completed.ensures ∙ ap (entering completed) c.deref_mut.ensures.value)) in
+    ∙ (c.enter.ensures ∙ (ap (λ (l : List Completed). entering l c.deref_mut.result.now) c.completed.ensures
+    ∙ ap (entering completed) c.deref_mut.ensures.value)) in
     let held : held_at s.end c.free.new.held ≡ freeing completed (held_at s.end s.held) =
     ap (held_at s.end) (c.free.ensures ∙ ap (λ (l : List Completed). freeing l s.held) c.completed-2.ensures)
     ∙ sym (freeing-held completed s.end s.held c.self.invariant.sound.log.completed) in

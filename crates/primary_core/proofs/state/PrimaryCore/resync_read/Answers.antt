@@ -16,7 +16,8 @@ invariant_of-push_back_reserved c =
     let s = c.self.inside in
     let v = core_of s in
     let here = ap (option_map (end_of s.unsent.items)) c.in-Some-Ok.is-0 in
-    let is = chosen v.state (end_of s.unsent.items c.in-Some-Ok.end) c.args.block.0 here (ap (λ x. resync_choice false x.state) c.self.view_is ∙ c.requires.chosen) in
+    let is = chosen v.state (end_of s.unsent.items c.in-Some-Ok.end) c.args.block.0 here (ap (λ x. resync_choice false x.state) c.self.view_is
+    ∙ c.requires.chosen) in
     (omega (arith, is.inside, c.self.invariant.sound.marks, c.self.invariant.sound.in_range.blocks.1), c.requires.whole)
 
 pub returns : goal.returns

@@ -11,5 +11,6 @@ returns-then-is_err c =
     let items = c.self.inside.unsent.items in
     let e = end_of items c.in-Some.end in
     let is = ap (λ v. v.state.end) (sym c.self.view_is) ∙ ap (option_map (end_of items)) c.in-Some.is in
-    take-refused (received c.args.frame) s e c.judge-taken.new.self.state c.judge-taken.result (c.close_open.result, c.close_open.new.self.state) is (c.judge-taken.ensures e is)
+    take-refused (received c.args.frame) s e c.judge-taken.new.self.state c.judge-taken.result (c.close_open.result, c.close_open.new.self.state) is
+    (c.judge-taken.ensures e is)
     (sym c.is_err.ensures.value ∙ c.if-is_err.true) (c.close_open.ensures e refl)

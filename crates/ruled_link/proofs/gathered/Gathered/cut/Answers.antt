@@ -17,8 +17,11 @@ returns-then-len-self g c =
 
 pub invariant_of-self : goal.invariant_of-self
 invariant_of-self g c =
-    let e = c.self.inside in
-    (gathered_cleared e.buffer.items c.clear.new.self.items e.buffer.spare c.clear.new.self.spare e.is_ready e.whole c.self.invariant.0 c.clear.ensures.items c.clear.ensures.spare, c.self.invariant.1)
+    let e = c.self.inside in (
+      gathered_cleared e.buffer.items c.clear.new.self.items e.buffer.spare c.clear.new.self.spare e.is_ready e.whole c.self.invariant.0 c.clear.ensures.items
+          c.clear.ensures.spare,
+      c.self.invariant.1,
+    )
 
 pub returns-then-len-le-SHORT_FRAME : goal.returns-then-len-le-SHORT_FRAME
 returns-then-len-le-SHORT_FRAME g c =

@@ -16,9 +16,19 @@ invariant_of-self c =
     let came = c.extend_reserved.ensures.items in
     let items = c.extend_reserved.new.self.items in
     let long : length items ≡ 8 =
-    omega (arith, ap length came, length-append e.buffer.items added, length-take c.min-taken.result c.args.bytes.now, c.min-taken.ensures, c.saturating_sub-missing.ensures, c.len.ensures.value) in
-    let noted = c.cut_length-self-inside.ensures.cut ∙ ap (λ (x : List ℕ). cut_after (header_at x)) c.as_slice.ensures ∙ sym (whole_long items (omega (arith, long))) in (
-      gathered_more e.buffer.items items added e.buffer.spare c.extend_reserved.new.self.spare e.is_ready e.whole c.cut_length-self-inside.result is_ready c.self.invariant.0 came c.extend_reserved.ensures.spare noted
+    omega (
+      arith,
+      ap length came,
+      length-append e.buffer.items added,
+      length-take c.min-taken.result c.args.bytes.now,
+      c.min-taken.ensures,
+      c.saturating_sub-missing.ensures,
+      c.len.ensures.value,
+    ) in
+    let noted = c.cut_length-self-inside.ensures.cut ∙ ap (λ (x : List ℕ). cut_after (header_at x)) c.as_slice.ensures
+    ∙ sym (whole_long items (omega (arith, long))) in (
+      gathered_more e.buffer.items items added e.buffer.spare c.extend_reserved.new.self.spare e.is_ready e.whole c.cut_length-self-inside.result is_ready
+          c.self.invariant.0 came c.extend_reserved.ensures.spare noted
           (omega (arith, long, c.cut_length-self-inside.ensures.least)) c.cut_length-self-inside.ensures.most,
       c.self.invariant.1,
     )
@@ -32,9 +42,18 @@ invariant_of-self-else-taken-missing c =
     let items = c.extend_reserved.new.self.items in
     let before : length e.buffer.items < 8 = omega (arith, c.saturating_sub-missing.ensures, c.len.ensures.value) in
     let short : length items < 8 =
-    omega (arith, ap length came, length-append e.buffer.items added, length-take c.min-taken.result c.args.bytes.now, c.min-taken.ensures, c.saturating_sub-missing.ensures, c.len.ensures.value) in
+    omega (
+      arith,
+      ap length came,
+      length-append e.buffer.items added,
+      length-take c.min-taken.result c.args.bytes.now,
+      c.min-taken.ensures,
+      c.saturating_sub-missing.ensures,
+      c.len.ensures.value,
+    ) in
     let noted : e.whole ≡ 8 = c.self.invariant.0.noted ∙ whole_short e.buffer.items before in (
-      gathered_more e.buffer.items items added e.buffer.spare c.extend_reserved.new.self.spare e.is_ready e.whole e.whole is_ready c.self.invariant.0 came c.extend_reserved.ensures.spare
+      gathered_more e.buffer.items items added e.buffer.spare c.extend_reserved.new.self.spare e.is_ready e.whole e.whole is_ready c.self.invariant.0 came
+          c.extend_reserved.ensures.spare
           (noted ∙ sym (whole_short items short)) (omega (arith, noted, short)) c.self.invariant.0.most,
       c.self.invariant.1,
     )

@@ -9,14 +9,18 @@ pub invariant_of-self : goal.invariant_of-self
 invariant_of-self g c =
     let e = c.self.inside in
     let again = subst (λ (s : OutwardState). IfSome s.partly (λ begun. begun ≡ c.args.frame)) (sym c.self.view_is) c.requires.again in
-    sends_part e.pieces c.push_from-pushed.new.pieces e.sent.went c.and-self-inside.result.went c.new.result.went e.number e.part.went.frames e.pushed c.push_from-pushed.result
-    c.args.frame c.as_slice-whole.result.now c.self.invariant c.requires.whole again c.as_slice-whole.ensures c.push_from-pushed.ensures.pushed c.if-pushed-whole.true
+    sends_part e.pieces c.push_from-pushed.new.pieces e.sent.went c.and-self-inside.result.went c.new.result.went e.number e.part.went.frames e.pushed
+    c.push_from-pushed.result
+    c.args.frame c.as_slice-whole.result.now c.self.invariant c.requires.whole again c.as_slice-whole.ensures c.push_from-pushed.ensures.pushed
+    c.if-pushed-whole.true
     c.and-self-inside.ensures c.new.ensures
 
 pub invariant_of-self-2 : goal.invariant_of-self-2
 invariant_of-self-2 g c =
     let e = c.self.inside in
     let again = subst (λ (s : OutwardState). IfSome s.partly (λ begun. begun ≡ c.args.frame)) (sym c.self.view_is) c.requires.again in
-    sends_whole e.pieces c.push_from-pushed.new.pieces e.sent.went c.and-self-inside-2.result.went c.new-self-inside.result.went e.number e.part.went.frames e.pushed c.push_from-pushed.result
-    c.args.frame c.as_slice-whole.result.now c.self.invariant c.requires.whole again c.as_slice-whole.ensures c.push_from-pushed.ensures.pushed c.if-pushed-whole.false
+    sends_whole e.pieces c.push_from-pushed.new.pieces e.sent.went c.and-self-inside-2.result.went c.new-self-inside.result.went e.number e.part.went.frames
+    e.pushed c.push_from-pushed.result
+    c.args.frame c.as_slice-whole.result.now c.self.invariant c.requires.whole again c.as_slice-whole.ensures c.push_from-pushed.ensures.pushed
+    c.if-pushed-whole.false
     c.and-self-inside-2.ensures c.new-self-inside.ensures

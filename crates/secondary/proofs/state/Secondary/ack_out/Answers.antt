@@ -22,7 +22,8 @@ returns-in_err-packet-clause-memory g c =
 pub returns-in_err-push-clause-step : goal.returns-in_err-push-clause-step
 returns-in_err-push-clause-step g c =
     let refused : c.from_residual-in_err-push.result ≡ Err c.in_err-push.field-0.0 = search rules in
-    rw (← c.self.view_is) (not-sent-steps _ c.in-Some.outgoing c.push.new.self _ _ _ c.self.invariant c.in-Some.is c.in_ok-packet.ensures.due refused (λ other. (c.in_err-push.ensures.refused other).0) (ap (λ o. o.pushed) c.in_err-push.ensures.unchanged))
+    rw (← c.self.view_is) (not-sent-steps _ c.in-Some.outgoing c.push.new.self _ _ _ c.self.invariant c.in-Some.is c.in_ok-packet.ensures.due refused
+    (λ other. (c.in_err-push.ensures.refused other).0) (ap (λ o. o.pushed) c.in_err-push.ensures.unchanged))
 
 pub returns-in_err-push-clause-link : goal.returns-in_err-push-clause-link
 returns-in_err-push-clause-link g c =
@@ -41,7 +42,8 @@ invariant_of-self-2 g c =
 
 pub returns-clause-step : goal.returns-clause-step
 returns-clause-step g c =
-    rw (← c.self.view_is) (sent-steps _ c.sent.new.self.state c.in-Some.outgoing c.push.new.self _ _ _ c.self.invariant c.in-Some.is c.in_ok-packet.ensures.due c.sent.ensures (ap (λ o. o.pushed) c.in_ok-push.ensures.pushed) c.command-command.ensures c.about.ensures)
+    rw (← c.self.view_is) (sent-steps _ c.sent.new.self.state c.in-Some.outgoing c.push.new.self _ _ _ c.self.invariant c.in-Some.is c.in_ok-packet.ensures.due
+    c.sent.ensures (ap (λ o. o.pushed) c.in_ok-push.ensures.pushed) c.command-command.ensures c.about.ensures)
 
 -- an open end has its side of the link
 pub returns-in_default-clause-step : goal.returns-in_default-clause-step

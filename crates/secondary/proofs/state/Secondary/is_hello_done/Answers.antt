@@ -7,4 +7,5 @@ use Rattle.secondary.proofs.state.Secondary.is_hello_done.Goals as goal
 
 pub returns : goal.returns
 returns g c h has =
-    c.is_hello_done.ensures ∙ hello-done c.self.inside.core.state.end (inward h) (subst (λ (v : SecondaryView). NodeHas (node v) h) (sym c.self.view_is) has).leaves.core.last.end
+    c.is_hello_done.ensures ∙ hello-done c.self.inside.core.state.end (inward h)
+    (subst (λ (v : SecondaryView). NodeHas (node v) h) (sym c.self.view_is) has).leaves.core.last.end

@@ -12,5 +12,12 @@ invariant_of-result g c =
 pub returns-clause-history : goal.returns-clause-history
 returns-clause-history g c =
     let size : length (g.S.Store.contents c.args.store) ≡ c.args.settings.blocks = grind (arith, nat_tests, c.blocks-2.ensures, c.if-blocks-settings.false) in
-    let v : SecondaryView = record { core = c.in_ok-new.field-0.state; disk = g.S.Store.contents c.args.store; outgoing = None; incoming = None; faults = 0; steady = false } in
+    let v : SecondaryView = record {
+      core = c.in_ok-new.field-0.state;
+      disk = g.S.Store.contents c.args.store;
+      outgoing = None;
+      incoming = None;
+      faults = 0;
+      steady = false;
+    } in
     new-has c.args.settings c.args.tuple v (ap (λ x. x.state) c.in_ok-new.ensures.fresh.1) refl refl c.in_ok-new.ensures.fresh.0 size

@@ -13,22 +13,28 @@ returns-in_err-may_take-clause-step g c =
 pub returns-in_err-ready-clause-step : goal.returns-in_err-ready-clause-step
 returns-in_err-ready-clause-step g c =
     let refused : c.from_residual-in_err-ready.result ≡ Err c.in_err-ready.field-0.0 = search rules in
-    rw (← c.self.view_is, c.in-Some.is, c.in_err-ready.ensures.unchanged) (starved-one _ _ (sym c.may_take.ensures ∙ c.in_ok-may_take.was) (refused ∙ ap Err c.in_err-ready.ensures.refused))
+    rw (← c.self.view_is, c.in-Some.is, c.in_err-ready.ensures.unchanged) (starved-one _ _ (sym c.may_take.ensures ∙ c.in_ok-may_take.was) (refused
+    ∙ ap Err c.in_err-ready.ensures.refused))
 
 pub returns-in_err-ready-2-clause-step : goal.returns-in_err-ready-2-clause-step
 returns-in_err-ready-2-clause-step g c =
     let refused : c.from_residual-in_err-ready-2.result ≡ Err c.in_err-ready-2.field-0.0 = search rules in
-    rw (← c.self.view_is, c.in-Some.is, c.in_ok-ready.ensures.ready, c.in_err-ready-2.ensures.unchanged) (starved-one _ _ (sym c.may_take.ensures ∙ c.in_ok-may_take.was) (refused ∙ ap Err c.in_err-ready-2.ensures.refused))
+    rw (← c.self.view_is, c.in-Some.is, c.in_ok-ready.ensures.ready, c.in_err-ready-2.ensures.unchanged)
+    (starved-one _ _ (sym c.may_take.ensures ∙ c.in_ok-may_take.was) (refused ∙ ap Err c.in_err-ready-2.ensures.refused))
 
 pub invariant_of-self-2 : goal.invariant_of-self-2
 invariant_of-self-2 g c =
     let may : may_take c.self.inside.core.state ≡ Ok tt = sym c.may_take.ensures ∙ c.in_ok-may_take.was in
-    let taken : c.take.new.self.taken ≡ c.in-Some.incoming.taken ++ received c.in_ok-frame.frame ∷ [] = ap (λ i. i.taken) c.in_ok-frame.ensures.taken ∙ ap (λ i. i.taken ++ received c.in_ok-frame.frame ∷ []) c.in_ok-ready-2.ensures.ready in
-    takes-is _ c.ready.new.self.state _ c.in-Some.incoming c.take.new.self (received c.in_ok-frame.frame) _ c.self.invariant c.in-Some.is may (ap (λ x. x.state) c.in_ok-ready.ensures.ready) c.take-2.ensures taken
+    let taken : c.take.new.self.taken ≡ c.in-Some.incoming.taken ++ received c.in_ok-frame.frame ∷ [] = ap (λ i. i.taken) c.in_ok-frame.ensures.taken
+    ∙ ap (λ i. i.taken ++ received c.in_ok-frame.frame ∷ []) c.in_ok-ready-2.ensures.ready in
+    takes-is _ c.ready.new.self.state _ c.in-Some.incoming c.take.new.self (received c.in_ok-frame.frame) _ c.self.invariant c.in-Some.is may
+    (ap (λ x. x.state) c.in_ok-ready.ensures.ready) c.take-2.ensures taken
     (ap (λ i. i.number) c.in_ok-frame.ensures.taken ∙ ap (λ i. i.number) c.in_ok-ready-2.ensures.ready)
 
 pub returns-clause-step : goal.returns-clause-step
 returns-clause-step g c =
     let may : may_take c.self.inside.core.state ≡ Ok tt = sym c.may_take.ensures ∙ c.in_ok-may_take.was in
-    rw (← c.self.view_is) (takes-one _ c.ready.new.self.state _ c.in-Some.incoming c.ready-2.new.self c.take.new.self (received c.in_ok-frame.frame) _ c.self.invariant c.in-Some.is may (ap (λ x. x.state) c.in_ok-ready.ensures.ready) c.take-2.ensures
-    c.in_ok-ready-2.ensures.ready c.in_ok-frame.ensures.taken c.in_ok-frame.ensures.row c.in_ok-frame.ensures.exact (never-nothing c.in_ok-frame.frame c.in_ok-frame.ensures.faults))
+    rw (← c.self.view_is) (takes-one _ c.ready.new.self.state _ c.in-Some.incoming c.ready-2.new.self c.take.new.self
+    (received c.in_ok-frame.frame) _ c.self.invariant c.in-Some.is may (ap (λ x. x.state) c.in_ok-ready.ensures.ready) c.take-2.ensures
+    c.in_ok-ready-2.ensures.ready c.in_ok-frame.ensures.taken c.in_ok-frame.ensures.row c.in_ok-frame.ensures.exact
+    (never-nothing c.in_ok-frame.frame c.in_ok-frame.ensures.faults))

@@ -12,8 +12,10 @@ loop-self-preserved c =
     let was = c.loop-self.invariant in
     let front = c.in-Some.ensures.items in
     let due = c.push_back_reserved.ensures.items in
-    let less : nat_le (suc e.answered) c.last_applied-applied.result ≡ true = le-leb (suc e.answered) c.last_applied-applied.result (omega (arith, c.loop-self-test.true)) in
-    let applied : is_applied_to c.args.disk.now.pending (suc e.answered) ≡ true = c.last_applied-applied.ensures (suc e.answered) (omega arith) (omega (arith, c.loop-self-test.true, c.last_applied-applied.type_inv)) ∙ less in
+    let less : nat_le (suc e.answered) c.last_applied-applied.result ≡ true = le-leb (suc e.answered) c.last_applied-applied.result
+    (omega (arith, c.loop-self-test.true)) in
+    let applied : is_applied_to c.args.disk.now.pending (suc e.answered) ≡ true = c.last_applied-applied.ensures (suc e.answered) (omega arith)
+    (omega (arith, c.loop-self-test.true, c.last_applied-applied.type_inv)) ∙ less in
     let shorter = ap length front in
     let longer = ap length due ∙ length-append c.loop-self.self-inside.due.items (c.whole.result ∷ []) in
     record {

@@ -10,4 +10,8 @@ returns-clause-blocks c =
 pub returns-clause-whole : goal.returns-clause-whole
 returns-clause-whole c =
     let s = c.self.inside in
-    rw (← c.self.view_is) (let count = count-is s.kind s.range.first.0 s.range.count s.contents c.self.invariant.whole c.self.invariant.named in omega (arith, count, c.self.invariant.whole))
+    rw (← c.self.view_is) (let count = count-is s.kind s.range.first.0 s.range.count s.contents c.self.invariant.whole c.self.invariant.named in omega (
+      arith,
+      count,
+      c.self.invariant.whole,
+    ))

@@ -11,7 +11,8 @@ pub invariant_of-self : goal.invariant_of-self
 invariant_of-self c =
     let s = c.self.inside in
     let r : HasRoom s = c.self.invariant.ready (ap (λ s. s.is_ready) c.self.view_is ∙ c.requires.ready) in
-    ended s c.args.number c.barrier-writes.result c.barrier-writes.new.self c.ended.new.self c.self.invariant r (c.barrier-writes.ensures.next c.args.number) c.ended.ensures
+    ended s c.args.number c.barrier-writes.result c.barrier-writes.new.self c.ended.new.self c.self.invariant r (c.barrier-writes.ensures.next c.args.number)
+    c.ended.ensures
 
 pub returns : goal.returns
 returns c =
@@ -19,4 +20,12 @@ returns c =
     let is_open : s.is_open ≡ true = open-is s.is_open s.end.state (ap (λ s. is_some s.state.end) c.self.view_is ∙ c.requires.is_open) in
     let place : has_place s.taken.places ≡ true = grind (arith, c.has_place.ensures, c.if-not-has_place.false) in
     let next : (c.args.number == suc s.taken.barriers) ≡ true = grind (arith, nat_tests, c.if-number-epoch.false, c.epoch.ensures) in
-    rw (← c.self.view_is) (rw (is_open, c.barrier-writes.ensures.next c.args.number, c.ended.ensures, c.barrier-writes.ensures.writes, c.places-place.ensures, place, next) refl)
+    rw (← c.self.view_is) (rw (
+      is_open,
+      c.barrier-writes.ensures.next c.args.number,
+      c.ended.ensures,
+      c.barrier-writes.ensures.writes,
+      c.places-place.ensures,
+      place,
+      next,
+    ) refl)

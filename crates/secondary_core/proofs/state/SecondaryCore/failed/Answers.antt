@@ -9,7 +9,8 @@ fault-requires c = rw (ap (λ s. s.state.pending) c.self.view_is) (may-start c.a
 pub invariant_of-self : goal.invariant_of-self
 invariant_of-self c =
     let s = c.self.inside in
-    let there : is_pending c.args.place s.disk.pending ≡ true = rw (ap (λ s. s.state.pending) c.self.view_is) (may-start c.args.place c.args.self.now.state.pending c.requires) in
+    let there : is_pending c.args.place s.disk.pending ≡ true = rw (ap (λ s. s.state.pending) c.self.view_is)
+    (may-start c.args.place c.args.self.now.state.pending c.requires) in
     let left = ap (λ d. d.pending) c.fault.ensures.left in
     let less : length c.fault.new.self.pending ≤ length s.disk.pending = rw left (fewer c.args.place s.disk.pending there) in
     record {

@@ -16,16 +16,19 @@ takes-over g c =
     record {
       frame = took.frame;
       step = steps-over event tt (primary_step event) (λ h. refl) c.self.inside.node c.ack_in.new.self (replied reply.Ok c.ack_in.result)
-          (ends-took c.self.inside.node c.ack_in.new.self c.ack_in.result took.frame took.link (ap (λ (v : PrimaryView). v.outgoing) c.ack_in.ensures.rest)) took.step.said took.step.after;
+          (ends-took c.self.inside.node c.ack_in.new.self c.ack_in.result took.frame took.link (ap (λ (v : PrimaryView). v.outgoing) c.ack_in.ensures.rest))
+          took.step.said took.step.after;
     }
 
 pub invariant_of-self : goal.invariant_of-self
 invariant_of-self g c =
     let took = c.ack_in.ensures.step in
-    had-over (primary_step (Takes took.frame (is_none took.frame && is_starved c.ack_in.result))) c.self.inside.node c.ack_in.new.self (replied reply.Ok c.ack_in.result) c.self.invariant (takes-over g c).step
+    had-over (primary_step (Takes took.frame (is_none took.frame && is_starved c.ack_in.result))) c.self.inside.node c.ack_in.new.self
+    (replied reply.Ok c.ack_in.result) c.self.invariant (takes-over g c).step
 
 pub returns : goal.returns
 returns g c = rw (← c.self.view_is) (record {
   step = takes-over g c;
-  runs = let took = c.ack_in.ensures.step in runs-step (Takes took.frame (is_none took.frame && is_starved c.ack_in.result)) c.self.inside.node c.ack_in.new.self (replied reply.Ok c.ack_in.result) (λ h. refl) (takes-over g c).step;
+  runs = let took = c.ack_in.ensures.step in runs-step (Takes took.frame (is_none took.frame && is_starved c.ack_in.result)) c.self.inside.node
+      c.ack_in.new.self (replied reply.Ok c.ack_in.result) (λ h. refl) (takes-over g c).step;
 })

@@ -11,10 +11,12 @@ use Rattle.session_nodes.proofs.local.Local.close.Goals as goal
 abbrev step-over : (g : _) (c : goal.After-close g) → PrimarySteps Closes c.self.inside.node (replied reply.Closed c.close.result) c.close.new.self
 step-over g c =
     steps-over Closes tt (primary_step Closes) (λ h. refl) c.self.inside.node c.close.new.self (replied reply.Closed c.close.result)
-    (ends-of c.self.inside.node c.close.new.self (ap (λ (v : PrimaryView). v.outgoing) c.close.ensures.rest) (ap (λ (v : PrimaryView). v.incoming) c.close.ensures.rest)) c.close.ensures.step.said c.close.ensures.step.after
+    (ends-of c.self.inside.node c.close.new.self (ap (λ (v : PrimaryView). v.outgoing) c.close.ensures.rest)
+    (ap (λ (v : PrimaryView). v.incoming) c.close.ensures.rest)) c.close.ensures.step.said c.close.ensures.step.after
 
 pub invariant_of-self : goal.invariant_of-self
-invariant_of-self g c = had-over (primary_step Closes) c.self.inside.node c.close.new.self (replied reply.Closed c.close.result) c.self.invariant (step-over g c)
+invariant_of-self g c = had-over (primary_step Closes) c.self.inside.node c.close.new.self (replied reply.Closed c.close.result) c.self.invariant
+    (step-over g c)
 
 pub returns : goal.returns
 returns g c = rw (← c.self.view_is) (record { step = step-over g c })

@@ -6,11 +6,13 @@ returns-then-step-2 g c = record { runs = runs-on c.args.self.now c.step.new.sel
 
 pub returns-then-step-3 : goal.returns-then-step-3
 returns-then-step-3 g c = record {
-  runs = runs-on c.args.self.now c.step.new.self c.step-3.new.self c.step.ensures.runs (runs-on c.step.new.self c.step-2.new.self c.step-3.new.self c.step-2.ensures.runs c.step-3.ensures.runs);
+  runs = runs-on c.args.self.now c.step.new.self c.step-3.new.self c.step.ensures.runs
+      (runs-on c.step.new.self c.step-2.new.self c.step-3.new.self c.step-2.ensures.runs c.step-3.ensures.runs);
 }
 
 pub returns : goal.returns
 returns g c = record {
   runs = runs-on c.args.self.now c.step.new.self c.step-4.new.self c.step.ensures.runs
-      (runs-on c.step.new.self c.step-2.new.self c.step-4.new.self c.step-2.ensures.runs (runs-on c.step-2.new.self c.step-3.new.self c.step-4.new.self c.step-3.ensures.runs c.step-4.ensures.runs));
+      (runs-on c.step.new.self c.step-2.new.self c.step-4.new.self c.step-2.ensures.runs
+      (runs-on c.step-2.new.self c.step-3.new.self c.step-4.new.self c.step-3.ensures.runs c.step-4.ensures.runs));
 }

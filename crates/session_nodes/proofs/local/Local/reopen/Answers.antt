@@ -12,11 +12,15 @@ reopen-requires-clause-opened g c = (is-there c.self.inside.node c.self.invarian
 pub reopen-requires-clause-opened_too : goal.reopen-requires-clause-opened_too
 reopen-requires-clause-opened_too g c = (is-there c.self.inside.node c.self.invariant).1
 
-abbrev steps : (g : _) (c : goal.After-reopen g) → PrimarySteps (Opens c.args.sync c.args.loss (is_starved c.reopen.result)) c.self.inside.node (replied (λ number. plainly tt) c.reopen.result) c.reopen.new.self
-steps g c = reopens-over c.args.sync c.args.loss c.self.inside.node c.reopen.new.self c.reopen.result c.reopen.ensures.step c.reopen.ensures.link c.reopen.ensures.number c.reopen.ensures.unchanged
+abbrev steps : (g : _) (c : goal.After-reopen g)
+    → PrimarySteps (Opens c.args.sync c.args.loss (is_starved c.reopen.result)) c.self.inside.node (replied (λ number. plainly tt) c.reopen.result)
+    c.reopen.new.self
+steps g c = reopens-over c.args.sync c.args.loss c.self.inside.node c.reopen.new.self c.reopen.result c.reopen.ensures.step c.reopen.ensures.link
+    c.reopen.ensures.number c.reopen.ensures.unchanged
 
 pub invariant_of-self : goal.invariant_of-self
-invariant_of-self g c = had-over (primary_step (Opens c.args.sync c.args.loss (is_starved c.reopen.result))) c.self.inside.node c.reopen.new.self (replied (λ number. plainly tt) c.reopen.result) c.self.invariant (steps g c)
+invariant_of-self g c = had-over (primary_step (Opens c.args.sync c.args.loss (is_starved c.reopen.result))) c.self.inside.node c.reopen.new.self
+    (replied (λ number. plainly tt) c.reopen.result) c.self.invariant (steps g c)
 
 pub returns : goal.returns
 returns g c = rw (← c.self.view_is) (record { step = steps g c })

@@ -10,14 +10,19 @@ use Rattle.session_nodes.proofs.Primaries.{SameEnds, ends-of, steps-over, runs-s
 use Rattle.session_nodes.proofs.local.Local.resync_next.Goals as goal
 
 abbrev same : (g : _) (c : goal.After-resync_next g) → SameEnds c.self.inside.node c.resync_next.new.self
-same g c = ends-of c.self.inside.node c.resync_next.new.self (ap (λ (x : PrimaryView). x.outgoing) c.resync_next.ensures.rest) (ap (λ (x : PrimaryView). x.incoming) c.resync_next.ensures.rest)
+same g c = ends-of c.self.inside.node c.resync_next.new.self (ap (λ (x : PrimaryView). x.outgoing) c.resync_next.ensures.rest)
+    (ap (λ (x : PrimaryView). x.incoming) c.resync_next.ensures.rest)
 
 abbrev ran : (g : _) (c : goal.After-resync_next g) → PrimaryRuns c.self.inside.node c.resync_next.new.self
 ran g c = elim c.resync_next.ensures.step [
-  | inl done ↦ runs-step (Resyncs (is_starved c.resync_next.result)) c.self.inside.node c.resync_next.new.self (replied reply.Ok c.resync_next.result) (λ h. refl)
-      (steps-over (Resyncs (is_starved c.resync_next.result)) tt (primary_step (Resyncs (is_starved c.resync_next.result))) (λ h. refl) c.self.inside.node c.resync_next.new.self (replied reply.Ok c.resync_next.result) (same g c) done.1.said done.1.after)
-  | inr failed ↦ runs-step (FailsResync (is_starved c.resync_next.result)) c.self.inside.node c.resync_next.new.self (replied reply.Ok c.resync_next.result) (λ h. refl)
-      (steps-over (FailsResync (is_starved c.resync_next.result)) tt (primary_step (FailsResync (is_starved c.resync_next.result))) (λ h. refl) c.self.inside.node c.resync_next.new.self (replied reply.Ok c.resync_next.result) (same g c) failed.1.said failed.1.after)
+  | inl done ↦ runs-step (Resyncs (is_starved c.resync_next.result)) c.self.inside.node c.resync_next.new.self (replied reply.Ok c.resync_next.result)
+      (λ h. refl)
+      (steps-over (Resyncs (is_starved c.resync_next.result)) tt (primary_step (Resyncs (is_starved c.resync_next.result)))
+      (λ h. refl) c.self.inside.node c.resync_next.new.self (replied reply.Ok c.resync_next.result) (same g c) done.1.said done.1.after)
+  | inr failed ↦ runs-step (FailsResync (is_starved c.resync_next.result)) c.self.inside.node c.resync_next.new.self (replied reply.Ok c.resync_next.result)
+      (λ h. refl)
+      (steps-over (FailsResync (is_starved c.resync_next.result)) tt (primary_step (FailsResync (is_starved c.resync_next.result)))
+      (λ h. refl) c.self.inside.node c.resync_next.new.self (replied reply.Ok c.resync_next.result) (same g c) failed.1.said failed.1.after)
 ]
 
 pub invariant_of-self : goal.invariant_of-self

@@ -10,13 +10,19 @@ use Rattle.primary_steps.specs.Transitions.{whole_blocks}
 use Rattle.session_nodes.specs.Primaries.{PrimarySteps}
 use Rattle.session_nodes.proofs.local.Local.submit.Goals as goal
 
-abbrev step-over : (g : _) (c : goal.After-submit g) → PrimarySteps (Submits c.args.first (whole_blocks c.args.bytes.now) (is_starved c.submit.result)) c.self.inside.node (replied (λ told. reply.Ok told.1) c.submit.result) c.submit.new.self
+abbrev step-over : (g : _) (c : goal.After-submit g)
+    → PrimarySteps (Submits c.args.first (whole_blocks c.args.bytes.now) (is_starved c.submit.result)) c.self.inside.node
+    (replied (λ told. reply.Ok told.1) c.submit.result) c.submit.new.self
 step-over g c =
-    steps-over (Submits c.args.first (whole_blocks c.args.bytes.now) (is_starved c.submit.result)) tt (primary_step (Submits c.args.first (whole_blocks c.args.bytes.now) (is_starved c.submit.result))) (λ h. refl) c.self.inside.node c.submit.new.self (replied (λ told. reply.Ok told.1) c.submit.result)
-    (ends-of c.self.inside.node c.submit.new.self (ap (λ (v : PrimaryView). v.outgoing) c.submit.ensures.rest) (ap (λ (v : PrimaryView). v.incoming) c.submit.ensures.rest)) c.submit.ensures.step.said c.submit.ensures.step.after
+    steps-over (Submits c.args.first (whole_blocks c.args.bytes.now) (is_starved c.submit.result)) tt
+    (primary_step (Submits c.args.first (whole_blocks c.args.bytes.now) (is_starved c.submit.result))) (λ h. refl) c.self.inside.node c.submit.new.self
+    (replied (λ told. reply.Ok told.1) c.submit.result)
+    (ends-of c.self.inside.node c.submit.new.self (ap (λ (v : PrimaryView). v.outgoing) c.submit.ensures.rest)
+    (ap (λ (v : PrimaryView). v.incoming) c.submit.ensures.rest)) c.submit.ensures.step.said c.submit.ensures.step.after
 
 pub invariant_of-self : goal.invariant_of-self
-invariant_of-self g c = had-over (primary_step (Submits c.args.first (whole_blocks c.args.bytes.now) (is_starved c.submit.result))) c.self.inside.node c.submit.new.self (replied (λ told. reply.Ok told.1) c.submit.result) c.self.invariant (step-over g c)
+invariant_of-self g c = had-over (primary_step (Submits c.args.first (whole_blocks c.args.bytes.now) (is_starved c.submit.result))) c.self.inside.node
+    c.submit.new.self (replied (λ told. reply.Ok told.1) c.submit.result) c.self.invariant (step-over g c)
 
 pub returns : goal.returns
 returns g c = rw (← c.self.view_is) (record { step = step-over g c })

@@ -6,13 +6,16 @@ use Rattle.primary_steps.specs.Node.{take_receipt}
 use Rattle.session_nodes.specs.Primaries.{IsPrimaryStep}
 use Rattle.session_nodes.proofs.local.Local.take_completed.Goals as goal
 
-abbrev step-over : (g : _) (c : goal.After-take_completed g) → IsPrimaryStep (take_receipt c.args.number) c.self.inside.node c.take_completed.result c.take_completed.new.self
+abbrev step-over : (g : _) (c : goal.After-take_completed g)
+    → IsPrimaryStep (take_receipt c.args.number) c.self.inside.node c.take_completed.result c.take_completed.new.self
 step-over g c =
     steps-over (Receipts c.args.number) tt (take_receipt c.args.number) (λ h. refl) c.self.inside.node c.take_completed.new.self c.take_completed.result
-    (ends-of c.self.inside.node c.take_completed.new.self (ap (λ (v : PrimaryView). v.outgoing) c.take_completed.ensures.rest) (ap (λ (v : PrimaryView). v.incoming) c.take_completed.ensures.rest)) c.take_completed.ensures.step.said c.take_completed.ensures.step.after
+    (ends-of c.self.inside.node c.take_completed.new.self (ap (λ (v : PrimaryView). v.outgoing) c.take_completed.ensures.rest)
+    (ap (λ (v : PrimaryView). v.incoming) c.take_completed.ensures.rest)) c.take_completed.ensures.step.said c.take_completed.ensures.step.after
 
 pub invariant_of-self : goal.invariant_of-self
-invariant_of-self g c = had-over (take_receipt c.args.number) c.self.inside.node c.take_completed.new.self c.take_completed.result c.self.invariant (step-over g c)
+invariant_of-self g c = had-over (take_receipt c.args.number) c.self.inside.node c.take_completed.new.self c.take_completed.result c.self.invariant
+    (step-over g c)
 
 pub returns : goal.returns
 returns g c = rw (← c.self.view_is) (record { step = step-over g c })

@@ -11,6 +11,7 @@ pub returns : goal.returns
 returns g c = record {
   runs = elim c.loop-test.branch [
     | else-loop-test w ↦ subst (PrimaryRuns c.args.self.now) (sym w.self-is) c.loop.invariant
-    | then-loop-test+then-not-advance w ↦ subst (PrimaryRuns c.args.self.now) (sym w.self-is) (runs-on c.args.self.now c.loop.self w.advance.new.self c.loop.invariant w.advance.ensures.runs)
+    | then-loop-test+then-not-advance w ↦ subst (PrimaryRuns c.args.self.now) (sym w.self-is)
+        (runs-on c.args.self.now c.loop.self w.advance.new.self c.loop.invariant w.advance.ensures.runs)
   ];
 }

@@ -9,14 +9,17 @@ use Rattle.session_nodes.proofs.Primaries.{SameEnds, ends-of, steps-over, runs-s
 use Rattle.session_nodes.proofs.local.Local.write_at.Goals as goal
 
 abbrev same : (g : _) (c : goal.After-local g) → SameEnds c.self.inside.node c.local.new.self
-same g c = ends-of c.self.inside.node c.local.new.self (ap (λ (x : PrimaryView). x.outgoing) c.local.ensures.rest) (ap (λ (x : PrimaryView). x.incoming) c.local.ensures.rest)
+same g c = ends-of c.self.inside.node c.local.new.self (ap (λ (x : PrimaryView). x.outgoing) c.local.ensures.rest)
+    (ap (λ (x : PrimaryView). x.incoming) c.local.ensures.rest)
 
 abbrev ran : (g : _) (c : goal.After-local g) → PrimaryRuns c.self.inside.node c.local.new.self
 ran g c = elim c.local.ensures.step [
   | inl done ↦ runs-step (WritesLocally c.args.number) c.self.inside.node c.local.new.self (replied reply.Ok c.local.result) (λ h. refl)
-      (steps-over (WritesLocally c.args.number) tt (primary_step (WritesLocally c.args.number)) (λ h. refl) c.self.inside.node c.local.new.self (replied reply.Ok c.local.result) (same g c) done.1.said done.1.after)
+      (steps-over (WritesLocally c.args.number) tt (primary_step (WritesLocally c.args.number)) (λ h. refl) c.self.inside.node c.local.new.self
+      (replied reply.Ok c.local.result) (same g c) done.1.said done.1.after)
   | inr failed ↦ runs-step (FailsLocally c.args.number failed.1.0) c.self.inside.node c.local.new.self (replied reply.Ok c.local.result) (λ h. refl)
-      (steps-over (FailsLocally c.args.number failed.1.0) tt (primary_step (FailsLocally c.args.number failed.1.0)) (λ h. refl) c.self.inside.node c.local.new.self (replied reply.Ok c.local.result) (same g c) failed.1.1.said failed.1.1.after)
+      (steps-over (FailsLocally c.args.number failed.1.0) tt (primary_step (FailsLocally c.args.number failed.1.0))
+      (λ h. refl) c.self.inside.node c.local.new.self (replied reply.Ok c.local.result) (same g c) failed.1.1.said failed.1.1.after)
 ]
 
 pub invariant_of-self : goal.invariant_of-self

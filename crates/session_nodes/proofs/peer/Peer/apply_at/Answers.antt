@@ -7,14 +7,16 @@ use Rattle.session_nodes.proofs.Secondaries.{SameEnds, ends-of, steps-over, runs
 use Rattle.session_nodes.proofs.peer.Peer.apply_at.Goals as goal
 
 abbrev same : (g : _) (c : goal.After-peer g) → SameEnds c.self.inside.node c.peer.new.self
-same g c = ends-of c.self.inside.node c.peer.new.self (ap (λ (x : SecondaryView). x.outgoing) c.peer.ensures.rest) (ap (λ (x : SecondaryView). x.incoming) c.peer.ensures.rest)
+same g c = ends-of c.self.inside.node c.peer.new.self (ap (λ (x : SecondaryView). x.outgoing) c.peer.ensures.rest)
+    (ap (λ (x : SecondaryView). x.incoming) c.peer.ensures.rest)
 
 abbrev ran : (g : _) (c : goal.After-peer g) → SecondaryRuns c.self.inside.node c.peer.new.self
 ran g c = elim c.peer.ensures.step [
   | inl done ↦ runs-step (Applies c.args.place) c.self.inside.node c.peer.new.self (replied (λ done. done) c.peer.result) (λ h. refl)
       (steps-over (Applies c.args.place) tt (λ h. refl) c.self.inside.node c.peer.new.self (replied (λ done. done) c.peer.result) (same g c) done.1)
   | inr failed ↦ runs-step (FailsToApply c.args.place failed.1.0) c.self.inside.node c.peer.new.self (replied (λ done. done) c.peer.result) (λ h. refl)
-      (steps-over (FailsToApply c.args.place failed.1.0) tt (λ h. refl) c.self.inside.node c.peer.new.self (replied (λ done. done) c.peer.result) (same g c) failed.1.1)
+      (steps-over (FailsToApply c.args.place failed.1.0) tt (λ h. refl) c.self.inside.node c.peer.new.self (replied (λ done. done) c.peer.result)
+      (same g c) failed.1.1)
 ]
 
 pub invariant_of-self : goal.invariant_of-self

@@ -6,11 +6,15 @@ use Rattle.session_nodes.specs.Secondaries.{SecondarySteps}
 use Rattle.session_nodes.proofs.Secondaries.{reopens-over, had-over}
 use Rattle.session_nodes.proofs.peer.Peer.open_again.Goals as goal
 
-abbrev steps : (g : _) (c : goal.After-reopen g) → SecondarySteps (OpensToo (c.args.number - (c.self.inside.node.core.number + 1))) c.self.inside.node (replied plainly c.reopen.result) c.reopen.new.self
-steps g c = reopens-over c.args.number c.self.inside.node c.reopen.new.self c.reopen.result (subst (λ (v : SecondaryView). v.core.number < c.args.number) (sym c.self.view_is) c.requires.above) c.reopen.ensures.step c.reopen.ensures.link c.reopen.ensures.unchanged
+abbrev steps : (g : _) (c : goal.After-reopen g)
+    → SecondarySteps (OpensToo (c.args.number - (c.self.inside.node.core.number + 1))) c.self.inside.node (replied plainly c.reopen.result) c.reopen.new.self
+steps g c = reopens-over c.args.number c.self.inside.node c.reopen.new.self c.reopen.result
+    (subst (λ (v : SecondaryView). v.core.number < c.args.number) (sym c.self.view_is) c.requires.above) c.reopen.ensures.step c.reopen.ensures.link
+    c.reopen.ensures.unchanged
 
 pub invariant_of-self : goal.invariant_of-self
-invariant_of-self g c = had-over (OpensToo (c.args.number - (c.self.inside.node.core.number + 1))) c.self.inside.node c.reopen.new.self (replied plainly c.reopen.result) c.self.invariant (steps g c)
+invariant_of-self g c = had-over (OpensToo (c.args.number - (c.self.inside.node.core.number + 1))) c.self.inside.node c.reopen.new.self
+    (replied plainly c.reopen.result) c.self.invariant (steps g c)
 
 pub returns-clause-step : goal.returns-clause-step
 returns-clause-step g c = rw (← c.self.view_is) (steps g c)

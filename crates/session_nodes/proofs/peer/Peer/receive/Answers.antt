@@ -11,17 +11,21 @@ takes-over g c =
     let took = c.receive.ensures.step in
     record {
       frame = took.frame;
-      step = steps-over (Receives took.frame (is_none took.frame && is_starved c.receive.result)) tt (λ h. refl) c.self.inside.node c.receive.new.self (replied (λ done. done) c.receive.result)
-          (ends-took c.self.inside.node c.receive.new.self c.receive.result took.frame took.link (outgoing-stays c.self.inside.node c.receive.new.self c.receive.ensures.rest)) took.step;
+      step = steps-over (Receives took.frame (is_none took.frame && is_starved c.receive.result)) tt (λ h. refl) c.self.inside.node c.receive.new.self
+          (replied (λ done. done) c.receive.result)
+          (ends-took c.self.inside.node c.receive.new.self c.receive.result took.frame took.link
+          (outgoing-stays c.self.inside.node c.receive.new.self c.receive.ensures.rest)) took.step;
     }
 
 pub invariant_of-self : goal.invariant_of-self
 invariant_of-self g c =
     let took = c.receive.ensures.step in
-    had-over (Receives took.frame (is_none took.frame && is_starved c.receive.result)) c.self.inside.node c.receive.new.self (replied (λ done. done) c.receive.result) c.self.invariant (takes-over g c).step
+    had-over (Receives took.frame (is_none took.frame && is_starved c.receive.result)) c.self.inside.node c.receive.new.self
+    (replied (λ done. done) c.receive.result) c.self.invariant (takes-over g c).step
 
 pub returns : goal.returns
 returns g c = rw (← c.self.view_is) (record {
   step = takes-over g c;
-  runs = let took = c.receive.ensures.step in runs-step (Receives took.frame (is_none took.frame && is_starved c.receive.result)) c.self.inside.node c.receive.new.self (replied (λ done. done) c.receive.result) (λ h. refl) (takes-over g c).step;
+  runs = let took = c.receive.ensures.step in runs-step (Receives took.frame (is_none took.frame && is_starved c.receive.result)) c.self.inside.node
+      c.receive.new.self (replied (λ done. done) c.receive.result) (λ h. refl) (takes-over g c).step;
 })

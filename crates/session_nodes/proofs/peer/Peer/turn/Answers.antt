@@ -8,5 +8,6 @@ loop-preserved g c = runs-on c.args.self.now c.loop.self c.advance.new.self c.lo
 pub returns : goal.returns
 returns g c = elim c.loop-test.branch [
   | else-loop-test w ↦ rw w.self-is (record { runs = c.loop.invariant })
-  | then-loop-test+then-not-advance w ↦ rw w.self-is (record { runs = runs-on c.args.self.now c.loop.self w.advance.new.self c.loop.invariant w.advance.ensures.runs })
+  | then-loop-test+then-not-advance w ↦ rw w.self-is
+      (record { runs = runs-on c.args.self.now c.loop.self w.advance.new.self c.loop.invariant w.advance.ensures.runs })
 ]

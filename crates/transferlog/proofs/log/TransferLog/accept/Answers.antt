@@ -17,5 +17,7 @@ returns-clause-accepted c =
     let r = c.args.range in
     let writes = ap (λ ring. ring.writes) c.push.ensures ∙ (ap (λ ring. ring.writes ++ c.new.result ∷ []) c.in_ok-reserve.ensures.same
     ∙ ap (λ (w : LogWrite). s.writes ++ w ∷ []) c.new.ensures) in
-    let latest = whole l.latest.len l.latest.items c.put.new.numbers (omega (arith, c.put.auto.numbers, c.deref_mut.ensures.len)) ∙ c.put.ensures ∙ ap (λ xs. with_latest (l.accepted + 1) r.first.0 r.count xs) c.deref_mut.ensures.value in
-    rw (← c.self.view_is) (accepted_is s r.first.0 r.count c.args.contents _ _ _ _ _ _ _ _ c.in_ok-home.ensures.home c.place_in.ensures latest writes c.clear.ensures.items c.clear-2.ensures.items)
+    let latest = whole l.latest.len l.latest.items c.put.new.numbers (omega (arith, c.put.auto.numbers, c.deref_mut.ensures.len)) ∙ c.put.ensures
+    ∙ ap (λ xs. with_latest (l.accepted + 1) r.first.0 r.count xs) c.deref_mut.ensures.value in
+    rw (← c.self.view_is) (accepted_is s r.first.0 r.count c.args.contents _ _ _ _ _ _ _ _ c.in_ok-home.ensures.home c.place_in-place.ensures latest writes
+    c.clear.ensures.items c.clear-2.ensures.items)

@@ -25,8 +25,10 @@ invariant_of-self c =
     let l = c.self.inside in
     let s = log_of l in
     let inv = c.self.invariant in
-    let may = passed c.args.number c.args.size s _ c.may_confirm.result (ap (λ (v : LogValue). v.state) c.self.view_is) c.may_confirm.ensures c.if-not-may_confirm.false in
-    let bounded = bounded_confirmed c.args.number c.args.size l.confirmed l.accepted l.epochs.state (awaited_of c.args.number c.args.size s may) (record { confirmed_writes = inv.confirmed; begun = inv.begun }) in
+    let may = passed c.args.number c.args.size s _ c.may_confirm.result (ap (λ (v : LogValue). v.state) c.self.view_is) c.may_confirm.ensures
+    c.if-not-may_confirm.false in
+    let bounded = bounded_confirmed c.args.number c.args.size l.confirmed l.accepted l.epochs.state (awaited_of c.args.number c.args.size s may)
+    (record { confirmed_writes = inv.confirmed; begun = inv.begun }) in
     log_confirmed l _ (l.confirmed + c.args.size) inv c.release_all.ensures.next refl refl (ap (λ n. l.confirmed + n) c.from.ensures) refl
     (c.release_all.ensures.writes ∙ ap (λ n. filter (λ w. not (is_released (l.confirmed + n) w)) l.ring.writes) c.from.ensures)
     (c.release_all.ensures.capacity ∙ c.clear.ensures.capacity) c.clear-2.ensures.capacity (rw (ap (λ p. p.1) c.acknowledge.ensures) bounded)
@@ -35,7 +37,8 @@ pub returns : goal.returns
 returns c =
     let l = c.self.inside in
     let s = log_of l in
-    let may = passed c.args.number c.args.size s _ c.may_confirm.result (ap (λ (v : LogValue). v.state) c.self.view_is) c.may_confirm.ensures c.if-not-may_confirm.false in
+    let may = passed c.args.number c.args.size s _ c.may_confirm.result (ap (λ (v : LogValue). v.state) c.self.view_is) c.may_confirm.ensures
+    c.if-not-may_confirm.false in
     let released = onto_empty _ _ _ c.release_all.ensures.released c.clear.ensures.items in
     rw (← c.self.view_is) (rw may (confirmed_is c.args.number c.args.size s _ _ _ _ _ (ap (λ n. l.confirmed + n) c.from.ensures)
     (c.release_all.ensures.writes ∙ ap (λ n. filter (λ w. not (is_released (l.confirmed + n) w)) l.ring.writes) c.from.ensures)

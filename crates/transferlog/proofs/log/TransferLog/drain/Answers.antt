@@ -26,6 +26,7 @@ invariant_of-self c =
       next = c.release_rest.ensures.next ∙ (ap (λ (r : RingState). r.next) c.unlink_all.ensures.next ∙ inv.next);
       few_accepted = inv.few_accepted;
       kept = rw is (left_kept l.confirmed ws);
+      numbered = tt;
       alone = λ none. rw is (each_filter IsAlone (λ w. not (is_released l.confirmed w)) ws (each_alone l.ring.writes));
       few = omega (arith, few, inv.few);
       some = inv.some;

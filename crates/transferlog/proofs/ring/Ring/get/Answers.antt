@@ -8,7 +8,8 @@ use Rattle.transferlog.proofs.ring.Ring.get.Goals as goal
 pub returns-then-number-self : goal.returns-then-number-self
 returns-then-number-self c =
     let s = c.self.inside in
-    rw (← c.self.view_is) (sym (write_at-none c.args.number (writes_in s.slots.items) (none_before c.args.number s.first s.slots.items c.if-number-self.true c.self.invariant.numbered)))
+    rw (← c.self.view_is) (sym (write_at-none c.args.number (writes_in s.slots.items)
+    (none_before c.args.number s.first s.slots.items c.if-number-self.true c.self.invariant.numbered)))
 
 pub returns-then-index-len : goal.returns-then-index-len
 returns-then-index-len c =

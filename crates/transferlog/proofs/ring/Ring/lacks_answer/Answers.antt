@@ -6,12 +6,14 @@ use Rattle.transferlog.proofs.ring.Ring.lacks_answer.Goals as goal
 
 pub returns-then-is_unanswered : goal.returns-then-is_unanswered
 returns-then-is_unanswered c =
-    sym (lacks_one c.args.first c.args.count c.loop-number.number c.args.self.now.writes (omega arith) (omega arith) (sym c.is_unanswered.ensures ∙ c.if-is_unanswered.true))
+    sym (lacks_one c.args.first c.args.count c.loop-number.number c.args.self.now.writes (omega arith) (omega arith) (sym c.is_unanswered.ensures
+    ∙ c.if-is_unanswered.true))
 
 pub loop-number-preserved : goal.loop-number-preserved
 loop-number-preserved c =
     let rises = rises_of c.self.inside c.args.self.now c.self.view_is c.self.invariant in
-    answered_next c.args.first c.loop-number.number 0 c.args.self.now.writes rises (sym c.is_unanswered.ensures ∙ c.if-is_unanswered.false) c.loop-number.invariant
+    answered_next c.args.first c.loop-number.number 0 c.args.self.now.writes rises (sym c.is_unanswered.ensures
+    ∙ c.if-is_unanswered.false) c.loop-number.invariant
 
 pub returns : goal.returns
 returns c =

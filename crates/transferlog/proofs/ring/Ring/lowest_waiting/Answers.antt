@@ -18,12 +18,14 @@ below_end r s n is ring least = rw (← is) (numbers_below n r.first r.slots.ite
 pub loop-number-preserved : goal.loop-number-preserved
 loop-number-preserved c =
     let settled : is_waiting_at (write_at c.loop-number.number c.args.self.now.writes) ≡ false = sym c.is_waiting.ensures ∙ c.if-is_waiting.false in
-    waits_next c.loop-number.number 0 c.args.self.now.writes (rises_of c.self.inside c.args.self.now c.self.view_is c.self.invariant) c.loop-number.invariant settled
+    waits_next c.loop-number.number 0 c.args.self.now.writes (rises_of c.self.inside c.args.self.now c.self.view_is c.self.invariant) c.loop-number.invariant
+    settled
 
 pub returns-then-is_waiting-clause-lowest : goal.returns-then-is_waiting-clause-lowest
 returns-then-is_waiting-clause-lowest c =
     let waits : is_waiting_at (write_at c.loop-number.number c.args.self.now.writes) ≡ true = sym c.is_waiting.ensures ∙ c.if-is_waiting.true in
-    first_found c.loop-number.number 0 c.args.self.now.writes (rises_of c.self.inside c.args.self.now c.self.view_is c.self.invariant) c.loop-number.invariant waits
+    first_found c.loop-number.number 0 c.args.self.now.writes (rises_of c.self.inside c.args.self.now c.self.view_is c.self.invariant) c.loop-number.invariant
+    waits
 
 pub returns-clause-lowest : goal.returns-clause-lowest
 returns-clause-lowest c =

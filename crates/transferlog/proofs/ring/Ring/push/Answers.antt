@@ -18,10 +18,14 @@ invariant_of-self c =
     let number : c.args.write.number ≡ s.first + length s.slots.items = omega (arith, next, c.requires.next, s.slots.ok.0) in
     record {
       numbered = rw c.push_back_reserved.ensures.items (numbered-push s.first s.slots.items c.args.write c.self.invariant.numbered number);
-      counted = rw c.push_back_reserved.ensures.items (rw (writes_in-push s.slots.items c.args.write) (simp length-append (omega (arith, c.self.invariant.counted))));
+      counted = rw c.push_back_reserved.ensures.items
+          (rw (writes_in-push s.slots.items c.args.write) (simp length-append (omega (arith, c.self.invariant.counted))));
       first = c.self.invariant.first;
       small = omega (arith, c.push_back_reserved.ensures.len, next, c.requires.small);
-      waiting = rw c.push_back_reserved.ensures.items (rw (writes_in-push s.slots.items c.args.write) (each_pushed (WaitsFrom s.waiting) (writes_in s.slots.items) c.args.write c.self.invariant.waiting (λ is. omega (arith, number, c.self.invariant.waiting_within, s.slots.ok.0))));
+      waiting = rw c.push_back_reserved.ensures.items
+          (rw (writes_in-push s.slots.items c.args.write)
+          (each_pushed (WaitsFrom s.waiting) (writes_in s.slots.items) c.args.write c.self.invariant.waiting
+          (λ is. omega (arith, number, c.self.invariant.waiting_within, s.slots.ok.0))));
       waiting_within = omega (arith, c.push_back_reserved.ensures.len, c.self.invariant.waiting_within);
     }
 

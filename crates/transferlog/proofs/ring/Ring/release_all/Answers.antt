@@ -18,12 +18,15 @@ loop-number-init c =
     record { released = onto_nothing c.args.released.now.items _ e.0; capacity = refl; writes = sym e.1; next = refl }
 
 -- what is released now, by the writes at the beginning
-by_first : (confirmed k : ℕ) (ws left : List LogWrite) (result : Option Released) → Rises 0 ws → result ≡ option_and_then (release_of confirmed) (write_at k left) → left ≡ filter (remains (is_released confirmed) k) ws
+by_first : (confirmed k : ℕ) (ws left : List LogWrite) (result : Option Released) → Rises 0 ws
+    → result ≡ option_and_then (release_of confirmed) (write_at k left) → left ≡ filter (remains (is_released confirmed) k) ws
     → result ≡ out_at (is_released confirmed) released_of k ws
 by_first confirmed k ws left result rises is left_is =
-    is ∙ (ap (λ vs. option_and_then (release_of confirmed) (write_at k vs)) left_is ∙ ap (option_and_then (release_of confirmed)) (found_still (is_released confirmed) k 0 ws rises))
+    is ∙ (ap (λ vs. option_and_then (release_of confirmed) (write_at k vs)) left_is
+    ∙ ap (option_and_then (release_of confirmed)) (found_still (is_released confirmed) k 0 ws rises))
 
-room : (confirmed k n cap : ℕ) (ws : List LogWrite) (items old : List Released) → Rises 0 ws → IsSome (out_at (is_released confirmed) released_of k ws) → items ≡ old ++ map released_of (filter (goes (is_released confirmed) k) ws)
+room : (confirmed k n cap : ℕ) (ws : List LogWrite) (items old : List Released) → Rises 0 ws → IsSome (out_at (is_released confirmed) released_of k ws)
+    → items ≡ old ++ map released_of (filter (goes (is_released confirmed) k) ws)
     → length old + length ws ≤ cap → n ≡ length items → n < cap
 room confirmed k n cap ws items old rises some is fits n_is =
     let lengths = simp (length-append, length-map) at (ap length is) in
@@ -34,9 +37,12 @@ note-requires c =
     λ some.
     let k = c.loop-number.number in
     let ws = c.args.self.now.writes in
-    let is = by_first c.args.confirmed k ws c.loop-number.self.writes c.release.result (rises_of c.self.inside c.args.self.now c.self.view_is c.self.invariant) c.release.ensures.release c.loop-number.invariant.writes in
+    let is = by_first c.args.confirmed k ws c.loop-number.self.writes c.release.result (rises_of c.self.inside c.args.self.now c.self.view_is c.self.invariant)
+    c.release.ensures.release c.loop-number.invariant.writes in
     let P : Option Released → Type 0 = λ o. IsSome o in
-    room c.args.confirmed k _ _ ws c.loop-number.released.items c.args.released.now.items (rises_of c.self.inside c.args.self.now c.self.view_is c.self.invariant) (subst P is some) c.loop-number.invariant.released (omega (arith, c.requires.room, c.args.released.now.ok.0, c.loop-number.invariant.capacity)) (omega (arith, c.loop-number.released.ok.0))
+    room c.args.confirmed k _ _ ws c.loop-number.released.items c.args.released.now.items
+    (rises_of c.self.inside c.args.self.now c.self.view_is c.self.invariant) (subst P is some) c.loop-number.invariant.released
+    (omega (arith, c.requires.room, c.args.released.now.ok.0, c.loop-number.invariant.capacity)) (omega (arith, c.loop-number.released.ok.0))
 
 pub loop-number-preserved : goal.loop-number-preserved
 loop-number-preserved c =
@@ -44,14 +50,17 @@ loop-number-preserved c =
     let ws = c.args.self.now.writes in
     let inv = c.loop-number.invariant in
     let old = c.args.released.now.items in
-    let is = by_first c.args.confirmed k ws c.loop-number.self.writes c.release.result (rises_of c.self.inside c.args.self.now c.self.view_is c.self.invariant) c.release.ensures.release inv.writes in
+    let is = by_first c.args.confirmed k ws c.loop-number.self.writes c.release.result (rises_of c.self.inside c.args.self.now c.self.view_is c.self.invariant)
+    c.release.ensures.release inv.writes in
     record {
       released = c.note.ensures.items ∙ (ap (λ xs. xs ++ option_to_list c.release.result) inv.released
           ∙ (append_assoc old (map released_of (filter (goes (is_released c.args.confirmed) k) ws)) (option_to_list c.release.result)
-          ∙ ap (λ ys. old ++ ys) (ap (λ (o : Option Released). map released_of (filter (goes (is_released c.args.confirmed) k) ws) ++ option_to_list o) is ∙ sym (gone_next (is_released c.args.confirmed) released_of k 0 ws (rises_of c.self.inside c.args.self.now c.self.view_is c.self.invariant)))));
+          ∙ ap (λ ys. old ++ ys) (ap (λ (o : Option Released). map released_of (filter (goes (is_released c.args.confirmed) k) ws) ++ option_to_list o) is
+          ∙ sym (gone_next (is_released c.args.confirmed) released_of k 0 ws (rises_of c.self.inside c.args.self.now c.self.view_is c.self.invariant)))));
       capacity = c.note.ensures.capacity ∙ inv.capacity;
       writes = ap (λ r. r.writes) c.release.ensures.next ∙ (ap (λ (vs : List LogWrite). if is_some c.release.result then without k vs else vs) inv.writes
-          ∙ (ap (λ (o : Option Released). if is_some o then without k (filter (remains (is_released c.args.confirmed) k) ws) else filter (remains (is_released c.args.confirmed) k) ws) is
+          ∙ (ap (λ (o : Option Released). if is_some o then without k (filter (remains (is_released c.args.confirmed) k) ws)
+          else filter (remains (is_released c.args.confirmed) k) ws) is
           ∙ sym (left_next (is_released c.args.confirmed) released_of k 0 ws (rises_of c.self.inside c.args.self.now c.self.view_is c.self.invariant))));
       next = ap (λ r. r.next) c.release.ensures.next ∙ inv.next;
     }
@@ -62,7 +71,8 @@ returns-clause-released c =
     let old = c.args.released.now.items in
     let end : c.loop-number.number ≡ c.args.to = omega (arith, c.requires.order) in
     let e = all_after (is_released c.args.confirmed) c.args.to ws c.requires.high in
-    c.loop-number.invariant.released ∙ (ap (λ k. old ++ map released_of (filter (goes (is_released c.args.confirmed) k) ws)) end ∙ ap (λ xs. old ++ map released_of xs) e.0)
+    c.loop-number.invariant.released
+    ∙ (ap (λ k. old ++ map released_of (filter (goes (is_released c.args.confirmed) k) ws)) end ∙ ap (λ xs. old ++ map released_of xs) e.0)
 
 pub returns-clause-writes : goal.returns-clause-writes
 returns-clause-writes c =

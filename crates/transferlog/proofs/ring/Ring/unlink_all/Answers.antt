@@ -10,7 +10,8 @@ use Rattle.transferlog.specs.declared.report.Completed.{Completed}
 use Rattle.transferlog.specs.declared.report.Turn.{Turn}
 use Rattle.transferlog.proofs.InSlots.{rises_of}
 use Rattle.transferlog.proofs.Sweep.{goes, out_at, gone_next, all_before, all_after, room_left}
-use Rattle.transferlog.proofs.Unlinking.{completes, unlinked, unlinked_next, none_unlinked, all_unlinked, completion_at, all_completed, numbers_from, numbers_below, each_to}
+use Rattle.transferlog.proofs.Unlinking.{completes, unlinked, unlinked_next, none_unlinked, all_unlinked, completion_at, all_completed, numbers_from}
+use Rattle.transferlog.proofs.Unlinking.{numbers_below, each_to}
 use Rattle.transferlog.proofs.ring.Ring.unlink_all.Goals as goal
 
 onto_nothing : (xs : List Completed) (ys : List LogWrite) → ys ≡ [] → xs ≡ xs ++ map completed_of ys
@@ -27,7 +28,8 @@ loop-number-init c =
     let r = c.self.inside in
     let ws = c.args.self.now.writes in
     let least = from_first r c.args.self.now c.self.view_is c.self.invariant in
-    let e = all_before completes r.first ws (each_to (λ (w : LogWrite). r.first ≤ w.number) (λ w. completes w ≡ true → r.first ≤ w.number) ws (λ w from goes_now. from) least) in
+    let e = all_before completes r.first ws (each_to (λ (w : LogWrite). r.first ≤ w.number) (λ w. completes w ≡ true
+    → r.first ≤ w.number) ws (λ w from goes_now. from) least) in
     record {
       completed = onto_nothing c.args.completed.now.items _ e.0;
       capacity = refl;
@@ -35,24 +37,29 @@ loop-number-init c =
     }
 
 completed_now : (k : ℕ) (s left : RingState) (turn : Option Turn) (result : Option Completed) → left ≡ record s { writes = map (unlinked k) s.writes }
-    → turn ≡ option_map (turn_of unlinking) (write_at k left.writes) → result ≡ option_and_then (λ (t : Turn). t.completion) turn → result ≡ out_at completes completed_of k s.writes
+    → turn ≡ option_map (turn_of unlinking) (write_at k left.writes) → result ≡ option_and_then (λ (t : Turn). t.completion) turn
+    → result ≡ out_at completes completed_of k s.writes
 completed_now k s left turn result left_is turn_is is = is ∙ completion_at k s.writes left.writes turn turn_is (ap (λ r. r.writes) left_is)
 
-room : (k n cap : ℕ) (ws : List LogWrite) (items old : List Completed) → Rises 0 ws → IsSome (out_at completes completed_of k ws) → items ≡ old ++ map completed_of (filter (goes completes k) ws)
+room : (k n cap : ℕ) (ws : List LogWrite) (items old : List Completed) → Rises 0 ws → IsSome (out_at completes completed_of k ws)
+    → items ≡ old ++ map completed_of (filter (goes completes k) ws)
     → length old + length ws ≤ cap → n ≡ length items → n < cap
 room k n cap ws items old rises some is fits n_is =
     let lengths = simp (length-append, length-map) at (ap length is) in
     omega (arith, lengths, room_left completes completed_of k ws rises some)
 
-pub note-requires : goal.note-requires
-note-requires c =
+pub note_completed-requires : goal.note_completed-requires
+note_completed-requires c =
     λ some.
     let k = c.loop-number.number in
     let ws = c.args.self.now.writes in
-    let is = completed_now k c.args.self.now c.loop-number.self c.change-turn.result c.completion_in.result c.loop-number.invariant.ring c.change-turn.ensures.turn c.completion_in.ensures in
+    let is = completed_now k c.args.self.now c.loop-number.self c.change-turn.result c.completion_in.result c.loop-number.invariant.ring
+    c.change-turn.ensures.turn c.completion_in.ensures in
     let P : Option Completed → Type 0 = λ o. IsSome o in
-    room k _ _ ws c.loop-number.completed.items c.args.completed.now.items (rises_of c.self.inside c.args.self.now c.self.view_is c.self.invariant) (subst P is some)
-    c.loop-number.invariant.completed (omega (arith, c.requires, c.args.completed.now.ok.0, c.loop-number.invariant.capacity)) (omega (arith, c.loop-number.completed.ok.0))
+    room k _ _ ws c.loop-number.completed.items c.args.completed.now.items (rises_of c.self.inside c.args.self.now c.self.view_is c.self.invariant)
+    (subst P is some)
+    c.loop-number.invariant.completed (omega (arith, c.requires, c.args.completed.now.ok.0, c.loop-number.invariant.capacity))
+    (omega (arith, c.loop-number.completed.ok.0))
 
 pub loop-number-preserved : goal.loop-number-preserved
 loop-number-preserved c =
@@ -61,12 +68,14 @@ loop-number-preserved c =
     let inv = c.loop-number.invariant in
     let old = c.args.completed.now.items in
     let rises = rises_of c.self.inside c.args.self.now c.self.view_is c.self.invariant in
-    let is = completed_now k c.args.self.now c.loop-number.self c.change-turn.result c.completion_in.result inv.ring c.change-turn.ensures.turn c.completion_in.ensures in
+    let is = completed_now k c.args.self.now c.loop-number.self c.change-turn.result c.completion_in.result inv.ring c.change-turn.ensures.turn
+    c.completion_in.ensures in
     record {
-      completed = c.note.ensures.items ∙ (ap (λ xs. xs ++ option_to_list c.completion_in.result) inv.completed
+      completed = c.note_completed.ensures.items ∙ (ap (λ xs. xs ++ option_to_list c.completion_in.result) inv.completed
           ∙ (append_assoc old (map completed_of (filter (goes completes k) ws)) (option_to_list c.completion_in.result)
-          ∙ ap (λ ys. old ++ ys) (ap (λ (o : Option Completed). map completed_of (filter (goes completes k) ws) ++ option_to_list o) is ∙ sym (gone_next completes completed_of k 0 ws rises))));
-      capacity = c.note.ensures.capacity ∙ inv.capacity;
+          ∙ ap (λ ys. old ++ ys) (ap (λ (o : Option Completed). map completed_of (filter (goes completes k) ws) ++ option_to_list o) is
+          ∙ sym (gone_next completes completed_of k 0 ws rises))));
+      capacity = c.note_completed.ensures.capacity ∙ inv.capacity;
       ring = c.change-turn.ensures.next ∙ (ap (λ (r : RingState). record r { writes = with_change k unlinking r.writes }) inv.ring
           ∙ ap (λ (vs : List LogWrite). record c.args.self.now { writes = vs }) (unlinked_next k ws));
     }
@@ -78,7 +87,8 @@ returns-clause-completed c =
     let old = c.args.completed.now.items in
     let end : r.first + length r.slots.items ≤ c.loop-number.number = omega (arith, c.len.ensures, r.slots.ok.0) in
     let below = below_end r c.args.self.now c.loop-number.number c.self.view_is c.self.invariant end in
-    let e = all_after completes c.loop-number.number ws (each_to (λ (w : LogWrite). w.number < c.loop-number.number) (λ w. completes w ≡ true → w.number < c.loop-number.number) ws (λ w less goes_now. less) below) in
+    let e = all_after completes c.loop-number.number ws (each_to (λ (w : LogWrite). w.number < c.loop-number.number) (λ w. completes w ≡ true
+    → w.number < c.loop-number.number) ws (λ w less goes_now. less) below) in
     c.loop-number.invariant.completed ∙ (ap (λ xs. old ++ map completed_of xs) e.0 ∙ ap (λ ys. old ++ ys) (all_completed ws))
 
 pub returns-clause-next : goal.returns-clause-next
@@ -86,4 +96,5 @@ returns-clause-next c =
     let r = c.self.inside in
     let end : r.first + length r.slots.items ≤ c.loop-number.number = omega (arith, c.len.ensures, r.slots.ok.0) in
     let below = below_end r c.args.self.now c.loop-number.number c.self.view_is c.self.invariant end in
-    c.loop-number.invariant.ring ∙ ap (λ (vs : List LogWrite). record c.args.self.now { writes = vs }) (all_unlinked c.loop-number.number c.args.self.now.writes below)
+    c.loop-number.invariant.ring ∙ ap (λ (vs : List LogWrite). record c.args.self.now { writes = vs })
+    (all_unlinked c.loop-number.number c.args.self.now.writes below)

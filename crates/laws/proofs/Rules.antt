@@ -1,0 +1,20 @@
+-- Rules of the model: for each, the one file that looks into its definition, with what follows from it and what concludes it.
+pub mod AckTurns
+pub mod ActiveExtents
+pub mod BarrierAnswers
+pub mod CloseMarks
+pub mod Completions
+pub mod Conflicts
+pub mod Decisions
+pub mod DiskFaults
+pub mod DiskTurns
+pub mod EpochEnds
+pub mod FramesDue
+pub mod FreeBlocks
+pub mod FreshWords
+pub mod Marking
+pub mod Receipts
+pub mod ReleaseClears
+pub mod ResyncEnds
+pub mod Submissions
+pub mod Usage
