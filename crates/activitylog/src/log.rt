@@ -12,12 +12,12 @@ use std::alloc::Global;
 use std::marker::Model;
 use std::num::NonZeroUsize;
 
-/// The activity log (DRBD User's Guide, "The activity log"): at most so many extents are active, each with
+/// The activity log (DRBD User's Guide, "The activity log"): at most `slots` extents are active, each with
 /// the number of its unreleased writes. Where all slots are taken, the extent that was least recently begun
 /// and has no unreleased write makes room (DRBD's `lru_cache`).
 ///
 /// `end` takes constant time, and so does `begin`, but where an extent has to make room: then, and in
-/// `can_begin`, it may go over all active extents, of which there are at most 1024.
+/// `can_begin`, it may go over all active extents, 1,024 at most.
 #[derive(Drop)]
 pub struct ActivityLog {
     slots: usize,

@@ -14,7 +14,7 @@ const PIECE_BYTES: usize = 1400;
 /// Bytes of block data in a stream, 64 MiB.
 const DATA_BYTES: usize = 64 << 20;
 
-/// A stream of 64 MiB of block data, in frames of so many blocks.
+/// A stream of 64 MiB of block data, in frames of `blocks` blocks.
 fn stream_of(alloc: Global, blocks: usize) -> anyhow::Result<Vec<u8>>
     requires some { 0 < blocks }
     requires few { blocks ≤ 32 }
@@ -96,7 +96,7 @@ fn frequency(count: u32, time: Duration) -> u128 {
     }
 }
 
-/// Encodes so many acknowledgements and decodes each frame, and counts those that are read.
+/// Encodes this number of acknowledgements and decodes each frame, and counts those that are read.
 fn acknowledge(alloc: Global, acknowledgements: u32) -> anyhow::Result<u32> {
     let mut count: u32 = 0;
     for place in 0..acknowledgements {
@@ -128,7 +128,7 @@ fn measure_acknowledgements(rt: &HostRuntime, acknowledgements: u32) -> anyhow::
     Ok(())
 }
 
-/// Decodes frames of few blocks and of many, and takes so many acknowledgements through both.
+/// Decodes frames of few blocks and of many, and takes this number of acknowledgements through both.
 pub(crate) fn measure_all(rt: &HostRuntime, acknowledgements: u32) -> anyhow::Result<()> {
     measure(rt, 1)?;
     measure(rt, 8)?;

@@ -8,7 +8,7 @@ use crate::links::frames::Sample;
 use std::sync::Wait;
 use std::thread::Threads;
 
-/// Sends so many frames each way that is measured.
+/// Sends this number of frames each way that is measured.
 pub(crate) fn measure_all(
     rt: &HostRuntime,
     threads: &(impl Threads + Wait + Sync),

@@ -17,7 +17,7 @@ const SOURCE_BLOCKS: usize = 65_536;
 /// fetched ahead.
 const STRIDE: usize = 20_011;
 
-/// Copies so many blocks, each from another part of the buffer, and answers the sum of a byte of each.
+/// Copies `count` blocks, each from another part of the buffer, and answers the sum of a byte of each.
 fn copy_blocks(source: &[u8], block: &mut [u8], count: u32) -> u64
     requires source { length source.now ≡ 65536 * 4096 }
     requires block { length block.old ≡ 4096 }
@@ -31,7 +31,7 @@ fn copy_blocks(source: &[u8], block: &mut [u8], count: u32) -> u64
     sum
 }
 
-/// Nanoseconds of each of so many; 0 where there is none.
+/// Nanoseconds of each one where `count` took this time; 0 where there is none.
 fn each(time: Duration, count: u32) -> u128 {
     match count {
         0 => 0,
@@ -39,7 +39,7 @@ fn each(time: Duration, count: u32) -> u128 {
     }
 }
 
-/// Takes so many writes through the parts, with so many of them in flight, and prints what that cost.
+/// Takes `writes` writes through the parts, with `in_flight` of them in flight, and prints what that cost.
 fn measure(
     rt: &HostRuntime,
     source: &[u8],
@@ -74,7 +74,7 @@ fn measure(
     Ok(())
 }
 
-/// Takes so many writes through the parts of a small device and of the largest, with few in flight and with many.
+/// Takes `writes` writes through the parts of a small device and of the largest, with few in flight and with many.
 pub(crate) fn measure_all(rt: &HostRuntime, writes: u32) -> anyhow::Result<()> {
     let source = Vec::from_elem(rt.alloc(), 0x5Au8, SOURCE_BLOCKS * BLOCK_BYTES)?;
     measure(rt, &source, writes, 16, 1024)?;

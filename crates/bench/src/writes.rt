@@ -1,10 +1,9 @@
-//! How many writes a second go through both nodes of a mirror, in one thread, beside a loop that copies the
-//! same bytes as often as the mirror must.
+//! How many writes a second go through the events of a pair, in one thread, beside a loop that copies the same
+//! bytes as often as the pair must.
 
 mod copies;
 mod image;
 mod measure;
-mod mirror;
 mod rounds;
 mod workload;
 
@@ -61,7 +60,7 @@ fn measure_protocol(
     )
 }
 
-/// Takes so many writes through both nodes under each protocol.
+/// Takes `writes` writes through both nodes under each protocol.
 pub(crate) fn measure_all(rt: &HostRuntime, writes: u32) -> anyhow::Result<()> {
     let workload = Workload::new(rt.alloc())?;
     measure_protocol(rt, &workload, Protocol::A, writes)?;

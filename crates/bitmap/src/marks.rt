@@ -55,7 +55,7 @@ impl Bitmap {
         Ok(bitmap)
     }
 
-    // The bitmap of so many blocks, none of them marked.
+    // The bitmap of `blocks` blocks, none of them marked.
     fn without_marks(alloc: Global, blocks: u64) -> Result<Bitmap, Refusal>
         requires { blocks ≤ 262144 }
         ensures made { IfOk result (λ bitmap. bitmap ≡ replicate blocks false) }

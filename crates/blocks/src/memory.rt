@@ -31,7 +31,7 @@ impl Model for MemStore {
 }
 
 impl MemStore {
-    /// A disk of so many blocks, 1 to 262,144, each filled with zeros. `NoMemory` (7) where its buffer
+    /// A disk of `blocks` blocks, 1 to 262,144, each filled with zeros. `NoMemory` (7) where its buffer
     /// cannot be had.
     pub fn zeroed(alloc: Global, blocks: u32) -> Result<MemStore, Refusal>
         requires some { 0 < blocks }

@@ -73,7 +73,7 @@ impl Done {
 pub enum Reply {
     /// The step was done.
     Ok(Done),
-    /// The primary closed its end, and so many writes were completed by that.
+    /// The primary closed its end, and that completed this number of writes.
     Closed(u32),
     /// The step was refused.
     Refused(Refusal),

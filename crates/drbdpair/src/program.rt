@@ -23,7 +23,7 @@ use std::time::Clock;
 const ABOUT: &str =
     "Runs a pair of mirrored disks, after DRBD 8.4, from a script or by threads: without words, the script of standard input.";
 
-/// The whole program over its words, the first of which is its name: `script FILE`, where `-` stands for `input`, or
+/// The whole program over its words. The first is its name; then come `script FILE`, where `-` stands for `input`, or
 /// `run`, `tcp` or `serve` with its options; no words at all mean `script -`. It returns the exit status. A long run shows how far it is
 /// if `err` is a terminal.
 pub fn run_on<

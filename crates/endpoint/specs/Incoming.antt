@@ -1,8 +1,7 @@
 -- What came in, as packets and faults.
-use Rattle.std.specs.Prelude.{ℕ, suc, ◌≡◌, ◌==◌, Bool, List, [], ◌∷◌, ◌++◌, drop, map, Option, Some, None, IfSome, if◌then◌else◌}
+use Rattle.std.specs.Prelude.{ℕ, suc, ◌≡◌, Bool, List, [], ◌∷◌, ◌++◌, drop, map, Option, Some, None, IfSome}
 use Rattle.std.specs.Option.{option_map}
-use Rattle.blocks.specs.declared.command.Command.{Command}
-use Rattle.blocks.specs.declared.command.Command.TheVariants as command
+pub use Rattle.handshakes.specs.Hello.{hello_after}
 use Rattle.packets.specs.Frames.{frame_read, in_hello}
 use Rattle.link.specs.Ends.{InEnd}
 use Rattle.link.specs.Past.{Past}
@@ -26,13 +25,6 @@ pub record IncomingState : Type 0 where
   pub queued : Option (List (List ℕ))
   pub capacity : Option ℕ
   pub frames : List (List ℕ)
-
--- the frame of a hello that is expected after so many were taken: PROTOCOL, SIZES, UUIDS, and none after them
-abbrev pub hello_after : ℕ → Option Command
-hello_after taken =
-    if taken == 0 then Some command.Protocol else
-    if taken == 1 then Some command.Sizes else
-    if taken == 2 then Some command.Uuids else None
 
 -- what a frame is received as that was taken after so many others
 abbrev pub received_after : ℕ → List ℕ → Received

@@ -4,23 +4,21 @@ ghost use Rattle.packets.specs.Frames.{is_fault};
 ghost use Rattle.packets.specs.Spelling.{IsSpellable};
 ghost use Rattle.packets.specs.Table.{has_blocks};
 ghost use Rattle.endpoint.specs.Meaning.{received};
-ghost use Rattle.endpoint.specs.Incoming.{incoming, hello_after, with_received, taking_anew, SameRow};
+ghost use Rattle.endpoint.specs.Incoming.{incoming, with_received, taking_anew, SameRow};
 ghost use Rattle.blocks.specs.declared.refusal.Refusal.TheVariants.{NoMemory, NothingThere};
 
-use blocks::{Command, Refusal};
+use blocks::Refusal;
+use handshakes::Hello;
 use link::FrameIn;
 use packets::{Packet, read};
 use std::marker::Model;
-
-/// How many frames a hello has.
-const HELLO_FRAMES: u8 = 3;
 
 /// Takes packets from an end of a link.
 #[derive(Drop)]
 pub struct Incoming<I: FrameIn> {
     pub(crate) end: I,
-    // How many frames of the hello were taken on the present connection, 3 at most.
-    hello: u8,
+    // How far the peer's hello has come on the present connection.
+    hello: Hello,
 }
 
 impl<I: FrameIn> Model for Incoming<I> {
@@ -40,12 +38,14 @@ impl<I: FrameIn> Incoming<I> {
         requires { (I.state end).taken ≡ [] }
         ensures { result ≡ incoming (I.state end) }
     {
-        Incoming { end, hello: 0 }
+        Incoming {
+            end,
+            hello: Hello::new(),
+        }
     }
 
-    /// The end of the link by itself, and how many frames of the hello were taken on the present connection, 3
-    /// at most.
-    pub fn into_end(self) -> (I, u8)
+    /// The end of the link by itself, and how far the peer's hello has come on the present connection.
+    pub fn into_end(self) -> (I, Hello)
         ensures same { self ≡ incoming (I.state result.0) }
         ensures hello { result.1 ≡ min (length (I.state result.0).taken) 3 }
     {
@@ -53,7 +53,7 @@ impl<I: FrameIn> Incoming<I> {
     }
 
     /// Over an end through which frames came, as `into_end` gives it.
-    pub fn over(end: I, hello: u8) -> Incoming<I>
+    pub fn over(end: I, hello: Hello) -> Incoming<I>
         requires hello { hello ≡ min (length (I.state end).taken) 3 }
         ensures { result ≡ incoming (I.state end) }
     {
@@ -88,9 +88,9 @@ impl<I: FrameIn> Incoming<I> {
         ensures unchanged { OnErr result (self.new ≡ self.old) }
     {
         let frame = self.end.take()?;
-        let hello = hello_after(self.hello);
-        self.hello = (self.hello + 1).min(HELLO_FRAMES);
-        Ok(read(frame, hello))
+        let expected = self.hello.next();
+        self.hello.advance();
+        Ok(read(frame, expected))
     }
 
     /// Begins the connection of this number. What is on its way of those before is dropped. It takes no
@@ -103,18 +103,6 @@ impl<I: FrameIn> Incoming<I> {
         } }
     {
         self.end.restart(number);
-        self.hello = 0;
-    }
-}
-
-/// The command of the hello frame that comes after so many.
-fn hello_after(taken: u8) -> Option<Command>
-    ensures { result ≡ hello_after taken }
-{
-    match taken {
-        0 => Some(Command::Protocol),
-        1 => Some(Command::Sizes),
-        2 => Some(Command::Uuids),
-        _ => None,
+        self.hello = Hello::new();
     }
 }

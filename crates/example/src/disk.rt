@@ -3,22 +3,13 @@ ghost use Rattle.std.specs.Prelude.{if◌then◌else◌, is_some};
 
 use blocks::{Block, MemStore, Range, Store, StoreFault};
 
-/// A disk in memory that loses its cable once: so many writes pass, the next one fails and changes nothing,
-/// and those after it pass.
+/// A disk in memory that loses its cable once: some writes pass, the next one fails and changes nothing, and those
+/// after it pass.
 #[derive(Drop)]
 pub(crate) struct LooseDisk {
-    disk: MemStore,
+    pub(crate) disk: MemStore,
     // How many writes pass before the fault; none once it is over.
-    passes: Option<u64>,
-}
-
-impl LooseDisk {
-    pub(crate) fn new(disk: MemStore, passes: u64) -> LooseDisk {
-        LooseDisk {
-            disk,
-            passes: Some(passes),
-        }
-    }
+    pub(crate) passes: Option<u64>,
 }
 
 impl Store for LooseDisk {

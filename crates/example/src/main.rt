@@ -1,103 +1,88 @@
-//! How another program uses the crates: two nodes over a link, one of them with a disk of the program's own,
-//! ten writes, a link that is lost, and the resync; then the same mirror worked by threads. It prints how each write was
-//! completed.
+//! How another program uses the crates: two nodes over a link, one of them with a disk of the program's own, ten
+//! writes, a link that is lost, and the resync. It prints how each write was completed.
 #![tactic(auto)]
 
 mod disk;
-mod mirror;
-mod session;
 
 ghost use Rattle.std.specs.Prelude.{◌≤◌, ◌+◌};
 
 use blocks::{MemStore, Refusal, Settings, Tuple};
 use bytes::Bytes;
 use disk::LooseDisk;
-use mirror::{Local, Peer, connect, work};
-use primary::{Kind, Primary, Receipt};
+use mirror::{connect, work};
+use primary::{Kind, Primary};
+use ruled_link::{RuledIn, RuledLink, RuledOut};
 use secondary::Secondary;
-use session::written_by_threads;
 use std::alloc::Global;
-use std::io;
 use std::io::Print;
 use std::sync::Wait;
 
 /// Protocol C over eight blocks: a write is completed once both disks have it.
 const SETTINGS: Settings = Settings::STANDARD;
 
-/// The generation identifiers of two disks that begin alike.
-const ALIKE: Tuple = Tuple {
-    current: 1,
-    bitmap: 0,
-    first_historical: 0,
-    second_historical: 0,
-};
+/// The longest frames that a direction of the link holds.
+const FRAMES: u32 = 4;
+
+/// The most turns that both nodes may take until they rest.
+const TURNS: u32 = 1_000;
+
+type Local<R> = Primary<RuledOut<R>, RuledIn<R>, MemStore>;
+
+type Peer<R> = Secondary<RuledOut<R>, RuledIn<R>, LooseDisk>;
 
 fn main(rt: HostRuntime) -> anyhow::Result<()> {
-    run(&rt, &rt, rt.alloc())?;
-    let receipt = written_by_threads(rt, rt.alloc())?;
-    println!(rt;
-        "by threads, block {}: {}",
-        receipt.first().0,
-        place(&receipt)
-    )?;
-    Ok(())
+    mirrored(&rt, &rt, rt.alloc())
 }
 
-fn run<R: Wait + Copy + Drop>(out: &impl Print, rt: R, alloc: Global) -> anyhow::Result<()> {
-    let mut local = primary(alloc)?;
-    let mut peer = secondary(alloc)?;
-    mirrored(out, rt, alloc, &mut local, &mut peer)
-}
+/// Ten writes: the peer gets four before the link is lost, and the others by a resync.
+fn mirrored<R: Wait + Copy + Drop>(out: &impl Print, rt: R, alloc: Global) -> anyhow::Result<()> {
+    // Two disks that begin alike have the same generation identifiers.
+    let alike = Tuple::new(1, 0, 0, 0);
+    let zeros = MemStore::zeroed(alloc, SETTINGS.blocks)?;
+    let marks = Vec::from_elem(alloc, false, SETTINGS.blocks as usize)?;
+    let mut local = Local::<R>::new(alloc, SETTINGS, zeros, alike, marks)?;
+    let disk = LooseDisk {
+        disk: MemStore::zeroed(alloc, SETTINGS.blocks)?,
+        passes: Some(4),
+    };
+    let mut peer = Peer::<R>::new(alloc, SETTINGS, disk, alike)?;
 
-/// Ten writes, of which the peer gets four before the link is lost, and the others by a resync.
-fn mirrored<R: Wait + Copy + Drop>(
-    out: &impl Print,
-    rt: R,
-    alloc: Global,
-    local: &mut Local<R, MemStore>,
-    peer: &mut Peer<R, LooseDisk>,
-) -> anyhow::Result<()> {
     // The peer's disk fails the fifth write, and with that its end of the link closes.
-    connect(rt, alloc, local, peer, 2, 3)?;
-    fill(alloc, local, 0, 6)?;
-    work(local, peer)?;
+    link_up(rt, alloc, &mut local, &mut peer, (2, 3))?;
+    fill(alloc, &mut local, 0, 6)?;
+    work(&mut local, &mut peer, TURNS)?;
     println!(out; "peer open: {}", peer.is_open())?;
 
     // The primary's end closes too, which completes what waited for the peer; it goes on alone.
     println!(out; "completed by the close: {}", local.close()?)?;
-    fill(alloc, local, 4, 4)?;
-    work(local, peer)?;
+    fill(alloc, &mut local, 4, 4)?;
+    work(&mut local, &mut peer, TURNS)?;
     println!(out; "marked: {}", local.marks())?;
 
     // A new link, and fresh words: the marked blocks are copied.
-    connect(rt, alloc, local, peer, 4, 5)?;
-    println!(out;
-        "marked: {}, {} and {}",
-        local.marks(),
-        local.tuple(),
-        peer.tuple()
-    )?;
-    confirmed(out, local)?;
-    Ok(())
+    link_up(rt, alloc, &mut local, &mut peer, (4, 5))?;
+    let (marks, own, other) = (local.marks(), local.tuple(), peer.tuple());
+    println!(out; "marked: {marks}, {own} and {other}")?;
+    confirmed(out, &mut local)
 }
 
-/// A primary over a zero-filled disk in memory.
-fn primary<R: Wait + Drop>(alloc: Global) -> Result<Local<R, MemStore>, Refusal> {
-    let disk = MemStore::zeroed(alloc, SETTINGS.blocks)?;
-    let marks = Vec::from_elem(alloc, false, SETTINGS.blocks as usize)?;
-    Primary::new(alloc, SETTINGS, disk, ALIKE, marks)
-}
-
-/// A secondary over a disk that fails its fifth write.
-fn secondary<R: Wait + Drop>(alloc: Global) -> Result<Peer<R, LooseDisk>, Refusal> {
-    let disk = LooseDisk::new(MemStore::zeroed(alloc, SETTINGS.blocks)?, 4);
-    Secondary::new(alloc, SETTINGS, disk, ALIKE)
+/// Opens both nodes over a new link. They exchange their hellos, and copy what was marked. Returns whether they rest.
+fn link_up<R: Wait + Copy + Drop>(
+    rt: R,
+    alloc: Global,
+    local: &mut Local<R>,
+    peer: &mut Peer<R>,
+    words: (u64, u64),
+) -> Result<bool, Refusal> {
+    let link = RuledLink::new(rt, alloc, FRAMES)?;
+    connect(local, peer, link.there, link.back, words)?;
+    work(local, peer, TURNS)
 }
 
 /// Submits writes of one block each, from this block on.
 fn fill<R: Wait + Drop>(
     alloc: Global,
-    local: &mut Local<R, MemStore>,
+    local: &mut Local<R>,
     first: u64,
     count: u64,
 ) -> Result<(), Refusal>
@@ -110,25 +95,17 @@ fn fill<R: Wait + Drop>(
 }
 
 /// Prints how each write was completed.
-fn confirmed<R: Wait + Drop>(rt: &impl Print, local: &mut Local<R, MemStore>) -> io::Result<()> {
+fn confirmed<R: Wait + Drop>(out: &impl Print, local: &mut Local<R>) -> anyhow::Result<()> {
     for number in 1..=local.accepted() {
         let Ok(receipt) = local.take_completed(number) else {
-            println!(rt; "write {number} is not completed")?;
+            println!(out; "write {number} is not completed")?;
             continue;
         };
-        println!(rt;
-            "write {number} of block {}: {}",
-            receipt.first().0,
-            place(&receipt)
-        )?;
+        let disks = match receipt.kind() {
+            Kind::Linked => "both disks",
+            Kind::Alone => "the primary's disk",
+        };
+        println!(out; "write {number} of block {}: {disks}", receipt.first().0)?;
     }
     Ok(())
-}
-
-/// Which disks a completed write is on.
-fn place(receipt: &Receipt) -> &'static str {
-    match receipt.kind() {
-        Kind::Linked => "both disks",
-        Kind::Alone => "the primary's disk",
-    }
 }

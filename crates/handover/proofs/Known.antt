@@ -17,8 +17,9 @@ use Rattle.model.specs.Theorems.{Opening, primary_at}
 use Rattle.laws.proofs.Rules.FreshWords.{loss-some}
 use Rattle.laws.proofs.Lists.Each.{Each, each-get, each-append, each-change}
 use Rattle.laws.proofs.Lists.Last.{last-at}
-use Rattle.laws.proofs.Primary.Moves.{following-from, IsKeptByMoves, IsKeptByReleases, kept-by-releases, keeps-run, with_frame, refusing, pushing}
+use Rattle.laws.proofs.Primary.Moves.{following-from, IsKeptByMoves, IsKeptByReleases, kept-by-releases, keeps-run, with_frame, pushing}
 use Rattle.laws.proofs.WriteOrder.Generations.{end-current, start-current, lost-current}
+use Rattle.laws.proofs.Rules.RefusedFrames.{refusing}
 
 -- a connection's word for a loss is above 0
 abbrev HasWord : Outward → Type 0

@@ -1,27 +1,23 @@
 -- Both disks keep the blocks of their device, and get none past its end: what a secondary takes lies in the device.
 use Rattle.std.proofs.Common.{ℕ, suc, ◌≡◌, ◌+◌, ◌-◌, ◌≤◌, ◌<◌, inl, inr, Bool, true, false, ◌&&◌, List, [], ◌∷◌, ◌++◌, length, take, drop, map, Option, Some}
-use Rattle.std.proofs.Common.{None, is_none, slice_get, Ok, Err, refl, sym, ◌∙◌, ap, subst, arith, ◌==◌, nat_lt, nat_le}
+use Rattle.std.proofs.Common.{None, slice_get, Ok, Err, refl, sym, ◌∙◌, ap, subst, arith, ◌==◌, nat_lt, nat_le}
 use Rattle.std.specs.Prelude.{filter_map, if◌then◌else◌, is_some}
 use Rattle.std.specs.List.{cons_option}
 use Rattle.std.proofs.lemmas.Bool.{cases_Bool, cases_lt, both_ways, and_parts, lt-ltb, ltb-true, ltb-false, leb-true}
 use Rattle.std.proofs.lemmas.List.{append-nil, drop-append-le}
 use Rattle.std.proofs.lemmas.List.Elements.{filter_map-append}
-use Rattle.blocks.specs.declared.refusal.Refusal.TheVariants.{NothingThere, NotConnected, PendingFull, NoMemory}
 use Rattle.blocks.specs.declared.settings.Settings.{Settings}
 use Rattle.blocks.specs.declared.settings.Protocol.{Protocol}
 use Rattle.blocks.specs.declared.outcome.What.{What}
 use Rattle.blocks.specs.declared.outcome.Reply.{Reply}
-use Rattle.blocks.specs.declared.outcome.Reply.TheVariants as reply
 use Rattle.model.specs.Contents.{BlockMap, IsDisk, Layer, block_under, overlay, extent_of, is_range}
 use Rattle.model.specs.Stream.{Item, WriteItem, ResyncItem, BarrierItem, SyncUuidItem, UuidsItem, first_of, contents_of, below, Part, is_in, layers_from}
-use Rattle.model.specs.Frames.{Packet, DataFrame, RsDataReplyFrame, BarrierFrame, ProtocolFrame, UuidsFrame, SizesFrame, SyncUuidFrame, RecvAckFrame}
-use Rattle.model.specs.Frames.{WriteAckFrame, RsWriteAckFrame, BarrierAckFrame, Received}
-use Rattle.model.specs.Refusals.{Test}
+use Rattle.model.specs.Frames.{Packet}
+use Rattle.model.specs.Frames.{Received}
 use Rattle.model.specs.Primary.{PrimaryHistory, last_of, change_last, local_layer, local_map}
-use Rattle.model.specs.Secondary.{Inward, SecondaryHistory, no_inward, inward, with_inward, received_item, items_taken, pending, map_of, secondary_map}
-use Rattle.model.specs.Secondary.{is_in_resync}
-use Rattle.model.specs.SecondarySteps.{answering, barrier_answer, barriers_to_answer, succeeding_secondary, opened_secondary, Checked, checking_hello}
-use Rattle.model.specs.SecondarySteps.{checking_item, checked_if, checking, take_item, receive, has_place, is_above, is_apart, offsets_at, applied_answer}
+use Rattle.model.specs.Secondary.{Inward, SecondaryHistory, no_inward, inward, with_inward, received_item, items_taken, map_of, secondary_map}
+use Rattle.model.specs.SecondarySteps.{answering, barrier_answer, barriers_to_answer, opened_secondary, Checked, checking_hello}
+use Rattle.model.specs.SecondarySteps.{checking_item, checking, take_item, receive, offsets_at, applied_answer}
 use Rattle.model.specs.SecondarySteps.{applying, failing}
 use Rattle.model.specs.LocalRuns.{PrimaryEvent, primary_run, SecondaryEvent, OpensToo, Receives, Applies, FailsToApply, Acknowledges, ClosesToo}
 use Rattle.model.specs.LocalRuns.{secondary_after, secondary_run}
@@ -32,14 +28,15 @@ use Rattle.laws.proofs.Blocks.Ranges.{outside-range}
 use Rattle.laws.proofs.Joining.Openings.{HasOpening, kept-opening-primary}
 use Rattle.laws.proofs.Lists.Each.{Each, each-get, each-append, each-change}
 use Rattle.laws.proofs.Lists.Elements.{get-more}
-use Rattle.laws.proofs.Lists.Last.{change-twice, last-at}
-use Rattle.laws.proofs.Lists.Tests.{test-passed}
+use Rattle.laws.proofs.Lists.Last.{last-at}
 use Rattle.laws.proofs.Secondary.Good.{items-refusing}
-use Rattle.laws.proofs.Secondary.Moves.{framed, receipting, refused_end, pushed_one, closed_end, after-take, after-open, after-peer, after-fault, after-push}
+use Rattle.laws.proofs.Secondary.Moves.{framed, receipting, pushed_one, closed_end, after-take, after-open, after-peer, after-fault, after-push}
 use Rattle.laws.proofs.Secondary.Moves.{after-close}
-use Rattle.laws.proofs.Secondary.Runs.{tested-keeps}
 use Rattle.laws.proofs.Tracked.{IsTracked}
 use Rattle.laws.proofs.Tracked.Moves.{beyond-the-end}
+use Rattle.laws.proofs.Rules.Memory.{receive-has}
+use Rattle.laws.proofs.Rules.RefusedFrames.{refused_in, refused_by_too, refused-last-too, item-refused}
+use Rattle.laws.proofs.Rules.TakenItems.{item-checked}
 
 -- The primary's disk.
 
@@ -144,7 +141,7 @@ inside-applying blocks asked place d i = go (slice_get (items_taken d) place)
 plain : (blocks : ℕ) (d : Inward) → IsInside blocks d → d.closed ≡ false → d.refused ≡ false
 plain blocks d i standing = elim (cases_Bool d.refused) [ inl was ↦ absurd (both_ways d.closed standing (i.refused was)) | inr not_so ↦ not_so ]
 
-inside-refusing : (blocks : ℕ) (frame : Received) (d : Inward) → d.closed ≡ false → IsInside blocks d → IsInside blocks (refused_end (framed frame d))
+inside-refusing : (blocks : ℕ) (frame : Received) (d : Inward) → d.closed ≡ false → IsInside blocks d → IsInside blocks (refused_in frame d)
 inside-refusing blocks frame d standing i =
     record { base = i.base; items = subst (AreInside blocks) (sym (items-refusing frame d (plain blocks d i standing))) i.items; refused = λ was. refl }
 
@@ -193,38 +190,23 @@ range-inside s first count range =
     let all = and_parts ((nat_lt 0 count && nat_le count 32) && nat_le (first + count) s.blocks) (extent_of first == extent_of (first + count - 1)) range in
     leb-true (first + count) s.blocks (and_parts (nat_lt 0 count && nat_le count 32) (nat_le (first + count) s.blocks) all.0).1
 
-passed-if : (good : Bool) (name : What) (h : SecondaryHistory) (done : What × SecondaryHistory) → checked_if good name h ≡ Ok done → good ≡ true
-passed-if true name h done is = refl
-passed-if false name h done is = absurd (cc)
-
 -- an item that is accepted lies in the device
 item-inside : (packet : Packet) (place : ℕ) (c : Inward) (h : SecondaryHistory) (done : What × SecondaryHistory) (item : Item)
     → checking_item packet place c h ≡ Ok done → received_item (Ok packet) ≡ Some item
     → first_of item + length (contents_of item) ≤ h.settings.blocks
-item-inside (DataFrame write at) place c h done item is brings =
-    let good = passed-if _ _ _ done is in
-    let range = (and_parts ((at == place) && has_place place) (is_range h.settings write.first (length write.contents))
-    (and_parts _ (is_above write.number (items_taken c) && is_apart (WriteItem write) (items_taken c)) good).0).1 in
-    let same : WriteItem write ≡ item = cc in
-    subst (λ (x : Item). first_of x + length (contents_of x) ≤ h.settings.blocks) same (range-inside h.settings write.first (length write.contents) range)
-item-inside (RsDataReplyFrame block contents at) place c h done item is brings =
-    let good = passed-if _ _ _ done is in
-    let range = (and_parts ((at == place) && has_place place) (is_range h.settings block 1)
-    (and_parts _ (is_in_resync c && is_apart (ResyncItem block contents) (items_taken c)) good).0).1 in
-    let same : ResyncItem block contents ≡ item = cc in
-    subst (λ (x : Item). first_of x + length (contents_of x) ≤ h.settings.blocks) same (range-inside h.settings block 1 range)
-item-inside (BarrierFrame number) place c h done item is brings = let same : BarrierItem number ≡ item =
-    cc in subst (λ (x : Item). first_of x + length (contents_of x) ≤ h.settings.blocks) same (omega arith)
-item-inside (ProtocolFrame asked) place c h done item is brings = absurd (cc)
-item-inside (UuidsFrame tuple) place c h done item is brings = let same : UuidsItem tuple ≡ item =
-    cc in subst (λ (x : Item). first_of x + length (contents_of x) ≤ h.settings.blocks) same (omega arith)
-item-inside (SizesFrame blocks) place c h done item is brings = absurd (cc)
-item-inside (SyncUuidFrame word) place c h done item is brings = let same : SyncUuidItem word ≡ item =
-    cc in subst (λ (x : Item). first_of x + length (contents_of x) ≤ h.settings.blocks) same (omega arith)
-item-inside (RecvAckFrame ack) place c h done item is brings = absurd (cc)
-item-inside (WriteAckFrame ack) place c h done item is brings = absurd (cc)
-item-inside (RsWriteAckFrame ack) place c h done item is brings = absurd (cc)
-item-inside (BarrierAckFrame number size) place c h done item is brings = absurd (cc)
+item-inside packet place c h done item is brings =
+    item-checked (λ v. v ≡ Ok done → first_of item + length (contents_of item) ≤ h.settings.blocks) packet place c h
+    (λ write at of may taken. brought (WriteItem write) (ap (λ (p : Packet). received_item (Ok p)) of)
+    (range-inside h.settings write.first (length write.contents) may.here.range))
+    (λ block contents at of may taken. brought (ResyncItem block contents) (ap (λ (p : Packet). received_item (Ok p)) of)
+    (range-inside h.settings block 1 may.here.range))
+    (λ number of taken. brought (BarrierItem number) (ap (λ (p : Packet). received_item (Ok p)) of) (omega arith))
+    (λ word of taken. brought (SyncUuidItem word) (ap (λ (p : Packet). received_item (Ok p)) of) (omega arith))
+    (λ tuple of taken. brought (UuidsItem tuple) (ap (λ (p : Packet). received_item (Ok p)) of) (omega arith)) (λ refusal taken. absurd (cc)) is
+  where
+    brought : (x : Item) → received_item (Ok packet) ≡ Some x → first_of x + length (contents_of x) ≤ h.settings.blocks
+        → first_of item + length (contents_of item) ≤ h.settings.blocks
+    brought x of within = let same : x ≡ item = cc in subst (λ (y : Item). first_of y + length (contents_of y) ≤ h.settings.blocks) same within
 
 checked-inside : (frame : Received) (c : Inward) (h : SecondaryHistory) (done : What × SecondaryHistory) → checking frame c h ≡ Ok done
     → BringsInside h.settings.blocks (length c.taken) frame
@@ -243,15 +225,12 @@ then-answering blocks h a = inside-change blocks h (with_inward answering h) ans
 inside-take : (blocks : ℕ) (frame : Received) (h : SecondaryHistory) → (inward h).closed ≡ false → HasInside blocks h → HasInside blocks (take_item frame h).1
 inside-take blocks frame h standing a = go (checking frame (inward h) (with_inward (framed frame) h)) refl
   where
-    refuses : HasInside blocks (with_inward refused_end (with_inward (framed frame) h))
-    refuses = inside-change blocks h _ (λ c. refused_end (framed frame c)) refl refl (change-twice (framed frame) refused_end h.connections)
+    refuses : HasInside blocks (refused_by_too frame h)
+    refuses = inside-change blocks h _ (refused_in frame) refl refl (refused-last-too frame h)
         (inside-refusing blocks frame (inward h) standing) a
 
     go : (v : Checked) → checking frame (inward h) (with_inward (framed frame) h) ≡ v → HasInside blocks (take_item frame h).1
-    go (Err refusal) is = subst (λ (v : Checked). HasInside blocks (elim v as (λ _. Reply × SecondaryHistory) [
-      | Ok done ↦ succeeding_secondary done.0 done.1
-      | Err refusal ↦ (reply.Refused refusal, with_inward refused_end (with_inward (framed frame) h))
-    ]).1) (sym is) refuses
+    go (Err refusal) is = subst (λ (r : Reply × SecondaryHistory). HasInside blocks r.1) (sym (item-refused frame h refusal is)) refuses
     go (Ok done) is =
         let brings : BringsInside blocks (length (inward h).taken) frame = subst (λ (n : ℕ). BringsInside n (length (inward h).taken) frame) a.size
         (checked-inside frame (inward h) (with_inward (framed frame) h) done is) in
@@ -269,17 +248,7 @@ inside-take blocks frame h standing a = go (checking frame (inward h) (with_inwa
 inside-receive : (blocks : ℕ) (frame : Option Received) (starved : Bool) (h : SecondaryHistory) → HasInside blocks h
     → HasInside blocks (receive frame starved h).1
 inside-receive blocks frame starved h a =
-    tested-keeps (HasInside blocks) h (((inward h).closed, NotConnected) ∷ rest)
-    (λ _. elim frame as (λ _. Reply × SecondaryHistory) [ None ↦ (reply.Refused NothingThere, h) | Some taken ↦ take_item taken h ])
-    a (λ passed. go frame (test-passed (inward h).closed NotConnected rest passed).0)
-  where
-    rest : List Test
-    rest = (nat_le h.settings.pending (length (pending (inward h))), PendingFull) ∷ (starved, NoMemory) ∷ (is_none frame, NothingThere) ∷ []
-
-    go : (v : Option Received) → (inward h).closed ≡ false
-        → HasInside blocks (elim v as (λ _. Reply × SecondaryHistory) [ None ↦ (reply.Refused NothingThere, h) | Some taken ↦ take_item taken h ]).1
-    go None standing = a
-    go (Some taken) standing = inside-take blocks taken h standing a
+    receive-has (λ r. HasInside blocks r.1) frame starved h (λ refusal other. a) (λ taken is standing. inside-take blocks taken h standing a)
 
 inside-after : (blocks : ℕ) (event : SecondaryEvent) (h : SecondaryHistory) → HasInside blocks h → HasInside blocks (secondary_after event h)
 inside-after blocks (OpensToo unseen) h a = after-open (HasInside blocks) unseen h a (λ was. then-answering blocks (opened_secondary unseen h) (record {

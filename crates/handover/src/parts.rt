@@ -21,7 +21,7 @@ use secondary::Secondary;
 use std::alloc::Global;
 use volume::Parts;
 
-/// The identifiers of a disk of which nothing is known.
+/// The identifiers of a disk that nobody knows.
 const UNKNOWN: Tuple = Tuple {
     current: 0,
     bitmap: 0,

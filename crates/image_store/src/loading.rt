@@ -20,7 +20,7 @@ pub(crate) fn check_length(found: u64, blocks: u32) -> Result<(), OpenFault>
     Ok(())
 }
 
-/// Reads so many blocks from the beginning of the file.
+/// Reads `blocks` blocks from the beginning of the file.
 pub(crate) fn load<F: FileExt>(alloc: Global, file: &F, blocks: u32) -> Result<MemStore, OpenFault>
     requires some { 0 < blocks }
     requires few { blocks ≤ 262144 }

@@ -51,7 +51,7 @@ impl<F: FileExt + OpenFile + Drop> ImageStore<F> {
     /// and reads it whole into memory. The handle makes durable what the store has written. It makes no file, and
     /// changes none.
     ///
-    /// `WrongLength` comes where the file has not just `blocks * 4096` bytes, of which nothing is read then; `Unread`
+    /// `WrongLength` comes where the file has not just `blocks * 4096` bytes; nothing of it is read then. `Unread` comes
     /// where the system refuses to open, measure, read or share the file; `NoMemory` where there is none for the
     /// device's bytes.
     pub fn open<H: Files<File = F> + AllocGlobal>(

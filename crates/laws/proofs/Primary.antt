@@ -10,6 +10,7 @@ pub mod LastOpen
 pub mod LawfulMoves
 pub mod Met
 pub mod Moves
+pub mod Seen
 pub mod Sendable
 pub mod StaysClosed
 pub mod Writes

@@ -1,6 +1,7 @@
 -- Rules of the model: for each, the one file that looks into its definition, with what follows from it and what concludes it.
 pub mod AckTurns
 pub mod ActiveExtents
+pub mod Answered
 pub mod BarrierAnswers
 pub mod CloseMarks
 pub mod Completions
@@ -12,9 +13,14 @@ pub mod EpochEnds
 pub mod FramesDue
 pub mod FreeBlocks
 pub mod FreshWords
+pub mod Hellos
 pub mod Marking
+pub mod Memory
 pub mod Receipts
+pub mod RefusedFrames
+pub mod Releases
 pub mod ReleaseClears
 pub mod ResyncEnds
 pub mod Submissions
+pub mod TakenItems
 pub mod Usage

@@ -33,7 +33,7 @@ impl Model for Queue {
 }
 
 impl Queue {
-    /// An empty queue for so many frames. `NoMemory` (7) where its room cannot be had.
+    /// An empty queue for `capacity` frames. `NoMemory` (7) where its room cannot be had.
     pub(crate) fn new(alloc: Global, capacity: u32) -> Result<Queue, Refusal>
         ensures empty { IfOk result (λ q. q ≡ record { taken = []; frames = []; capacity = capacity }) }
         ensures refused { IfErr result (λ e. e ≡ NoMemory) }

@@ -1,6 +1,6 @@
 -- The primary takes a frame: the peer's hello with the decision, and then its acknowledgements.
-use Rattle.std.specs.Prelude.{ℕ, zero, suc, nat_lt, ◌==◌, Bool, true, false, ◌&&◌, ◌||◌, not, if◌then◌else◌, [], ◌∷◌, ◌++◌, length, take, find, Option, Some}
-use Rattle.std.specs.Prelude.{None, is_none, slice_get, Result, Ok, Err}
+use Rattle.std.specs.Prelude.{ℕ, zero, suc, nat_lt, ◌==◌, Bool, true, false, ◌&&◌, ◌||◌, not, if◌then◌else◌, List, [], ◌∷◌, ◌++◌, length, take, find, Option}
+use Rattle.std.specs.Prelude.{Some, None, is_none, slice_get, Result, Ok, Err}
 use Rattle.std.specs.List.{list_all}
 use Rattle.blocks.specs.declared.tuple.Tuple.{Tuple}
 use Rattle.blocks.specs.declared.settings.Protocol.{Protocol}
@@ -19,6 +19,7 @@ use Rattle.model.specs.Stream.{Item, WriteItem, ResyncItem, BarrierItem, SyncUui
 use Rattle.model.specs.Frames.{Packet, ProtocolFrame, SizesFrame, UuidsFrame, RecvAckFrame, WriteAckFrame, RsWriteAckFrame, BarrierAckFrame, Acknowledged}
 use Rattle.model.specs.Frames.{Received, naming}
 use Rattle.model.specs.Identifiers.{stands_in, decision, sync_start}
+use Rattle.model.specs.Refusals.{Test}
 use Rattle.model.specs.Primary.{Outward, PrimaryHistory, outward, with_outward, items_sent, same_naming, was_received, was_written, was_resynced}
 use Rattle.model.specs.Primary.{barrier_acknowledged, is_resync}
 use Rattle.model.specs.Marks.{marking_all, clearing, releasing}
@@ -148,11 +149,15 @@ take_frame frame h =
       | Err error ↦ (reply.Refused error.0, (follows (closing (with_outward (λ c. record c { refused = true }) error.1))).history)
     ]
 
+-- when the next frame is not taken, in order
+abbrev pub ack_in_tests : PrimaryHistory → Option Received → Bool → List Test
+ack_in_tests h frame starved =
+    let c = outward h in
+    (c.closed, NotConnected) ∷ (not c.begun && starved, NoMemory) ∷ (is_none frame, NothingThere) ∷ []
+
 -- the next frame that the link has for this end, or none
 abbrev pub ack_in : Option Received → Bool → PrimaryHistory → Reply × PrimaryHistory
-ack_in frame starved h =
-    let c = outward h in
-    tested h ((c.closed, NotConnected) ∷ (not c.begun && starved, NoMemory) ∷ (is_none frame, NothingThere) ∷ []) (λ _. elim frame [
-      | None ↦ (reply.Refused NothingThere, h)
-      | Some taken ↦ take_frame taken h
-    ])
+ack_in frame starved h = tested h (ack_in_tests h frame starved) (λ _. elim frame [
+  | None ↦ (reply.Refused NothingThere, h)
+  | Some taken ↦ take_frame taken h
+])

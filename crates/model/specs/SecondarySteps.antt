@@ -162,17 +162,18 @@ take_item frame h =
       | Err refusal ↦ (reply.Refused refusal, with_inward (λ c. record c { refused = true; closed = true }) taken)
     ]
 
+-- when the next frame is not taken, in order
+abbrev pub receive_tests : SecondaryHistory → Option Received → Bool → List Test
+receive_tests h frame starved =
+    let c = inward h in
+    (c.closed, NotConnected) ∷ (nat_le h.settings.pending (length (pending c)), PendingFull) ∷ (starved, NoMemory) ∷ (is_none frame, NothingThere) ∷ []
+
 -- the next frame that the link has for this end, or none
 abbrev pub receive : Option Received → Bool → SecondaryHistory → Reply × SecondaryHistory
-receive frame starved h =
-    let c = inward h in
-    tested_secondary h ((c.closed, NotConnected) ∷ (nat_le h.settings.pending (length (pending c)), PendingFull) ∷ (starved, NoMemory) ∷ (
-      is_none frame,
-      NothingThere,
-    ) ∷ []) (λ _. elim frame [
-      | None ↦ (reply.Refused NothingThere, h)
-      | Some taken ↦ take_item taken h
-    ])
+receive frame starved h = tested_secondary h (receive_tests h frame starved) (λ _. elim frame [
+  | None ↦ (reply.Refused NothingThere, h)
+  | Some taken ↦ take_item taken h
+])
 
 -- The disk.
 

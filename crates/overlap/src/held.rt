@@ -150,7 +150,7 @@ fn with_holder(lowest: Option<u64>, first: u64, start: u64, holder: &Holder) -> 
     lowest
 }
 
-/// The lower of the numbers, of which the first may be missing.
+/// The lower of the two numbers; the first may be missing.
 fn lower(lowest: Option<u64>, number: u64) -> u64
     ensures { result ≡ lower_of lowest number }
 {

@@ -115,7 +115,7 @@ fn command_with(number: u16) -> Option<Command>
     }
 }
 
-/// Whether the payload of a command may have so many bytes.
+/// Whether the payload of a command may have `len` bytes.
 fn may_have(command: Command, len: u32) -> bool
     ensures { result ≡ is_length command len }
 {
@@ -129,7 +129,7 @@ fn may_have(command: Command, len: u32) -> bool
     }
 }
 
-/// Whether so many bytes are 1 to 32 whole blocks.
+/// Whether `bytes` bytes are 1 to 32 whole blocks.
 pub(crate) fn is_whole_blocks(bytes: u32) -> bool
     ensures { result ≡ is_blocks bytes }
 {

@@ -1,7 +1,6 @@
 -- Both ends of a pair open, or none.
 use Rattle.std.proofs.Common.{ℕ, ◌≡◌, ◌<◌, nat_le, Bool, true, false, not, ◌&&◌, [], ◌∷◌, length, Option, Some, None, Err, refl, sym, ◌∙◌, ap, arith}
 use Rattle.std.specs.Option.{option_map}
-use Rattle.std.proofs.lemmas.Bool.Decides.{nat_tests}
 use Rattle.blocks.specs.Identifiers.{are_fresh}
 use Rattle.blocks.specs.declared.refusal.Refusal.{Refusal}
 use Rattle.blocks.specs.declared.refusal.Refusal.TheVariants.{NotDrained, UsedIdentifier, StreamFull, NoMemory}
@@ -22,6 +21,10 @@ use Rattle.model.specs.SecondarySteps.{open_secondary, opened_secondary, succeed
 use Rattle.pair_steps.specs.State.{AreEnds, PairHas}
 use Rattle.pair_steps.proofs.Rooms.{number-is}
 use Rattle.pair.specs.State.{PairView, state}
+use Rattle.laws.proofs.Rules.Memory.{open-refused, open-starved}
+use Rattle.laws.proofs.Lists.Tests.{test-passed}
+use Rattle.std.proofs.Common.{drop}
+use Rattle.std.proofs.lemmas.Bool.{leb-false}
 
 -- Two ends of a new link.
 pub new-ends : (s : OutState) (t : InState) (capacity : ℕ) → IsUnused s t capacity
@@ -62,28 +65,13 @@ past-first sync loss starved h closed drained =
     ∙ ap (λ b. first_refusal ((not b, NotDrained) ∷ open_tests h.primary sync loss starved)) drained
 
 -- a refusal but for memory is one with it
-abbrev by : Bool → Bool → Bool → Bool → Option Refusal
-by a b c starved = first_refusal ((a, NotDrained) ∷ (b, UsedIdentifier) ∷ (c, StreamFull) ∷ (starved, NoMemory) ∷ [])
-
-same-refusal : (a b c : Bool) (e : Refusal) → Some e ≡ by a b c false → by a b c (is_starved {R = Done} (Err e)) ≡ Some e
-same-refusal true b c e is = sym is
-same-refusal false true c e is = sym is
-same-refusal false false true e is = sym is
-same-refusal false false false e is = absurd (cc)
-
-short-refusal : (a b c : Bool) → by a b c false ≡ None → by a b c true ≡ Some NoMemory
-short-refusal true b c is = absurd (cc)
-short-refusal false true c is = absurd (cc)
-short-refusal false false true is = absurd (cc)
-short-refusal false false false is = refl
-
 pub may-not : (sync loss : ℕ) (e : Refusal) (h : PrimaryHistory) → Some e ≡ first_refusal (open_tests h sync loss false)
     → first_refusal (open_tests h sync loss (is_starved {R = Done} (Err e))) ≡ Some e
-may-not sync loss e h is = same-refusal (not (outward h).closed) (not (are_fresh sync loss (known_tuples h))) (nat_le 4294967295 (length h.connections)) e is
+may-not sync loss e h is = open-refused h sync loss (is_starved {R = Done} (Err e)) e (sym is)
 
 pub no-link : (sync loss : ℕ) (h : PrimaryHistory) → first_refusal (open_tests h sync loss false) ≡ None
     → first_refusal (open_tests h sync loss true) ≡ Some NoMemory
-no-link sync loss h is = short-refusal (not (outward h).closed) (not (are_fresh sync loss (known_tuples h))) (nat_le 4294967295 (length h.connections)) is
+no-link sync loss h is = open-starved h sync loss is
 
 -- what the primary's step was refused for
 pub was-refused : (sync loss : ℕ) (starved : Bool) (e : Refusal) (h : PrimaryHistory) → reply.Refused e ≡ (open_primary sync loss starved h).0
@@ -111,19 +99,13 @@ was-done sync loss starved h said = go (first_refusal (open_tests h sync loss st
 pub counted : (v : PairView) (sync loss : ℕ) (h : PairHistory) → PairHas (state v) h
     → reply.Ok (done_with what.Nothing) ≡ (open_primary sync loss false h.primary).0 → v.secondary.core.number < 4294967295
 counted v sync loss h has said =
-    let few = go (not (outward h.primary).closed) (not (are_fresh sync loss (known_tuples h.primary))) (was-done sync loss false h.primary said) in
+    let one = test-passed (not (outward h.primary).closed) NotDrained (drop 1 (open_tests h.primary sync loss false)) (was-done sync loss false h.primary said) in
+    let two = test-passed (not (are_fresh sync loss (known_tuples h.primary))) UsedIdentifier (drop 2 (open_tests h.primary sync loss false)) one.1 in
+    let three = test-passed (nat_le 4294967295 (length h.primary.connections)) StreamFull (drop 3 (open_tests h.primary sync loss false)) two.1 in
+    let few = leb-false 4294967295 (length h.primary.connections) three.0 in
     let number : v.secondary.core.number ≡ v.primary.core.connections = number-is (state v) h has in
     let count : v.primary.core.connections ≡ length h.primary.connections = has.primary.leaves.core.rest.connections in
     omega (arith, few, number, count)
-  where
-    go : (a b : Bool) → by a b (nat_le 4294967295 (length h.primary.connections)) false ≡ None → length h.primary.connections < 4294967295
-    go true b is = absurd (cc)
-    go false true is = absurd (cc)
-    go false false is = at (nat_le 4294967295 (length h.primary.connections)) refl is
-      where
-        at : (c : Bool) → nat_le 4294967295 (length h.primary.connections) ≡ c → by false false c false ≡ None → length h.primary.connections < 4294967295
-        at true same is = absurd (cc)
-        at false same is = grind (arith, nat_tests)
 
 -- A drained secondary whose end is closed is not refused.
 pub never-refused : (e : Refusal) (h : SecondaryHistory) → (inward h).closed ≡ true → is_drained h ≡ true → reply.Refused e ≡ (open_secondary 0 h).0 → ⊥

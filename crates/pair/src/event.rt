@@ -11,7 +11,7 @@ pub enum Event {
     Submit { first: u64, contents: Bytes },
     /// The primary's disk does the write of this number.
     Local(u64),
-    /// It fails the write, after so many of its blocks.
+    /// It fails the write of this number, and keeps this number of its first blocks.
     LocalFault(u64, u64),
     /// The primary puts its next frame into the link.
     Send,
@@ -19,7 +19,7 @@ pub enum Event {
     Receive,
     /// The secondary's disk does the item at this place of the stream.
     Peer(u32),
-    /// It fails the item, after so many of its blocks.
+    /// It fails the item at this place, and keeps this number of its first blocks.
     PeerFault(u32, u64),
     /// The secondary puts its next acknowledgement into the link.
     AckOut,

@@ -11,7 +11,8 @@ use Rattle.model.specs.Marks.{marking}
 use Rattle.model.specs.Primary.{Waiting, Failed, Accepted, Outward, PrimaryHistory, outward, last_index, change_last, stands}
 use Rattle.model.specs.PrimarySteps.{appending, submission, submitted, opened, with_outcome, faulted, accepted_at}
 use Rattle.model.specs.Stream.{WriteItem, within}
-use Rattle.laws.proofs.Primary.Moves.{IsKeptByMoves, kept-by-releases, following-from, keeps-run, with_frame, refusing}
+use Rattle.laws.proofs.Primary.Moves.{IsKeptByMoves, kept-by-releases, following-from, keeps-run, with_frame}
+use Rattle.laws.proofs.Rules.RefusedFrames.{refusing}
 
 -- one of its streams has begun
 abbrev pub HasBegun : PrimaryHistory → Type 0

@@ -1,22 +1,21 @@
 -- The nodes' steps are the pair's: those of one node alone, and those that push.
-use Rattle.std.proofs.Common.{ℕ, zero, suc, ◌≡◌, ◌≤◌, ◌-◌, nat_lt, nat_le, Bool, true, false, not, List, [], ◌∷◌, ◌++◌, length, Option, Some, None, Result, Ok}
+use Rattle.std.proofs.Common.{ℕ, zero, suc, ◌≡◌, ◌≤◌, ◌-◌, nat_lt, Bool, true, false, List, [], ◌∷◌, ◌++◌, length, Option, Some, None, Result, Ok}
 use Rattle.std.proofs.Common.{Err, refl, sym, ◌∙◌, ap, subst, arith}
 use Rattle.std.specs.Prelude.{IfSome, OnOk}
 use Rattle.std.proofs.lemmas.Bool.{lt-ltb}
 use Rattle.std.proofs.lemmas.Bool.Decides.{nat_tests}
 use Rattle.blocks.specs.declared.refusal.Refusal.{Refusal}
-use Rattle.blocks.specs.declared.refusal.Refusal.TheVariants.{LinkFull, NoMemory, NotConnected, NothingThere}
+use Rattle.blocks.specs.declared.refusal.Refusal.TheVariants.{LinkFull}
 use Rattle.blocks.specs.declared.settings.Settings.{Settings}
 use Rattle.blocks.specs.declared.outcome.Done.{Done}
 use Rattle.blocks.specs.declared.outcome.Reply.{Reply}
 use Rattle.blocks.specs.declared.outcome.Reply.TheVariants as reply
-use Rattle.model.specs.Refusals.{first_refusal, done_with}
-use Rattle.model.specs.Primary.{PrimaryHistory, outward, with_outward, frames_due}
-use Rattle.model.specs.PrimarySteps.{send, sending, succeeding}
+use Rattle.model.specs.Primary.{PrimaryHistory}
+use Rattle.model.specs.PrimarySteps.{send}
 use Rattle.model.specs.LocalRuns.{Acknowledges}
 use Rattle.model.specs.LocalRuns.{Sends as SendsOne}
-use Rattle.model.specs.Secondary.{SecondaryHistory, inward, with_inward, answers_due}
-use Rattle.model.specs.SecondarySteps.{ack_out, answering_with}
+use Rattle.model.specs.Secondary.{SecondaryHistory}
+use Rattle.model.specs.SecondarySteps.{ack_out}
 use Rattle.model.specs.Pair.{Event, SendEvent, AckOutEvent, PairHistory, on_primary, on_secondary, step, run, answers_have_room}
 use Rattle.model.specs.Pair.{has_room as has_room_there}
 use Rattle.model.specs.Theorems.{pair_at}
@@ -29,6 +28,7 @@ use Rattle.secondary_steps.specs.Steps as from_secondary
 use Rattle.pair_steps.proofs.Rooms.{room-is, room-back-is}
 use Rattle.secondary_steps.specs.Node as secondary
 use Rattle.pair_steps.specs.State.{Direction, AreEnds, IsDirection, IsRun, PairHas, PairState, IsPairStep, primary_of, secondary_of}
+use Rattle.laws.proofs.Rules.Memory.{send-same-room, answer-same-room}
 
 -- Runs.
 
@@ -85,23 +85,6 @@ on-secondary event starved p q said f does steps same = record {
 }
 
 -- Pushing: what the link answered is whether it had room.
-
--- a step by the tests of a push
-abbrev pushes : {X : Type 0} → Bool → Bool → Bool → Bool → X → Reply × X → Reply × X
-pushes {X} closed nothing starved room h done =
-    elim (first_refusal ((closed, NotConnected) ∷ (nothing, NothingThere) ∷ (starved, NoMemory) ∷ (not room, LinkFull) ∷ [])) as
-    (λ _. Reply × X) [ Some refusal ↦ (reply.Refused refusal, h) | None ↦ done ]
-
--- where the answer does not show in the reply, it does not matter
-same-room : {X : Type 0} (closed nothing starved room other : Bool) (h : X) (done : Reply × X) (d : Done) (one : Reply) → done.0 ≡ reply.Ok d
-    → one ≡ (pushes closed nothing starved room h done).0
-    → ((x : Done) → one ≡ reply.Ok x → room ≡ other) → (one ≡ reply.Refused LinkFull → room ≡ other)
-    → pushes closed nothing starved room h done ≡ pushes closed nothing starved other h done
-same-room true nothing starved room other h done d one ok said accepted full = refl
-same-room false true starved room other h done d one ok said accepted full = refl
-same-room false false true room other h done d one ok said accepted full = refl
-same-room false false false true other h done d one ok said accepted full = ap (λ b. pushes false false false b h done) (accepted d (said ∙ ok))
-same-room false false false false other h done d one ok said accepted full = ap (λ b. pushes false false false b h done) (full said)
 
 -- a direction that was pushed to had room, and one that was full had none
 room-says : (capacity : ℕ) (d : Direction) (result : Result Done Refusal) (later : Option OutgoingState) (other : Bool) → IsDirection capacity d
@@ -167,9 +150,7 @@ sends-step p q result is sends steps same =
         let says = room-says p.primary.settings.link p.there result q.there.out (has_room_there h) is sends
         (λ out inn there here ends. room-is p h p.primary.settings.link out inn has ends
         (ap (λ (x : Settings). x.link) (sym has.primary.leaves.core.rest.settings)) there here) in
-        same-room (outward h.primary).closed (nat_le (length (frames_due h.primary.settings (outward h.primary))) (outward h.primary).pushed)
-        (is_starved result) (has_room result) (has_room_there h) h.primary
-        (succeeding (sending h.primary) (with_outward (λ c. record c { pushed = suc c.pushed }) h.primary)) _ (from_primary.replied reply.Ok result) refl
+        send-same-room h.primary (is_starved result) (has_room result) (has_room_there h) (from_primary.replied reply.Ok result)
         (steps.said h.primary has.primary)
         (ok-room (from_primary.replied reply.Ok) (λ e. refl) (has_room_there h) result says.0)
         (full-room (from_primary.replied reply.Ok) (λ e. refl) (λ d. (d, refl)) (has_room_there h) result says.1)
@@ -189,9 +170,7 @@ answers-step p q result is sends steps same =
         let says = room-says p.secondary.settings.link p.back result q.back.out (answers_have_room h) is sends
         (λ out inn there here ends. room-back-is p h p.secondary.settings.link out inn has ends
         (ap (λ (x : Settings). x.link) (sym has.secondary.leaves.core.settings)) there here) in
-        same-room (inward h.secondary).closed (nat_le (length (answers_due h.secondary.settings (inward h.secondary))) (inward h.secondary).pushed)
-        (is_starved result) (has_room result) (answers_have_room h) h.secondary
-        (reply.Ok (done_with (answering_with h.secondary)), with_inward (λ c. record c { pushed = suc c.pushed }) h.secondary) _
-        (from_secondary.replied (λ done. done) result) refl (steps.said h.secondary has.secondary)
+        answer-same-room h.secondary (is_starved result) (has_room result) (answers_have_room h) (from_secondary.replied (λ done. done) result)
+        (steps.said h.secondary has.secondary)
         (ok-room (from_secondary.replied (λ done. done)) (λ e. refl) (answers_have_room h) result says.0)
         (full-room (from_secondary.replied (λ done. done)) (λ e. refl) (λ d. (d, refl)) (answers_have_room h) result says.1)

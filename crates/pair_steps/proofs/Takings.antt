@@ -1,21 +1,20 @@
 -- The nodes' steps are the pair's: those that take a frame.
-use Rattle.std.proofs.Common.{◌≡◌, ◌⊎◌, inl, inr, nat_le, Bool, true, false, not, ◌&&◌, List, [], ◌∷◌, ◌++◌, length, Option, Some, None, Result, Ok, Err, refl}
+use Rattle.std.proofs.Common.{◌≡◌, ◌⊎◌, inl, inr, false, ◌&&◌, List, [], ◌∷◌, ◌++◌, length, Option, Some, None, Result, Ok, Err, refl}
 use Rattle.std.proofs.Common.{sym, ◌∙◌, ap, arith}
 use Rattle.std.specs.Prelude.{is_none}
 use Rattle.std.proofs.lemmas.List.{length-append}
 use Rattle.blocks.specs.declared.refusal.Refusal.{Refusal}
-use Rattle.blocks.specs.declared.refusal.Refusal.TheVariants.{NoMemory, NotConnected, NothingThere, PendingFull}
+use Rattle.blocks.specs.declared.refusal.Refusal.TheVariants.{NoMemory, NothingThere}
 use Rattle.blocks.specs.declared.outcome.Done.{Done}
 use Rattle.blocks.specs.declared.outcome.Reply.{Reply}
 use Rattle.blocks.specs.declared.outcome.Reply.TheVariants as reply
 use Rattle.model.specs.Frames.{Received}
-use Rattle.model.specs.Refusals.{Test, first_refusal}
-use Rattle.model.specs.Acknowledgements.{ack_in, take_frame}
+use Rattle.model.specs.Acknowledgements.{ack_in}
 use Rattle.model.specs.LocalRuns.{Receives, Takes}
 use Rattle.model.specs.Pair.{AckInEvent, PairHistory, ReceiveEvent, next_answer, next_frame, step}
 use Rattle.model.specs.Primary.{PrimaryHistory, outward}
-use Rattle.model.specs.Secondary.{SecondaryHistory, inward, pending}
-use Rattle.model.specs.SecondarySteps.{receive, take_item}
+use Rattle.model.specs.Secondary.{SecondaryHistory, inward}
+use Rattle.model.specs.SecondarySteps.{receive}
 use Rattle.laws.proofs.Pair.Refused.{refused_steps_change_nothing}
 use Rattle.endpoint.specs.Calls.{is_starved}
 use Rattle.primary_steps.specs.Node as primary
@@ -26,36 +25,7 @@ use Rattle.pair_steps.specs.Carried.{Gave, GivesNext}
 use Rattle.pair_steps.specs.State.{PairHas, PairState, IsPairStep, primary_of, secondary_of}
 use Rattle.pair_steps.proofs.Rooms.{next-is, next-back-is}
 use Rattle.pair_steps.proofs.Stepping.{on-primary, on-secondary}
-
--- a step that takes, by its tests: the last is that there is nothing
-abbrev takes-by : {X : Type 0} → (Bool → List Test) → X → (Received → Reply × X) → Option Received → Reply × X
-takes-by {X} tests h take frame =
-    elim (first_refusal (tests (is_none frame))) as
-    (λ _. Reply × X) [
-      | Some refusal ↦ (reply.Refused refusal, h)
-      | None ↦ elim frame as
-          (λ _. Reply × X) [ None ↦ (reply.Refused NothingThere, h) | Some one ↦ take one ]
-    ]
-
--- Where the tests before it refuse, it does not matter what the link would give; and where they do not, nothing was there.
-
-none-of-two : {X : Type 0} (a b : Bool) (ra rb : Refusal) (h : X) (take : Received → Reply × X) (next : Option Received) (one : Reply)
-    → one ≡ (takes-by (λ none. (a, ra) ∷ (b, rb) ∷ (none, NothingThere) ∷ []) h take None).0 → (one ≡ reply.Refused NothingThere → next ≡ None)
-    → takes-by (λ none. (a, ra) ∷ (b, rb) ∷ (none, NothingThere) ∷ []) h take None ≡ takes-by (λ none. (a, ra) ∷ (b, rb) ∷ (none, NothingThere) ∷ []) h take
-    next
-none-of-two true b ra rb h take next one said none = refl
-none-of-two false true ra rb h take next one said none = refl
-none-of-two false false ra rb h take next one said none = ap (takes-by (λ none. (false, ra) ∷ (false, rb) ∷ (none, NothingThere) ∷ []) h take) (sym (none said))
-
-none-of-three : {X : Type 0} (a b c : Bool) (ra rb rc : Refusal) (h : X) (take : Received → Reply × X) (next : Option Received) (one : Reply)
-    → one ≡ (takes-by (λ none. (a, ra) ∷ (b, rb) ∷ (c, rc) ∷ (none, NothingThere) ∷ []) h take None).0 → (one ≡ reply.Refused NothingThere → next ≡ None)
-    → takes-by (λ none. (a, ra) ∷ (b, rb) ∷ (c, rc) ∷ (none, NothingThere) ∷ []) h take None ≡ takes-by
-    (λ none. (a, ra) ∷ (b, rb) ∷ (c, rc) ∷ (none, NothingThere) ∷ []) h take next
-none-of-three true b c ra rb rc h take next one said none = refl
-none-of-three false true c ra rb rc h take next one said none = refl
-none-of-three false false true ra rb rc h take next one said none = refl
-none-of-three false false false ra rb rc h take next one said none =
-    ap (takes-by (λ none. (false, ra) ∷ (false, rb) ∷ (false, rc) ∷ (none, NothingThere) ∷ []) h take) (sym (none said))
+use Rattle.laws.proofs.Rules.Memory.{ack-in-none, receive-none}
 
 -- a list is not itself with one more
 longer : {X : Type 0} (xs : List X) (x : X) → xs ≡ xs ++ x ∷ [] → ⊥
@@ -88,9 +58,8 @@ receives-step p q result None gave steps grows same =
     (λ h has. ap (λ (r : Reply × SecondaryHistory). (r.0, record h { secondary = r.1 })) (sym (does h has))) steps same
   where
     does : (h : PairHistory) → PairHas p h → receive None (is_starved result) h.secondary ≡ receive (next_frame h) (is_starved result) h.secondary
-    does h has = none-of-three (inward h.secondary).closed (nat_le h.secondary.settings.pending (length (pending (inward h.secondary))))
-        (is_starved result) NotConnected PendingFull NoMemory h.secondary (λ frame. take_item frame h.secondary) (next_frame h)
-        (from_secondary.replied (λ done. done) result) (steps.said h.secondary has.secondary)
+    does h has = receive-none h.secondary (is_starved result) (next_frame h) (from_secondary.replied (λ done. done) result)
+        (steps.said h.secondary has.secondary)
         (λ nothing. let g = gave.none refl
         (refused-of (from_secondary.replied (λ done. done)) (λ e. refl) (λ d. (d, refl)) result NothingThere nothing) in next-is p h g.out g.inn has
         g.out_there g.in_there ∙ g.next)
@@ -132,9 +101,7 @@ acknowledges-step p q result None gave steps grows same =
     (λ h has. ap (λ (r : Reply × PrimaryHistory). (r.0, record h { primary = r.1 })) (sym (does h has))) steps same
   where
     does : (h : PairHistory) → PairHas p h → ack_in None (is_starved result) h.primary ≡ ack_in (next_answer h) (is_starved result) h.primary
-    does h has = none-of-two (outward h.primary).closed (not (outward h.primary).begun && is_starved result) NotConnected NoMemory h.primary
-        (λ frame. take_frame frame h.primary) (next_answer h)
-        (from_primary.replied reply.Ok result) (steps.said h.primary has.primary)
+    does h has = ack-in-none h.primary (is_starved result) (next_answer h) (from_primary.replied reply.Ok result) (steps.said h.primary has.primary)
         (λ nothing. let g = gave.none refl (refused-of (from_primary.replied reply.Ok) (λ e. refl) (λ d. (d, refl)) result NothingThere nothing) in next-back-is
         p h g.out g.inn has g.out_there g.in_there ∙ g.next)
 acknowledges-step p q result (Some one) gave steps grows same =

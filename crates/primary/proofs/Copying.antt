@@ -9,7 +9,7 @@ use Rattle.blocks.specs.Faults.{FaultState, after_read, is_steady}
 use Rattle.blocks.specs.Ranges.{below}
 use Rattle.blocks.specs.declared.block.Block.{Block}
 use Rattle.blocks.specs.declared.refusal.Refusal.{Refusal}
-use Rattle.blocks.specs.declared.refusal.Refusal.TheVariants.{NoMemory, NotConnected, NothingToDo, ReadFault, StreamFull}
+use Rattle.blocks.specs.declared.refusal.Refusal.TheVariants.{NoMemory, NotConnected, NothingToDo, ReadFault}
 use Rattle.blocks.specs.declared.outcome.Done.{Done}
 use Rattle.blocks.specs.declared.outcome.Reply.TheVariants as reply
 use Rattle.bitmap.specs.Marks.{marked}
@@ -19,6 +19,7 @@ use Rattle.model.specs.LocalRuns.{FailsResync, Resyncs}
 use Rattle.model.specs.Refusals.{first_refusal}
 use Rattle.laws.proofs.Lists.Picks.{pick-found, pick-filtered, pick-below}
 use Rattle.laws.proofs.Lists.Tests.{test-passed}
+use Rattle.laws.proofs.Rules.Memory.{before_last, starved-last}
 use Rattle.primary_core.specs.Resyncing.{resync_choice}
 use Rattle.primary_core.specs.Starved as core
 use Rattle.primary_steps.specs.Core.{EndState, PrimaryState, tested}
@@ -95,17 +96,9 @@ chosen-copies disk s block c =
     ∙ (ap (λ (v : Option Refusal). next_from disk s c.end v (next_block s.marks s.held)) c.tests ∙ ap (next_from disk s c.end None) c.next)
 
 -- where memory is wanting it is the last of the tests that refuses
-starved-last : (s : PrimaryState) (e : EndState) → first_refusal (resync_tests false e s) ≡ None → first_refusal (resync_tests true e s) ≡ Some NoMemory
-starved-last s e none =
-    let busy : Bool = not e.resync || (is_some e.under_way || is_none (next_block s.marks s.held)) in
-    let full : Bool = nat_le 4294967288 s.log.epochs.places in
-    let one = test-passed busy NothingToDo ((full, StreamFull) ∷ (false, NoMemory) ∷ []) none in
-    let two = test-passed full StreamFull ((false, NoMemory) ∷ []) one.1 in
-    λ i. first_refusal ((one.0 i, NothingToDo) ∷ (two.0 i, StreamFull) ∷ (true, NoMemory) ∷ [])
-
 pub chosen-starved : (disk : ℕ → List ℕ) (s : PrimaryState) (block : ℕ) → IsChosen s block → resync_next disk true s ≡ (Err NoMemory, s)
 chosen-starved disk s block c = ap (next_by disk true s) c.there
-    ∙ ap (λ (v : Option Refusal). next_from disk s c.end v (next_block s.marks s.held)) (starved-last s c.end c.tests)
+    ∙ ap (λ (v : Option Refusal). next_from disk s c.end v (next_block s.marks s.held)) (starved-last (before_last (resync_tests false c.end s)) c.tests)
 
 pub chosen-fails : (s : PrimaryState) (block : ℕ) → IsChosen s block → resync_fault false s ≡ (Err ReadFault, s)
 chosen-fails s block c = ap (fault_by false s) c.there
@@ -114,7 +107,7 @@ chosen-fails s block c = ap (fault_by false s) c.there
 pub chosen-fails-starved : (s : PrimaryState) (block : ℕ) → IsChosen s block → resync_fault true s ≡ (Err NoMemory, s)
 chosen-fails-starved s block c = ap (fault_by true s) c.there
     ∙ ap (λ (v : Option Refusal). elim v as (λ _. Result Done Refusal × PrimaryState) [ Some refusal ↦ (Err refusal, s) | None ↦ (Err ReadFault, s) ])
-    (starved-last s c.end c.tests)
+    (starved-last (before_last (resync_tests false c.end s)) c.tests)
 
 -- What refuses the choice refuses the step.
 pub none-chosen : (disk : ℕ → List ℕ) (starved : Bool) (s : PrimaryState) (e : Refusal) → resync_choice starved s ≡ Err e
@@ -137,7 +130,7 @@ none-chosen disk starved s e is = go s.end is
         by None first (Some block) at wrong = absurd (cc)
         by None first None at wrong = absurd (
             let busy : Bool = not end.resync || (is_some end.under_way || is_none (next_block s.marks s.held)) in
-            let one = test-passed busy NothingToDo ((nat_le 4294967288 s.log.epochs.places, StreamFull) ∷ (starved, NoMemory) ∷ []) first in
+            let one = test-passed busy NothingToDo (drop 1 (resync_tests starved end s)) first in
             let two = or_parts (not end.resync) (is_some end.under_way || is_none (next_block s.marks s.held)) one.0 in
             let three = or_parts (is_some end.under_way) (is_none (next_block s.marks s.held)) two.1 in
             both_ways (is_none (next_block s.marks s.held)) three.1 (ap is_none at))

@@ -17,7 +17,7 @@ impl<O: FrameOut + Drop, I: FrameIn + Drop, S: Store + Drop> Primary<O, I, S> {
     pub fn next_local(&self) -> Option<u64>
         ensures { (h : PrimaryHistory) → NodeHas (node self.now) h → result ≡ next_local h }
     {
-        self.core.next_local()
+        self.core.next()
     }
 
     /// Has the disk do a write. Where the disk fails, each block of the write is as it was or as it was to be,
@@ -34,11 +34,11 @@ impl<O: FrameOut + Drop, I: FrameIn + Drop, S: Store + Drop> Primary<O, I, S> {
           steady = self.new.steady;
         } }
     {
-        let write = self.core.local_write(number)?;
-        match self.store.write(write.range(), write.contents()) {
-            Ok(()) => self.core.local_done(number),
-            Err(_) => self.core.local_failed(number),
-        }
+        let write = self.core.start(number)?;
+        Ok(match self.store.write(write.range(), write.contents()) {
+            Ok(()) => self.core.done(number),
+            Err(_) => self.core.failed(number),
+        })
     }
 }
 
@@ -58,13 +58,13 @@ impl<O: FrameOut + Drop, I: FrameIn + Drop> Primary<O, I, FaultStore> {
           steady = self.new.steady;
         } }
     {
-        let write = self.core.local_write(number)?;
+        let write = self.core.start(number)?;
         if kept > write.range().count {
             return Err(Refusal::BadRange);
         }
         self.store.arm(kept);
         // It is armed, so it fails.
         let _ = self.store.write(write.range(), write.contents());
-        self.core.local_failed(number)
+        Ok(self.core.failed(number))
     }
 }

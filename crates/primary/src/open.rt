@@ -61,7 +61,7 @@ impl<O: FrameOut + Drop, I: FrameIn + Drop, S: Store + Drop> Primary<O, I, S> {
         ensures unchanged { OnErr result (self.new ≡ self.old) }
     {
         self.core.open(sync, loss)?;
-        let number = self.core.connections();
+        let number = self.core.connection();
         if let Some(outgoing) = &mut self.outgoing {
             outgoing.restart(number);
         }

@@ -8,6 +8,7 @@ ghost use Rattle.primary.specs.State.{node};
 
 use crate::Primary;
 use blocks::{Block, Settings, Store, Tuple};
+use handshakes::HELLO_FRAMES;
 use link::{FrameIn, FrameOut};
 use primary_core::Entry;
 
@@ -37,7 +38,7 @@ impl<O: FrameOut + Drop, I: FrameIn + Drop, S: Store + Drop> Primary<O, I, S> {
     pub fn connections(&self) -> u32
         ensures { (h : PrimaryHistory) → NodeHas (node self.now) h → result ≡ length h.connections }
     {
-        self.core.connections()
+        self.core.connection()
     }
 
     /// Whether the end is open.
@@ -69,8 +70,8 @@ impl<O: FrameOut + Drop, I: FrameIn + Drop, S: Store + Drop> Primary<O, I, S> {
             Some(outgoing) => outgoing.pushed(),
             None => 0,
         };
-        // The hello's three frames are no items.
-        pushed.saturating_sub(3) as u32
+        // The frames of the hello are no items.
+        pushed.saturating_sub(u64::from(HELLO_FRAMES)) as u32
     }
 
     /// How many writes were accepted, which is the number of the last one.

@@ -1,7 +1,6 @@
 -- What the log makes of an acknowledgement.
 use Rattle.std.proofs.Common.{ℕ, ◌≡◌, Bool, true, false, ◌&&◌, ◌||◌, drop, refl, sym, ◌∙◌, ap, subst, arith, Option, None}
 use Rattle.std.specs.Prelude.{Result, Ok, Err, if◌then◌else◌}
-use Rattle.blocks.specs.declared.outcome.Done.{Done}
 use Rattle.blocks.specs.declared.outcome.What.{What}
 use Rattle.blocks.specs.declared.outcome.What.TheVariants as what
 use Rattle.blocks.specs.declared.command.Command.TheVariants as command
@@ -15,7 +14,7 @@ use Rattle.transferlog.specs.Ring.{write_at}
 use Rattle.transferlog.specs.Writes.{answering}
 use Rattle.transferlog.specs.declared.report.Answer.{Answer}
 use Rattle.transferlog.specs.declared.report.Named.{Named}
-use Rattle.primary_steps.specs.Core.{EndState, PrimaryState, following}
+use Rattle.primary_steps.specs.Core.{EndState, PrimaryState}
 use Rattle.primary_steps.specs.Transitions.{logged}
 use Rattle.primary_steps.specs.Taking.{Taken, answered, confirmed, is_in_epoch, is_unsent, named}
 use Rattle.primary_core.specs.Kept.{IsSoundLog}
@@ -62,14 +61,6 @@ answered-err name kind ack s m r e is err =
     let same = acked-not kind (named ack) s.log m r e is err in
     let got = subst (λ (x : Result (Option ℕ) Refusal). (let g : Result (Option ℕ) Refusal × LogState = (x, m) in g ≡ acked kind (named ack) s.log)) err is in
     ap (λ (x : LogState). Err (e, record s { log = x })) same ∙ sym (unfolded-answered name kind ack s (Err e, m) got)
-
-pub answered-ok : (name : What) (kind : Answer) (ack : Acknowledged) (s : PrimaryState) (m : LogState) (r : Result (Option ℕ) Refusal) (barrier : Option ℕ)
-    (done : Done × PrimaryState)
-    → (let got : Result (Option ℕ) Refusal × LogState = (r, m) in got ≡ acked kind (named ack) s.log) → r ≡ Ok barrier
-    → done ≡ following name barrier (record s { log = m }) → taken_as (Ok done.0) done.1 ≡ answered name kind ack s
-answered-ok name kind ack s m r barrier done is ok follows =
-    let got = subst (λ (x : Result (Option ℕ) Refusal). (let g : Result (Option ℕ) Refusal × LogState = (x, m) in g ≡ acked kind (named ack) s.log)) ok is in
-    ap (λ (p : Done × PrimaryState). Ok p) follows ∙ sym (unfolded-answered name kind ack s (Ok barrier, m) got)
 
 -- Of an epoch.
 
@@ -124,12 +115,3 @@ confirmed-err number size e s m r refusal may is err =
     let got = subst (λ (x : Result (Unit {0}) Refusal). (let g : Result (Unit {0}) Refusal × LogState = (x, m) in g ≡ barrier_acked number size s.log)) err
     is in
     ap (λ (x : LogState). Err (refusal, record s { log = x })) same ∙ sym (unfolded-confirmed number size e s (Err refusal, m) may got)
-
-pub confirmed-ok : (number size : ℕ) (e : EndState) (s : PrimaryState) (m : LogState) (r : Result (Unit {0}) Refusal) (u : Unit {0})
-    (done : Done × PrimaryState) → (is_unsent number e.unsent || is_in_epoch number e.under_way) ≡ false
-    → (let got : Result (Unit {0}) Refusal × LogState = (r, m) in got ≡ barrier_acked number size s.log) → r ≡ Ok u
-    → done ≡ following (what.Frame command.BarrierAck None) None (record s { log = m })
-    → taken_as (Ok done.0) done.1 ≡ confirmed number size e s
-confirmed-ok number size e s m r u done may is ok follows =
-    let got = subst (λ (x : Result (Unit {0}) Refusal). (let g : Result (Unit {0}) Refusal × LogState = (x, m) in g ≡ barrier_acked number size s.log)) ok is in
-    ap (λ (p : Done × PrimaryState). Ok p) follows ∙ sym (unfolded-confirmed number size e s (Ok u, m) may got)

@@ -6,7 +6,7 @@ use Rattle.std.proofs.lemmas.Bool.Decides.{nat_tests}
 use Rattle.std.proofs.lemmas.List.{append-nil}
 use Rattle.model.specs.Stream.{Item, WriteItem, ResyncItem, BarrierItem, SyncUuidItem, UuidsItem}
 use Rattle.primary_steps.specs.Taking.{is_unsent}
-use Rattle.primary_core.specs.Unsent.{barrier_of, numbers, run}
+use Rattle.primary_core.specs.Outbox.{barrier_of, numbers, run}
 
 pub few-numbers : (xs : List Item) → length (numbers xs) ≤ length xs
 few-numbers [] = omega arith
@@ -48,10 +48,6 @@ run-longer first (suc n) =
     let same : first + suc n ≡ (first + 1) + n = omega arith in
     ap (λ (ns : List ℕ). first ∷ ns) (ap (λ (k : ℕ). run (first + 1) n ++ k ∷ []) same ∙ run-longer (first + 1) n)
 
-pub length-run : (first n : ℕ) → length (run first n) ≡ n
-length-run first zero = refl
-length-run first (suc n) = ap suc (length-run (first + 1) n)
-
 run-has-none : (epoch first : ℕ) → false ≡ (nat_le first epoch && nat_lt epoch (first + 0))
 run-has-none epoch first = grind (arith, nat_tests)
 
@@ -74,12 +70,6 @@ waits-among epoch (UuidsItem tuple ∷ xs) = waits-among epoch xs
 
 pub waits-in-run : (epoch first n : ℕ) (xs : List Item) → numbers xs ≡ run first n → is_unsent epoch xs ≡ (nat_le first epoch && nat_lt epoch (first + n))
 waits-in-run epoch first n xs is = waits-among epoch xs ∙ (ap (list_any (λ k. k == epoch)) is ∙ run-has epoch first n)
-
-pub run-rest : (first n m : ℕ) (ns : List ℕ) → n ∷ ns ≡ run first (suc m) → ns ≡ run (n + 1) m
-run-rest first n m ns is =
-    let same : n ≡ first = cc in
-    let rest : ns ≡ run (first + 1) m = cc in
-    rw same rest
 
 -- A test of an epoch against a run, as it is made.
 

@@ -8,37 +8,28 @@ use Rattle.transferlog.proofs.Numbers.{lower_number, higher_number}
 use Rattle.transferlog.specs.declared.report.Completed.{Completed}
 use Rattle.primary_steps.specs.Core.{freeing}
 use Rattle.primary_core.specs.Kept.{IsNumbered, IsWriter}
-use Rattle.primary_core.specs.State.{held_at, held_with}
-use Rattle.primary_core.specs.declared.state.End.{End}
-use Rattle.primary_core.specs.declared.state.UnderWay.{UnderWay}
+use Rattle.primary_core.specs.State.{held_with}
+use Rattle.resync.specs.declared.under_way.UnderWay.{UnderWay}
 
 -- What a write holds goes, and the block under way stays.
 
-without-way : (number : ℕ) (way : Option UnderWay) (held : List Holding) → 0 < number
+pub without-held : (number : ℕ) (way : Option UnderWay) (held : List Holding) → 0 < number
     → without number (held_with way held) ≡ held_with way (without number held)
-without-way number None held some = refl
-without-way number (Some w) held some = rw (lower_number 0 number some) refl
-
-pub without-held : (number : ℕ) (end : Option End) (held : List Holding) → 0 < number → without number (held_at end held) ≡ held_at end (without number held)
 without-held number None held some = refl
-without-held number (Some e) held some = without-way number e.under_way held some
+without-held number (Some w) held some = rw (lower_number 0 number some) refl
 
-pub freeing-held : (completed : List Completed) (end : Option End) (held : List Holding) → AllByRecursion IsNumbered completed
-    → freeing completed (held_at end held) ≡ held_at end (freeing completed held)
-freeing-held [] end held all = refl
-freeing-held (c ∷ completed) end held all =
-    ap (freeing completed) (without-held c.number end held all.0) ∙ freeing-held completed end (without c.number held) all.1
+pub freeing-held : (completed : List Completed) (way : Option UnderWay) (held : List Holding) → AllByRecursion IsNumbered completed
+    → freeing completed (held_with way held) ≡ held_with way (freeing completed held)
+freeing-held [] way held all = refl
+freeing-held (c ∷ completed) way held all =
+    ap (freeing completed) (without-held c.number way held all.0) ∙ freeing-held completed way (without c.number held) all.1
 
 -- What another write holds comes.
 
-holding-way : (h : Holding) (way : Option UnderWay) (held : List Holding) → 0 < h.number
+pub holding-held : (h : Holding) (way : Option UnderWay) (held : List Holding) → 0 < h.number
     → holding_too h (held_with way held) ≡ held_with way (holding_too h held)
-holding-way h None held some = refl
-holding-way h (Some w) held some = rw (le-ltb h.number 0 (omega arith)) refl
-
-pub holding-held : (h : Holding) (end : Option End) (held : List Holding) → 0 < h.number → holding_too h (held_at end held) ≡ held_at end (holding_too h held)
 holding-held h None held some = refl
-holding-held h (Some e) held some = holding-way h e.under_way held some
+holding-held h (Some w) held some = rw (le-ltb h.number 0 (omega arith)) refl
 
 -- Only accepted writes hold something.
 
@@ -86,10 +77,7 @@ without-zero : (accepted : ℕ) (held : List Holding) → AllByRecursion (IsWrit
 without-zero accepted [] all = refl
 without-zero accepted (h ∷ held) all = rw (higher_number h.number 0 all.0.numbered) (ap (λ more. h ∷ more) (without-zero accepted held all.1))
 
-without-under : (accepted : ℕ) (way : Option UnderWay) (held : List Holding) → AllByRecursion (IsWriter accepted) held → without 0 (held_with way held) ≡ held
-without-under accepted None held all = without-zero accepted held all
-without-under accepted (Some w) held all = without-zero accepted held all
-
-pub without-block : (accepted : ℕ) (end : Option End) (held : List Holding) → AllByRecursion (IsWriter accepted) held → without 0 (held_at end held) ≡ held
+pub without-block : (accepted : ℕ) (way : Option UnderWay) (held : List Holding) → AllByRecursion (IsWriter accepted) held
+    → without 0 (held_with way held) ≡ held
 without-block accepted None held all = without-zero accepted held all
-without-block accepted (Some e) held all = without-under accepted e.under_way held all
+without-block accepted (Some w) held all = without-zero accepted held all

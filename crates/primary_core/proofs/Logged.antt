@@ -1,19 +1,17 @@
 -- A step of the log, and what is kept about the whole primary.
-use Rattle.std.proofs.Common.{ℕ, ◌≡◌, ◌≤◌, true, refl, sym, ◌∙◌, ap, subst, arith, Option, Some, None, List}
-use Rattle.std.specs.Prelude.{Result}
+use Rattle.std.proofs.Common.{ℕ, ◌≡◌, ◌≤◌, true, refl, sym, ◌∙◌, ap, subst, arith, Option, Some, None}
+use Rattle.std.specs.Prelude.{Result, Ok, IfSome, not, [], ◌∷◌}
+use Rattle.blocks.specs.declared.refusal.Refusal.TheVariants.{UnknownJob}
 use Rattle.blocks.specs.declared.settings.Settings.{Settings}
 use Rattle.blocks.specs.declared.refusal.Refusal.{Refusal}
 use Rattle.blocks.specs.declared.outcome.Done.{Done}
 use Rattle.blocks.specs.declared.outcome.What.{What}
-use Rattle.model.specs.Refusals.{Test, first_refusal}
 use Rattle.transferlog.specs.Log.{LogState, LogValue, changing}
 use Rattle.transferlog.specs.Writes.{LogWrite}
-use Rattle.transferlog.specs.Ring.{write_at}
-use Rattle.transferlog.specs.declared.local.Local.TheVariants.{Waiting}
 use Rattle.primary_steps.specs.Core.{PrimaryState, tested, following}
 use Rattle.primary_steps.specs.Transitions.{logged, is_unfinished}
 use Rattle.primary_core.specs.Kept.{IsSoundLog, owing}
-use Rattle.primary_core.specs.State.{CoreState, IsCore, state_of}
+use Rattle.primary_core.specs.State.{IsCore, state_of}
 use Rattle.primary_core.specs.declared.state.PrimaryCore.TheInside.{Inside}
 use Rattle.primary_core.proofs.Epochs.{Appends, appends-changing}
 use Rattle.primary_core.proofs.Sound.{owing-after, owing-less, sound-logged}
@@ -47,23 +45,23 @@ core-logged c m barrier is steps = record {
 
 -- and there is room for the barrier
 pub room-logged : (s : PrimaryState) (m : LogState) (barrier : Option ℕ) (room : ℕ) → owing None s.end s.log ≤ room → Steps s.settings s.log m barrier
-    → owing barrier s.end m ≤ room
-room-logged s m barrier room enough steps = let after = owing-after s.end s.log m barrier steps.connection steps.appends in omega arith
+    → IfSome barrier (λ _. owing barrier s.end m ≤ room)
+room-logged s m None room enough steps = tt
+room-logged s m (Some number) room enough steps =
+    let after = owing-after s.end s.log m (Some number) steps.connection steps.appends in
+    omega arith
 
 -- What follows the step.
 pub follows-logged : (s : PrimaryState) (name : What) (change : Option ℕ × LogState) (barrier : Option ℕ) (m : LogState) (r : Done × PrimaryState)
     → (let step : Option ℕ × LogState = (barrier, m) in step ≡ change) → r ≡ following name barrier (record s { log = m }) → r ≡ logged name change s
 follows-logged s name change barrier m r is follows = follows ∙ ap (λ (p : Option ℕ × LogState). following name p.0 (record s { log = p.1 })) is
 
--- A step whose tests pass is done.
-pub passes : {R : Type 0} (s : PrimaryState) (tests : List Test) (done : Unit {0} → Result R Refusal × PrimaryState) (r : Result R Refusal × PrimaryState)
-    → first_refusal tests ≡ None → r ≡ done tt → r ≡ tested s tests done
-passes s tests done r none is = rw (none, tested) is
-
--- the local disk has a write to do
-pub unfinished : (number : ℕ) (s : PrimaryState) (w : LogWrite) → write_at number s.log.writes ≡ Some w → w.local ≡ Waiting → is_unfinished number s ≡ true
-unfinished number s w found waits = rw (found, is_unfinished) (rw waits refl)
+-- The local disk is done with a write that it had to do.
+pub finishes : (number : ℕ) (s : PrimaryState) (r after : Done × PrimaryState) → is_unfinished number s ≡ true → r ≡ after
+    → (let got : Result Done Refusal × PrimaryState = (Ok r.0, r.1) in
+    got ≡ tested s ((not (is_unfinished number s), UnknownJob) ∷ []) (λ _. (Ok after.0, after.1)))
+finishes number s r after ready is = rw (ready, tested) (ap (λ (p : Done × PrimaryState). (Ok p.0, p.1)) is)
 
 -- A step of the state that is seen.
-pub seen-as : {R : Type 0} (v w : CoreState) (f : PrimaryState → R × PrimaryState) (r : R × PrimaryState) → v ≡ w → r ≡ f v.state → r ≡ f w.state
-seen-as v w f r same is = is ∙ ap (λ x. f x.state) same
+pub seen-as : {R : Type 0} (v w : PrimaryState) (f : PrimaryState → R × PrimaryState) (r : R × PrimaryState) → v ≡ w → r ≡ f v → r ≡ f w
+seen-as v w f r same is = is ∙ ap f same

@@ -1,22 +1,26 @@
 -- What an opening is refused for, but for want of memory, it is refused for.
-use Rattle.std.proofs.Common.{ℕ, ◌≡◌, Bool, true, false, not, [], ◌∷◌, Result, Ok, Err, ap, nat_le}
-use Rattle.std.specs.Prelude.{is_some}
+use Rattle.std.proofs.Common.{ℕ, ◌≡◌, false, List, drop, Option, Some, None, Result, Ok, Err, refl, sym, ap}
 use Rattle.blocks.specs.declared.refusal.Refusal.{Refusal}
-use Rattle.blocks.specs.declared.refusal.Refusal.TheVariants.{NotDrained, UsedIdentifier, StreamFull, NoMemory}
-use Rattle.blocks.specs.Identifiers.{are_fresh}
+use Rattle.model.specs.Refusals.{Test, first_refusal}
+use Rattle.laws.proofs.Rules.Memory.{before_last, refused-alike}
 use Rattle.primary_core.specs.Starved.{is_starved}
 use Rattle.primary_core.specs.Submit.{told_by}
 use Rattle.primary_steps.specs.Core.{PrimaryState, tested}
-use Rattle.primary_steps.specs.Transitions.{known_tuples, open_end, open_tests, opened}
+use Rattle.primary_steps.specs.Transitions.{open_end, open_tests}
+
+-- what is told is the first refusal
+told-first : (tests : List Test) (e : Refusal) → Err e ≡ told_by tests → first_refusal tests ≡ Some e
+told-first tests e told = go (first_refusal tests) told
+  where
+    go : (v : Option Refusal) → Err e ≡ (elim v as (λ _. Result (Unit {0}) Refusal) [ Some refusal ↦ Err refusal | None ↦ Ok tt ]) → v ≡ Some e
+    go (Some refusal) told = let same : refusal ≡ e = cc in ap Some same
+    go None told = absurd (cc)
 
 pub open-refused : (sync loss : ℕ) (s : PrimaryState) (e : Refusal) → Err e ≡ told_by (open_tests sync loss false s)
     → (Err e, s) ≡ open_end sync loss (is_starved {R = Unit {0}} (Err e)) s
-open-refused sync loss s e = go (is_some s.end) (not (are_fresh sync loss (known_tuples s))) (nat_le 4294967295 s.connections)
-  where
-    go : (a b c : Bool) → Err e ≡ told_by ((a, NotDrained) ∷ (b, UsedIdentifier) ∷ (c, StreamFull) ∷ (false, NoMemory) ∷ [])
-        → (Err e, s) ≡ tested {R = Unit {0}} s ((a, NotDrained) ∷ (b, UsedIdentifier) ∷ (c, StreamFull) ∷ (is_starved {R = Unit {0}} (Err e), NoMemory) ∷ [])
-        (λ _. (Ok tt, opened sync loss s))
-    go true b c said = ap (λ (r : Result (Unit {0}) Refusal). (r, s)) said
-    go false true c said = ap (λ (r : Result (Unit {0}) Refusal). (r, s)) said
-    go false false true said = ap (λ (r : Result (Unit {0}) Refusal). (r, s)) said
-    go false false false said = absurd (cc)
+open-refused sync loss s e said =
+    let starved = is_starved {R = Unit {0}} (Err e) in
+    let still : first_refusal (open_tests sync loss starved s) ≡ Some e =
+    refused-alike (before_last (open_tests sync loss false s)) (drop 3 (open_tests sync loss starved s)) e
+    (told-first (open_tests sync loss false s) e said) in
+    rw (still, tested) refl

@@ -1,8 +1,10 @@
 -- A state stays sound where its log makes a step.
-use Rattle.std.proofs.Common.{ℕ, ◌≡◌, ◌+◌, ◌≤◌, arith, Option, Some, None}
+use Rattle.std.proofs.Common.{ℕ, ◌≡◌, ◌+◌, ◌≤◌, ◌∙◌, arith, Bool, List, length, Option, Some, None}
 use Rattle.transferlog.specs.Log.{LogState}
 use Rattle.primary_steps.specs.Core.{EndState, PrimaryState}
 use Rattle.primary_core.specs.Kept.{IsSound, IsSoundLog, owing, places_owing}
+use Rattle.primary_core.specs.State.{IsCore}
+use Rattle.primary_core.specs.declared.state.PrimaryCore.TheInside.{Inside}
 use Rattle.primary_core.proofs.Epochs.{Appends}
 
 -- where the same stream goes on, no more is due than before, with the barrier that was appended
@@ -32,4 +34,20 @@ sound-logged s m barrier is log accepted same appends = record {
   counted = rw accepted is.counted;
   standing = λ e is_open resync. rw same (is.standing e is_open resync);
   places = places-after s.end s.log m barrier same appends is.places;
+}
+
+-- other marks of the device
+pub core-marks : (c : Inside) (marks : List Bool) → length marks ≡ length c.marks → IsCore c → IsCore (record c { marks = marks })
+core-marks c marks same is = record {
+  sound = record {
+    in_range = is.sound.in_range;
+    log = is.sound.log;
+    marks = same ∙ is.sound.marks;
+    counted = is.sound.counted;
+    standing = is.sound.standing;
+    places = is.sound.places;
+  };
+  writers = is.writers;
+  flagged = is.flagged;
+  room = is.room;
 }

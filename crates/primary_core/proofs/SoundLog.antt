@@ -4,8 +4,7 @@ use Rattle.std.specs.Prelude.{filter, map}
 use Rattle.std.specs.List.{AllByRecursion}
 use Rattle.std.proofs.lemmas.List.{length-replicate}
 use Rattle.blocks.specs.declared.settings.Settings.{Settings}
-use Rattle.epochs.specs.Epochs.{EpochsState}
-use Rattle.transferlog.specs.Log.{LogState, moved, changing, accepting, with_latest, quiet, connecting, confirming, draining, accepted_write, home_in}
+use Rattle.transferlog.specs.Log.{LogState, moved, changing, accepting, with_latest, confirming, draining, accepted_write, home_in}
 use Rattle.transferlog.specs.Ring.{Each, on}
 use Rattle.transferlog.specs.Writes.{LogWrite, is_open, is_completed, is_released, completed_of, released_of, sending, answering, storing, failing, unlinking}
 use Rattle.transferlog.proofs.Moves.{each_filter, each_changed}
@@ -83,14 +82,6 @@ sound-accepting s first count contents l inside whole is = record {
   completed = tt;
   released = tt;
 }
-
--- the stream's epochs change
-pub sound-quiet : (s : Settings) (e : EpochsState) (l : LogState) → IsSoundLog s l → IsSoundLog s (quiet e l)
-sound-quiet s e l is = record { backlog = is.backlog; latest = is.latest; writes = is.writes; completed = tt; released = tt }
-
--- a stream begins
-pub sound-connecting : (s : Settings) (connection : ℕ) (l : LogState) → IsSoundLog s l → IsSoundLog s (connecting connection l)
-sound-connecting s connection l is = record { backlog = is.backlog; latest = is.latest; writes = is.writes; completed = tt; released = tt }
 
 -- an epoch is acknowledged
 pub sound-confirming : (s : Settings) (number size : ℕ) (l : LogState) → IsSoundLog s l → IsSoundLog s (confirming number size l)

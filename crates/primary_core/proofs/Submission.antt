@@ -1,7 +1,7 @@
 -- What a submission's tests and its effect come to.
-use Rattle.std.proofs.Common.{ℕ, zero, suc, ◌≡◌, ◌+◌, ◌-◌, ◌*◌, ◌/◌, ◌%◌, ◌<◌, ◌≤◌, ◌==◌, nat_lt, nat_le, Bool, true, false, not, ◌&&◌, ◌||◌, List, [], ◌∷◌}
+use Rattle.std.proofs.Common.{ℕ, zero, suc, ◌≡◌, ◌+◌, ◌-◌, ◌*◌, ◌/◌, ◌%◌, ◌≤◌, ◌==◌, nat_lt, nat_le, Bool, true, false, not, ◌&&◌, ◌||◌, List, [], ◌∷◌}
 use Rattle.std.proofs.Common.{length, refl, sym, ◌∙◌, ap, arith, Option, Some, None}
-use Rattle.std.specs.Prelude.{◌↔◌, Result, Ok, Err, IsOk, IfOk, IfErr, if◌then◌else◌, is_some, find, option_map}
+use Rattle.std.specs.Prelude.{◌↔◌, Result, Ok, Err, IsOk, IfOk, IfErr, if◌then◌else◌, is_some, option_map}
 use Rattle.std.specs.List.{AllByRecursion}
 use Rattle.std.proofs.lemmas.Bool.{lt-ltb, le-leb, ltb-true, leb-true, eqb-true}
 use Rattle.blocks.specs.declared.settings.Settings.{Settings}
@@ -19,28 +19,26 @@ use Rattle.primary_steps.specs.Core.{PrimaryState, EndState, stands}
 use Rattle.primary_steps.specs.Core as core
 use Rattle.primary_steps.specs.Transitions.{whole_blocks}
 use Rattle.primary_core.specs.Kept.{IsWriter, IsCounted}
-use Rattle.primary_core.specs.State.{end_of, held_at, way_in, way_of}
+use Rattle.primary_core.specs.State.{end_of, held_with, way_at, way_in, way_of}
 use Rattle.primary_core.specs.Submit.{IsWhole, range_tests}
-use Rattle.primary_core.specs.declared.state.End.{End}
-use Rattle.primary_core.specs.declared.state.UnderWay.{UnderWay}
-use Rattle.model.specs.Stream.{Item}
+use Rattle.primary_core.specs.declared.connection.Connection.{Connection}
+use Rattle.resync.specs.declared.under_way.UnderWay.{UnderWay}
 
 -- The block under way.
 
-same-block : (w way : UnderWay) (held : List Holding) → Some (way_of way) ≡ Some (way_of w) → holding 0 w.block.0 1 ∷ held ≡ holding 0 way.block.0 1 ∷ held
-same-block w way held same =
-    let ways : way_of way ≡ way_of w = cc in
+held-way : (r way : UnderWay) (held : List Holding) → Some (way_of r) ≡ Some (way_of way) → held_with (Some way) held ≡ holding 0 r.block.0 1 ∷ held
+held-way r way held same =
+    let ways : way_of r ≡ way_of way = cc in
     ap (λ (v : core.UnderWay). holding 0 v.block 1 ∷ held) (sym ways)
 
-under : (r : Option UnderWay) (way : UnderWay) (under_way : Option UnderWay) (held : List Holding) → option_map way_of r ≡ option_map way_of under_way
-    → r ≡ Some way → (e : End) → e.under_way ≡ under_way → held_at (Some e) held ≡ holding 0 way.block.0 1 ∷ held
-under r way None held same is e at = absurd (let none : option_map way_of (Some way) ≡ None = ap (option_map way_of) (sym is) ∙ same in cc)
-under r way (Some w) held same is e at = rw at (same-block w way held (ap (option_map way_of) (sym is) ∙ same))
-
-pub held-under : (r : Option UnderWay) (way : UnderWay) (unsent : List Item) (end : Option End) (held : List Holding)
-    → option_map way_of r ≡ way_in (option_map (end_of unsent) end) → r ≡ Some way → held_at end held ≡ holding 0 way.block.0 1 ∷ held
-held-under r way unsent None held same is = absurd (let none : option_map way_of (Some way) ≡ None = ap (option_map way_of) (sym is) ∙ same in cc)
-held-under r way unsent (Some e) held same is = under r way e.under_way held same is e refl
+pub held-under : (r : UnderWay) (connection : Option Connection) (held : List Holding) → Some (way_of r) ≡ way_in (option_map end_of connection)
+    → held_with (way_at connection) held ≡ holding 0 r.block.0 1 ∷ held
+held-under r None held same = absurd (cc)
+held-under r (Some c) held same = go c.resync.under_way same
+  where
+    go : (way : Option UnderWay) → Some (way_of r) ≡ option_map way_of way → held_with way held ≡ holding 0 r.block.0 1 ∷ held
+    go None same = absurd (cc)
+    go (Some way) same = held-way r way held same
 
 -- The number of the next write holds nothing.
 
@@ -71,24 +69,6 @@ without-new number first count (h ∷ held) none = go (nat_lt number h.number) (
         → without number (if b then holding number first count ∷ h ∷ held else h ∷ holding_too (holding number first count) held) ≡ h ∷ held
     go true rest = rw (same_number number number refl) (without-none number (h ∷ held) none)
     go false rest = rw parts.0 (ap (λ more. h ∷ more) (rest parts.1))
-
--- what nobody holds, no write holds
-apart-way : (first count : ℕ) (h : Holding) (held : List Holding) → conflict first count (h ∷ held) ≡ None → conflict first count held ≡ None
-apart-way first count h held none = go (meets first count h) none
-  where
-    go : (b : Bool) → option_map (λ (x : Holding). x.number) (if b then Some h else find (meets first count) held) ≡ None → conflict first count held ≡ None
-    go true none = absurd (cc)
-    go false none = none
-
-apart-under : (first count : ℕ) (way : Option UnderWay) (e : End) (held : List Holding) → e.under_way ≡ way
-    → conflict first count (held_at (Some e) held) ≡ None → conflict first count held ≡ None
-apart-under first count None e held at none = rw at at none
-apart-under first count (Some w) e held at none = apart-way first count (holding 0 w.block.0 1) held (rw at at none)
-
-pub apart-writes : (first count : ℕ) (end : Option End) (held : List Holding) → conflict first count (held_at end held) ≡ None
-    → conflict first count held ≡ None
-apart-writes first count None held none = none
-apart-writes first count (Some e) held none = apart-under first count e.under_way e held refl none
 
 -- Extents.
 
@@ -160,22 +140,14 @@ all-fail [] none = tt
 all-fail ((true, refusal) ∷ tests) none = absurd (cc)
 all-fail ((false, refusal) ∷ tests) none = (refl, all-fail tests none)
 
-pub passes-all : (first count : ℕ) (s : PrimaryState) → first_refusal (range_tests first count s) ≡ None → Passes first count s
-passes-all first count s none =
-    let fail = all-fail (range_tests first count s) none in
+pub passes-all : (first count : ℕ) (v w : PrimaryState) → v ≡ w → first_refusal (range_tests first count w) ≡ None → Passes first count v
+passes-all first count v w same none =
+    let fail = all-fail (range_tests first count v) (ap (λ (s : PrimaryState). first_refusal (range_tests first count s)) same ∙ none) in
     record { journal = fail.1.0; log = fail.1.1.0; apart = fail.1.1.1.0; active = fail.1.1.1.1.0; places = fail.1.1.1.1.1.0 }
 
 pub conflict-block : (first count block : ℕ) (held : List Holding) → ranges_meet block 1 first count ≡ true
     → Some 0 ≡ conflict first count (holding 0 block 1 ∷ held)
 conflict-block first count block held meets = rw meets refl
-
-pub none-some : {X : Type 0} (v : Option X) → is_some v ≡ false → v ≡ None
-none-some None is = refl
-none-some (Some x) is = absurd (cc)
-
-pub not-not : (b : Bool) → not b ≡ false → b ≡ true
-not-not true is = refl
-not-not false is = absurd (cc)
 
 -- Ranges.
 
@@ -213,14 +185,8 @@ length-cut size (suc n) bytes = ap suc (length-cut size n _)
 pub whole-some : (bytes : List ℕ) → length bytes % 4096 ≡ 0 → whole_blocks bytes ≡ blocks_of 4096 bytes
 whole-some bytes whole = rw (same_number (4096 * (length bytes / 4096)) (length bytes) (omega (arith, whole))) refl
 
-pub whole-none : (bytes : List ℕ) → 0 < length bytes % 4096 → whole_blocks bytes ≡ []
-whole-none bytes part = rw (lower_number (4096 * (length bytes / 4096)) (length bytes) (omega (arith, part))) refl
-
 pub length-whole : (bytes : List ℕ) → length bytes % 4096 ≡ 0 → length (whole_blocks bytes) ≡ length bytes / 4096
 length-whole bytes whole = ap length (whole-some bytes whole) ∙ length-cut 4096 (length bytes / 4096) bytes
-
-pub no-range : (settings : Settings) (first : ℕ) → is_range settings first 0 ≡ false
-no-range settings first = refl
 
 -- What the range's own test says of bytes of whole blocks.
 

@@ -3,8 +3,8 @@ use Rattle.std.proofs.Common.{ℕ, ◌≡◌, Bool, true, false, List, [], ◌�
 use Rattle.std.specs.Prelude.{Result, Ok, Err}
 use Rattle.blocks.specs.declared.outcome.Done.{Done}
 use Rattle.blocks.specs.declared.refusal.Refusal.{Refusal}
-use Rattle.blocks.specs.declared.refusal.Refusal.TheVariants.{NoMemory}
 use Rattle.model.specs.Refusals.{Test, first_refusal}
+use Rattle.laws.proofs.Rules.Memory.{memory_test}
 use Rattle.transferlog.specs.declared.report.Accepted.{Accepted}
 use Rattle.primary_steps.specs.Core.{PrimaryState, tested}
 use Rattle.primary_steps.specs.Transitions.{submit, submit_tests, submitted, whole_blocks}
@@ -23,22 +23,22 @@ none-of ((false, refusal) ∷ tests) more told = none-of tests more told
 
 -- the tests of a range that is whole
 tests-are : (s : PrimaryState) (first count : ℕ) (bytes : List ℕ) (starved : Bool) → IsWhole s.settings first count bytes
-    → first_refusal (submit_tests first (length (whole_blocks bytes)) starved s) ≡ first_refusal (range_tests first count s ++ (starved, NoMemory) ∷ [])
-tests-are s first count bytes starved is = rw is.range (ap (λ (n : ℕ). first_refusal (range_tests first n s ++ (starved, NoMemory) ∷ [])) is.counted)
+    → first_refusal (submit_tests first (length (whole_blocks bytes)) starved s) ≡ first_refusal (range_tests first count s ++ memory_test starved)
+tests-are s first count bytes starved is = rw is.range (ap (λ (n : ℕ). first_refusal (range_tests first n s ++ memory_test starved)) is.counted)
 
 pub submit-refused : (s : PrimaryState) (first count : ℕ) (bytes : List ℕ) (e : Refusal) → IsWhole s.settings first count bytes
     → told_by (range_tests first count s) ≡ Err e
     → (let got : Result Done Refusal × PrimaryState = (Err e, s) in got ≡ submit first bytes (is_starved {R = Done} (Err e)) s)
 submit-refused s first count bytes e is told =
     let refused = tests-are s first count bytes (is_starved {R = Done} (Err e)) is
-    ∙ first-of (range_tests first count s) ((is_starved {R = Done} (Err e), NoMemory) ∷ []) e told in
+    ∙ first-of (range_tests first count s) (memory_test (is_starved {R = Done} (Err e))) e told in
     rw (refused, tested) refl
 
 pub submit-done : (s : PrimaryState) (first count : ℕ) (bytes : List ℕ) (r : Done × PrimaryState) → IsWhole s.settings first count bytes
     → told_by (range_tests first count s) ≡ Ok tt → r ≡ submitted first count bytes s
     → (let got : Result Done Refusal × PrimaryState = (Ok r.0, r.1) in got ≡ submit first bytes false s)
 submit-done s first count bytes r is told done =
-    let none = tests-are s first count bytes false is ∙ none-of (range_tests first count s) ((false, NoMemory) ∷ []) told in
+    let none = tests-are s first count bytes false is ∙ none-of (range_tests first count s) (memory_test false) told in
     ap (λ (p : Done × PrimaryState). (Ok p.0, p.1)) (done ∙ ap (λ (n : ℕ). submitted first n bytes s) (sym is.counted)) ∙ rw (none, tested) refl
 
 pub submitted-is : (s t : PrimaryState) (first count : ℕ) (bytes : List ℕ) (accepted : Accepted) (r : Done × PrimaryState)

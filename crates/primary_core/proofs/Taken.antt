@@ -1,32 +1,24 @@
 -- What a taken frame comes to.
-use Rattle.std.proofs.Common.{ℕ, suc, ◌≡◌, ◌+◌, ◌<◌, ◌≤◌, ◌==◌, Bool, true, false, ◌||◌, List, [], ◌∷◌, length, drop, drop-cons, add-one, get_or, refl, sym}
+use Rattle.std.proofs.Common.{ℕ, suc, ◌≡◌, ◌==◌, Bool, true, false, sym}
 use Rattle.std.proofs.Common.{◌∙◌, ap, Option, Some, None}
-use Rattle.std.specs.Prelude.{Result, Ok, Err, is_err, option_map}
+use Rattle.std.specs.Prelude.{zero, if◌then◌else◌, Result, Ok, Err, is_err}
 use Rattle.blocks.specs.declared.outcome.Done.{Done}
 use Rattle.blocks.specs.declared.refusal.Refusal.{Refusal}
-use Rattle.blocks.specs.declared.refusal.Refusal.TheVariants.{NotConnected}
+use Rattle.blocks.specs.declared.refusal.Refusal.TheVariants.{BadCommand, NotConnected}
+use Rattle.blocks.specs.declared.command.Command.{Command}
+use Rattle.blocks.specs.declared.command.Command.TheVariants as command
+use Rattle.blocks.specs.declared.outcome.What.{What}
+use Rattle.blocks.specs.declared.outcome.What.TheVariants as what
+use Rattle.endpoint.specs.Meaning.{meaning}
+use Rattle.handshakes.specs.Handshake.{judged}
+use Rattle.model.specs.Acknowledgements.{same_protocol}
+use Rattle.packets.specs.declared.packet.Packet.{Packet}
+use Rattle.packets.specs.declared.packet.Packet.TheVariants as packet
 use Rattle.model.specs.Frames.{Received}
-use Rattle.model.specs.Stream.{Item}
-use Rattle.primary_steps.specs.Core as core
 use Rattle.primary_steps.specs.Core.{EndState, PrimaryState}
 use Rattle.primary_steps.specs.Transitions.{closing}
-use Rattle.primary_steps.specs.Taking.{is_in_epoch, is_unsent, take_at, taken_by, taking}
-use Rattle.primary_core.specs.State.{way_of}
+use Rattle.primary_steps.specs.Taking.{Taken, greeted, take_at, taken_by, taking, taking_hello}
 use Rattle.primary_core.specs.Take.{taken_as}
-use Rattle.primary_core.specs.declared.state.UnderWay.{UnderWay}
-use Rattle.primary_core.proofs.Unmarked.{nothing-left}
-
-or-assoc : (a b : Bool) → ((a || false) || b) ≡ (a || b)
-or-assoc true b = refl
-or-assoc false b = refl
-
--- the barrier is the item at an index, or one of those after it
-pub unsent-split : (number : ℕ) (xs : List Item) (i : ℕ) (d : Item) → i < length xs
-    → is_unsent number (drop i xs) ≡ (is_unsent number (get_or xs i d ∷ []) || is_unsent number (drop (i + 1) xs))
-unsent-split number xs i d inside = ap (is_unsent number) (drop-cons xs i d inside) ∙ rw add-one (sym (or-assoc _ (is_unsent number (drop (suc i) xs))))
-
-pub unsent-past : (number : ℕ) (xs : List Item) (i : ℕ) → length xs ≤ i → is_unsent number (drop i xs) ≡ false
-unsent-past number xs i past = ap (is_unsent number) (nothing-left xs i past)
 
 -- A frame at an open end.
 
@@ -41,17 +33,49 @@ take-refused frame s e t (Ok done) closed is taken err closes = absurd (cc)
 take-refused frame s e t (Err refusal) closed is taken err closes =
     ap (λ (p : ℕ × PrimaryState). (Err refusal, p.1)) closes ∙ (ap (taken_by e) taken ∙ sym (taken-at frame s e is))
 
-pub take-done : (frame : Received) (s : PrimaryState) (e : EndState) (t : PrimaryState) (r : Result Done Refusal) → s.end ≡ Some e
-    → taken_as r t ≡ taking frame e s → is_err r ≡ false
-    → (let got : Result Done Refusal × PrimaryState = (r, t) in got ≡ take_at frame s)
-take-done frame s e t (Err refusal) is taken err = absurd (cc)
-take-done frame s e t (Ok done) is taken err = ap (taken_by e) taken ∙ sym (taken-at frame s e is)
+-- What is no frame of the hello is refused.
 
--- The block under way is of an epoch, or is not.
+strange : (refusal r : Refusal) (s : PrimaryState) → (let told : Result Command Refusal = Err refusal in told ≡ Err r)
+    → (let taken : Taken = Err (refusal, s) in taken ≡ Err (r, s))
+strange refusal r s is = let same : refusal ≡ r = cc in ap (λ (x : Refusal). Err (x, s)) same
 
-pub in-epoch : (number : ℕ) (r : Option UnderWay) (way : UnderWay) (under : Option core.UnderWay) → option_map way_of r ≡ under → r ≡ Some way
-    → (way.epoch == number) ≡ is_in_epoch number under
-in-epoch number r way under same is = ap (is_in_epoch number) (sym (ap (option_map way_of) is) ∙ same)
+greeted-not : (good : Bool) (name : What) (told : Command) (refusal : Refusal) (e : EndState) (s : PrimaryState) (r : Refusal)
+    → (if good then Ok told else Err refusal) ≡ Err r → greeted good name refusal e s ≡ Err (r, s)
+greeted-not true name told refusal e s r is = absurd (cc)
+greeted-not false name told refusal e s r is = strange refusal r s is
 
-pub in-no-epoch : (number : ℕ) (r : Option UnderWay) (under : Option core.UnderWay) → option_map way_of r ≡ under → r ≡ None → false ≡ is_in_epoch number under
-in-no-epoch number r under same is = ap (is_in_epoch number) (sym (ap (option_map way_of) is) ∙ same)
+pub hello-refused : (n : ℕ) (p : Packet) (e : EndState) (s : PrimaryState) (r : Refusal) → judged n p s.settings ≡ Err r
+    → taking_hello n (meaning p) e s ≡ Err (r, s)
+hello-refused zero (packet.Protocol asked) e s r is = greeted-not _ (what.Frame command.Protocol None) command.Protocol _ e s r is
+hello-refused zero (packet.Sizes blocks) e s r is = strange BadCommand r s is
+hello-refused zero (packet.Uuids tuple) e s r is = strange BadCommand r s is
+hello-refused zero (packet.Data first number place contents) e s r is = strange BadCommand r s is
+hello-refused zero (packet.RsDataReply first place contents) e s r is = strange BadCommand r s is
+hello-refused zero (packet.Barrier number) e s r is = strange BadCommand r s is
+hello-refused zero (packet.SyncUuid word) e s r is = strange BadCommand r s is
+hello-refused zero (packet.RecvAck ack) e s r is = strange BadCommand r s is
+hello-refused zero (packet.WriteAck ack) e s r is = strange BadCommand r s is
+hello-refused zero (packet.RsWriteAck ack) e s r is = strange BadCommand r s is
+hello-refused zero (packet.BarrierAck number size) e s r is = strange BadCommand r s is
+hello-refused (suc zero) (packet.Protocol asked) e s r is = strange BadCommand r s is
+hello-refused (suc zero) (packet.Sizes blocks) e s r is = greeted-not _ (what.Frame command.Sizes None) command.Sizes _ e s r is
+hello-refused (suc zero) (packet.Uuids tuple) e s r is = strange BadCommand r s is
+hello-refused (suc zero) (packet.Data first number place contents) e s r is = strange BadCommand r s is
+hello-refused (suc zero) (packet.RsDataReply first place contents) e s r is = strange BadCommand r s is
+hello-refused (suc zero) (packet.Barrier number) e s r is = strange BadCommand r s is
+hello-refused (suc zero) (packet.SyncUuid word) e s r is = strange BadCommand r s is
+hello-refused (suc zero) (packet.RecvAck ack) e s r is = strange BadCommand r s is
+hello-refused (suc zero) (packet.WriteAck ack) e s r is = strange BadCommand r s is
+hello-refused (suc zero) (packet.RsWriteAck ack) e s r is = strange BadCommand r s is
+hello-refused (suc zero) (packet.BarrierAck number size) e s r is = strange BadCommand r s is
+hello-refused (suc (suc n)) (packet.Protocol asked) e s r is = strange BadCommand r s is
+hello-refused (suc (suc n)) (packet.Sizes blocks) e s r is = strange BadCommand r s is
+hello-refused (suc (suc n)) (packet.Uuids tuple) e s r is = absurd (cc)
+hello-refused (suc (suc n)) (packet.Data first number place contents) e s r is = strange BadCommand r s is
+hello-refused (suc (suc n)) (packet.RsDataReply first place contents) e s r is = strange BadCommand r s is
+hello-refused (suc (suc n)) (packet.Barrier number) e s r is = strange BadCommand r s is
+hello-refused (suc (suc n)) (packet.SyncUuid word) e s r is = strange BadCommand r s is
+hello-refused (suc (suc n)) (packet.RecvAck ack) e s r is = strange BadCommand r s is
+hello-refused (suc (suc n)) (packet.WriteAck ack) e s r is = strange BadCommand r s is
+hello-refused (suc (suc n)) (packet.RsWriteAck ack) e s r is = strange BadCommand r s is
+hello-refused (suc (suc n)) (packet.BarrierAck number size) e s r is = strange BadCommand r s is

@@ -1,16 +1,15 @@
 -- The marks that released writes clear, block by block.
 use Rattle.std.proofs.Common.{ℕ, zero, suc, ◌≡◌, ◌≢◌, ◌+◌, ◌<◌, ◌≤◌, ◌⊎◌, inl, inr, nat_lt, nat_le, Bool, true, false, ◌&&◌, ◌||◌, not, List, [], ◌∷◌, ◌++◌}
 use Rattle.std.proofs.Common.{length, refl, sym, ◌∙◌, ap, subst, arith, get_or, drop, drop-cons, add-one, length-set}
-use Rattle.std.specs.Prelude.{map, slice_get, slice_set}
+use Rattle.std.specs.Prelude.{map, slice_set}
 use Rattle.std.specs.List.{AllByRecursion, list_any}
 use Rattle.std.proofs.lemmas.List.{length-map, map-append}
 use Rattle.std.proofs.lemmas.Bool.{lt-ltb, le-ltb, lt-leb, cases_lt}
-use Rattle.std.proofs.lemmas.Option.{slice_get_past}
-use Rattle.blocks.specs.Ranges.{below, is_between}
+use Rattle.blocks.specs.Ranges.{below}
 use Rattle.bitmap.specs.Marks.{marked}
 use Rattle.bitmap.proofs.Lists.{same-marks, marked-set_same, marked-set_other}
 use Rattle.transferlog.specs.declared.report.Released.{Released}
-use Rattle.transferlog.specs.Log.{clears, is_number}
+use Rattle.transferlog.specs.Log.{clears}
 use Rattle.primary_steps.specs.Core.{unmarking}
 use Rattle.primary_core.specs.Kept.{Cleared, LiesInside}
 use Rattle.primary_core.proofs.Reports.{length-below, length-unmarking}
@@ -60,13 +59,6 @@ not-below r latest b less = rw (lt-leb r.first b less) (rw (and-false r.clears) 
 
 not-above : (r : Released) (latest : List ℕ) (b : ℕ) → r.first + r.count ≤ b → clears r b latest ≡ false
 not-above r latest b more = rw (le-ltb b (r.first + r.count) more) (rw (and-false (nat_le r.first b)) (rw (and-false r.clears) refl))
-
-pub cleared-none : (r : Released) (latest : List ℕ) (old : List Bool) → Cleared r latest old old r.first
-cleared-none r latest old = record { same = refl; each = λ b. go b (cases_lt b r.first) }
-  where
-    go : (b : ℕ) → (b < r.first) ⊎ (r.first ≤ b) → marked old b ≡ (marked old b && not (nat_lt b r.first && clears r b latest))
-    go b (inl less) = rw (not-below r latest b less) (rw (and-false (nat_lt b r.first)) (and-true (marked old b)))
-    go b (inr more) = rw (le-ltb b r.first more) (and-true (marked old b))
 
 -- the tests of the next block agree with those of this one, but at it
 upto-next : (block b : ℕ) → b ≢ block → nat_lt b (block + 1) ≡ nat_lt b block
@@ -121,15 +113,6 @@ unmark-none latest marks =
     same-marks (unmarking [] latest marks) marks (length-unmarking [] latest marks) (λ b less.
     let inside : b < length marks = omega (arith, length-unmarking [] latest marks) in
     marked-map (λ block. marked marks block && true) (length marks) b inside ∙ sym (and-true (marked marks b)))
-
--- a block that a release clears is in the table of the last writes
-pub clears-inside : (r : Released) (latest : List ℕ) (block : ℕ) → clears r block latest ≡ true → block < length latest
-clears-inside r latest block is = elim (cases_lt block (length latest)) [
-  | inl less ↦ less
-  | inr more ↦
-      let none : is_number r.number (slice_get latest block) ≡ false = rw (slice_get_past latest block more) refl in
-      absurd (let no : clears r block latest ≡ false = rw none (and-false (r.clears && is_between r.first r.count block)) in cc)
-]
 
 -- One release more of a list, as a loop goes over it.
 pub unmark-step : (rs : List Released) (i : ℕ) (d : Released) (latest : List ℕ) (first old new : List Bool) → i < length rs → length old ≡ length first

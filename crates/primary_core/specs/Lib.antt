@@ -9,5 +9,5 @@ pub mod Send
 pub mod State
 pub mod Submit
 pub mod Take
-pub mod Unsent
+pub mod Outbox
 pub mod Waiting

@@ -1,7 +1,5 @@
 -- What is due, and what is left where it is sent.
-use Rattle.std.specs.Prelude.{ℕ, zero, suc, Bool, true, false, Option, None, Some, Result, Ok, Err}
-use Rattle.blocks.specs.declared.command.Command.{Command}
-use Rattle.blocks.specs.declared.command.Command.TheVariants as command
+use Rattle.std.specs.Prelude.{Bool, true, false, Option, None, Some, Result, Ok, Err}
 use Rattle.blocks.specs.declared.outcome.Done.{Done}
 use Rattle.blocks.specs.declared.outcome.What.TheVariants as what
 use Rattle.blocks.specs.declared.refusal.Refusal.{Refusal}
@@ -24,12 +22,6 @@ is_with_blocks (Err refusal) = false
 -- whether the next frame that is due carries blocks
 abbrev pub owes_blocks : PrimaryState → Bool
 owes_blocks s = is_with_blocks (due s)
-
--- the name of the hello's frame that comes after so many
-abbrev pub greeting : ℕ → Command
-greeting zero = command.Protocol
-greeting (suc zero) = command.Sizes
-greeting (suc (suc n)) = command.Uuids
 
 -- the packet that an end owes is sent; nothing is where there is none
 abbrev pub sent_owed : EndState → PrimaryState → Option Packet → Done × PrimaryState

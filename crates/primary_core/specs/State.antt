@@ -9,8 +9,8 @@ use Rattle.overlap.specs.Holdings.{Holding, holding}
 use Rattle.primary_steps.specs.Core as core
 use Rattle.primary_steps.specs.Core.{EndState, PrimaryState}
 use Rattle.primary_core.specs.Kept.{IsSound, IsWriter, owing}
-use Rattle.primary_core.specs.declared.state.End.{End}
-use Rattle.primary_core.specs.declared.state.UnderWay.{UnderWay}
+use Rattle.resync.specs.declared.under_way.UnderWay.{UnderWay}
+use Rattle.primary_core.specs.declared.connection.Connection.{Connection}
 use Rattle.primary_core.specs.declared.state.PrimaryCore.TheInside.{Inside}
 
 -- A primary; which entries are confirmed, by number; how many more items may come to its stream without memory, and how many
@@ -25,17 +25,17 @@ pub record CoreState : Type 0 where
 abbrev pub way_of : UnderWay → core.UnderWay
 way_of w = record { block = w.block.0; place = w.place; epoch = w.epoch }
 
--- an open end, with the items that were not sent
-abbrev pub end_of : List Item → End → EndState
-end_of unsent e = record {
-  sync = e.sync;
-  loss = e.loss;
-  hello = e.hello;
-  heard = e.heard;
-  said = e.said;
-  unsent = unsent;
-  resync = e.is_resync;
-  under_way = option_map way_of e.under_way;
+-- an open connection
+abbrev pub end_of : Connection → EndState
+end_of c = record {
+  sync = c.sync;
+  loss = c.loss;
+  hello = c.handshake.own;
+  heard = c.handshake.heard;
+  said = c.handshake.said;
+  unsent = c.outbox.items;
+  resync = c.resync.goes_on;
+  under_way = option_map way_of c.resync.under_way;
 }
 
 -- whether a resync goes on at an end, where one is open
@@ -58,10 +58,15 @@ abbrev pub held_with : Option UnderWay → List Holding → List Holding
 held_with None held = held
 held_with (Some w) held = holding 0 w.block.0 1 ∷ held
 
--- what is held at an end, or where none is open
-abbrev pub held_at : Option End → List Holding → List Holding
-held_at None held = held
-held_at (Some e) held = held_with e.under_way held
+-- the block under way of a connection, where one is open
+abbrev pub way_at : Option Connection → Option UnderWay
+way_at None = None
+way_at (Some c) = c.resync.under_way
+
+-- for how many more items a connection has room, where one is open
+abbrev pub room_at : Option Connection → ℕ
+room_at None = 0
+room_at (Some c) = c.outbox.room
 
 -- the fields as plain values
 abbrev pub state_of : Inside → PrimaryState
@@ -73,14 +78,14 @@ state_of c = record {
   log = c.log.state;
   entries = c.entries.items;
   marks = c.marks;
-  held = held_at c.end c.held;
+  held = held_with (way_at c.connection) c.held;
   activity = c.activity;
-  end = option_map (end_of c.unsent.items) c.end;
+  end = option_map end_of c.connection;
 }
 
 -- the fields, with the room for more
 abbrev pub core_of : Inside → CoreState
-core_of c = record { state = state_of c; confirmed = c.confirmed.items; stream_room = c.unsent.room; log_room = c.log.spare }
+core_of c = record { state = state_of c; confirmed = c.confirmed.items; stream_room = room_at c.connection; log_room = c.log.spare }
 
 -- The state is sound, only accepted writes hold something beside the block under way, each entry is confirmed or not, and there
 -- is room for what may come to the stream without memory.
@@ -88,7 +93,7 @@ pub record IsCore (c : Inside) : Type 0 where
   pub sound : IsSound (state_of c)
   pub writers : AllByRecursion (IsWriter c.log.state.accepted) c.held
   pub flagged : c.confirmed.len ≡ c.entries.len
-  pub room : owing None (state_of c).end c.log.state ≤ c.unsent.room
+  pub room : owing None (state_of c).end c.log.state ≤ room_at c.connection
 
 -- a primary may begin with these: the settings are in their ranges, each block has its mark or none, and the data have a
 -- generation

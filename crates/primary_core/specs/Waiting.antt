@@ -1,14 +1,14 @@
--- What the fields of the items that were not sent stand for, and what is kept about them.
+-- What the fields of the items that are due stand for, and what is kept about them.
 use Rattle.std.specs.Prelude.{◌≡◌, ◌-◌, true, length}
 use Rattle.std.specs.VecDeque.{deque_len, deque_capacity}
-use Rattle.primary_core.specs.Unsent.{UnsentState, numbers, run}
-use Rattle.primary_core.specs.declared.unsent.Unsent.TheInside.{Inside}
+use Rattle.primary_core.specs.Outbox.{OutboxState, numbers, run}
+use Rattle.primary_core.specs.declared.outbox.Outbox.TheInside.{Inside}
 
 -- the items, with the room for more
-abbrev pub unsent_of : Inside → UnsentState
-unsent_of u = record { items = u.items.items; room = deque_capacity u.items - deque_len u.items }
+abbrev pub outbox_of : Inside → OutboxState
+outbox_of u = record { items = u.items.items; room = deque_capacity u.items - deque_len u.items }
 
 -- The barriers are counted, and where they are said to be a run, their numbers are consecutive from the first one on.
-pub record IsUnsent (u : Inside) : Type 0 where
+pub record IsOutbox (u : Inside) : Type 0 where
   pub counted : u.barriers ≡ length (numbers u.items.items)
   pub runs : u.is_run ≡ true → numbers u.items.items ≡ run u.first u.barriers

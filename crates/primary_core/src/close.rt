@@ -22,10 +22,11 @@ impl PrimaryCore {
     pub fn close(&mut self) -> Result<u32, Refusal>
         ensures { (result, self.new.state) ≡ close_end self.old.state }
     {
-        let Some(end) = self.end else {
+        let Some(connection) = &self.connection else {
             return Err(Refusal::NotConnected);
         };
-        Ok(self.close_open(end.loss))
+        let loss = connection.loss;
+        Ok(self.close_open(loss))
     }
 
     /// Closes an end with this word for its loss, if one is open.
@@ -60,8 +61,7 @@ impl PrimaryCore {
         ensures { (result, self.new.state) ≡ without_stream self.old.state }
     {
         let completed = self.log.drain();
-        self.end = None;
-        self.unsent.clear();
+        self.connection = None;
         completed
     }
 }

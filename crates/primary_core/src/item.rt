@@ -7,7 +7,7 @@ ghost use Rattle.model.specs.Stream.{is_write, number_of};
 ghost use Rattle.packets.specs.Spelling.{IsSpellable};
 ghost use Rattle.primary_core.specs.Send.{carries_blocks};
 ghost use Rattle.primary_steps.specs.Taking.{is_unsent};
-ghost use Rattle.primary_core.specs.Unsent.{barrier_of};
+ghost use Rattle.primary_core.specs.Outbox.{barrier_of};
 
 use blocks::{Block, Command, Refusal, Tuple};
 use bytes::Bytes;

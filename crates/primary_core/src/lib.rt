@@ -1,21 +1,22 @@
 //! What a primary is without its link and its disk: a state machine that takes and gives packets, numbers and shared bytes.
 #![tactic(auto)]
 
-mod acknowledge;
 mod close;
+mod connection;
+mod disk;
 mod entry;
 mod follow;
 mod handshake;
 mod item;
-mod local;
 mod open;
+mod outbox;
 mod receipts;
 mod report;
 mod resyncing;
 mod send;
 mod state;
 mod submit;
-mod unsent;
+mod take;
 mod usage;
 
 pub use entry::{Entry, Fate};

@@ -5,9 +5,13 @@ ghost use Rattle.primary_core.specs.Starved.{is_starved};
 ghost use Rattle.primary_core.specs.Submit.{told_by};
 ghost use Rattle.primary_steps.specs.Transitions.{known_tuples, open_end, open_tests};
 
-use crate::state::{End, PrimaryCore};
+use crate::connection::Connection;
+use crate::outbox::Outbox;
+use crate::state::PrimaryCore;
 use blocks::Refusal;
 use generations::fresh;
+use handshakes::Handshake;
+use resync::Resync;
 
 impl PrimaryCore {
     /// Opens the end, with a word for a resync and one for the case that the connection is lost.
@@ -19,17 +23,15 @@ impl PrimaryCore {
         ensures { (result, self.new.state) ≡ open_end sync loss (is_starved result) self.old.state }
     {
         self.may_open(sync, loss)?;
-        self.unsent.clear();
-        self.unsent.reserve(3)?;
+        let mut outbox = Outbox::new(self.alloc);
+        outbox.reserve(3)?;
         self.connections += 1;
-        self.end = Some(End {
+        self.connection = Some(Connection {
             sync,
             loss,
-            hello: self.generations.tuple,
-            heard: 0,
-            said: 0,
-            is_resync: false,
-            under_way: None,
+            handshake: Handshake::new(self.generations.tuple),
+            outbox,
+            resync: Resync::new(),
         });
         Ok(())
     }
@@ -39,7 +41,7 @@ impl PrimaryCore {
     pub fn may_open(&self, sync: u64, loss: u64) -> Result<(), Refusal>
         ensures { result ≡ told_by (open_tests sync loss false self.now.state) }
     {
-        if self.end.is_some() {
+        if self.connection.is_some() {
             return Err(Refusal::NotDrained);
         }
         if !self.are_fresh(sync, loss) {

@@ -1,18 +1,46 @@
-//! Copying marked blocks to the peer.
-ghost use Rattle.std.specs.Prelude.{◌≡◌, ◌<◌, ◌≤◌, length, false, Ok, Err, Some, OnOk, MatchResult};
+//! A resync: its beginning, each block's way to the peer, and its end.
+ghost use Rattle.std.specs.Prelude.{◌≡◌, ◌<◌, ◌≤◌, length, false, set, true, Ok, Err, Some, OnOk, MatchResult};
+ghost use Rattle.endpoint.specs.Meaning.{meaning, named};
+ghost use Rattle.packets.specs.declared.packet.Packet.TheVariants as packet;
+ghost use Rattle.primary_core.specs.Kept.{barriers_due};
 ghost use Rattle.primary_core.specs.Resyncing.{resync_choice};
 ghost use Rattle.primary_core.specs.Starved.{is_starved};
-ghost use Rattle.primary_steps.specs.Core.{EndState};
-ghost use Rattle.primary_steps.specs.Transitions.{copying};
+ghost use Rattle.primary_core.specs.Take.{resyncing, taken_as};
+ghost use Rattle.primary_steps.specs.Core.{EndState, ending, is_over, stands};
+ghost use Rattle.primary_steps.specs.Taking.{names_block, taking_ack, without_block};
+ghost use Rattle.primary_steps.specs.Transitions.{copying, next_place};
 
 use crate::item::{Item, Kind};
-use crate::state::{PrimaryCore, UnderWay};
+use crate::state::PrimaryCore;
 use crate::submit::MOST_ITEMS;
-use blocks::{Block, Done, Refusal, What};
+use blocks::{Block, Command, Done, Refusal, What};
 use bytes::Bytes;
-use resync::next;
+use packets::Acknowledgement;
+use resync::{UnderWay, next};
 
 impl PrimaryCore {
+    /// A resync begins in a stream that has begun, and the peer is told. It takes no memory.
+    pub(crate) fn begin_resync(&mut self)
+        requires stands { stands self.old.state ≡ true }
+        requires places { self.old.state.log.epochs.places ≡ 0 }
+        requires due { barriers_due self.old.state.log.epochs ≡ 0 }
+        requires room { (e : EndState) → self.old.state.end ≡ Some e → 2 ≤ self.old.stream_room }
+        ensures { (e : EndState) → self.old.state.end ≡ Some e → self.new.state ≡ resyncing e self.old.state }
+    {
+        let Some(connection) = &self.connection else {
+            return;
+        };
+        let word = connection.sync;
+        self.generations.sync_start(word);
+        self.log.uuids();
+        if let Some(connection) = &mut self.connection {
+            connection.resync.begin();
+            // SYNC_UUID is the first item of the stream.
+            connection.outbox.clear();
+        }
+        self.append(Kind::SyncUuid(word));
+    }
+
     /// The block that the resync copies next: the lowest marked one that no open write has. There is room
     /// for its item then, and for its barrier.
     ///
@@ -26,8 +54,7 @@ impl PrimaryCore {
         ensures log_room { OnOk result (0 < self.new.log_room) }
     {
         let block = self.next_block()?;
-        self.unsent.reserve(3)?;
-        self.log.reserve()?;
+        self.make_room()?;
         Ok(block)
     }
 
@@ -35,10 +62,10 @@ impl PrimaryCore {
     fn next_block(&self) -> Result<Block, Refusal>
         ensures { MatchResult result (λ b. resync_choice false self.now.state ≡ Ok b.0) (λ e. resync_choice false self.now.state ≡ Err e) }
     {
-        let Some(end) = self.end else {
+        let Some(connection) = &self.connection else {
             return Err(Refusal::NotConnected);
         };
-        if !end.is_resync || end.under_way.is_some() {
+        if !connection.resync.is_waiting() {
             return Err(Refusal::NothingToDo);
         }
         let Some(block) = next(&self.marks, &self.held) else {
@@ -60,19 +87,83 @@ impl PrimaryCore {
         ensures { (e : EndState) → self.old.state.end ≡ Some e → (result, self.new.state) ≡ copying block.0 contents e self.old.state }
     {
         let epoch = self.log.epoch();
-        let (Some(end), Ok(place)) = (self.end, self.log.place_resync()) else {
+        let Ok(place) = self.log.place_resync() else {
             return Done::about(What::Nothing);
         };
-        let mut end = end;
-        end.under_way = Some(UnderWay {
-            block,
-            place,
-            epoch,
-        });
-        self.end = Some(end);
-        self.unsent.push_back_reserved(Item {
-            kind: Kind::Resync(block, contents),
-        });
+        if let Some(connection) = &mut self.connection {
+            connection.resync.copy(UnderWay {
+                block,
+                place,
+                epoch,
+            });
+        }
+        self.append(Kind::Resync(block, contents));
         self.follow(What::Block(block, place), None)
+    }
+
+    /// The peer has the block under way.
+    pub(crate) fn block_has_come(&mut self, ack: Acknowledgement) -> Result<Done, Refusal>
+        ensures { (e : EndState) → self.old.state.end ≡ Some e → taken_as result self.new.state ≡ taking_ack (meaning (packet.RsWriteAck ack)) e self.old.state }
+    {
+        if !self.is_under_way(ack) {
+            return Err(Refusal::UnknownAck);
+        }
+        self.release_block(ack.first);
+        let barrier = self.log.resync_acked();
+        Ok(self.follow(What::Frame(Command::RsWriteAck, None), barrier))
+    }
+
+    // Whether the acknowledgement names the block under way, which was sent.
+    fn is_under_way(&self, ack: Acknowledgement) -> bool
+        ensures { (e : EndState) → self.now.state.end ≡ Some e → result ≡ names_block (named ack) (next_place e self.now.state) e.under_way }
+    {
+        let Some(connection) = &self.connection else {
+            return false;
+        };
+        connection.resync.is_under_way(ack.first, ack.place)
+            && (ack.number == 0 && ack.count == 1)
+            && ack.place < self.next_place()
+    }
+
+    // The block under way has no mark and holds nothing, and none is under way.
+    fn release_block(&mut self, block: Block)
+        ensures { (e : EndState) → self.old.state.end ≡ Some e → self.new.state ≡ without_block block.0 e self.old.state }
+    {
+        self.unmark(block);
+        if let Some(connection) = &mut self.connection {
+            connection.resync.acknowledged();
+        }
+    }
+
+    // The block's mark goes.
+    fn unmark(&mut self, block: Block)
+        ensures { self.new.state ≡ record self.old.state { marks = set self.old.state.marks block.0 false } }
+    {
+        if block.0 < self.marks.len() {
+            self.marks.clear(block);
+        }
+    }
+
+    /// Whether the resync that goes on is over: no block is marked, and none is under way.
+    pub(crate) fn is_over(&self) -> bool
+        ensures { result ≡ is_over self.now.state }
+    {
+        match &self.connection {
+            Some(connection) => connection.resync.is_waiting() && self.marks.count() == 0,
+            None => false,
+        }
+    }
+
+    /// The resync ends: the bitmap identifier goes into the history, and the peer is told.
+    pub(crate) fn end_resync(&mut self)
+        requires over { is_over self.old.state ≡ true }
+        ensures { self.new.state ≡ ending self.old.state }
+    {
+        self.generations.sync_end();
+        self.log.uuids();
+        if let Some(connection) = &mut self.connection {
+            connection.resync.end();
+        }
+        self.append(Kind::Uuids(self.generations.tuple));
     }
 }

@@ -1,19 +1,21 @@
-//! The next frame to send.
-ghost use Rattle.std.specs.Prelude.{◌≡◌, ◌⊎◌, ◌-◌, nat_lt, true, false, length, Ok, Err, Some, IsOk, IfOk, IfErr, MatchResult};
+//! What is due to be sent.
+ghost use Rattle.std.specs.Prelude.{◌≡◌, ◌⊎◌, ◌+◌, ◌-◌, ◌<◌, ◌≤◌, ◌∷◌, [], true, drop, length, slice_get, Ok, Err, Some, IsOk, IfOk, IfErr, OnOk, MatchResult};
 ghost use Rattle.blocks.specs.declared.refusal.Refusal.TheVariants.{NoMemory};
 ghost use Rattle.endpoint.specs.Meaning.{meaning};
 ghost use Rattle.packets.specs.Spelling.{IsSpellable};
 ghost use Rattle.packets.specs.Table.{has_blocks};
-ghost use Rattle.primary_core.specs.Send.{greeting, owes_blocks, sent_now};
-ghost use Rattle.primary_steps.specs.Core.{EndState};
+ghost use Rattle.primary_core.specs.Items.{IsSent, item_as};
+ghost use Rattle.primary_core.specs.Kept.{owing};
+ghost use Rattle.primary_core.specs.Send.{owes_blocks, sent_now};
+ghost use Rattle.primary_core.specs.State.{items_in};
+ghost use Rattle.handshakes.specs.Hello.{advanced};
+ghost use Rattle.primary_steps.specs.Core.{EndState, appending, with_end};
 ghost use Rattle.primary_steps.specs.Transitions.{due, next_place};
 
+use crate::item::{Item, Kind};
 use crate::state::PrimaryCore;
-use blocks::{Command, Done, Refusal, What};
+use blocks::{Done, Refusal, What};
 use packets::Packet;
-
-/// How many frames a hello has.
-const HELLO_FRAMES: u32 = 3;
 
 impl PrimaryCore {
     /// The next packet that an open end owes: its hello, and then its stream. Its bytes are shared.
@@ -25,27 +27,13 @@ impl PrimaryCore {
         ensures inline { IfOk result (λ p. has_blocks p ≡ owes_blocks self.now.state) }
         ensures memory { IfErr result (λ e. e ≡ NoMemory → owes_blocks self.now.state ≡ true) }
     {
-        let Some(end) = self.end else {
+        let Some(connection) = &self.connection else {
             return Err(Refusal::NotConnected);
         };
-        if end.said >= HELLO_FRAMES {
-            return self.due_item();
+        if let Some(packet) = connection.handshake.due(&self.settings) {
+            return Ok(packet);
         }
-        Ok(match end.said {
-            0 => Packet::Protocol(self.settings.protocol),
-            1 => Packet::Sizes {
-                blocks: u64::from(self.settings.blocks),
-            },
-            _ => Packet::Uuids(end.hello),
-        })
-    }
-
-    // The packet of the first item that was not sent.
-    fn due_item(&self) -> Result<Packet, Refusal>
-        ensures due { (e : EndState) → self.now.state.end ≡ Some e → nat_lt e.said 3 ≡ false → MatchResult result (λ p. (due self.now.state ≡ Ok (meaning p)) × IsSpellable p) (λ r. (due self.now.state ≡ Err r) ⊎ ((r ≡ NoMemory) × IsOk (due self.now.state))) }
-        ensures memory { (e : EndState) → self.now.state.end ≡ Some e → nat_lt e.said 3 ≡ false → IfErr result (λ r. r ≡ NoMemory → owes_blocks self.now.state ≡ true) }
-    {
-        match self.unsent.front() {
+        match connection.outbox.next() {
             Some(item) => item.packet(self.next_place()),
             None => Err(Refusal::NothingThere),
         }
@@ -56,25 +44,15 @@ impl PrimaryCore {
         requires { IsOk (due self.old.state) }
         ensures { (result, self.new.state) ≡ sent_now self.old.state }
     {
-        let Some(end) = self.end else {
+        let Some(connection) = &self.connection else {
             return Done::about(What::Nothing);
         };
-        if end.said >= HELLO_FRAMES {
-            return self.pushed();
+        if let Some(packet) = connection.handshake.due(&self.settings) {
+            self.say();
+            return Done::about(What::Frame(packet.command(), None));
         }
-        let mut end = end;
-        let command = greeting(end.said);
-        end.said += 1;
-        self.end = Some(end);
-        Done::about(What::Frame(command, None))
-    }
-
-    // The first item that was not sent is sent now.
-    fn pushed(&mut self) -> Done
-        ensures { (e : EndState) → self.old.state.end ≡ Some e → nat_lt e.said 3 ≡ false → (result, self.new.state) ≡ sent_now self.old.state }
-    {
         let place = self.next_place();
-        let Some(item) = self.unsent.pop_front() else {
+        let Some(item) = self.pop() else {
             return Done::about(What::Nothing);
         };
         let what = What::Frame(item.command(), Some(place));
@@ -87,21 +65,58 @@ impl PrimaryCore {
         }
     }
 
+    // One frame more of the own hello is said.
+    fn say(&mut self)
+        ensures { self.new.state ≡ with_end (λ e. record e { said = advanced e.said }) self.old.state }
+    {
+        if let Some(connection) = &mut self.connection {
+            connection.handshake.say();
+        }
+    }
+
+    // The first item that is due is due no more.
+    fn pop(&mut self) -> Option<Item>
+        ensures item { result ≡ slice_get (items_in self.old.state.end) 0 }
+        ensures state { self.new.state ≡ with_end (λ e. record e { unsent = drop 1 e.unsent }) self.old.state }
+    {
+        match &mut self.connection {
+            Some(connection) => connection.outbox.pop(),
+            None => None,
+        }
+    }
+
     /// The place of the next item that is sent.
     pub(crate) fn next_place(&self) -> u32
         ensures { (e : EndState) → self.now.state.end ≡ Some e → result ≡ next_place e self.now.state }
     {
-        u64::from(self.log.places()).saturating_sub(self.unsent.len() as u64) as u32
+        u64::from(self.log.places()).saturating_sub(self.unsent() as u64) as u32
     }
-}
 
-// The name of the hello's frame that comes after so many.
-fn greeting(said: u32) -> Command
-    ensures { result ≡ greeting said }
-{
-    match said {
-        0 => Command::Protocol,
-        1 => Command::Sizes,
-        _ => Command::Uuids,
+    /// Makes room for an item, its barrier and the UUIDS of a resync: in the stream, where a connection is
+    /// open, and in the log.
+    pub(crate) fn make_room(&mut self) -> Result<(), Refusal>
+        ensures same { self.new.state ≡ self.old.state }
+        ensures room { OnOk result ((e : EndState) → self.new.state.end ≡ Some e → 3 ≤ self.new.stream_room) }
+        ensures log_room { OnOk result (0 < self.new.log_room) }
+        ensures refused { IfErr result (λ e. e ≡ NoMemory) }
+    {
+        if let Some(connection) = &mut self.connection {
+            connection.outbox.reserve(3)?;
+        }
+        self.log.reserve()
+    }
+
+    /// An item comes due at the end of the stream, where a connection is open. Whatever its kind, it does so
+    /// by this call. It takes no memory.
+    pub(crate) fn append(&mut self, kind: Kind)
+        requires sent { IsSent kind }
+        requires room { (e : EndState) → self.old.state.end ≡ Some e → 1 + owing None (Some e) self.old.state.log ≤ self.old.stream_room }
+        ensures state { self.new.state ≡ appending (item_as kind ∷ []) self.old.state }
+        ensures room { self.old.stream_room ≤ 1 + self.new.stream_room }
+    {
+        match &mut self.connection {
+            Some(connection) => connection.outbox.push(Item { kind }),
+            None => drop(kind),
+        }
     }
 }

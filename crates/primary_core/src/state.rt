@@ -4,44 +4,23 @@ ghost use Rattle.blocks.specs.declared.refusal.Refusal.TheVariants.{BadSetting, 
 ghost use Rattle.primary_steps.specs.Core.{fresh};
 ghost use Rattle.primary_core.specs.State.{CanBegin};
 
+use crate::connection::Connection;
 use crate::entry::Entry;
-use crate::unsent::Unsent;
 use activitylog::ActivityLog;
 use bitmap::Bitmap;
-use blocks::{Block, Refusal, Settings, Tuple};
+use blocks::{Refusal, Settings, Tuple};
 use generations::Generations;
 use overlap::Held;
 use std::alloc::Global;
 use std::marker::Model;
 use transferlog::TransferLog;
 
-/// The block that a resync has under way, with its place in the stream and its epoch.
-#[derive(Clone, Copy)]
-pub(crate) struct UnderWay {
-    pub(crate) block: Block,
-    pub(crate) place: u32,
-    pub(crate) epoch: u32,
-}
-
-/// An open end: its two words, the tuple that its hello names, how many frames of the peer's hello were
-/// taken and of its own pushed, 3 at most, whether a resync goes on, and what that has under way.
-#[derive(Clone, Copy)]
-pub(crate) struct End {
-    pub(crate) sync: u64,
-    pub(crate) loss: u64,
-    pub(crate) hello: Tuple,
-    pub(crate) heard: u32,
-    pub(crate) said: u32,
-    pub(crate) is_resync: bool,
-    pub(crate) under_way: Option<UnderWay>,
-}
-
 /// The primary without its disk and its link. Its log, its marks and its held ranges are of one device, and
 /// there is room for the barrier and the closing UUIDS that may yet come to its stream.
 ///
 /// A write's life:
 ///
-/// | the write is | `submit` | `local_done` | `local_failed` | `sent` | `take` (an answer) | `take` (BARRIER_ACK) | `close` |
+/// | the write is | `submit` | `done` | `failed` | `sent` | `take` (an answer) | `take` (BARRIER_ACK) | `close` |
 /// |---|---|---|---|---|---|---|---|
 /// | asked for | open | | | | | | |
 /// | open, not on the local disk | | on the local disk, and completed if answered | failed | answered under A | answered under B and C | | without a connection |
@@ -49,6 +28,7 @@ pub(crate) struct End {
 /// | completed, or failed | | | | | | released | released |
 #[derive(Drop)]
 pub struct PrimaryCore {
+    pub(crate) alloc: Global,
     pub(crate) settings: Settings,
     pub(crate) generations: Generations,
     pub(crate) peer: Option<Tuple>,
@@ -58,12 +38,10 @@ pub struct PrimaryCore {
     // For each entry whether its receipt was confirmed by the settlement under way. No history sees it.
     pub(crate) confirmed: Vec<bool>,
     pub(crate) marks: Bitmap,
-    // What the open writes hold. What the block under way holds stands at the end.
+    // What the open writes hold. What the block under way holds stands at its resync.
     pub(crate) held: Held,
     pub(crate) activity: ActivityLog,
-    pub(crate) end: Option<End>,
-    // The items of an open end that were not sent. They keep their room while it is closed.
-    pub(crate) unsent: Unsent,
+    pub(crate) connection: Option<Connection>,
 }
 
 impl Model for PrimaryCore {
@@ -95,6 +73,7 @@ impl PrimaryCore {
             return Err(Refusal::BadSetting);
         }
         Ok(PrimaryCore {
+            alloc,
             settings,
             generations: Generations { tuple },
             peer: None,
@@ -111,8 +90,7 @@ impl PrimaryCore {
             marks: Bitmap::from_marks(alloc, marks)?,
             held: Held::new(alloc),
             activity: ActivityLog::new(alloc, settings.slots)?,
-            end: None,
-            unsent: Unsent::new(alloc),
+            connection: None,
         })
     }
 }

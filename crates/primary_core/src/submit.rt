@@ -1,19 +1,18 @@
 //! Accepting a write.
-ghost use Rattle.std.specs.Prelude.{◌≡◌, ◌+◌, ◌*◌, ◌^◌, ◌<◌, ◌≤◌, ◌∷◌, [], None, true, false, length, IfOk, IfErr, OnOk, OnErr};
+ghost use Rattle.std.specs.Prelude.{◌≡◌, ◌+◌, ◌*◌, ◌^◌, ◌<◌, ◌≤◌, Some, None, true, false, length, IfOk, IfErr, OnOk, OnErr};
 ghost use Rattle.activitylog.specs.Activity.{begun, can_begin, writes_of};
 ghost use Rattle.blocks.specs.declared.refusal.Refusal.TheVariants.{BadRange, NoMemory};
 ghost use Rattle.model.specs.Contents.{extent_of, is_range};
 ghost use Rattle.model.specs.Refusals.{first_refusal};
-ghost use Rattle.model.specs.Stream.{Item as Denoted};
 ghost use Rattle.overlap.specs.Holdings.{conflict, holding, holding_too, is_held};
 ghost use Rattle.primary_core.specs.Kept.{owing};
 ghost use Rattle.primary_core.specs.Starved.{is_starved};
 ghost use Rattle.primary_core.specs.Submit.{IsWhole, gone_out, range_tests, taken_in, told_by};
-ghost use Rattle.primary_steps.specs.Core.{appending, stands};
+ghost use Rattle.primary_steps.specs.Core.{EndState, stands};
 ghost use Rattle.primary_steps.specs.Transitions.{submit, whole_blocks};
 
 use crate::entry::{Entry, Fate};
-use crate::item::{Item, Kind};
+use crate::item::Kind;
 use crate::state::PrimaryCore;
 use activitylog::ActivityLog;
 use blocks::{BLOCK_BYTES, Done, Range, Refusal, What};
@@ -109,13 +108,12 @@ impl PrimaryCore {
         requires whole { length contents ≡ 4096 * range.count }
         requires tests { first_refusal (range_tests range.first.0 range.count self.old.state) ≡ None }
         ensures accepted { IfOk result (λ a. (a, self.new.state) ≡ taken_in range.first.0 range.count contents self.old.state) }
-        ensures room { IfOk result (λ a. stands self.new.state ≡ true → 1 + owing a.barrier self.new.state.end self.new.state.log ≤ self.new.stream_room) }
+        ensures room { IfOk result (λ a. stands self.new.state ≡ true → (e : EndState) → self.new.state.end ≡ Some e → 1 + owing a.barrier (Some e) self.new.state.log ≤ self.new.stream_room) }
         ensures refused { IfErr result (λ e. e ≡ NoMemory) }
         ensures unchanged { OnErr result (self.new.state ≡ self.old.state) }
     {
+        self.make_room()?;
         self.entries.reserve(1)?;
-        self.unsent.reserve(3)?;
-        self.log.reserve()?;
         self.confirmed.reserve(1)?;
         let number = self.log.accepted() + 1;
         begin(&mut self.held, &mut self.activity, number, range)?;
@@ -135,7 +133,7 @@ impl PrimaryCore {
         requires inside { range.first.0 + range.count ≤ self.old.state.settings.blocks }
         requires whole { length contents ≡ 4096 * range.count }
         requires numbered { 0 < accepted.number }
-        requires room { stands self.old.state ≡ true → 1 + owing accepted.barrier self.old.state.end self.old.state.log ≤ self.old.stream_room }
+        requires room { stands self.old.state ≡ true → (e : EndState) → self.old.state.end ≡ Some e → 1 + owing accepted.barrier (Some e) self.old.state.log ≤ self.old.stream_room }
         ensures { (result, self.new.state) ≡ gone_out accepted range.first.0 range.count contents self.old.state }
     {
         let what = What::Write(accepted.number);
@@ -143,21 +141,8 @@ impl PrimaryCore {
             self.marks.mark(range);
             return self.follow(what, None);
         }
-        self.append(Item {
-            kind: Kind::Write(accepted.number, range.first, contents),
-        });
+        self.append(Kind::Write(accepted.number, range.first, contents));
         self.follow(what, accepted.barrier)
-    }
-
-    /// An item goes to the end of the stream, where an end is open.
-    pub(crate) fn append(&mut self, item: Item)
-        requires room { 1 + owing None self.old.state.end self.old.state.log ≤ self.old.stream_room }
-        ensures state { self.new.state ≡ appending (item ∷ []) self.old.state }
-        ensures room { self.old.stream_room ≤ 1 + self.new.stream_room }
-    {
-        if self.end.is_some() {
-            self.unsent.push_back_reserved(item);
-        }
     }
 }
 

@@ -7,9 +7,10 @@ ghost use Rattle.primary_core.specs.State.{items_in, resync_in, way_in, way_of};
 ghost use Rattle.primary_steps.specs.Core.{stands};
 
 use crate::entry::Entry;
-use crate::state::{PrimaryCore, UnderWay};
+use crate::state::PrimaryCore;
 use bitmap::Bitmap;
 use blocks::{Block, Settings, Tuple};
+use resync::UnderWay;
 
 impl PrimaryCore {
     /// The settings.
@@ -33,8 +34,8 @@ impl PrimaryCore {
         self.peer
     }
 
-    /// How many connections were opened.
-    pub fn connections(&self) -> u32
+    /// How many connections were opened, which is the number of the last one.
+    pub fn connection(&self) -> u32
         ensures { result ≡ self.now.state.connections }
     {
         self.connections
@@ -44,7 +45,7 @@ impl PrimaryCore {
     pub fn is_open(&self) -> bool
         ensures { result ≡ is_some self.now.state.end }
     {
-        self.end.is_some()
+        self.connection.is_some()
     }
 
     /// Whether the stream has begun: the hello is done.
@@ -58,8 +59,8 @@ impl PrimaryCore {
     pub fn is_resync(&self) -> bool
         ensures { result ≡ resync_in self.now.state.end }
     {
-        match self.end {
-            Some(end) => end.is_resync,
+        match &self.connection {
+            Some(connection) => connection.resync.goes_on(),
             None => false,
         }
     }
@@ -75,8 +76,8 @@ impl PrimaryCore {
     pub fn unsent(&self) -> usize
         ensures { result ≡ length (items_in self.now.state.end) }
     {
-        match self.end {
-            Some(_) => self.unsent.len(),
+        match &self.connection {
+            Some(connection) => connection.outbox.len(),
             None => 0,
         }
     }
@@ -120,7 +121,7 @@ impl PrimaryCore {
     pub(crate) fn under_way(&self) -> Option<UnderWay>
         ensures { option_map way_of result ≡ way_in self.now.state.end }
     {
-        self.end?.under_way
+        self.connection.as_ref()?.resync.under_way()
     }
 
     /// How many writes are neither completed nor failed. It takes time for each number from the first

@@ -16,7 +16,7 @@ use Rattle.blocks.specs.Identifiers.{stands_in, decision, sync_start}
 use Rattle.model.specs.Stream.{Item, BarrierItem, SyncUuidItem}
 use Rattle.model.specs.Frames.{Packet, ProtocolFrame, SizesFrame, UuidsFrame, RecvAckFrame, WriteAckFrame, RsWriteAckFrame, BarrierAckFrame, Acknowledged}
 use Rattle.model.specs.Frames.{Received}
-use Rattle.model.specs.Refusals.{done_with}
+use Rattle.model.specs.Refusals.{Test, done_with}
 use Rattle.model.specs.Acknowledgements.{same_protocol}
 use Rattle.transferlog.specs.Log as log
 use Rattle.transferlog.specs.Log.{LogState, connecting}
@@ -148,11 +148,15 @@ taken_by e (Err error) = (Err error.0, (closing e error.1).1)
 abbrev pub take_at : Received → PrimaryState → Result Done Refusal × PrimaryState
 take_at frame s = elim s.end [ None ↦ (Err NotConnected, s) | Some e ↦ taken_by e (taking frame e s) ]
 
+-- when an open end does not take the next frame, in order
+abbrev pub take_tests : Option Received → Bool → PrimaryState → List Test
+take_tests frame starved s = (not (stands s) && starved, NoMemory) ∷ (is_none frame, NothingThere) ∷ []
+
 -- the next frame that the link has for this end, or none
 abbrev pub ack_in : Option Received → Bool → PrimaryState → Result Done Refusal × PrimaryState
 ack_in frame starved s = elim s.end [
   | None ↦ (Err NotConnected, s)
-  | Some e ↦ tested s ((not (stands s) && starved, NoMemory) ∷ (is_none frame, NothingThere) ∷ []) (λ _. elim frame [
+  | Some e ↦ tested s (take_tests frame starved s) (λ _. elim frame [
     | None ↦ (Err NothingThere, s)
     | Some taken ↦ take_at taken s
   ])

@@ -157,13 +157,17 @@ sent_from e name s =
     if nat_lt e.said 3 then (done_with name, record s { end = Some (record e { said = suc e.said }) })
     else pushed_item name (slice_get e.unsent 0) (record s { end = Some (record e { unsent = drop 1 e.unsent }) })
 
+-- when a frame that is owed is not pushed, in order
+abbrev pub sent_tests : Bool → Bool → List Test
+sent_tests room starved = (starved, NoMemory) ∷ (not room, LinkFull) ∷ []
+
 -- the primary sends the next frame that it owes. `room` is what the link answers.
 abbrev pub send : Bool → Bool → PrimaryState → Result Done Refusal × PrimaryState
 send room starved s = elim s.end [
   | None ↦ (Err NotConnected, s)
   | Some e ↦ elim (owed e s) [
     | None ↦ (Err NothingThere, s)
-    | Some packet ↦ tested s ((starved, NoMemory) ∷ (not room, LinkFull) ∷ []) (λ _. let after = sent_from e (called e s packet) s in (Ok after.0, after.1))
+    | Some packet ↦ tested s (sent_tests room starved) (λ _. let after = sent_from e (called e s packet) s in (Ok after.0, after.1))
   ]
 ]
 

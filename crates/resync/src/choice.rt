@@ -6,9 +6,8 @@ use bitmap::Bitmap;
 use blocks::{Block, Range};
 use overlap::Held;
 
-/// The lowest marked block of which nobody holds anything, if there is one: the block that a resync
-/// copies next (this project's rule). It takes no memory. It makes a step for each marked block before
-/// that one.
+/// The lowest marked block that nobody holds, if there is one: the block that a resync copies next (this
+/// project's rule). It takes no memory. It makes a step for each marked block before that one.
 pub fn next(marks: &Bitmap, held: &Held) -> Option<Block>
     ensures { option_map (λ b. b.0) result ≡ next_block marks.now held.now }
 {

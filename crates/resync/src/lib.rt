@@ -5,4 +5,4 @@ mod choice;
 mod under_way;
 
 pub use choice::next;
-pub use under_way::Resync;
+pub use under_way::{Resync, UnderWay};

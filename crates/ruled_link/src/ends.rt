@@ -12,7 +12,7 @@ use std::sync::Wait;
 /// Pieces of the longest frame.
 const FRAME_PIECES: usize = 94;
 
-/// One direction of a link, in a row for so many of the longest frames; its ends are on a first connection.
+/// One direction of a link, in a row for `link` of the longest frames; its ends are on a first connection.
 /// `NoMemory` (7) where the room for it cannot be had.
 pub fn ruled<R: Wait + Copy>(
     rt: R,

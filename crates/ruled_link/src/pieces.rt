@@ -149,7 +149,7 @@ impl<R: Wait, M: Moment> Model for PieceIn<R, M> {
     ghost invariant = { λ e. passes.IsPassOf e.row.value e.pass × (passes.view e.pass ≡ log false true [] (passes.view e.pass).taken) };
 }
 
-/// A row for so many pieces, and its two ends.
+/// A row for `capacity` pieces, and its two ends.
 pub fn row<R: Wait + Copy>(
     rt: R,
     alloc: Global,
@@ -162,7 +162,7 @@ pub fn row<R: Wait + Copy>(
     watched_row::<R, Unwatched>(rt, alloc, capacity)
 }
 
-/// A row for so many pieces of whose moments a fact is kept, and its two ends.
+/// A row for `capacity` pieces that keeps a fact about each moment, and its two ends.
 pub fn watched_row<R: Wait + Copy, M: Moment>(
     rt: R,
     alloc: Global,

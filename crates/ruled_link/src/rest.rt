@@ -4,7 +4,7 @@ ghost use Rattle.std.specs.Prelude.{◌≡◌, ◌<◌, ◌≤◌, drop, length}
 use crate::Piece;
 use std::marker::Model;
 
-/// A piece of which bytes were taken from the front.
+/// A piece, and how many bytes were taken from its front.
 #[derive(Drop)]
 pub(crate) struct Rest {
     piece: Piece,
@@ -51,7 +51,7 @@ impl Rest {
         &self.piece.bytes()[self.used..]
     }
 
-    /// Takes so many bytes from the front.
+    /// Takes `count` bytes from the front.
     #[inline]
     pub(crate) fn advance(&mut self, count: usize)
         requires { count ≤ length self.old.bytes }

@@ -21,7 +21,7 @@ pub(crate) struct Returns {
 }
 
 impl Stock {
-    /// The stock of a row for so many pieces. It has two sheets more than the row: one is written while the row
+    /// The stock of a row for `capacity` pieces. It has two sheets more than the row: one is written while the row
     /// is full, and one is read.
     pub(crate) fn new(alloc: Global, capacity: usize) -> Result<(Stock, Returns), AllocError> {
         let count = capacity.saturating_add(2);

@@ -16,11 +16,11 @@ pub(crate) enum Command {
     Open { sync: u64, loss: u64 },
     /// Opens both ends, and exchanges the three frames of each end's hello.
     Connect { sync: u64, loss: u64 },
-    /// Submits a write of so many blocks, filled with a byte.
+    /// Submits a write of `count` blocks, filled with a byte.
     Submit { first: u64, count: u8, byte: u8 },
     /// Writes a write to the primary's disk.
     Local(u64),
-    /// The primary's disk fails a write after so many blocks.
+    /// The primary's disk fails a write, and keeps this number of its first blocks.
     LocalFault(u64, u64),
     /// The primary sends a frame.
     Send,
@@ -28,7 +28,7 @@ pub(crate) enum Command {
     Receive,
     /// Writes the item of a place to the secondary's disk.
     Peer(u64),
-    /// The secondary's disk fails the item of a place after so many blocks.
+    /// The secondary's disk fails the item of a place, and keeps this number of its first blocks.
     PeerFault(u64, u64),
     /// The secondary sends a frame.
     AckOut,

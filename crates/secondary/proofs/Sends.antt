@@ -3,12 +3,10 @@ use Rattle.std.proofs.Common.{◌≡◌, ◌⊎◌, inl, inr, Bool, true, false,
 use Rattle.std.specs.Prelude.{ok_or, IfSome}
 use Rattle.blocks.specs.declared.refusal.Refusal.{Refusal}
 use Rattle.blocks.specs.declared.refusal.Refusal.TheVariants.{LinkFull, NoMemory, NotConnected, NothingThere}
-use Rattle.blocks.specs.declared.command.Command.{Command}
 use Rattle.blocks.specs.declared.outcome.Done.{Done}
 use Rattle.blocks.specs.declared.outcome.What.TheVariants as what
 use Rattle.blocks.specs.declared.outcome.Reply.TheVariants as reply
 use Rattle.packets.specs.declared.packet.Packet as packets
-use Rattle.packets.specs.declared.packet.Packet.TheVariants as packet
 use Rattle.packets.specs.Table as table
 use Rattle.std.specs.Option.{option_map}
 use Rattle.endpoint.specs.Calls.{Sends, has_room, is_starved}
@@ -18,7 +16,7 @@ use Rattle.endpoint.specs.Incoming.{IncomingState}
 use Rattle.model.specs.Frames.{Packet, command_of}
 use Rattle.model.specs.Refusals.{done_with}
 use Rattle.model.specs.LocalRuns.{Acknowledges}
-use Rattle.secondary_steps.specs.Core.{EndState, SecondaryState, owed, due, sent}
+use Rattle.secondary_steps.specs.Core.{EndState, SecondaryState, ack_out, due, owed, sent}
 use Rattle.secondary_steps.specs.Node.{NodeState, NodeIsHad, NodeSteps}
 use Rattle.secondary_steps.specs.Steps.{replied}
 use Rattle.secondary_steps.proofs.Node.Calls.{due-open, node-pushes, node-full, node-no-memory, node-not-due}
@@ -33,58 +31,44 @@ not-starved p e inline refused starved =
     let blocks : table.has_blocks p ≡ true = (refused (λ full. cc)).1 in
     cc
 
--- the name of a packet is that of what it means
-same-command : (packet : packets.Packet) → command_of (meaning packet) ≡ table.command_of packet
-same-command (packet.Protocol protocol) = refl
-same-command (packet.Sizes blocks) = refl
-same-command (packet.Uuids tuple) = refl
-same-command (packet.Data first number place contents) = refl
-same-command (packet.RsDataReply first place contents) = refl
-same-command (packet.Barrier number) = refl
-same-command (packet.SyncUuid word) = refl
-same-command (packet.RecvAck ack) = refl
-same-command (packet.WriteAck ack) = refl
-same-command (packet.RsWriteAck ack) = refl
-same-command (packet.BarrierAck number size) = refl
+-- What is owed is pushed, under its name.
+pushed-is : (s t : SecondaryState) (packet : Packet) (done : Done) → due s ≡ Ok packet → (Ok done, t) ≡ ack_out true false s
+    → (done ≡ done_with (what.Frame (command_of packet) None)) × (t ≡ sent s)
+pushed-is s t packet done owes same =
+    let is = rw (owes, ack_out) at same in
+    let first : Ok done ≡ Ok (done_with (what.Frame (command_of packet) None)) = ap (λ (x : Result Done Refusal × SecondaryState). x.0) is in (
+      (cc),
+      ap (λ (x : Result Done Refusal × SecondaryState). x.1) is,
+    )
 
--- What is owed went out.
-pub sent-steps : (v : SecondaryView) (t : SecondaryState) (o p : OutgoingState) (packet : packets.Packet) (name : Command) (done : Done) → IsNode v
-    → v.outgoing ≡ Some o → due v.core ≡ Ok (meaning packet) → t ≡ sent v.core
-    → p.pushed ≡ o.pushed ++ meaning packet ∷ [] → name ≡ table.command_of packet → done ≡ done_with (what.Frame name None)
+-- It went out.
+pub sent-steps : (v : SecondaryView) (t : SecondaryState) (o p : OutgoingState) (packet : Packet) (done : Done) → IsNode v → v.outgoing ≡ Some o
+    → due v.core ≡ Ok packet → (Ok done, t) ≡ ack_out true false v.core → p.pushed ≡ o.pushed ++ packet ∷ []
     → NodeSteps (Acknowledges true false) (node v) (reply.Ok done) (node (record v { core = t; outgoing = Some p }))
-sent-steps v t o p packet name done node_is there is same pushed called said =
-    let name_is : what.Frame name None ≡ what.Frame (command_of (meaning packet)) None = ap (λ (k : Command). what.Frame k None) (called
-    ∙ sym (same-command packet)) in
-    let done_is : done ≡ done_with (what.Frame (command_of (meaning packet)) None) = said ∙ ap done_with name_is in
-    let all : p.pushed ≡ pushed_of v.outgoing ++ meaning packet ∷ [] = subst (λ (x : Option OutgoingState). p.pushed ≡ pushed_of x ++ meaning packet ∷ [])
-    (sym there) pushed in
-    subst (λ (d : Done). NodeSteps (Acknowledges true false) (node v) (reply.Ok d) (node (record v { core = t; outgoing = Some p }))) (sym done_is)
-    (subst (λ (x : SecondaryState). NodeSteps (Acknowledges true false) (node v) (reply.Ok (done_with (what.Frame (command_of (meaning packet)) None)))
-    (node (record v { core = x; outgoing = Some p }))) (sym same)
-    (subst (λ (l : List Packet). NodeSteps (Acknowledges true false) (node v) (reply.Ok (done_with (what.Frame (command_of (meaning packet)) None)))
-    (record (node v) { core = sent v.core; pushed = l })) (sym all)
-    (node-pushes (node v) (meaning packet) is)))
+sent-steps v t o p packet done node_is there owes same pushed =
+    let is = pushed-is v.core t packet done owes same in
+    rw (is.0, is.1, pushed, ← ap pushed_of there) (node-pushes (node v) packet owes)
 
 -- It is a node still.
-pub sent-is : (v : SecondaryView) (t : SecondaryState) (o p : OutgoingState) (packet : packets.Packet) → IsNode v → v.outgoing ≡ Some o
-    → due v.core ≡ Ok (meaning packet) → t ≡ sent v.core
-    → p.pushed ≡ o.pushed ++ meaning packet ∷ [] → p.partly ≡ None → p.number ≡ o.number → IsNode (record v { core = t; outgoing = Some p })
-sent-is v t o p packet is there owes same pushed whole number = record {
-  had = node-had (Acknowledges true false) (node v) (reply.Ok (done_with (what.Frame (table.command_of packet) None)))
-      (node (record v { core = t; outgoing = Some p })) is.had
-      (sent-steps v t o p packet (table.command_of packet) (done_with (what.Frame (table.command_of packet) None)) is there owes same pushed refl refl);
+pub sent-is : (v : SecondaryView) (t : SecondaryState) (o p : OutgoingState) (packet : Packet) (done : Done) → IsNode v → v.outgoing ≡ Some o
+    → due v.core ≡ Ok packet → (Ok done, t) ≡ ack_out true false v.core
+    → p.pushed ≡ o.pushed ++ packet ∷ [] → p.partly ≡ None → p.number ≡ o.number → IsNode (record v { core = t; outgoing = Some p })
+sent-is v t o p packet done is there owes same pushed whole number = record {
+  had = node-had (Acknowledges true false) (node v) (reply.Ok done) (node (record v { core = t; outgoing = Some p })) is.had
+      (sent-steps v t o p packet done is there owes same pushed);
   out_there = λ stands. refl;
-  in_there = λ stands. is.in_there (due-open v.core (meaning packet) owes);
+  in_there = λ stands. is.in_there (due-open v.core packet owes);
   begun = due-none p.partly t whole;
   numbered = both v.incoming (subst (λ (x : Option OutgoingState). IsNumbered x v.incoming v.core) there is.numbered);
 }
   where
     both : (x : Option IncomingState) → IsNumbered (Some o) x v.core → IsNumbered (Some p) x t
     both None was = tt
-    both (Some i) was = let kept = ap (λ (s : SecondaryState). s.number) same in let out = was.0 in let inn = was.1 in (
-      omega (arith, kept, number),
-      omega (arith, kept),
-    )
+    both (Some i) was =
+        let kept = ap (λ (s : SecondaryState). s.number) (pushed-is v.core t packet done owes same).1 in let out = was.0 in let inn = was.1 in (
+          omega (arith, kept, number),
+          omega (arith, kept),
+        )
 
 -- A packet that went in part leaves the node, and is the one that is due.
 pub part-is : (v : SecondaryView) (o p : OutgoingState) (packet : packets.Packet) → IsNode v → v.outgoing ≡ Some o → due v.core ≡ Ok (meaning packet)

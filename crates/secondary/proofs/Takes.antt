@@ -7,7 +7,7 @@ use Rattle.blocks.specs.declared.outcome.Done.{Done}
 use Rattle.model.specs.Frames.{Packet, DataFrame, RsDataReplyFrame, BarrierFrame, ProtocolFrame, UuidsFrame, SizesFrame, SyncUuidFrame, Received}
 use Rattle.model.specs.LocalRuns.{Receives}
 use Rattle.endpoint.specs.Outgoing.{OutgoingState}
-use Rattle.blocks.specs.declared.refusal.Refusal.TheVariants.{NoMemory, NotConnected, NothingThere, OtherProtocol, OtherSize, PendingFull}
+use Rattle.blocks.specs.declared.refusal.Refusal.TheVariants.{NoMemory, NotConnected, NothingThere, PendingFull}
 use Rattle.blocks.specs.declared.outcome.What.{What}
 use Rattle.blocks.specs.declared.outcome.What.TheVariants as what
 use Rattle.blocks.specs.declared.command.Command.TheVariants as command
@@ -20,6 +20,8 @@ use Rattle.endpoint.specs.Meaning.{received}
 use Rattle.endpoint.specs.Calls.{Takes, TookOne, is_starved}
 use Rattle.secondary.specs.Calls.{ReceivesOne}
 use Rattle.endpoint.specs.Incoming.{IncomingState, with_received, SameRow}
+use Rattle.laws.proofs.Rules.Hellos.{hello-has}
+use Rattle.secondary_steps.proofs.Judged.{judging-is}
 use Rattle.secondary_steps.specs.Core.{EndState, SecondaryState, Judged, judged_if, judging_hello, judging_item, judging, hearing, taking, take_at, may_take}
 use Rattle.secondary_steps.specs.Node.{NodeSteps}
 use Rattle.secondary_steps.specs.Steps.{replied}
@@ -124,20 +126,14 @@ some-there frame s result t may other is none = go s.end (may-open s may) (sym n
     named (Ok done) = Unit {0}
     named (Err e) = e ≡ NothingThere → ⊥
 
-    by-if : (good : Bool) (name : What) (x : SecondaryState) (e : Refusal) → (e ≡ NothingThere → ⊥) → named (if good then Ok (name, x) else Err e)
-    by-if true name x e differs = tt
-    by-if false name x e differs = differs
-
     by-field : (good : Bool) (name : What) (x : SecondaryState) → named (judged_if good name x)
     by-field true name x = tt
     by-field false name x = λ differs. absurd (cc)
 
     by-hello : (n : ℕ) (packet : Packet) (x : SecondaryState) → named (judging_hello n packet x)
-    by-hello zero (ProtocolFrame asked) x = by-if (same_protocol asked x.settings.protocol) (what.Frame command.Protocol None) x OtherProtocol
-        (λ differs. absurd (cc))
-    by-hello (suc zero) (SizesFrame blocks) x = by-if (blocks == x.settings.blocks) (what.Frame command.Sizes None) x OtherSize (λ differs. absurd (cc))
-    by-hello (suc (suc n)) (UuidsFrame peer) x = tt
-    by-hello n packet x = λ differs. absurd (cc)
+    by-hello n packet x = subst named (judging-is n packet x)
+        (hello-has named (λ name. Ok (name, x)) (λ refusal. Err refusal) (λ peer. Ok (what.Frame command.Uuids None, x)) x.settings n packet
+        (λ asked none of same. tt) (λ one of. tt) (λ m peer late of. tt) (λ differs. absurd (cc)) (λ differs. absurd (cc)) (λ differs. absurd (cc)))
 
     by-item : (packet : Packet) (e : EndState) (x : SecondaryState) → named (judging_item packet e x)
     by-item (DataFrame write at) e x = by-field _ _ _

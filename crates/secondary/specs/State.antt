@@ -1,6 +1,6 @@
 -- What the fields of a node stand for.
 use Rattle.std.specs.Prelude.{ℕ, ◌≡◌, ◌≤◌, Bool, true, List, [], ◌∷◌, Option, Some, None, is_some, Ok}
-use Rattle.model.specs.Frames.{Packet, Received}
+use Rattle.model.specs.Frames.{Packet}
 pub use Rattle.endpoint.specs.Calls.{pushed_of, taken_of}
 use Rattle.endpoint.specs.Outgoing.{OutgoingState, pushing_anew}
 use Rattle.endpoint.specs.Incoming.{IncomingState, taking_anew}

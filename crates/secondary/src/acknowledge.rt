@@ -8,7 +8,7 @@ ghost use Rattle.secondary.specs.State.{node};
 ghost use Rattle.endpoint.specs.Calls.{Sends, has_room, is_starved};
 
 use crate::Secondary;
-use blocks::{Done, Refusal, Store, What};
+use blocks::{Done, Refusal, Store};
 use link::{FrameIn, FrameOut};
 
 impl<O: FrameOut + Drop, I: FrameIn + Drop, S: Store + Drop> Secondary<O, I, S> {
@@ -24,12 +24,10 @@ impl<O: FrameOut + Drop, I: FrameIn + Drop, S: Store + Drop> Secondary<O, I, S> 
         ensures memory { IfErr result (λ e. e ≢ NoMemory) }
     {
         let packet = self.core.due()?;
-        let command = packet.command();
         let Some(outgoing) = &mut self.outgoing else {
             return Err(Refusal::NotConnected);
         };
         outgoing.push(self.alloc, packet)?;
-        self.core.sent();
-        Ok(Done::about(What::Frame(command, None)))
+        Ok(self.core.sent())
     }
 }

@@ -7,7 +7,7 @@ ghost use Rattle.secondary.specs.Calls.{AppliesOne};
 ghost use Rattle.secondary.specs.State.{node};
 
 use crate::Secondary;
-use blocks::{Done, FaultStore, Refusal, Store, What};
+use blocks::{Done, FaultStore, Refusal, Store};
 use link::{FrameIn, FrameOut};
 
 impl<O: FrameOut + Drop, I: FrameIn + Drop, S: Store + Drop> Secondary<O, I, S> {
@@ -29,13 +29,9 @@ impl<O: FrameOut + Drop, I: FrameIn + Drop, S: Store + Drop> Secondary<O, I, S> 
     {
         let item = self.core.start(place)?;
         match self.store.write(item.range(), item.contents().as_slice()) {
-            Ok(()) => self.core.done(place),
-            Err(_) => {
-                self.core.failed(place);
-                return Ok(Done::about(What::Nothing));
-            }
+            Ok(()) => Ok(self.core.done(place)),
+            Err(_) => Ok(self.core.failed(place)),
         }
-        Ok(Done::about(What::Nothing))
     }
 }
 
@@ -63,7 +59,6 @@ impl<O: FrameOut + Drop, I: FrameIn + Drop> Secondary<O, I, FaultStore> {
         let _ = self
             .store
             .write(failing.range(), failing.contents().as_slice());
-        self.core.failed(place);
-        Ok(Done::about(What::Nothing))
+        Ok(self.core.failed(place))
     }
 }

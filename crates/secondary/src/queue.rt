@@ -1,5 +1,5 @@
 //! Lending the queues of a link in one thread. None of this takes memory.
-ghost use Rattle.std.specs.Prelude.{◌≡◌, ◌++◌, Some, None, IfSome, is_none, true};
+ghost use Rattle.std.specs.Prelude.{◌≡◌, ◌++◌, Some, None, IfSome};
 ghost use Rattle.endpoint.specs.Lending.{GivenBack, GivenOut, LaidBack, LaidIn};
 
 use crate::Secondary;

@@ -18,7 +18,7 @@ impl<O: FrameOut + Drop, I: FrameIn + Drop, S: Store + Drop> Secondary<O, I, S> 
     pub fn next(&self) -> Result<u32, Refusal>
         ensures { (h : SecondaryHistory) → NodeHas (node self.now) h → result ≡ ok_or (next_pending h) NothingThere }
     {
-        self.core.next()
+        self.core.next().ok_or(Refusal::NothingThere)
     }
 
     /// Whether nothing is pending.
@@ -55,7 +55,7 @@ impl<O: FrameOut + Drop, I: FrameIn + Drop, S: Store + Drop> Secondary<O, I, S> 
         ensures number { result ≡ self.now.core.number }
         ensures history { (h : SecondaryHistory) → NodeHas (node self.now) h → result ≡ (inward h).number }
     {
-        self.core.number()
+        self.core.connection()
     }
 
     /// How many items were taken on the last connection.

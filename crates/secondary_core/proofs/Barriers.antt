@@ -8,32 +8,26 @@ use Rattle.std.proofs.lemmas.List.{append-nil, append_assoc, length-append, leng
 use Rattle.model.specs.Frames.{BarrierAckFrame}
 use Rattle.model.specs.Stream.{Item}
 use Rattle.peerdisk.specs.Pending.{Pending}
-use Rattle.secondary_core.specs.Ends.{EndRoom}
-use Rattle.secondary_steps.specs.Core.{EndState, answering, answers, is_applied_to}
+use Rattle.secondary_steps.specs.Core.{answers, is_applied_to}
+use Rattle.secondary_core.specs.Outboxes.{OutboxState, acknowledging}
 
 -- nothing is to be acknowledged
-none-new : (ps : List (Pending Item)) (e : EndState) → answers ps e.answered e.sizes ≡ [] → answering ps e ≡ e
-none-new ps e none =
-    let zeroed : e.answered + 0 ≡ e.answered = omega arith in
-    rw (none, append-nil e.due, zeroed) refl
-
-pub none-ended : (ps : List (Pending Item)) (e : EndState) → e.sizes ≡ [] → answering ps e ≡ e
-none-ended ps e none = none-new ps e (ap (answers ps e.answered) none)
+pub none-new : (ps : List (Pending Item)) (o : OutboxState) → answers ps o.answered o.sizes ≡ [] → acknowledging ps o ≡ o
+none-new ps o none =
+    let zeroed : o.answered + 0 ≡ o.answered = omega arith in
+    rw (none, append-nil o.due, zeroed) refl
 
 -- the oldest ended epoch has a pending item
-pub held : (ps : List (Pending Item)) (e : EndState) → is_applied_to ps (suc e.answered) ≡ false → answering ps e ≡ e
-held ps e waits = none-new ps e (by-sizes e.sizes)
-  where
-    by-sizes : (sizes : List ℕ) → answers ps e.answered sizes ≡ []
-    by-sizes [] = refl
-    by-sizes (size ∷ sizes) = rw waits refl
+held : (ps : List (Pending Item)) (answered : ℕ) (sizes : List ℕ) → is_applied_to ps (suc answered) ≡ false → answers ps answered sizes ≡ []
+held ps answered [] waits = refl
+held ps answered (size ∷ sizes) waits = rw waits refl
 
 -- the oldest ended epoch is acknowledged, and then the others
-abbrev pub and_next : ℕ → List ℕ → EndState → EndState
+abbrev pub and_next : ℕ → List ℕ → OutboxState → OutboxState
 and_next size sizes e = record e { due = e.due ++ BarrierAckFrame (suc e.answered) size ∷ []; answered = suc e.answered; sizes = sizes }
 
-pub next : (ps : List (Pending Item)) (e : EndState) (size : ℕ) (sizes : List ℕ) → e.sizes ≡ size ∷ sizes → is_applied_to ps (suc e.answered) ≡ true
-    → answering ps (and_next size sizes e) ≡ answering ps e
+pub next : (ps : List (Pending Item)) (e : OutboxState) (size : ℕ) (sizes : List ℕ) → e.sizes ≡ size ∷ sizes → is_applied_to ps (suc e.answered) ≡ true
+    → acknowledging ps (and_next size sizes e) ≡ acknowledging ps e
 next ps e size sizes are applied =
     let more = answers ps (suc e.answered) sizes in
     let all : answers ps e.answered e.sizes ≡ BarrierAckFrame (suc e.answered) size ∷ more = ap (answers ps e.answered) are ∙ rw applied refl in
@@ -65,12 +59,12 @@ few-new ps epoch (size ∷ sizes) = by-test (few-new ps (suc epoch) sizes) (is_a
     by-test rest true is = rw is (omega (arith, rest))
     by-test rest false is = rw is (omega arith)
 
-pub record Counts (e f : EndState) : Type 0 where
+pub record Counts (e f : OutboxState) : Type 0 where
   pub due : length f.due + length f.sizes ≡ length e.due + length e.sizes
   pub epochs : f.answered + length f.sizes ≡ e.answered + length e.sizes
   pub fewer : length f.sizes ≤ length e.sizes
 
-pub counts : (ps : List (Pending Item)) (e : EndState) → Counts e (answering ps e)
+pub counts : (ps : List (Pending Item)) (e : OutboxState) → Counts e (acknowledging ps e)
 counts ps e =
     let new = answers ps e.answered e.sizes in
     let few = few-new ps e.answered e.sizes in
@@ -82,19 +76,10 @@ counts ps e =
     }
 
 -- Nothing is left to acknowledge: the next epoch is not applied, or its number does not fit, and then none is left.
-pub at-end : (ps : List (Pending Item)) (e : EndState) (last : ℕ) → ((epoch : ℕ) → 0 < epoch → epoch < 4294967296 → is_applied_to ps epoch ≡ nat_le epoch last)
-    → last ≤ e.answered → e.answered + length e.sizes < 4294967296 → answering ps e ≡ e
-at-end ps e last reads done fits = by-number (cases_lt (suc e.answered) 4294967296)
-  where
-    no-sizes : (sizes : List ℕ) → length sizes ≡ 0 → sizes ≡ []
-    no-sizes [] none = refl
-    no-sizes (size ∷ sizes) none = absurd (omega (arith, none))
-
-    by-number : (suc e.answered < 4294967296) ⊎ (4294967296 ≤ suc e.answered) → answering ps e ≡ e
-    by-number (inl less) = let late : nat_le (suc e.answered) last ≡ false = lt-leb (suc e.answered) last (omega arith) in held ps e
-        (reads (suc e.answered) (omega arith) less ∙ late)
-    by-number (inr more) = none-ended ps e (no-sizes e.sizes (omega arith))
-
--- an end, by what it is and the room that it has
-pub end-is : (a b : EndRoom) → a.state ≡ b.state → a.answers ≡ b.answers → a.epochs ≡ b.epochs → a ≡ b
-end-is a b state answers epochs = λ i. record { state = state i; answers = answers i; epochs = epochs i }
+pub at-end : (ps : List (Pending Item)) (answered : ℕ) (sizes : List ℕ) (last : ℕ)
+    → ((epoch : ℕ) → 0 < epoch → epoch < 4294967296 → is_applied_to ps epoch ≡ nat_le epoch last)
+    → last ≤ answered → answered + length sizes < 4294967296 → answers ps answered sizes ≡ []
+at-end ps answered [] last reads done fits = refl
+at-end ps answered (size ∷ sizes) last reads done fits =
+    let late : nat_le (suc answered) last ≡ false = lt-leb (suc answered) last (omega arith) in
+    held ps answered (size ∷ sizes) (reads (suc answered) (omega arith) (omega (arith, fits)) ∙ late)

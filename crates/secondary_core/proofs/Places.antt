@@ -1,9 +1,8 @@
 -- What is pending was taken, before a step and after it.
-use Rattle.std.proofs.Common.{ℕ, suc, ◌≡◌, ◌+◌, ◌<◌, ◌≤◌, Bool, true, false, List, [], ◌∷◌, length, Option, Some, None, Result, Ok, Err, refl, sym, ◌∙◌, ap}
+use Rattle.std.proofs.Common.{ℕ, ◌≡◌, ◌+◌, ◌≤◌, Bool, true, false, List, [], ◌∷◌, length, Option, Some, None, Result, Ok, Err, refl, sym, ◌∙◌, ap}
 use Rattle.std.proofs.Common.{subst, arith, nat_eq, nat_le}
-use Rattle.std.specs.Prelude.{All, IfOk, IsOk, MatchResult, filter, is_some}
+use Rattle.std.specs.Prelude.{IfOk, IsOk, MatchResult, filter, is_some}
 use Rattle.std.specs.List.{AllByRecursion}
-use Rattle.std.proofs.lemmas.List.Elements.{All-from_recursion}
 use Rattle.blocks.specs.declared.refusal.Refusal.{Refusal}
 use Rattle.blocks.specs.declared.refusal.Refusal.TheVariants.{EpochOpen, UnknownJob}
 use Rattle.model.specs.Stream.{Item, contents_of, first_of}
@@ -25,24 +24,9 @@ pub of-none : {X : Type 0} (P : X → Type 0) (xs : List X) → length xs ≡ 0 
 of-none P [] none = tt
 of-none P (x ∷ xs) none = absurd (omega (arith, none))
 
-places-below : (size : ℕ) (t : Intake) (ps : List (Pending Item)) → AllByRecursion (IsOf size t) ps → AllByRecursion (λ p. p.place < t.places) ps
-places-below size t [] all = tt
-places-below size t (p ∷ ps) all = (all.0.place, places-below size t ps all.1)
-
-epochs-below : (size : ℕ) (t : Intake) (ps : List (Pending Item)) → AllByRecursion (IsOf size t) ps → AllByRecursion (λ p. p.epoch ≤ suc t.barriers) ps
-epochs-below size t [] all = tt
-epochs-below size t (p ∷ ps) all = (all.0.epoch, epochs-below size t ps all.1)
-
--- the next place is above, and the last epoch is no earlier one
-pub above : (size : ℕ) (t : Intake) (ps : List (Pending Item)) → AllByRecursion (IsOf size t) ps → All (λ p. p.place < t.places) ps
-above size t ps all = All-from_recursion (λ p. p.place < t.places) ps (places-below size t ps all)
-
-pub no_earlier : (size : ℕ) (t : Intake) (ps : List (Pending Item)) → AllByRecursion (IsOf size t) ps → All (λ p. p.epoch ≤ suc t.barriers) ps
-no_earlier size t ps all = All-from_recursion (λ p. p.epoch ≤ suc t.barriers) ps (epochs-below size t ps all)
-
 -- An item that may start is pending.
-pub may-start : {X : Type 0} (k : ℕ) (ps : List (Pending X)) → IsOk (start k ps) → is_pending k ps ≡ true
-may-start {X} k ps may = by-item (at_place k ps) refl
+pub may_start : {X : Type 0} (k : ℕ) (ps : List (Pending X)) → IsOk (start k ps) → is_pending k ps ≡ true
+may_start {X} k ps may = by-item (at_place k ps) refl
   where
     by-item : (o : Option (Pending X)) → at_place k ps ≡ o → is_pending k ps ≡ true
     by-item None none = absurd (let never = rw (start-none k ps none) at may in cc)
@@ -74,9 +58,9 @@ start-inside size t k ps item all started = by-item (at_place k ps) refl
             subst (λ (x : Item). first_of x + length (contents_of x) ≤ size) one (at-all (IsOf size t) k ps p all some).inside
 
 -- One item goes.
-pub one-less : {X : Type 0} (k : ℕ) (ps : List (Pending X)) → is_pending k ps ≡ true → length (without k ps) + 1 ≡ length ps
-one-less k [] there = absurd (cc)
-one-less {X} k (p ∷ ps) there = by-place (one-less k ps) (nat_eq k p.place) refl
+pub one_less : {X : Type 0} (k : ℕ) (ps : List (Pending X)) → is_pending k ps ≡ true → length (without k ps) + 1 ≡ length ps
+one_less k [] there = absurd (cc)
+one_less {X} k (p ∷ ps) there = by-place (one_less k ps) (nat_eq k p.place) refl
   where
     by-place : (is_pending k ps ≡ true → length (without k ps) + 1 ≡ length ps) → (b : Bool) → nat_eq k p.place ≡ b
         → length (without k (p ∷ ps)) + 1 ≡ length (p ∷ ps)
@@ -93,7 +77,7 @@ no-more {X} test (x ∷ xs) = by-test (no-more test xs) (test x) refl
 
 -- After a fault no more is pending than before, and it was taken.
 pub fewer : {X : Type 0} (k : ℕ) (ps : List (Pending X)) → is_pending k ps ≡ true → length (after_fault k ps) ≤ length ps
-fewer k ps there = omega (arith, no-more (λ p. nat_le p.epoch (epoch_at k ps)) (without k ps), one-less k ps there)
+fewer k ps there = omega (arith, no-more (λ p. nat_le p.epoch (epoch_at k ps)) (without k ps), one_less k ps there)
 
 pub all-after : {X : Type 0} (P : Pending X → Type 0) (k : ℕ) (ps : List (Pending X)) → AllByRecursion P ps → AllByRecursion P (after_fault k ps)
 all-after P k ps all = all-filter P (λ p. nat_le p.epoch (epoch_at k ps)) (without k ps) (all-without P k ps all)

@@ -1,6 +1,7 @@
 pub mod Answers
-pub mod Ends
-pub mod Intakes
+pub mod Connections
+pub mod Inboxes
 pub mod Items
+pub mod Outboxes
 pub mod Receiving
 pub mod State

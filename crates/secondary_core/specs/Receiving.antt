@@ -7,7 +7,7 @@ use Rattle.model.specs.Contents.{is_range}
 use Rattle.model.specs.Stream.{Item}
 use Rattle.model.specs.Frames.{Packet, Received}
 use Rattle.model.specs.SecondarySteps.{has_place}
-use Rattle.secondary_steps.specs.Core.{EndState, Judged, SecondaryState, and_item, hearing, judging, judging_hello, judging_item, owing, waiting}
+use Rattle.secondary_steps.specs.Core.{EndState, Judged, SecondaryState, and_item, follows, hearing, judging, judging_item, owing, waiting}
 use Rattle.secondary_core.specs.Answers.{receipt_of}
 use Rattle.secondary_core.specs.State.{CoreState}
 
@@ -17,9 +17,9 @@ pub record MayTake (c : CoreState) : Type 0 where
   pub few : length c.state.pending < c.state.settings.pending
   pub ready : c.is_ready ≡ true
 
--- what an accepted frame is called and leaves; a refused one leaves the state
+-- what an accepted frame is called and leaves, with what follows; a refused one leaves the state
 abbrev pub told : Judged → SecondaryState → Result What Refusal × SecondaryState
-told (Ok done) s = (Ok done.0, done.1)
+told (Ok done) s = (Ok done.0, follows done.1)
 told (Err refusal) s = (Err refusal, s)
 
 -- a frame is judged, at an open end
@@ -36,24 +36,15 @@ item_at packet (Some e) s = told (judging_item packet e s) s
 abbrev pub greeted : EndState → SecondaryState → SecondaryState
 greeted e s = record s { end = Some (hearing e) }
 
--- what a frame is called that does nothing, or why it is refused
-abbrev pub calling : Result What Refusal → SecondaryState → Judged
-calling (Ok name) s = Ok (name, s)
-calling (Err refusal) s = Err refusal
-
--- the next frame of the hello is called so, or refused so, at an open end
-abbrev pub IsCalled : Packet → Result What Refusal → Option EndState → SecondaryState → Type 0
-IsCalled packet result None s = Unit {0}
-IsCalled packet result (Some e) s = judging_hello e.heard packet (greeted e s) ≡ calling result (greeted e s)
-
 -- an item with these blocks names the next place, and there is one
 abbrev pub is_next : ℕ → ℕ → ℕ → SecondaryState → Bool
 is_next at first count s = ((at == s.intake.places) && has_place s.intake.places) && is_range s.settings first count
 
 -- an item with blocks waits for the disk, and its receipt is due where the protocol asks for one
 abbrev pub admitted : Item → SecondaryState → SecondaryState
-admitted item s = record s {
-  intake = and_item item s.intake;
-  pending = waiting item s;
-  end = option_map (owing (receipt_of s.settings.protocol s.intake.places item)) s.end;
-}
+admitted item s =
+    follows (record s {
+      intake = and_item item s.intake;
+      pending = waiting item s;
+      end = option_map (owing (receipt_of s.settings.protocol s.intake.places item)) s.end;
+    })

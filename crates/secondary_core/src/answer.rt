@@ -1,9 +1,9 @@
 //! An acknowledgement to send.
 ghost use Rattle.std.specs.Prelude.{◌≡◌, false};
-ghost use Rattle.packets.specs.Spelling.{IsSpellable, NamesResync, NamesWrite};
+ghost use Rattle.packets.specs.Spelling.{IsSpellable};
 ghost use Rattle.packets.specs.Table.{has_blocks};
-ghost use Rattle.model.specs.Frames.{BarrierAckFrame, RecvAckFrame, RsWriteAckFrame, WriteAckFrame};
-ghost use Rattle.endpoint.specs.Meaning.{meaning, named};
+ghost use Rattle.endpoint.specs.Meaning.{meaning};
+ghost use Rattle.secondary_core.specs.Answers.{packet_of};
 
 use packets::{Acknowledgement, Packet};
 use std::marker::Model;
@@ -11,13 +11,13 @@ use std::marker::Model;
 /// What is acknowledged, and how.
 #[derive(Clone, Copy)]
 pub(crate) enum Told {
-    /// A write is in memory.
+    /// A write is in memory: RECV_ACK.
     Received(Acknowledgement),
-    /// A write is on the disk.
+    /// A write is on the disk: WRITE_ACK.
     Written(Acknowledgement),
-    /// A block of a resync is on the disk.
+    /// A block of a resync is on the disk: RS_WRITE_ACK.
     Resynced(Acknowledgement),
-    /// All items up to the end of an epoch, which has so many writes, are on the disk.
+    /// All items up to the end of an epoch, which has so many writes, are on the disk: BARRIER_ACK.
     Whole { epoch: u32, writes: u32 },
 }
 
@@ -40,43 +40,12 @@ impl Model for Answer {
 }
 
 impl Answer {
-    /// A write is in memory: RECV_ACK.
-    pub(crate) fn received(of: Acknowledgement) -> Answer
-        requires { NamesWrite of }
-        ensures { result ≡ RecvAckFrame (named of) }
+    /// An acknowledgement of this; its packet has a spelling.
+    pub(crate) fn new(told: Told) -> Answer
+        requires { IsSpellable (packet_of told) }
+        ensures { result ≡ meaning (packet_of told) }
     {
-        Answer {
-            told: Told::Received(of),
-        }
-    }
-
-    /// A write is on the disk: WRITE_ACK.
-    pub(crate) fn written(of: Acknowledgement) -> Answer
-        requires { NamesWrite of }
-        ensures { result ≡ WriteAckFrame (named of) }
-    {
-        Answer {
-            told: Told::Written(of),
-        }
-    }
-
-    /// A block of a resync is on the disk: RS_WRITE_ACK.
-    pub(crate) fn resynced(of: Acknowledgement) -> Answer
-        requires { NamesResync of }
-        ensures { result ≡ RsWriteAckFrame (named of) }
-    {
-        Answer {
-            told: Told::Resynced(of),
-        }
-    }
-
-    /// All items up to the end of an epoch are on the disk: BARRIER_ACK.
-    pub(crate) fn whole(epoch: u32, writes: u32) -> Answer
-        ensures { result ≡ BarrierAckFrame epoch writes }
-    {
-        Answer {
-            told: Told::Whole { epoch, writes },
-        }
+        Answer { told }
     }
 
     /// Its packet, which has no blocks.

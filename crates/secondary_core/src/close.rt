@@ -10,10 +10,10 @@ impl SecondaryCore {
     pub fn close(&mut self) -> Result<(), Refusal>
         ensures { (result, self.new.state) ≡ close_end self.old.state }
     {
-        if !self.is_open {
+        if !self.is_open() {
             return Err(Refusal::NotConnected);
         }
-        self.is_open = false;
+        self.connection = None;
         Ok(())
     }
 }

@@ -1,27 +1,25 @@
-//! Receiving the primary's handshake.
-ghost use Rattle.endpoint.specs.Meaning.{meaning};
-ghost use Rattle.secondary_core.specs.Receiving.{IsCalled};
+//! The primary's hello.
+ghost use Rattle.std.specs.Prelude.{◌≡◌, OnErr, OnOk};
+ghost use Rattle.handshakes.specs.Handshake.{judged};
+ghost use Rattle.handshakes.specs.Hello.{advanced};
 
-use crate::state::SecondaryCore;
-use blocks::{Command, Refusal, What};
+use blocks::{Command, Refusal, Settings};
+use handshakes::Handshake;
 use packets::Packet;
 
-impl SecondaryCore {
-    // What the next frame of the hello is called: the protocol, the size, and then the peer's identifiers.
-    pub(crate) fn greet(&self, packet: &Packet) -> Result<What, Refusal>
-        ensures { IsCalled (meaning packet.now) result self.now.state.end self.now.state }
-    {
-        match (self.end.heard(), packet) {
-            (0, Packet::Protocol(asked)) if *asked == self.settings.protocol => {
-                Ok(What::Frame(Command::Protocol, None))
-            }
-            (0, Packet::Protocol(_)) => Err(Refusal::OtherProtocol),
-            (1, Packet::Sizes { blocks }) if *blocks == u64::from(self.settings.blocks) => {
-                Ok(What::Frame(Command::Sizes, None))
-            }
-            (1, Packet::Sizes { .. }) => Err(Refusal::OtherSize),
-            (heard, Packet::Uuids(_)) if heard >= 2 => Ok(What::Frame(Command::Uuids, None)),
-            _ => Err(Refusal::BadCommand),
-        }
-    }
+/// Takes the next frame of the primary's hello, and answers its command. The identifiers that UUIDS has
+/// decide nothing here. `OtherProtocol` (34), `OtherSize` (35) and `BadCommand` (21) come as the handshake
+/// judges; then nothing changes.
+pub(crate) fn greet(
+    handshake: &mut Handshake,
+    packet: &Packet,
+    settings: &Settings,
+) -> Result<Command, Refusal>
+    ensures judged { result ≡ judged handshake.old.heard packet.now settings.now }
+    ensures heard { OnOk result (handshake.new ≡ record handshake.old { heard = advanced handshake.old.heard }) }
+    ensures unchanged { OnErr result (handshake.new ≡ handshake.old) }
+{
+    let command = handshake.judge(packet, settings)?;
+    handshake.hear();
+    Ok(command)
 }

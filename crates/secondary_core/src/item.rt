@@ -1,5 +1,5 @@
 //! Items for the secondary's disk.
-ghost use Rattle.std.specs.Prelude.{◌≡◌, ◌*◌, ◌<◌, ◌≤◌, ◌^◌, length, option_to_list, true};
+ghost use Rattle.std.specs.Prelude.{◌≡◌, ◌*◌, ◌/◌, ◌<◌, ◌≤◌, ◌^◌, length, option_to_list, true};
 ghost use Rattle.blocks.specs.Contents.{blocks_of};
 ghost use Rattle.model.specs.Stream.{WriteItem, ResyncItem, contents_of, first_of};
 ghost use Rattle.model.specs.SecondarySteps.{applied_answer};
@@ -7,8 +7,8 @@ ghost use Rattle.endpoint.specs.Meaning.{named};
 ghost use Rattle.secondary_core.specs.Answers.{receipt_of};
 ghost use Rattle.secondary_core.specs.Items.{is_kind};
 
-use crate::answer::Answer;
-use blocks::{Protocol, Range};
+use crate::answer::{Answer, Told};
+use blocks::{BLOCK_BYTES, Protocol, Range};
 use bytes::Bytes;
 use packets::Acknowledgement;
 use std::marker::Model;
@@ -103,7 +103,7 @@ impl Item {
     {
         match (self.kind, protocol) {
             (Kind::Write(number), Protocol::B) => {
-                Some(Answer::received(self.naming(number, place)))
+                Some(Answer::new(Told::Received(self.naming(number, place))))
             }
             _ => None,
         }
@@ -116,10 +116,10 @@ impl Item {
     {
         match (self.kind, protocol) {
             (Kind::Write(number), Protocol::C) => {
-                Some(Answer::written(self.naming(number, place)))
+                Some(Answer::new(Told::Written(self.naming(number, place))))
             }
             (Kind::Write(_), _) => None,
-            (Kind::Resync, _) => Some(Answer::resynced(self.naming(0, place))),
+            (Kind::Resync, _) => Some(Answer::new(Told::Resynced(self.naming(0, place)))),
         }
     }
 
@@ -138,4 +138,12 @@ impl Item {
             place,
         }
     }
+}
+
+/// How many whole blocks these bytes have.
+pub(crate) fn whole_blocks(contents: &Bytes) -> u64
+    ensures blocks { result ≡ length (blocks_of 4096 contents.now) }
+    ensures bytes { result ≡ length contents.now / 4096 }
+{
+    (contents.len() / BLOCK_BYTES) as u64
 }

@@ -2,17 +2,19 @@
 //! it owes to the primary, and how far its data may be used. It touches nothing; packets and numbers go in and come out.
 #![tactic(auto)]
 
-mod acknowledge;
 mod answer;
 mod close;
-mod end;
+mod connection;
+mod disk;
 mod handshake;
+mod inbox;
 mod item;
 mod open;
-mod peer;
-mod receive;
+mod outbox;
+mod resyncing;
+mod send;
 mod state;
-mod taken;
+mod take;
 mod usage;
 
 pub use item::Item;

@@ -2,8 +2,11 @@
 ghost use Rattle.std.specs.Prelude.{◌≡◌};
 ghost use Rattle.secondary_steps.specs.Core.{open_end};
 
+use crate::connection::Connection;
+use crate::outbox::Outbox;
 use crate::state::SecondaryCore;
 use blocks::Refusal;
+use handshakes::Handshake;
 
 impl SecondaryCore {
     /// Opens the end, under the connection's number. `NotDrained` (36) if it is open, and where
@@ -11,15 +14,17 @@ impl SecondaryCore {
     pub fn open(&mut self, number: u32) -> Result<(), Refusal>
         ensures { (result, self.new.state) ≡ open_end number self.old.state }
     {
-        if self.is_open || !self.disk.is_empty() {
+        if self.is_open() || !self.is_drained() {
             return Err(Refusal::NotDrained);
         }
         self.number = number;
-        self.taken.begin();
+        self.inbox.begin();
         self.items_applied = 0;
         self.failed = None;
-        self.end.restart(self.tuple);
-        self.is_open = true;
+        self.connection = Some(Connection {
+            handshake: Handshake::new(self.tuple),
+            outbox: Outbox::new(self.alloc),
+        });
         self.is_ready = false;
         Ok(())
     }

@@ -4,16 +4,16 @@ ghost use Rattle.blocks.specs.SettingsRange.{IsInRange};
 ghost use Rattle.blocks.specs.declared.refusal.Refusal.TheVariants.{BadSetting, NoMemory};
 ghost use Rattle.secondary_steps.specs.Core.{fresh};
 
-use crate::end::End;
+use crate::connection::Connection;
+use crate::inbox::Inbox;
 use crate::item::Item;
-use crate::taken::Taken;
 use blocks::{Refusal, Settings, Tuple};
 use peerdisk::PeerDisk;
 use std::alloc::Global;
 use std::marker::Model;
 
-/// The secondary without its disk and its link. Its pending items and its epochs are as the settings say,
-/// and there is always room for what the pending items and the barriers that were taken ask to acknowledge.
+/// The secondary without its disk and its link. Its pending items and its epochs are as the settings say, and
+/// an open connection always has room for what these items and the barriers taken ask to acknowledge.
 ///
 /// An item's life, by the calls that bring the events:
 ///
@@ -25,17 +25,18 @@ use std::marker::Model;
 /// | applied, with an answer due | | | no answer | no answer |
 #[derive(Drop)]
 pub struct SecondaryCore {
+    pub(crate) alloc: Global,
     pub(crate) settings: Settings,
     pub(crate) tuple: Tuple,
     pub(crate) is_consistent: bool,
     pub(crate) number: u32,
-    pub(crate) taken: Taken,
+    pub(crate) inbox: Inbox,
     pub(crate) disk: PeerDisk<Item>,
     // How many items of the last connection are applied.
     pub(crate) items_applied: u32,
     pub(crate) failed: Option<u32>,
-    pub(crate) is_open: bool,
-    pub(crate) end: End,
+    // None: the end is closed.
+    pub(crate) connection: Option<Connection>,
     pub(crate) is_ready: bool,
 }
 
@@ -60,16 +61,16 @@ impl SecondaryCore {
     {
         settings.check()?;
         Ok(SecondaryCore {
+            alloc,
             settings,
             tuple,
             is_consistent: tuple.current != 0,
             number: 0,
-            taken: Taken::new(alloc, settings.blocks)?,
+            inbox: Inbox::new(alloc, settings.blocks)?,
             disk: PeerDisk::new(alloc, settings.pending)?,
             items_applied: 0,
             failed: None,
-            is_open: false,
-            end: End::new(alloc, tuple),
+            connection: None,
             is_ready: false,
         })
     }

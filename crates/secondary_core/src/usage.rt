@@ -1,7 +1,7 @@
 //! Read-only accessors.
 ghost use Rattle.std.specs.Prelude.{◌≡◌, ◌==◌, length, is_some};
 ghost use Rattle.secondary_steps.specs.Core.{may_take, whole};
-ghost use Rattle.secondary_core.specs.Ends.{is_hello_done};
+ghost use Rattle.secondary_core.specs.Connections.{is_hello_done};
 
 use crate::state::SecondaryCore;
 use blocks::{Refusal, Settings, Tuple};
@@ -23,7 +23,7 @@ impl SecondaryCore {
     pub fn may_take(&self) -> Result<(), Refusal>
         ensures { result ≡ may_take self.now.state }
     {
-        if !self.is_open {
+        if !self.is_open() {
             return Err(Refusal::NotConnected);
         }
         self.disk.may_put()
@@ -54,18 +54,21 @@ impl SecondaryCore {
     pub fn is_open(&self) -> bool
         ensures { result ≡ is_some self.now.state.end }
     {
-        self.is_open
+        self.connection.is_some()
     }
 
     /// Whether the hello is done: the end is open, and has taken three frames and pushed three.
     pub fn is_hello_done(&self) -> bool
         ensures { result ≡ is_hello_done self.now.state.end }
     {
-        self.is_open && self.end.has_heard() && self.end.has_said()
+        let Some(connection) = &self.connection else {
+            return false;
+        };
+        connection.handshake.is_heard() && connection.handshake.is_said()
     }
 
     /// The number of the last connection, 0 before the first.
-    pub fn number(&self) -> u32
+    pub fn connection(&self) -> u32
         ensures { result ≡ self.now.state.number }
     {
         self.number
@@ -75,7 +78,7 @@ impl SecondaryCore {
     pub fn items_taken(&self) -> u32
         ensures { result ≡ self.now.state.intake.places }
     {
-        self.taken.places()
+        self.inbox.places()
     }
 
     /// How many writes and resync items of the last connection's stream are applied. One that the disk failed
@@ -99,17 +102,11 @@ impl SecondaryCore {
     {
         Usage {
             consistent: self.is_consistent,
-            whole: self.whole(),
+            whole: match (self.failed, self.disk.first_epoch()) {
+                (Some(epoch), _) | (None, Some(epoch)) => epoch.saturating_sub(1),
+                (None, None) => self.inbox.barriers(),
+            },
             pending: self.disk.len() as u32,
-        }
-    }
-
-    fn whole(&self) -> u32
-        ensures { result ≡ whole self.now.state }
-    {
-        match (self.failed, self.disk.first_epoch()) {
-            (Some(epoch), _) | (None, Some(epoch)) => epoch.saturating_sub(1),
-            (None, None) => self.taken.barriers(),
         }
     }
 }

@@ -5,7 +5,6 @@ use Rattle.std.specs.List.{list_any}
 use Rattle.std.proofs.lemmas.Bool.{and_parts, and_from, ltb-true, lt-ltb, le-leb}
 use Rattle.model.specs.Contents.{is_between, ranges_meet}
 use Rattle.model.specs.Stream.{Item, first_of, contents_of, items_meet, items_of_epoch, last_epoch, below}
-use Rattle.model.specs.SecondarySteps as step
 use Rattle.laws.specs.Reflections.{touches}
 use Rattle.laws.proofs.Blocks.Ranges.{between-parts}
 use Rattle.laws.proofs.Lists.Picks.{below-has, pick-any, any-pick, pick-below}
@@ -44,7 +43,7 @@ meet-back first count other size o less between =
 
 -- An item of the device is apart from those of the last epoch exactly where none of its blocks is one of theirs.
 pub blocks-meet : (items : List Item) (item : Item)
-    → step.is_apart item items ≡ not
+    → not (list_any (λ (entry : ℕ × Item). items_meet entry.1 item) (items_of_epoch items (last_epoch items))) ≡ not
     (list_any (λ offset. list_any (λ (entry : ℕ × Item). touches entry.1 (first_of item + offset)) (items_of_epoch items (last_epoch items)))
     (below (length (contents_of item))))
 blocks-meet items item = ap not

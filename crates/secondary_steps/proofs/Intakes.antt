@@ -1,8 +1,8 @@
 -- What is kept of a stream, with one item more.
 use Rattle.std.proofs.Common.{ℕ, suc, ◌≡◌, ◌<◌, ◌+◌, Bool, true, false, cond, not, ◌&&◌, ◌||◌, List, [], ◌∷◌, ◌++◌, length, filter, refl, sym, ◌∙◌, ap, arith}
-use Rattle.std.proofs.Common.{◌==◌, nat_lt, max, zero, slice_get, map, Some, inl, inr, subst, ◌≤◌}
+use Rattle.std.proofs.Common.{◌==◌, max, zero, slice_get, map, Some, inl, inr, subst, ◌≤◌}
 use Rattle.std.specs.List.{list_any}
-use Rattle.std.proofs.lemmas.Bool.{both_ways, eq-eqb, ltb-true}
+use Rattle.std.proofs.lemmas.Bool.{both_ways, eq-eqb}
 use Rattle.std.proofs.lemmas.Bool.Decides.{nat_tests}
 use Rattle.std.proofs.lemmas.List.{map-append, length-append, append-nil}
 use Rattle.std.proofs.lemmas.List.Elements.{filter-append}
@@ -11,10 +11,8 @@ use Rattle.std.proofs.Math.Nat.{max-zero}
 use Rattle.blocks.specs.declared.tuple.Tuple.{Tuple}
 use Rattle.model.specs.Contents.{Write}
 use Rattle.model.specs.Stream.{Item, WriteItem, ResyncItem, BarrierItem, SyncUuidItem, UuidsItem, is_write, is_barrier, number_of, first_of, contents_of, below}
-use Rattle.model.specs.Stream.{last_epoch, items_of_epoch, barriers_in}
+use Rattle.model.specs.Stream.{last_epoch, items_of_epoch, items_meet, barriers_in}
 use Rattle.model.specs.Primary.{in_resync, is_sync_start, is_sync_end}
-use Rattle.model.specs.SecondarySteps.{is_above}
-use Rattle.model.specs.SecondarySteps as step
 use Rattle.laws.specs.Reflections.{touches}
 use Rattle.laws.proofs.Blocks.Ranges.{touches-nothing}
 use Rattle.laws.proofs.Streams.Places.{barriers-append}
@@ -25,11 +23,9 @@ use Rattle.laws.proofs.Lists.Picks.{below-has}
 use Rattle.secondary_steps.proofs.Apart.{blocks-meet}
 use Rattle.secondary_steps.specs.Core.{is_apart, nothing_taken, Intake, and_item}
 use Rattle.secondary_steps.specs.Leaves.{highest_in, intake_of}
+use Rattle.laws.proofs.Rules.TakenItems.{IsAbove}
 
 -- Numbers.
-
-max-below : (a b n : ℕ) → nat_lt (max a b) n ≡ (nat_lt a n && nat_lt b n)
-max-below a b n = grind (arith)
 
 max-assoc : (a b c : ℕ) → max a (max b c) ≡ max (max a b) c
 max-assoc a b c = omega arith
@@ -44,15 +40,6 @@ same-number n = eq-eqb n n refl
 highest-more : (items : List Item) (item : Item) → highest_in (items ++ item ∷ []) ≡ max (highest_in items) (number_of item)
 highest-more [] item = omega arith
 highest-more (x ∷ items) item = ap (max (number_of x)) (highest-more items item) ∙ max-assoc (number_of x) (highest_in items) (number_of item)
-
--- a number is above those of all items where there is none, or where it is above the highest
-pub above-highest : (number : ℕ) (items : List Item) → is_above number items ≡ ((length items == 0) || nat_lt (highest_in items) number)
-above-highest number [] = refl
-above-highest number (x ∷ items) = go x items ∙ ap (λ b. b || nat_lt (highest_in (x ∷ items)) number) (sym (some-not-none (length items)))
-  where
-    go : (x : Item) (items : List Item) → (nat_lt (number_of x) number && is_above number items) ≡ nat_lt (max (number_of x) (highest_in items)) number
-    go x [] = grind (arith)
-    go x (y ∷ items) = ap (λ b. nat_lt (number_of x) number && b) (go y items) ∙ sym (max-below (number_of x) (highest_in (y ∷ items)) number)
 
 -- The last epoch.
 
@@ -194,19 +181,15 @@ resync-same items item start end =
     same false b = refl
 
 -- a write, whose number is above those before
-pub intake-write : (size : ℕ) (items : List Item) (write : Write) → is_above write.number items ≡ true
+pub intake-write : (size : ℕ) (items : List Item) (write : Write) → IsAbove write.number items
     → intake_of size (items ++ WriteItem write ∷ []) ≡ and_item (WriteItem write) (intake_of size items)
 intake-write size items write above = intake-is _ _ (places-more items (WriteItem write)) (highest-more items (WriteItem write)
     ∙ top items above) (barriers-more items (WriteItem write) refl)
     (writes-more items (WriteItem write) refl ∙ omega arith) (blocks-more size items (WriteItem write) refl) (resync-same items (WriteItem write) refl refl)
   where
-    top : (items : List Item) → is_above write.number items ≡ true → max (highest_in items) write.number ≡ write.number
-    top [] none = omega arith
-    top (x ∷ items) all =
-        let below : nat_lt (highest_in (x ∷ items)) write.number ≡ true = ap (λ b. b || nat_lt (highest_in (x ∷ items)) write.number)
-        (sym (some-not-none (length items))) ∙ (sym (above-highest write.number (x ∷ items)) ∙ all) in
-        let less : highest_in (x ∷ items) < write.number = ltb-true (highest_in (x ∷ items)) write.number below in
-        omega arith
+    top : (items : List Item) → IsAbove write.number items → max (highest_in items) write.number ≡ write.number
+    top [] all = omega arith
+    top (x ∷ items) all = let first = all 0 x refl in let rest = top items (λ k y at. all (suc k) y at) in omega arith
 
 -- a block of a resync
 pub intake-resync : (size : ℕ) (items : List Item) (block : ℕ) (contents : List ℕ)
@@ -251,7 +234,8 @@ intake-end size items tuple = intake-is _ _ (places-more items (UuidsItem tuple)
 
 -- An item of the device is apart from those of the last epoch exactly where none of its blocks is one of theirs.
 pub apart-by-blocks : (size : ℕ) (items : List Item) (item : Item) → first_of item + length (contents_of item) ≤ size
-    → step.is_apart item items ≡ is_apart (first_of item) (length (contents_of item)) (intake_of size items)
+    → not (list_any (λ (entry : ℕ × Item). items_meet entry.1 item) (items_of_epoch items (last_epoch items))) ≡
+    is_apart (first_of item) (length (contents_of item)) (intake_of size items)
 apart-by-blocks size items item inside = blocks-meet items item
     ∙ ap not (any-below (length (contents_of item)) (λ offset less. sym (flags-has size (last-has items) (first_of item + offset) (omega arith))))
   where

@@ -5,27 +5,17 @@ use Rattle.std.specs.List.{list_any}
 use Rattle.std.proofs.lemmas.List.{append-nil, length-append}
 use Rattle.blocks.specs.declared.settings.Protocol.{Protocol}
 use Rattle.blocks.specs.declared.settings.Protocol.TheVariants as protocol
-use Rattle.blocks.specs.declared.outcome.What.{What}
 use Rattle.model.specs.Stream.{Item, has_blocks, is_in, is_whole, last_epoch, placed}
 use Rattle.model.specs.Frames.{Packet, RecvAckFrame, naming}
 use Rattle.model.specs.Secondary.{Inward, SecondaryHistory, inward, items_taken, is_pending, with_inward}
 use Rattle.model.specs.SecondarySteps.{Checked}
 use Rattle.model.specs.SecondarySteps as step
-use Rattle.secondary_steps.specs.Core.{EndState, SecondaryState, judged_if, receipt}
-use Rattle.secondary_steps.specs.Leaves.{Leaves, LeavesLast, LeavesEnd, EndLeft, FailedLeft, intake_of, pending_in}
+use Rattle.secondary_steps.specs.Core.{EndState, SecondaryState, receipt}
+use Rattle.secondary_steps.specs.Leaves.{LeavesLast, LeavesEnd, EndLeft, FailedLeft, intake_of, pending_in}
 use Rattle.laws.proofs.Rules.BarrierAnswers.{AnswerNone, none-answer, receipt-answers}
 use Rattle.secondary_steps.proofs.Counted.{count-more}
-use Rattle.secondary_steps.proofs.Judged.{SameJudged}
 use Rattle.secondary_steps.proofs.Tested.{inward-with, open-whole}
 use Rattle.secondary_steps.proofs.Waiting.{waiting-more, new-waits, bare-waits-not}
-
--- both accept where the same tests hold
-pub same-if : (a b : Bool) → a ≡ b → (name other : What) → name ≡ other → (t : SecondaryState) (h : SecondaryHistory) → (b ≡ true → Leaves t h)
-    → SameJudged (judged_if a name t) (step.checked_if b other h)
-same-if true true same name other names t h left = (names, left refl)
-same-if false false same name other names t h left = refl
-same-if true false same name other names t h left = absurd (cc)
-same-if false true same name other names t h left = absurd (cc)
 
 -- What an item leaves that was taken: `c` is the connection with its frame, and `waits` says whether it has blocks.
 pub last-item : (size : ℕ) (s t : SecondaryState) (e : EndState) (d c : Inward) (item : Item) (waits : Bool) → LeavesLast size s d → d.closed ≡ false

@@ -1,22 +1,19 @@
 -- A frame is judged alike in the state and in the history.
-use Rattle.std.proofs.Common.{ℕ, zero, suc, ◌≡◌, ◌-◌, ◌<◌, ◌≤◌, Bool, true, false, not, ◌&&◌, List, [], ◌∷◌, ◌++◌, length, map, drop, take, filter, Option}
+use Rattle.std.proofs.Common.{ℕ, zero, suc, ◌≡◌, ◌-◌, ◌<◌, ◌≤◌, Bool, false, not, ◌&&◌, List, [], ◌∷◌, ◌++◌, length, map, drop, take, filter, Option}
 use Rattle.std.proofs.Common.{Some, None, Ok, Err, refl, sym, ◌∙◌, ap, subst, arith, ◌==◌}
 use Rattle.std.specs.Prelude.{filter_map, if◌then◌else◌}
 use Rattle.std.specs.List.{list_any}
 use Rattle.std.proofs.lemmas.List.{length-append}
 use Rattle.blocks.specs.declared.settings.Settings.{Settings}
-use Rattle.blocks.specs.declared.refusal.Refusal.{Refusal}
-use Rattle.blocks.specs.declared.refusal.Refusal.TheVariants.{OtherProtocol, OtherSize}
-use Rattle.blocks.specs.declared.outcome.What.{What}
 use Rattle.blocks.specs.declared.outcome.What.TheVariants as what
 use Rattle.blocks.specs.declared.command.Command.TheVariants as command
 use Rattle.model.specs.Stream.{Item, has_blocks, is_in, is_whole, placed}
-use Rattle.model.specs.Frames.{Packet, DataFrame, RsDataReplyFrame, BarrierFrame, ProtocolFrame, UuidsFrame, SizesFrame, SyncUuidFrame, RecvAckFrame}
-use Rattle.model.specs.Frames.{WriteAckFrame, RsWriteAckFrame, BarrierAckFrame, Received}
-use Rattle.model.specs.Acknowledgements.{same_protocol}
+use Rattle.model.specs.Frames.{Packet, ProtocolFrame, UuidsFrame, SizesFrame}
+use Rattle.model.specs.Frames.{Received}
 use Rattle.model.specs.Secondary.{Inward, SecondaryHistory, items_taken, is_pending, received_item}
 use Rattle.model.specs.SecondarySteps.{Checked}
 use Rattle.model.specs.SecondarySteps as step
+use Rattle.laws.proofs.Rules.Hellos.{hello_by, checking-is, hello-alike}
 use Rattle.laws.proofs.Secondary.Moves.{framed}
 use Rattle.secondary_steps.specs.Core.{EndState, SecondaryState, Judged, judging_hello}
 use Rattle.secondary_steps.specs.Leaves.{Leaves, LeavesLast, LeavesEnd, EndLeft, FailedLeft, intake_of, pending_in}
@@ -31,51 +28,30 @@ SameJudged (Err r) (Ok b) = ⊥
 
 -- The hello.
 
-chosen : (a b : Bool) → a ≡ b → (name : What) (t : SecondaryState) (h : SecondaryHistory) (refusal : Refusal) → Leaves t h
-    → SameJudged (if a then Ok (name, t) else Err refusal) (if b then Ok (name, h) else Err refusal)
-chosen true true same name t h refusal left = (refl, left)
-chosen false false same name t h refusal left = refl
-chosen true false same name t h refusal left = absurd (cc)
-chosen false true same name t h refusal left = absurd (cc)
+-- a secondary's state takes it as whatever takes a hello
+pub judging-is : (n : ℕ) (packet : Packet) (t : SecondaryState)
+    → hello_by {R = Judged} (λ name. Ok (name, t)) (λ refusal. Err refusal) (λ peer. Ok (what.Frame command.Uuids None, t)) t.settings n packet
+    ≡ judging_hello n packet t
+judging-is zero (ProtocolFrame asked) t = refl
+judging-is (suc zero) (SizesFrame blocks) t = refl
+judging-is (suc (suc n)) (UuidsFrame peer) t = refl
+judging-is n packet t = refl
 
 -- a frame of the hello
 pub hello-same : (n : ℕ) (packet : Packet) (t : SecondaryState) (h : SecondaryHistory) → Leaves t h
     → SameJudged (judging_hello n packet t) (step.checking_hello n packet h)
-hello-same zero (DataFrame write at) t h left = refl
-hello-same zero (RsDataReplyFrame block contents at) t h left = refl
-hello-same zero (BarrierFrame number) t h left = refl
-hello-same zero (ProtocolFrame asked) t h left = chosen (same_protocol asked t.settings.protocol) (same_protocol asked h.settings.protocol)
-    (ap (λ (x : Settings). same_protocol asked x.protocol) left.settings) (what.Frame command.Protocol None) t h OtherProtocol left
-hello-same zero (UuidsFrame tuple) t h left = refl
-hello-same zero (SizesFrame blocks) t h left = refl
-hello-same zero (SyncUuidFrame word) t h left = refl
-hello-same zero (RecvAckFrame ack) t h left = refl
-hello-same zero (WriteAckFrame ack) t h left = refl
-hello-same zero (RsWriteAckFrame ack) t h left = refl
-hello-same zero (BarrierAckFrame number size) t h left = refl
-hello-same (suc zero) (DataFrame write at) t h left = refl
-hello-same (suc zero) (RsDataReplyFrame block contents at) t h left = refl
-hello-same (suc zero) (BarrierFrame number) t h left = refl
-hello-same (suc zero) (ProtocolFrame asked) t h left = refl
-hello-same (suc zero) (UuidsFrame tuple) t h left = refl
-hello-same (suc zero) (SizesFrame blocks) t h left = chosen (blocks == t.settings.blocks) (blocks == h.settings.blocks)
-    (ap (λ (x : Settings). blocks == x.blocks) left.settings) (what.Frame command.Sizes None) t h OtherSize left
-hello-same (suc zero) (SyncUuidFrame word) t h left = refl
-hello-same (suc zero) (RecvAckFrame ack) t h left = refl
-hello-same (suc zero) (WriteAckFrame ack) t h left = refl
-hello-same (suc zero) (RsWriteAckFrame ack) t h left = refl
-hello-same (suc zero) (BarrierAckFrame number size) t h left = refl
-hello-same (suc (suc n)) (DataFrame write at) t h left = refl
-hello-same (suc (suc n)) (RsDataReplyFrame block contents at) t h left = refl
-hello-same (suc (suc n)) (BarrierFrame number) t h left = refl
-hello-same (suc (suc n)) (ProtocolFrame asked) t h left = refl
-hello-same (suc (suc n)) (UuidsFrame tuple) t h left = (refl, left)
-hello-same (suc (suc n)) (SizesFrame blocks) t h left = refl
-hello-same (suc (suc n)) (SyncUuidFrame word) t h left = refl
-hello-same (suc (suc n)) (RecvAckFrame ack) t h left = refl
-hello-same (suc (suc n)) (WriteAckFrame ack) t h left = refl
-hello-same (suc (suc n)) (RsWriteAckFrame ack) t h left = refl
-hello-same (suc (suc n)) (BarrierAckFrame number size) t h left = refl
+hello-same n packet t h left =
+    subst (λ (x : Judged). SameJudged x (step.checking_hello n packet h)) (judging-is n packet t)
+    (subst (SameJudged (judged t.settings)) (checking-is n packet h)
+    (subst (λ (x : Settings). SameJudged (judged x) (checked h.settings)) (sym left.settings) (hello-alike SameJudged (λ name. Ok (name, t))
+    (λ refusal. Err refusal) (λ peer. Ok (what.Frame command.Uuids None, t)) (λ name. Ok (name, h)) (λ refusal. Err refusal)
+    (λ peer. Ok (what.Frame command.Uuids None, h)) h.settings n packet (λ of name. (refl, left)) (λ refusal. refl) (λ m peer late of. (refl, left)))))
+  where
+    judged : Settings → Judged
+    judged settings = hello_by (λ name. Ok (name, t)) (λ refusal. Err refusal) (λ peer. Ok (what.Frame command.Uuids None, t)) settings n packet
+
+    checked : Settings → Checked
+    checked settings = hello_by (λ name. Ok (name, h)) (λ refusal. Err refusal) (λ peer. Ok (what.Frame command.Uuids None, h)) settings n packet
 
 -- Before the hello is over no item was taken.
 pub early-items : (frame : Received) (d : Inward) → d.refused ≡ false → length d.taken < 3 → items_taken (framed frame d) ≡ items_taken d

@@ -232,16 +232,17 @@ abbrev pub take_at : Received → Option EndState → SecondaryState → Result 
 take_at frame None s = (Err NotConnected, s)
 take_at frame (Some e) s = take_frame frame e s
 
+-- when the next frame is not taken, in order
+abbrev pub receive_tests : Option Received → Bool → SecondaryState → List Test
+receive_tests frame starved s =
+    (is_none s.end, NotConnected) ∷ (nat_le s.settings.pending (length s.pending), PendingFull) ∷ (starved, NoMemory) ∷ (is_none frame, NothingThere) ∷ []
+
 -- the next frame that the link has for this end, or none
 abbrev pub receive : Option Received → Bool → SecondaryState → Result Done Refusal × SecondaryState
-receive frame starved s =
-    tested s ((is_none s.end, NotConnected) ∷ (nat_le s.settings.pending (length s.pending), PendingFull) ∷ (starved, NoMemory) ∷ (
-      is_none frame,
-      NothingThere,
-    ) ∷ []) (λ _. elim frame [
-      | None ↦ (Err NothingThere, s)
-      | Some taken ↦ take_at taken s.end s
-    ])
+receive frame starved s = tested s (receive_tests frame starved s) (λ _. elim frame [
+  | None ↦ (Err NothingThere, s)
+  | Some taken ↦ take_at taken s.end s
+])
 
 -- The disk.
 
@@ -293,11 +294,15 @@ pushing e = if nat_lt e.said 3 then record e { said = suc e.said } else record e
 abbrev pub sent : SecondaryState → SecondaryState
 sent s = record s { end = option_map pushing s.end }
 
+-- when a frame that is owed is not pushed, in order
+abbrev pub sent_tests : Bool → Bool → List Test
+sent_tests room starved = (starved, NoMemory) ∷ (not room, LinkFull) ∷ []
+
 -- An acknowledgement, or a frame of the hello, is pushed. `room` is what the link answers.
 abbrev pub ack_out : Bool → Bool → SecondaryState → Result Done Refusal × SecondaryState
 ack_out room starved s = elim (due s) [
   | Err refusal ↦ (Err refusal, s)
-  | Ok packet ↦ tested s ((starved, NoMemory) ∷ (not room, LinkFull) ∷ []) (λ _. (Ok (done_with (what.Frame (command_of packet) None)), sent s))
+  | Ok packet ↦ tested s (sent_tests room starved) (λ _. (Ok (done_with (what.Frame (command_of packet) None)), sent s))
 ]
 
 -- Closing.

@@ -1,20 +1,19 @@
 -- A primary's calls keep all its connections over one link.
-use Rattle.std.proofs.Common.{ℕ, zero, suc, ◌≡◌, ◌<◌, ◌≤◌, ◌-◌, ◌⊎◌, inl, inr, Bool, true, false, not, ◌&&◌, List, [], ◌∷◌, ◌++◌, length, map, take, Option}
-use Rattle.std.proofs.Common.{Some, None, slice_get, is_none, Ok, refl, sym, ◌∙◌, ap, subst, arith, ◌==◌, nat_le}
+use Rattle.std.proofs.Common.{ℕ, zero, suc, ◌≡◌, ◌<◌, ◌≤◌, ◌-◌, ◌⊎◌, inl, inr, Bool, true, false, not, List, [], ◌∷◌, ◌++◌, length, map, take, Option}
+use Rattle.std.proofs.Common.{Some, None, slice_get, Ok, refl, sym, ◌∙◌, ap, subst, arith, ◌==◌}
 use Rattle.std.specs.Prelude.{if◌then◌else◌, unwrap_or, Result, Err, IfOk, OnOk, OnErr, option_map, is_some}
 use Rattle.std.specs.List.{AllByRecursion}
 use Rattle.std.proofs.lemmas.List.{length-append}
-use Rattle.std.proofs.lemmas.Bool.{cases_Bool, not-false, both_ways, eqb-true, eq-eqb, cases_lt}
+use Rattle.std.proofs.lemmas.Bool.{cases_Bool, both_ways, eqb-true, eq-eqb, cases_lt}
 use Rattle.std.proofs.lemmas.Option.{slice_get_within}
 use Rattle.blocks.specs.declared.refusal.Refusal.{Refusal}
-use Rattle.blocks.specs.declared.refusal.Refusal.TheVariants.{NotConnected, NotDrained, NothingThere, NoMemory, StreamFull, UnknownJob, UsedIdentifier}
+use Rattle.blocks.specs.declared.refusal.Refusal.TheVariants.{UnknownJob}
 use Rattle.blocks.specs.declared.refusal.Refusal.TheVariants.{ReadFault}
 use Rattle.blocks.specs.declared.outcome.Reply.{Reply}
 use Rattle.blocks.specs.declared.outcome.Reply.TheVariants as reply
 use Rattle.blocks.specs.declared.outcome.What.TheVariants as what
 use Rattle.model.specs.Frames.{Packet, Received}
-use Rattle.blocks.specs.Identifiers.{are_fresh}
-use Rattle.model.specs.Refusals.{Test, first_refusal, done_with}
+use Rattle.model.specs.Refusals.{first_refusal, done_with}
 use Rattle.model.specs.Primary.{OnDisk, Outward, PrimaryHistory, no_outward, outward, outward_at, with_outward, frames_due}
 use Rattle.model.specs.PrimarySteps as step
 use Rattle.model.specs.Acknowledgements as step_in
@@ -32,7 +31,6 @@ use Rattle.endpoint.specs.Outgoing.{OutgoingState, PushedBefore, with_pushed, pu
 use Rattle.endpoint.specs.Joined.{pushed_at, pushed_past, taken_at, taken_past}
 use Rattle.laws.proofs.Lists.Elements.{get-there, same-at}
 use Rattle.laws.proofs.Lists.Last.{last-at, length-change}
-use Rattle.laws.proofs.Lists.Tests.{test-passed}
 use Rattle.laws.proofs.Primary.Moves.{pushing, tested-keeps}
 use Rattle.laws.proofs.Primary.StaysClosed.{primary_stays_closed}
 use Rattle.laws.proofs.Joining.Ends.{outward-there}
@@ -46,6 +44,7 @@ use Rattle.primary_steps.proofs.Node.Takes.{takes-keep}
 use Rattle.primary.specs.State.{IsRestarted, PrimaryView, node}
 use Rattle.session_nodes.proofs.Connections.{all-more, came-more, earlier-pushed, earlier-taken, past-more}
 use Rattle.session_nodes.specs.Primaries.{PrimaryOver, PrimaryHas, PrimaryIsHad, IsPrimaryStep, PrimarySteps, PrimaryRuns}
+use Rattle.laws.proofs.Rules.Memory.{may-open, ack-in-has}
 
 -- Events that open no end leave the number of connections.
 
@@ -70,16 +69,8 @@ stays-follows h g was =
     record { connections = k.connections ∙ was.connections; settings = k.settings ∙ was.settings }
 
 stays-takes : (h : PrimaryHistory) → IsReached h → (frame : Option Received) (starved : Bool) → Stays h (step_in.ack_in frame starved h).1
-stays-takes h reached frame starved =
-    let rest : List Test = (not (outward h).begun && starved, NoMemory) ∷ (is_none frame, NothingThere) ∷ [] in
-    tested-keeps (Stays h) h (((outward h).closed, NotConnected) ∷ rest)
-    (λ _. elim frame as (λ _. Reply × PrimaryHistory) [ None ↦ (reply.Refused NothingThere, h) | Some taken ↦ step_in.take_frame taken h ]) (stays-self h)
-    (λ none. go frame (test-passed (outward h).closed NotConnected rest none).0)
-  where
-    go : (v : Option Received) → (outward h).closed ≡ false
-        → Stays h (elim v as (λ _. Reply × PrimaryHistory) [ None ↦ (reply.Refused NothingThere, h) | Some taken ↦ step_in.take_frame taken h ]).1
-    go None standing = stays-self h
-    go (Some taken) standing = stays-keeps h _ _ (takes-keep h taken standing (reached-ordered h reached).ordered.1.1.0.0).1
+stays-takes h reached frame starved = ack-in-has (λ r. Stays h r.1) frame starved h (λ refusal other. stays-self h)
+    (λ taken is standing. stays-keeps h _ _ (takes-keep h taken standing (reached-ordered h reached).ordered.1.1.0.0).1)
 
 stays-after : (event : PrimaryEvent) → IsNoOpening event → (h : PrimaryHistory) → IsReached h → Stays h (primary_after event h)
 stays-after (Opens sync loss starved) none h reached = absurd none
@@ -384,9 +375,6 @@ had-runs v w had runs = record { history = _; has = (runs had.history had.has).1
 opened-shut : (sync loss : ℕ) (h : PrimaryHistory) → plainly tt ≡ (step.open_primary sync loss false h).0 → (outward h).closed ≡ true
 opened-shut sync loss h is = go (first_refusal (step.open_tests h sync loss false)) refl is
   where
-    rest : List Test
-    rest = (not (are_fresh sync loss (step.known_tuples h)), UsedIdentifier) ∷ (nat_le 4294967295 (length h.connections), StreamFull) ∷ (false, NoMemory) ∷ []
-
     go : (v : Option Refusal) → first_refusal (step.open_tests h sync loss false) ≡ v
         → plainly tt ≡ (elim v as (λ _. Reply × PrimaryHistory) [
           | Some refusal ↦ (reply.Refused refusal, h)
@@ -394,7 +382,7 @@ opened-shut sync loss h is = go (first_refusal (step.open_tests h sync loss fals
               (step.opened h sync loss)
         ]).0 → (outward h).closed ≡ true
     go (Some refusal) none said = absurd (cc)
-    go None none said = not-false (outward h).closed (test-passed (not (outward h).closed) NotDrained rest none).0
+    go None none said = (may-open h sync loss false none).closed
 
 opened-more : (sync loss : ℕ) (h : PrimaryHistory) → plainly tt ≡ (step.open_primary sync loss false h).0
     → (length (step.open_primary sync loss false h).1.connections ≡ suc (length h.connections))

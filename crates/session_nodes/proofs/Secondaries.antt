@@ -32,7 +32,7 @@ use Rattle.endpoint.specs.Joined.{pushed_at, pushed_past, taken_at, taken_past}
 use Rattle.laws.proofs.Lists.Elements.{get-there, same-at}
 use Rattle.laws.proofs.Lists.Last.{last-at, last-change, last-more, length-change}
 use Rattle.laws.proofs.Lists.Tests.{test-passed}
-use Rattle.laws.proofs.Secondary.Moves.{framed, receipting, refused_end, pushed_one, closed_end, after-receive, after-peer, after-fault, after-push}
+use Rattle.laws.proofs.Secondary.Moves.{framed, receipting, pushed_one, closed_end, after-receive, after-peer, after-fault, after-push}
 use Rattle.laws.proofs.Secondary.Moves.{after-close}
 use Rattle.laws.proofs.Secondary.Numbers.{NumbersRise, numbers-rise, inward-there, inward-cases}
 use Rattle.laws.proofs.Secondary.Stays.{secondary_stays_closed}
@@ -42,6 +42,7 @@ use Rattle.secondary_steps.proofs.Node.Runs.{opens-to, refused-same}
 use Rattle.secondary.specs.State.{IsRestarted, SecondaryView, node}
 use Rattle.session_nodes.proofs.Connections.{all-more, came-more, earlier-pushed, earlier-taken, past-more}
 use Rattle.session_nodes.specs.Secondaries.{SecondaryOver, SecondaryHas, SecondaryIsHad, SecondarySteps, SecondaryRuns}
+use Rattle.laws.proofs.Rules.RefusedFrames.{refused_end}
 
 -- Events that open no end leave the number of connections.
 

@@ -10,7 +10,7 @@ use std::{fmt, io};
 pub(crate) enum Fault<'a> {
     /// The image could not be read.
     Unread(&'a str, io::Error),
-    /// The image has so many bytes, and not those of its blocks.
+    /// The image has the first number of bytes, and not the second, which its blocks have.
     WrongLength(&'a str, u64, u64),
     /// The sockets could not be connected.
     Unconnected(io::Error),

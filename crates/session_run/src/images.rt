@@ -15,7 +15,7 @@ pub struct Images<'a> {
     pub peer: Option<&'a str>,
 }
 
-/// The bytes of a disk of so many blocks: its file's, or zeros.
+/// The bytes of a disk of `blocks` blocks: its file's, or zeros.
 pub(crate) fn load<'a, H: Files + AllocGlobal>(
     rt: &H,
     file: Option<&'a str>,

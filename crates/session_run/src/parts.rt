@@ -15,7 +15,7 @@ const FIRST: Tuple = Tuple {
     second_historical: 0,
 };
 
-/// The identifiers of a disk of which nothing is known.
+/// The identifiers of a disk that nobody knows.
 const NONE: Tuple = Tuple {
     current: 0,
     bitmap: 0,
@@ -24,7 +24,7 @@ const NONE: Tuple = Tuple {
 };
 
 /// The parts of a session with these options over these images: no block is marked, and if the images differ, the
-/// peer's disk is one of which nothing is known. `BadSetting` (15) if a setting is out of its range, else `NoMemory`
+/// peer's disk is one that nobody knows. `BadSetting` (15) if a setting is out of its range, else `NoMemory`
 /// (7) if there is no room for the marks.
 pub(crate) fn parts(
     alloc: Global,

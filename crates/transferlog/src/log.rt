@@ -58,7 +58,7 @@ impl Model for TransferLog {
 }
 
 impl TransferLog {
-    /// An empty log, of writes to a device of so many blocks, 1 to 262,144. `NoMemory` (7) if its tables
+    /// An empty log, of writes to a device of `blocks` blocks, 1 to 262,144. `NoMemory` (7) if its tables
     /// cannot be had.
     pub fn new(
         alloc: Global,

@@ -218,7 +218,7 @@ impl Ring {
         Some(release)
     }
 
-    /// Whether one of so many writes from this number on is not answered.
+    /// Whether one of `count` writes from this number on is not answered.
     pub(crate) fn lacks_answer(&self, first: u64, count: u64) -> bool
         requires { first + count < 2 ^ 64 }
         ensures { result ≡ list_any (λ w. is_between first count w.number && not w.answered) self.now.writes }

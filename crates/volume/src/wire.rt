@@ -114,7 +114,7 @@ impl<R: Threads + Wait + Clock + Drop, S: Store + Drop, T: Store + Drop> WireSes
     /// both nodes back. `NotDrained` (36) if a node cannot be had back, which needs a thread that still shares it.
     ///
     /// Each node has a history whose connections all went over its own ends. Whether what one took begins what the
-    /// other pushed is the streams' affair, of which no contract can speak. No connection of the secondary has a
+    /// other pushed is the streams' affair, and no contract can speak of them. No connection of the secondary has a
     /// number above the primary's last one, or 36 is returned, which no session brings about.
     pub fn finish(self) -> Result<(WirePrimary<R, S>, WireSecondary<R, T>), Refusal>
         ensures had { IfOk result (λ nodes. PrimaryIsHad nodes.0 × SecondaryIsHad nodes.1) }

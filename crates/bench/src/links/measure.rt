@@ -36,7 +36,7 @@ fn report(
     Ok(())
 }
 
-/// A plain copy of the bytes of so many frames, piece by piece.
+/// A plain copy of the bytes of `count` frames, piece by piece.
 pub(crate) fn copied(rt: &HostRuntime, alloc: Global, count: u32) -> anyhow::Result<()> {
     let frame = Vec::from_elem(alloc, 0x5Au8, FRAME_BYTES)?;
     let mut buffer = Vec::with_capacity(alloc, FRAME_BYTES)?;
@@ -50,7 +50,7 @@ pub(crate) fn copied(rt: &HostRuntime, alloc: Global, count: u32) -> anyhow::Res
     report(rt, "copied", count, FRAME_BYTES, start.elapsed(rt)?)
 }
 
-/// The buffers that are made for so many frames, each for the longest one.
+/// The buffers that are made for `count` frames, each for the longest one.
 pub(crate) fn buffers(rt: &HostRuntime, alloc: Global, count: u32) -> anyhow::Result<()> {
     let start = Instant::now(rt)?;
     for _ in 0..count {
@@ -74,7 +74,7 @@ pub(crate) fn encoded(
     report(rt, what, count, sample.bytes(), start.elapsed(rt)?)
 }
 
-/// Sends a frame and takes it, so many times.
+/// Sends a frame and takes it, `count` times.
 fn both<R: Wait, O: FrameOut, I: FrameIn>(
     rt: &R,
     alloc: Global,

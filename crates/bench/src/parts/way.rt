@@ -170,7 +170,7 @@ fn hold(held: &mut Held, number: u64, range: Range) -> Result<(), Refusal> {
 }
 
 impl Way {
-    /// No write yet, to a device of so many blocks, which are a power of 2.
+    /// No write yet, to a device of `blocks` blocks, a power of 2.
     pub(crate) fn new(alloc: Global, in_flight: u32, blocks: u32) -> Result<Way, Refusal>
         requires some_in_flight { 0 < in_flight }
         requires few_blocks { blocks ≤ 262144 }

@@ -1,4 +1,4 @@
-//! The loop that copies what the mirror must: each write's bytes to the local disk, into a frame, and from
+//! The loop that copies what the pair must: each write's bytes to the local disk, into a frame, and from
 //! there to the peer's disk.
 ghost use Rattle.std.specs.Prelude.{◌≡◌, ◌<◌, ◌≤◌, ◌*◌, length, IfOk};
 
@@ -26,7 +26,7 @@ pub(crate) struct Copies {
 }
 
 impl Copies {
-    /// Disks of so many blocks. `NoMemory` (7) where they cannot be had.
+    /// Disks of `blocks` blocks. `NoMemory` (7) where they cannot be had.
     pub(crate) fn new(alloc: Global, blocks: u32, in_flight: u32) -> Result<Copies, Refusal>
         requires some { 0 < blocks }
         requires flying { 0 < in_flight }
@@ -47,7 +47,7 @@ impl Copies {
         self.blocks
     }
 
-    /// Copies the bytes of so many writes, as many at a time as are in flight.
+    /// Copies the bytes of `writes` writes, as many at a time as are in flight.
     pub(crate) fn copy(&mut self, workload: &Workload, writes: u32) {
         for first in (0..writes).step_by(self.in_flight as usize) {
             let end = first.saturating_add(self.in_flight).min(writes);

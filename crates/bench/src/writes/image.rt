@@ -7,7 +7,7 @@ use std::alloc::Global;
 /// What a device holds before the first write: no zeros, so that its memory is present.
 const BLANK: u8 = 0xFF;
 
-/// The bytes of a device of so many blocks, before the first write. `NoMemory` (7) where they cannot be had.
+/// The bytes of a device of `blocks` blocks, before the first write. `NoMemory` (7) where they cannot be had.
 pub(crate) fn blank(alloc: Global, blocks: u32) -> Result<Vec<u8>, Refusal>
     ensures { IfOk result (λ image. length image.items ≡ blocks * 4096) }
 {

@@ -36,7 +36,7 @@ impl fmt::Display for Plan {
     }
 }
 
-/// So many in a second; 0 where the clock shows no time.
+/// How many a second `count` in this time are; 0 where the clock shows no time.
 fn frequency(count: u32, time: Duration) -> u128 {
     match time.as_micros() {
         0 => 0,
@@ -52,7 +52,7 @@ fn percent(part: Duration, whole: Duration) -> u128 {
     }
 }
 
-/// How many blocks of the mirror's disks are not as the loop has left its own.
+/// How many blocks of the pair's disks are not as the loop has left its own.
 fn differences(alloc: Global, rounds: &mut Rounds, copies: &Copies) -> Result<u32, Refusal> {
     let mut local = Vec::from_elem(alloc, 0u8, BLOCK_BYTES)?;
     let mut peer = Vec::from_elem(alloc, 0u8, BLOCK_BYTES)?;
@@ -78,8 +78,8 @@ fn copy(rt: &HostRuntime, workload: &Workload, plan: Plan) -> anyhow::Result<(Du
     Ok((start.elapsed(rt)?, copies))
 }
 
-/// Takes the plan's writes through the mirror. Answers how long that took, up to the last receipt.
-fn mirror(
+/// Takes the plan's writes through the pair. Answers how long that took, up to the last completion.
+fn take(
     rt: &HostRuntime,
     workload: &Workload,
     plan: Plan,
@@ -99,7 +99,7 @@ fn print_counts(rt: &HostRuntime, plan: Plan, counts: Counts, differ: u32) -> an
     Ok(())
 }
 
-/// Prints how many writes a second there were, and how far the mirror comes up to the loop.
+/// Prints how many writes a second there were, and how far the pair comes up to the loop.
 fn print_rates(
     rt: &HostRuntime,
     plan: Plan,
@@ -115,7 +115,7 @@ fn print_rates(
     Ok(())
 }
 
-/// What is left in flight comes to its end, and the mirror's disks are compared with the loop's.
+/// What is left in flight comes to its end, and the pair's disks are compared with the loop's.
 fn finish(
     rt: &HostRuntime,
     plan: Plan,
@@ -127,7 +127,7 @@ fn finish(
     print_counts(rt, plan, rounds.counts(), differ)
 }
 
-/// Takes the plan's writes through the mirror, and prints what that took beside the loop.
+/// Takes the plan's writes through the pair, and prints what that took beside the loop.
 fn compare(
     rt: &HostRuntime,
     workload: &Workload,
@@ -136,12 +136,12 @@ fn compare(
     rounds: &mut Rounds,
 ) -> anyhow::Result<()> {
     rounds.greet()?;
-    let mirrored = mirror(rt, workload, plan, rounds)?;
+    let mirrored = take(rt, workload, plan, rounds)?;
     finish(rt, plan, rounds, copies)?;
     print_rates(rt, plan, copied, mirrored)
 }
 
-/// Copies the bytes of the plan's writes in a loop, takes the writes through the mirror, and prints what that took.
+/// Copies the bytes of the plan's writes in a loop, takes the writes through the pair, and prints what that took.
 pub(crate) fn measure(rt: &HostRuntime, workload: &Workload, plan: Plan) -> anyhow::Result<()>
     requires some { 0 < plan.blocks }
     requires flying { 0 < plan.in_flight }

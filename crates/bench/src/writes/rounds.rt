@@ -1,16 +1,26 @@
-//! Writes go through the mirror, as many at a time as are in flight.
+//! Writes go through the pair, as many at a time as are in flight.
 ghost use Rattle.std.specs.Prelude.{◌≡◌, ◌<◌, length};
 
-use crate::writes::mirror::Mirror;
+use crate::writes::image::blank;
 use crate::writes::workload::{Workload, block_of};
-use blocks::{Command, Done, Protocol, Refusal, Settings, What};
-use primary::Kind;
+use blocks::{Block, Command, Done, MemStore, Protocol, Refusal, Reply, Settings, Tuple, What};
+use handshakes::HELLO_FRAMES;
+use pair::{Event, Pair, Side};
+use primary::Fate;
 use std::alloc::Global;
 use std::collections::VecDeque;
 
-/// How often the link is filled and emptied in a round at most: one more time than its frames need, of which
-/// a round has a barrier or two more than writes.
+/// How often the link is filled and emptied in a round at most: one more time than its frames need. A round has
+/// a barrier or two more than writes.
 const PASSES: u32 = 3;
+
+/// The generation identifiers of both disks before the first connection.
+const FIRST: Tuple = Tuple {
+    current: 1,
+    bitmap: 0,
+    first_historical: 0,
+    second_historical: 0,
+};
 
 /// What became of the writes.
 #[derive(Clone, Copy)]
@@ -25,15 +35,15 @@ pub(crate) struct Counts {
     pub(crate) applied: u64,
 }
 
-/// A mirror, and the writes that go through it. A round takes as many as may be in flight from their
-/// acceptance to their receipts.
+/// A pair of nodes, and the writes that go through it. A round takes as many as may be in flight from their
+/// acceptance to their completion.
 #[derive(Drop)]
 pub(crate) struct Rounds {
     blocks: u32,
     in_flight: u32,
     // The most frames that go over the link at a time.
     frames: u32,
-    mirror: Mirror,
+    pair: Pair,
     // How many writes were accepted before each barrier that is not acknowledged.
     barriers: VecDeque<u64>,
     counts: Counts,
@@ -41,7 +51,7 @@ pub(crate) struct Rounds {
     ghost flying: { 0 < in_flight },
 }
 
-/// Settings under which nothing is refused while so many writes are in flight: the next round's are accepted
+/// Settings under which nothing is refused while `in_flight` writes are in flight: the next round's are accepted
 /// before the last round's are released, and every extent of the largest device may be active.
 fn settings(protocol: Protocol, blocks: u32, in_flight: u32) -> Settings {
     Settings {
@@ -67,11 +77,14 @@ impl Rounds {
         requires flying { 0 < in_flight }
     {
         let settings = settings(protocol, blocks, in_flight);
+        let local = MemStore::from_image(blank(alloc, blocks)?)?;
+        let peer = MemStore::from_image(blank(alloc, blocks)?)?;
+        let marks = Vec::from_elem(alloc, false, blocks as usize)?;
         Ok(Rounds {
             blocks,
             in_flight,
             frames: settings.link,
-            mirror: Mirror::open(alloc, settings)?,
+            pair: Pair::from_parts(alloc, settings, local, peer, FIRST, FIRST, marks)?,
             barriers: VecDeque::new(alloc),
             counts: Counts {
                 accepted: 0,
@@ -99,25 +112,37 @@ impl Rounds {
         ensures local { length local.new ≡ 4096 }
         ensures peer { length peer.new ≡ 4096 }
     {
-        self.mirror.read(block, local, peer)
+        let block = Block(u64::from(block));
+        self.pair.read(Side::Primary, block, local)?;
+        self.pair.read(Side::Secondary, block, peer)
     }
 
-    /// The three frames of each node's hello.
-    pub(crate) fn greet(&mut self) -> Result<(), Refusal> {
-        for _ in 0..3 {
-            self.mirror.ack_out()?;
-            self.mirror.ack_in()?;
-            self.mirror.send()?;
-            self.mirror.receive()?;
+    // One event, and what it did.
+    fn step(&mut self, event: &Event) -> Result<Done, Refusal> {
+        match self.pair.step(event) {
+            Reply::Ok(done) => Ok(done),
+            Reply::Closed(_) => Ok(Done::about(What::Nothing)),
+            Reply::Refused(refusal) => Err(refusal),
         }
-        if self.mirror.stands() {
+    }
+
+    /// Opens both ends, and exchanges the three frames of each node's hello.
+    pub(crate) fn greet(&mut self) -> Result<(), Refusal> {
+        self.step(&Event::Open { sync: 2, loss: 3 })?;
+        for _ in 0..HELLO_FRAMES {
+            self.step(&Event::AckOut)?;
+            self.step(&Event::AckIn)?;
+            self.step(&Event::Send)?;
+            self.step(&Event::Receive)?;
+        }
+        if self.pair.primary().stands() {
             Ok(())
         } else {
             Err(Refusal::NotConnected)
         }
     }
 
-    /// Takes so many writes through both nodes, as many at a time as may be in flight.
+    /// Takes `writes` writes through both nodes, as many at a time as may be in flight.
     pub(crate) fn write(&mut self, workload: &Workload, writes: u32) -> Result<(), Refusal> {
         for first in (0..writes).step_by(self.in_flight as usize) {
             let end = first.saturating_add(self.in_flight).min(writes);
@@ -132,23 +157,30 @@ impl Rounds {
             self.submit(workload, turn)?;
         }
         for turn in from..to {
-            let done = self.mirror.local(number_of(turn))?;
+            let done = self.step(&Event::Local(number_of(turn)))?;
             self.note(done)?;
         }
         self.exchange()?;
         for turn in from..to {
-            let receipt = self.mirror.take_completed(number_of(turn))?;
-            if receipt.kind() == Kind::Linked {
+            if self.is_linked(turn) {
                 self.counts.completed = self.counts.completed.saturating_add(1);
             }
         }
         Ok(())
     }
 
+    // Whether the write of this turn was completed over the link.
+    fn is_linked(&self, turn: u32) -> bool {
+        match self.pair.primary().journal().get(turn as usize) {
+            Some(entry) => matches!(entry.fate(), Fate::Completed { linked: true, .. }),
+            None => false,
+        }
+    }
+
     fn submit(&mut self, workload: &Workload, turn: u32) -> Result<(), Refusal> {
         let contents = workload.contents(turn)?;
-        let block = u64::from(block_of(turn, self.blocks));
-        let (_, done) = self.mirror.submit(block, &contents)?;
+        let first = u64::from(block_of(turn, self.blocks));
+        let done = self.step(&Event::Submit { first, contents })?;
         self.counts.accepted = self.counts.accepted.saturating_add(1);
         self.note(done)
     }
@@ -171,7 +203,7 @@ impl Rounds {
     // Sends as many frames as are due, and the link holds. Answers how many.
     fn send(&mut self) -> Result<u32, Refusal> {
         for sent in 0..self.frames {
-            match self.mirror.send() {
+            match self.step(&Event::Send) {
                 Ok(done) => self.note(done)?,
                 Err(Refusal::NothingThere) => return Ok(sent),
                 Err(refusal) => return Err(refusal),
@@ -180,30 +212,31 @@ impl Rounds {
         Ok(self.frames)
     }
 
-    // The secondary takes so many frames. Answers how many writes they carry.
+    // The secondary takes this number of frames. Answers how many writes they carry.
     fn receive(&mut self, frames: u32) -> Result<u32, Refusal> {
         let mut items: u32 = 0;
         for _ in 0..frames {
-            if let What::Frame(Command::Data, _) = self.mirror.receive()?.what {
+            if let What::Frame(Command::Data, _) = self.step(&Event::Receive)?.what {
                 items = items.saturating_add(1);
             }
         }
         Ok(items)
     }
 
-    // The secondary's disk does so many items.
+    // The secondary's disk does this number of items.
     fn apply(&mut self, items: u32) -> Result<(), Refusal> {
         for _ in 0..items {
-            self.mirror.peer()?;
+            let place = self.pair.secondary().next()?;
+            self.step(&Event::Peer(place))?;
             self.counts.applied = self.counts.applied.saturating_add(1);
         }
         Ok(())
     }
 
-    // The secondary sends the acknowledgements that are due, of which the link holds all. Answers how many.
+    // The secondary sends the acknowledgements that are due; the link holds all of them. Answers how many.
     fn answer(&mut self) -> Result<u32, Refusal> {
         for sent in 0..self.frames {
-            match self.mirror.ack_out() {
+            match self.step(&Event::AckOut) {
                 Ok(_) => {}
                 Err(Refusal::NothingThere) => return Ok(sent),
                 Err(refusal) => return Err(refusal),
@@ -212,10 +245,10 @@ impl Rounds {
         Ok(self.frames)
     }
 
-    // The primary takes so many acknowledgements.
+    // The primary takes this number of acknowledgements.
     fn take_answers(&mut self, answers: u32) -> Result<(), Refusal> {
         for _ in 0..answers {
-            let done = self.mirror.ack_in()?;
+            let done = self.step(&Event::AckIn)?;
             if done.what == What::Frame(Command::BarrierAck, None) {
                 self.release()?;
             }
@@ -242,7 +275,7 @@ impl Rounds {
     }
 }
 
-// The number of a write, of which the first is 1.
+// The number of a write; the first is 1.
 fn number_of(turn: u32) -> u64 {
     u64::from(turn).saturating_add(1)
 }

@@ -64,7 +64,7 @@ fn number_blocks(source: &mut [u8])
     }
 }
 
-/// The block that this write goes to, of a device of so many.
+/// The block that this write goes to, on a device of `blocks` blocks.
 pub(crate) fn block_of(turn: u32, blocks: u32) -> u32
     requires { 0 < blocks }
     ensures { result < blocks }

@@ -1,6 +1,6 @@
 -- What accounts for an unmarked block, carried over the moves of a primary that close nothing and clear nothing.
-use Rattle.std.proofs.Common.{ℕ, ◌≡◌, ◌⊎◌, inl, inr, true, false, not, ◌&&◌, ◌||◌, List, ◌++◌, Option, Some, None, slice_get, Ok, refl, sym, ◌∙◌, subst, arith}
-use Rattle.std.proofs.lemmas.Bool.{cases_Bool, both_ways, or_cases, and_parts}
+use Rattle.std.proofs.Common.{ℕ, ◌≡◌, ◌⊎◌, inl, inr, true, false, List, ◌++◌, Option, Some, None, slice_get, Ok, refl, sym, ◌∙◌, subst, arith}
+use Rattle.std.proofs.lemmas.Bool.{cases_Bool, both_ways}
 use Rattle.std.proofs.lemmas.Option.{slice_get_within}
 use Rattle.blocks.specs.Positions.{StreamPosition}
 use Rattle.blocks.specs.declared.tuple.Tuple.{Tuple}
@@ -8,7 +8,7 @@ use Rattle.blocks.specs.declared.outcome.Decision.{Decision}
 use Rattle.model.specs.Contents.{Write, covers}
 use Rattle.model.specs.Stream.{Item, WriteItem}
 use Rattle.model.specs.Frames.{Received, UuidsFrame}
-use Rattle.model.specs.Primary.{Accepted, Outward, PrimaryHistory, is_waiting, is_alone, is_confirmed, is_released}
+use Rattle.model.specs.Primary.{Accepted, Outward, PrimaryHistory, is_waiting, is_alone, is_released}
 use Rattle.model.specs.Identifiers.{decision}
 use Rattle.laws.specs.Reflections.{touches, is_sure, NoneBegan, FirstBegan}
 use Rattle.laws.proofs.Primary.Homes.{alone-homeless, HasHomes, AllGrow, alone-at, confirmed-at}
@@ -16,6 +16,7 @@ use Rattle.laws.proofs.Blocks.Latest.{Touch, latest}
 use Rattle.laws.proofs.Blocks.LatestPlaces.{latest-last}
 use Rattle.laws.proofs.Accounted.{home-of, IsSure, IsHeld, IsAccounted, Carries, KeepsBegun, sure-last, sure-grows}
 use Rattle.laws.proofs.Lists.Elements.{get-left, get-split, same-at}
+use Rattle.laws.proofs.Rules.Releases.{freed-cases, freed-alone, released-parts, released-by}
 
 -- Where the last item on a block stands.
 abbrev pub IsThere : List Outward → ℕ → Touch → Type 0
@@ -79,8 +80,8 @@ held-carries h later block touch homes carries there last held free =
     elim (cases_Bool (is_released later b)) [
       | inr still ↦ inr (held.0, b, new.1, home, still)
       | inl gone ↦
-          let parts = and_parts (not (is_waiting b.outcome)) (is_confirmed later b || is_alone later b) gone in
-          elim (or_cases (is_confirmed later b) (is_alone later b) parts.1) [
+          let parts = released-parts later b gone in
+          elim (freed-cases later b parts.freed) [
             | inl confirmed ↦
                 let was = homes.housed held.0 touch.connection touch.place a held.2 held.3 in
                 let same : there.0 ≡ was.0 = same-at h.connections touch.connection there.0 was.0 there.1 was.1 in
@@ -95,10 +96,7 @@ held-carries h later block touch homes carries there last held free =
                 let unreleased = held.4 in
                 let waits : is_waiting a.outcome ≡ true = elim (cases_Bool (is_waiting a.outcome)) [
                   | inl w ↦ w
-                  | inr done ↦ absurd (both_ways (is_released h a) unreleased (
-                      subst (λ w. (not w && (is_confirmed h a || is_alone h a)) ≡ true) (sym done)
-                      (subst (λ x. (is_confirmed h a || x) ≡ true) (sym before)
-                      (elim (is_confirmed h a) as (λ c. (c || true) ≡ true) [ true ↦ refl | false ↦ refl ]))))
+                  | inr done ↦ absurd (both_ways (is_released h a) unreleased (released-by h a done (freed-alone h a before)))
                 ] in
                 free before waits)
           ]

@@ -1,10 +1,10 @@
 -- A primary's half of the cover, of every run of it.
-use Rattle.std.proofs.Common.{ℕ, ◌≡◌, ◌<◌, ◌⊎◌, inl, inr, true, false, not, ◌&&◌, ◌||◌, Option, Some, None, slice_get, refl, sym, ◌∙◌, ap, subst, arith, nat_lt}
+use Rattle.std.proofs.Common.{ℕ, ◌≡◌, ◌<◌, ◌⊎◌, inl, inr, true, false, not, ◌&&◌, Option, Some, None, slice_get, refl, sym, ◌∙◌, ap, subst, arith, nat_lt}
 use Rattle.std.specs.List.{list_any}
-use Rattle.std.proofs.lemmas.Bool.{cases_Bool, both_ways, or_parts, or_cases, or_right, and_from, not-true, lt-ltb, cases_lt, le-ltb}
+use Rattle.std.proofs.lemmas.Bool.{cases_Bool, both_ways, or_parts, or_cases, and_from, not-true, lt-ltb, cases_lt, le-ltb}
 use Rattle.model.specs.Contents.{covers}
 use Rattle.model.specs.Stream.{Item, WriteItem}
-use Rattle.model.specs.Primary.{Accepted, Outward, PrimaryHistory, is_waiting, is_confirmed, is_alone, is_released, unreleased, local_map, outward, stands}
+use Rattle.model.specs.Primary.{Accepted, Outward, PrimaryHistory, is_waiting, is_released, unreleased, local_map, outward, stands}
 use Rattle.model.specs.Headline.{is_marked, is_covered}
 use Rattle.laws.specs.Reflections.{touches, content_at, FromItem, FromOpening}
 use Rattle.laws.proofs.Blocks.Latest.{Touch, latest, sent_map, content_of}
@@ -17,6 +17,7 @@ use Rattle.laws.proofs.Primary.LastOpen.{IsLastOpen, alone-at-rest}
 use Rattle.laws.proofs.Accounted.{IsAccounted, held-covers}
 use Rattle.laws.proofs.Accounted.Steps.{covered-inside}
 use Rattle.laws.proofs.Lists.Elements.{same-at}
+use Rattle.laws.proofs.Rules.Releases.{freed-alone, released-by, held-waiting}
 
 -- A block that is neither marked nor under an unreleased write.
 pub reflected : (h : PrimaryHistory) (block : ℕ) → IsAccounted h → is_covered h block ≡ false → FromItem h block ⊎ FromOpening h block
@@ -40,7 +41,7 @@ reflected h block a clean = elim (cases_lt block h.settings.blocks) [
       ] in
       let same : sent_map h block ≡ local_map h block =
       a.known.tracked.equal block inside unmarked
-      ∙ settled-is-local h block (λ i accepted at waits. free i accepted at (ap (λ w. not w && (is_confirmed h accepted || is_alone h accepted)) waits)) in
+      ∙ settled-is-local h block (λ i accepted at waits. free i accepted at (held-waiting h accepted waits)) in
       by-last h block a inside unmarked free same (latest h.connections block) refl
 ]
   where
@@ -99,8 +100,7 @@ rest-marked h block a closed resting covered = elim (or_cases (is_marked h block
       let waits : is_waiting some.1.outcome ≡ true = elim (cases_Bool (is_waiting some.1.outcome)) [
         | inl is ↦ is
         | inr done ↦ absurd (both_ways (is_released h some.1) (not-true (is_released h some.1) stood.2) (
-            subst (λ w. (not w && (is_confirmed h some.1 || is_alone h some.1)) ≡ true) (sym done)
-            (or_right (is_confirmed h some.1) (is_alone h some.1) alone)))
+            released-by h some.1 done (freed-alone h some.1 alone)))
       ] in
       and_from (nat_lt block h.settings.blocks) (h.marks block) (lt-ltb block h.settings.blocks (covered-inside h a.known stood.0 block some.1 stood.1 some.3))
       (a.waiting stood.0 block some.1 stood.1 alone waits some.3)

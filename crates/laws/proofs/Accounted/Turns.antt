@@ -1,5 +1,5 @@
 -- Accepting a write and the close of an end keep the account of unmarked blocks.
-use Rattle.std.proofs.Common.{ℕ, ◌≡◌, ◌-◌, ◌<◌, inl, inr, Bool, true, false, not, ◌&&◌, ◌||◌, List, [], ◌∷◌, ◌++◌, length, Option, Some, None, slice_get, refl}
+use Rattle.std.proofs.Common.{ℕ, ◌≡◌, ◌-◌, ◌<◌, inl, inr, Bool, true, false, List, [], ◌∷◌, ◌++◌, length, Option, Some, None, slice_get, refl}
 use Rattle.std.proofs.Common.{sym, ◌∙◌, ap, subst, arith}
 use Rattle.std.specs.Prelude.{if◌then◌else◌}
 use Rattle.std.specs.List.{list_any}
@@ -12,16 +12,15 @@ use Rattle.model.specs.Stream.{Item, WriteItem, IsBeginning, epoch_of}
 use Rattle.model.specs.Frames.{Received}
 use Rattle.model.specs.Identifiers.{lost}
 use Rattle.model.specs.Marks.{marking}
-use Rattle.model.specs.Primary.{Waiting, Accepted, Outward, PrimaryHistory, no_outward, last_of, outward, last_index, change_last, with_outward, stands}
-use Rattle.model.specs.Primary.{accepted_frames, is_waiting, is_alone, is_confirmed, is_released, unreleased, barrier_acknowledged, is_barrier_ack}
+use Rattle.model.specs.Primary.{Waiting, Accepted, Outward, PrimaryHistory, no_outward, last_of, outward, last_index, change_last, stands}
+use Rattle.model.specs.Primary.{accepted_frames, is_waiting, is_released, unreleased, barrier_acknowledged, is_barrier_ack}
 use Rattle.model.specs.PrimarySteps.{appending, submission, submitted, closing}
 use Rattle.laws.proofs.Rules.CloseMarks.{close-parts}
 use Rattle.laws.proofs.Rules.Marking.{unmarked-by, marked-still, marked-covered}
 use Rattle.laws.specs.Reflections.{touches}
 use Rattle.laws.proofs.Lists.Beginnings.{begins-self}
 use Rattle.laws.proofs.Lists.Last.{get-change, get-last-changed, change-twice, last-change}
-use Rattle.laws.proofs.Primary.Moves.{with_frame, refusing}
-use Rattle.laws.proofs.Primary.Homes.{alone-homeless, told-at, HasHomes, Grows, grows-self, AllGrow, open-at, alone-at}
+use Rattle.laws.proofs.Primary.Homes.{confirmed-at, alone-homeless, HasHomes, Grows, grows-self, AllGrow, open-at, alone-at}
 use Rattle.laws.proofs.Blocks.Latest.{latest}
 use Rattle.laws.proofs.Blocks.LatestMoves.{latest-same-last, latest-appended}
 use Rattle.laws.proofs.Blocks.LatestPlaces.{latest-at}
@@ -31,6 +30,8 @@ use Rattle.laws.proofs.Accounted.Moves.{sure-carries, settled-carries, alone-bef
 use Rattle.laws.proofs.Accounted.Steps.{KeepsEnd, open-plain, begun-some, grows-change, carries-change, begun-change, began-carries}
 use Rattle.laws.proofs.Lists.Elements.{get-left, get-more, get-end, same-at}
 use Rattle.laws.proofs.Primary.Ends.{stands-parts, frames-refusing}
+use Rattle.laws.proofs.Rules.RefusedFrames.{refusing_frame, refused_out, refused_by, refusing-last}
+use Rattle.laws.proofs.Rules.Releases.{held-waiting, released-same, released-none}
 
 -- The end closes.
 
@@ -52,7 +53,7 @@ account-shuts h later f standing accounted known connections writes grows stream
       waiting = λ i block b at alone waits covered. elim (cases_Bool (later.marks block)) [
         | inl marked ↦ marked
         | inr unmarked ↦ absurd (
-            let held : is_released h b ≡ false = ap (λ w. not w && (is_confirmed h b || is_alone h b)) waits in
+            let held : is_released h b ≡ false = held-waiting h b waits in
             both_ways (covers b.write block) ((marks block unmarked).1 i b (subst (λ (l : List Accepted). slice_get l i ≡ Some b) writes at) held) covered)
       ];
       settled = λ block touch unmarked is.
@@ -108,50 +109,40 @@ same-released : (h later : PrimaryHistory) (f : Outward → Outward) → HasHome
     → (i : ℕ) (a : Accepted) → slice_get h.writes i ≡ Some a → is_released later a ≡ is_released h a
 same-released h later f homes connections stream frames closed i a at = go a.home refl
   where
-    -- the two tests of a release on a connection
-    alike : (c d : Outward) (place : ℕ) → d.stream ≡ c.stream → accepted_frames d ≡ accepted_frames c → d.closed ≡ c.closed
-        → (barrier_acknowledged d (epoch_of d.stream place) || d.closed) ≡ (barrier_acknowledged c (epoch_of c.stream place) || c.closed)
-    alike c d place s fr cl =
-        ap (λ (l : List Item). list_any (is_barrier_ack (epoch_of l place)) (accepted_frames d) || d.closed) s
-        ∙ (ap (λ (l : List Received). list_any (is_barrier_ack (epoch_of c.stream place)) l || d.closed) fr
-        ∙ ap (λ b. barrier_acknowledged c (epoch_of c.stream place) || b) cl)
+    -- on a connection whose end changed so
+    alike : (c : Outward) (place : ℕ) → outward h ≡ c
+        → barrier_acknowledged (f c) (epoch_of (f c).stream place) ≡ barrier_acknowledged c (epoch_of c.stream place)
+    alike c place same =
+        subst (λ (x : Outward). barrier_acknowledged (f x) (epoch_of (f x).stream place) ≡ barrier_acknowledged x (epoch_of x.stream place)) same
+        (λ i. list_any (is_barrier_ack (epoch_of (stream i) place)) (frames i))
 
     go : (v : Option StreamPosition) → a.home ≡ v → is_released later a ≡ is_released h a
-    go None is =
-        let one : (g : PrimaryHistory) → is_released g a ≡ not (is_waiting a.outcome) = λ g. ap (λ b. not (is_waiting a.outcome) && (is_confirmed g a || b))
-        (alone-homeless g a is) ∙ always (not (is_waiting a.outcome)) (is_confirmed g a) in
-        one later ∙ sym (one h)
-      where
-        always : (x y : Bool) → (x && (y || true)) ≡ x
-        always true true = refl
-        always true false = refl
-        always false y = refl
+    go None is = released-none later a (alone-homeless later a is) ∙ sym (released-none h a (alone-homeless h a is))
     go (Some home) is =
         let was = homes.housed i home.index home.place a at is in
-        let both : (g : PrimaryHistory) (c : Outward) → slice_get g.connections home.index ≡ Some c
-        → is_released g a ≡ (not (is_waiting a.outcome) && (barrier_acknowledged c (epoch_of c.stream home.place) || c.closed)) =
-        λ g c there. ap (λ b. not (is_waiting a.outcome) && b) (told-at g a home c is there) in
         elim (get-change f (no_outward h.tuple) h.connections home.index was.0 was.1) [
-          | inl same ↦ both later was.0 (subst (λ (l : List Outward). slice_get l home.index ≡ Some was.0) (sym connections) same) ∙ sym (both h was.0 was.1)
+          | inl same ↦
+              let there = subst (λ (l : List Outward). slice_get l home.index ≡ Some was.0) (sym connections) same in
+              released-same h later a (confirmed-at later a home was.0 is there ∙ sym (confirmed-at h a home was.0 is was.1))
+              (alone-at later a home was.0 is there ∙ sym (alone-at h a home was.0 is was.1))
           | inr changed ↦
-              both later (f was.0) (subst (λ (l : List Outward). slice_get l home.index ≡ Some (f was.0)) (sym connections) changed.0)
-              ∙ (ap (λ b. not (is_waiting a.outcome) && b)
-              (subst (λ (x : Outward). (barrier_acknowledged (f x) (epoch_of (f x).stream home.place) || (f x).closed) ≡
-              (barrier_acknowledged x (epoch_of x.stream home.place) || x.closed)) (sym changed.1)
-              (alike (outward h) (f (outward h)) home.place stream frames closed))
-              ∙ sym (both h was.0 was.1))
+              let there = subst (λ (l : List Outward). slice_get l home.index ≡ Some (f was.0)) (sym connections) changed.0 in
+              released-same h later a
+              (confirmed-at later a home (f was.0) is there ∙ (alike was.0 home.place (sym changed.1) ∙ sym (confirmed-at h a home was.0 is was.1)))
+              (alone-at later a home (f was.0) is there
+              ∙ (subst (λ (x : Outward). (f x).closed ≡ x.closed) (sym changed.1) closed ∙ sym (alone-at h a home was.0 is was.1)))
         ]
 
 -- a frame that is refused closes the end, and keeps the account
 pub account-refuses : (h : PrimaryHistory) (frame : Received) (peer : Option Tuple) → (outward h).closed ≡ false → IsAccounted h
-    → IsKnown (closing (with_outward refusing (record (with_outward (with_frame frame) h) { peer = peer })))
-    → IsAccounted (closing (with_outward refusing (record (with_outward (with_frame frame) h) { peer = peer })))
+    → IsKnown (closing (refused_by frame peer h))
+    → IsAccounted (closing (refused_by frame peer h))
 account-refuses h frame peer standing accounted known =
-    let g : Outward → Outward = λ c. refusing (with_frame frame c) in
-    let f : Outward → Outward = λ c. record c { taken = c.taken ++ frame ∷ []; refused = true; closed = true } in
-    let before : PrimaryHistory = with_outward refusing (record (with_outward (with_frame frame) h) { peer = peer }) in
+    let g : Outward → Outward = refusing_frame frame in
+    let f : Outward → Outward = refused_out frame in
+    let before : PrimaryHistory = refused_by frame peer h in
     let plain = open-plain h accounted.known.tracked.homes standing in
-    let twice : before.connections ≡ change_last g h.connections = change-twice (with_frame frame) refusing h.connections in
+    let twice : before.connections ≡ change_last g h.connections = refusing-last frame h.connections in
     let frames : accepted_frames (f (outward h)) ≡ accepted_frames (outward h) = frames-refusing (outward h) frame plain in
     let ends : outward before ≡ g (outward h) = ap (last_of (no_outward h.tuple)) twice
     ∙ elim (last-change g (no_outward h.tuple) (no_outward h.tuple) h.connections) [

@@ -35,6 +35,7 @@ use Rattle.laws.proofs.Streams.Places.{epoch-grows, epoch-behind, get-grows}
 use Rattle.laws.proofs.Joining.Taking.{read}
 use Rattle.laws.proofs.Joining.HonestEnds.{AreHonestEnds, protocol-self, accepted-front}
 use Rattle.laws.proofs.Secondary.Fits.{is_said, is_answered_to, FitsReceived, FitsWritten, FitsResynced, FitsBarrier, Fits, size-stays, same-self}
+use Rattle.laws.proofs.Rules.Answered.{answered-or}
 
 -- a frame that is accepted, or refused but not as a protocol error
 abbrev pub IsFineToo : Taken → Type 0
@@ -232,9 +233,11 @@ barrier-turn settings h d m number size k f =
 
     answers : (asked : Protocol) (place : ℕ) (write : Write) → is_answered_to asked (take m d.due) place (WriteItem write) ≡ true
         → (asked ≡ protocol.A) ⊎ (is_answered_by asked (outward h) place (WriteItem write) ≡ true)
-    answers protocol.A place write a = inl refl
-    answers protocol.B place write a = inr (said-before settings h d m (is_recv_ack (naming place (WriteItem write))) k refl ∙ a)
-    answers protocol.C place write a = inr (said-before settings h d m (is_write_ack (naming place (WriteItem write))) k refl ∙ a)
+    answers asked place write a = answered-or asked (outward h) place (WriteItem write)
+        (λ is. said-before settings h d m (is_recv_ack (naming place (WriteItem write))) k refl
+        ∙ subst (λ (p : Protocol). is_answered_to p (take m d.due) place (WriteItem write) ≡ true) is a)
+        (λ is. said-before settings h d m (is_write_ack (naming place (WriteItem write))) k refl
+        ∙ subst (λ (p : Protocol). is_answered_to p (take m d.due) place (WriteItem write) ≡ true) is a)
 
 barrier-fine : (settings : Settings) (h taken : PrimaryHistory) (d : Inward) (m number size : ℕ) → Comes settings h d m
     → FitsBarrier settings.protocol (items_taken d) (take m d.due) number size

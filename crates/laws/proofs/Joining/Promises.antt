@@ -2,7 +2,6 @@
 use Rattle.std.proofs.Common.{ℕ, zero, suc, ◌≡◌, ◌-◌, ◌<◌, Bool, true, false, List, [], ◌∷◌, length, take, map, Some, slice_get, Ok, Err, refl, sym, ◌∙◌, ap}
 use Rattle.std.proofs.Common.{subst}
 use Rattle.std.specs.Prelude.{if◌then◌else◌}
-use Rattle.std.proofs.lemmas.Bool.{ltb-true}
 use Rattle.std.proofs.lemmas.Option.{slice_get_within}
 use Rattle.blocks.specs.Positions.{StreamPosition}
 use Rattle.blocks.specs.declared.settings.Settings.{Settings}
@@ -27,6 +26,8 @@ use Rattle.laws.proofs.Lists.Picks.{pick-any}
 use Rattle.laws.proofs.Joining.Taking.{takes_a_beginning, read}
 use Rattle.laws.proofs.Lists.Each.{Each, each-get}
 use Rattle.laws.proofs.Joining.Ends.{outward-there, each-at}
+use Rattle.model.specs.Primary.{was_received, was_written}
+use Rattle.laws.proofs.Rules.Answered.{answered-has}
 
 -- the acknowledgement in a frame that passes
 recv-ack : (of : Acknowledged) (frame : Received) → is_recv_ack of frame ≡ true
@@ -99,26 +100,31 @@ promise-of : (asked : Protocol) (settings : Settings) (c : Outward) (d : Inward)
     → IsBeginning c.taken (map read (take d.pushed (answers_due settings d)))
     → IsBeginning (items_taken d) (take (items_sent c) c.stream) → slice_get c.stream place ≡ Some (WriteItem write)
     → is_answered_by asked c place (WriteItem write) ≡ true → Promise asked c d write place
-promise-of protocol.A settings c d write place truthful joined items item answered = ltb-true place (items_sent c) answered
-promise-of protocol.B settings c d write place truthful joined items item answered =
-    let found = pick-any (is_recv_ack (naming place (WriteItem write))) (accepted_frames c) answered in
-    let ack = recv-ack (naming place (WriteItem write)) found.1 found.3 in
-    let due = was-due settings c d found.0 (RecvAckFrame ack.0) refl joined (found.2 ∙ ap (λ (f : Received). Some f) ack.1) in
-    let names = truthful.answers due.0 (RecvAckFrame ack.0) due.1 in
-    let same : place ≡ ack.0.place = same-place (naming place (WriteItem write)) ack.0 ack.2 in
-    subst (λ n. n < length (items_taken d)) (sym same) (slice_get_within (items_taken d) ack.0.place names.item names.there)
-promise-of protocol.C settings c d write place truthful joined items item answered =
-    let found = pick-any (is_write_ack (naming place (WriteItem write))) (accepted_frames c) answered in
-    let ack = write-ack (naming place (WriteItem write)) found.1 found.3 in
-    let due = was-due settings c d found.0 (WriteAckFrame ack.0) refl joined (found.2 ∙ ap (λ (f : Received). Some f) ack.1) in
-    let names = truthful.answers due.0 (WriteAckFrame ack.0) due.1 in
-    let same : place ≡ ack.0.place = same-place (naming place (WriteItem write)) ack.0 ack.2 in
-    let taken : slice_get (items_taken d) place ≡ Some names.item = subst (λ n. slice_get (items_taken d) n ≡ Some names.item) (sym same) names.there in
-    let sent : slice_get c.stream place ≡ Some names.item =
-    get-beginning (items_taken d) c.stream place names.item
-    (begins-trans (items_taken d) (take (items_sent c) c.stream) c.stream items (begins-take (items_sent c) c.stream)) taken in
-    let is : names.item ≡ WriteItem write = cc in
-    subst (λ (i : Item). is_whole d.applied place i ≡ true) is (subst (λ n. is_whole d.applied n names.item ≡ true) (sym same) names.whole)
+promise-of asked settings c d write place truthful joined items item answered =
+    answered-has (λ p. Promise p c d write place) c place (WriteItem write) (λ sent. sent) received written asked answered
+  where
+    received : was_received c place (WriteItem write) ≡ true → Promise protocol.B c d write place
+    received said =
+        let found = pick-any (is_recv_ack (naming place (WriteItem write))) (accepted_frames c) said in
+        let ack = recv-ack (naming place (WriteItem write)) found.1 found.3 in
+        let due = was-due settings c d found.0 (RecvAckFrame ack.0) refl joined (found.2 ∙ ap (λ (f : Received). Some f) ack.1) in
+        let names = truthful.answers due.0 (RecvAckFrame ack.0) due.1 in
+        let same : place ≡ ack.0.place = same-place (naming place (WriteItem write)) ack.0 ack.2 in
+        subst (λ n. n < length (items_taken d)) (sym same) (slice_get_within (items_taken d) ack.0.place names.item names.there)
+
+    written : was_written c place (WriteItem write) ≡ true → Promise protocol.C c d write place
+    written said =
+        let found = pick-any (is_write_ack (naming place (WriteItem write))) (accepted_frames c) said in
+        let ack = write-ack (naming place (WriteItem write)) found.1 found.3 in
+        let due = was-due settings c d found.0 (WriteAckFrame ack.0) refl joined (found.2 ∙ ap (λ (f : Received). Some f) ack.1) in
+        let names = truthful.answers due.0 (WriteAckFrame ack.0) due.1 in
+        let same : place ≡ ack.0.place = same-place (naming place (WriteItem write)) ack.0 ack.2 in
+        let taken : slice_get (items_taken d) place ≡ Some names.item = subst (λ n. slice_get (items_taken d) n ≡ Some names.item) (sym same) names.there in
+        let sent : slice_get c.stream place ≡ Some names.item =
+        get-beginning (items_taken d) c.stream place names.item
+        (begins-trans (items_taken d) (take (items_sent c) c.stream) c.stream items (begins-take (items_sent c) c.stream)) taken in
+        let is : names.item ≡ WriteItem write = cc in
+        subst (λ (i : Item). is_whole d.applied place i ≡ true) is (subst (λ n. is_whole d.applied n names.item ≡ true) (sym same) names.whole)
 
 -- each write that completed over the link has what its protocol promises
 pub keeps_promises : JoinedRunsKeepPromises

@@ -1,10 +1,12 @@
 -- No step of a pair is refused as a protocol error.
-use Rattle.std.proofs.Common.{ℕ, suc, ◌≡◌, ◌-◌, ◌⊎◌, inl, inr, Bool, true, false, not, ◌&&◌, List, [], ◌∷◌, ◌++◌, length, take, map, Option, Some, None}
-use Rattle.std.proofs.Common.{is_none, slice_get, Ok, Err, refl, sym, ◌∙◌, ap, subst, arith, nat_le}
-use Rattle.std.specs.Prelude.{option_map, if◌then◌else◌, unwrap_or}
-use Rattle.std.proofs.lemmas.Bool.{both_ways}
+use Rattle.std.proofs.Common.{ℕ, suc, ◌≡◌, ◌-◌, ◌⊎◌, inl, inr, Bool, true, false, not, List, [], ◌∷◌, ◌++◌, length, take, map, Option, Some, None}
+use Rattle.std.proofs.Common.{slice_get, Ok, refl, sym, ◌∙◌, ap, subst, arith}
+use Rattle.std.specs.Prelude.{option_map, unwrap_or}
+use Rattle.std.specs.List.{list_any}
+use Rattle.std.proofs.lemmas.Bool.{both_ways, or_parts}
 use Rattle.blocks.specs.declared.refusal.Refusal.{Refusal}
-use Rattle.blocks.specs.declared.refusal.Refusal.TheVariants.{BadRange, NoMemory, NothingToDo, NotConnected, NothingThere, ReadFault, UnknownJob, PendingFull}
+use Rattle.blocks.specs.declared.refusal.Refusal.TheVariants.{BadRange, NothingToDo, NotConnected, ReadFault, UnknownJob}
+use Rattle.blocks.specs.declared.refusal.Refusal.TheVariants.{PrimaryStale, SplitBrain, Unrelated, UsedIdentifier}
 use Rattle.blocks.specs.declared.outcome.What.TheVariants as what
 use Rattle.blocks.specs.declared.outcome.Reply.{Reply}
 use Rattle.blocks.specs.declared.outcome.Reply.TheVariants as reply
@@ -17,9 +19,9 @@ use Rattle.model.specs.Marks.{releasing}
 use Rattle.model.specs.PrimarySteps.{follows, appending, succeeding, open_tests, open_primary, opened, submit_tests, submitted, submit, is_unfinished}
 use Rattle.model.specs.PrimarySteps.{with_outcome, local_done, accepted_at, faulted, local_fault, send_tests, sending, send, resync_tests, resync_next}
 use Rattle.model.specs.PrimarySteps.{resync_fault, closing, close_primary}
-use Rattle.model.specs.Acknowledgements.{Taken, taking, take_frame, ack_in}
-use Rattle.model.specs.Secondary.{SecondaryHistory, Inward, no_inward, inward, with_inward, items_taken, pending, answers_due}
-use Rattle.model.specs.SecondarySteps.{succeeding_secondary, Checked, checking, take_item, receive, peer_tests, peer, peer_fault, applying, failing}
+use Rattle.model.specs.Acknowledgements.{take_frame, ack_in}
+use Rattle.model.specs.Secondary.{SecondaryHistory, Inward, no_inward, inward, with_inward, items_taken, answers_due}
+use Rattle.model.specs.SecondarySteps.{succeeding_secondary, take_item, receive, peer_tests, peer, peer_fault, applying, failing}
 use Rattle.model.specs.SecondarySteps.{answering_with, ack_out_tests, ack_out, open_secondary, close_secondary}
 use Rattle.model.specs.LocalRuns.{PrimaryEvent, primary_run, SecondaryEvent, secondary_run}
 use Rattle.model.specs.Headline.{IsJoined}
@@ -29,15 +31,14 @@ use Rattle.model.specs.Pair.{next_frame, next_answer, has_room, answers_have_roo
 use Rattle.model.specs.Pair.{peer_fault_kept, step, run}
 use Rattle.model.specs.Theorems.{Opening, primary_at, secondary_at, pair_at, HasRanges, SharesSettings}
 use Rattle.laws.proofs.Rules.EpochEnds.{takes-writes}
-use Rattle.laws.specs.Statements.{is_protocol_error, EveryStepIsHonest}
+use Rattle.laws.specs.Statements.{is_protocol_error, is_refused_frame, EveryStepIsHonest}
 use Rattle.laws.proofs.Lists.Each.{each-get}
 use Rattle.laws.proofs.Lists.Last.{last-at}
-use Rattle.laws.proofs.Lists.Tests.{test-passed}
-use Rattle.laws.proofs.Primary.Moves.{with_frame, refusing, pushing}
+use Rattle.laws.proofs.Primary.Moves.{with_frame, pushing}
 use Rattle.laws.proofs.Primary.Homes.{HasHomes}
 use Rattle.laws.proofs.Primary.LawfulMoves.{primary-between, primary_lawful}
 use Rattle.laws.proofs.Primary.Sendable.{IsFitEnd, primary_fit}
-use Rattle.laws.proofs.Secondary.Moves.{framed, refused_end}
+use Rattle.laws.proofs.Secondary.Moves.{framed}
 use Rattle.laws.proofs.Secondary.Orderly.{IsOrderly}
 use Rattle.laws.proofs.Secondary.OrderlyRuns.{secondary_orderly, HasOrderlyEnds}
 use Rattle.laws.proofs.Joining.Openings.{kept-opening-primary, kept-opening-secondary}
@@ -48,6 +49,8 @@ use Rattle.laws.proofs.Joining.Acknowledging.{IsFineToo, acknowledging-fine}
 use Rattle.laws.proofs.Pair.Runs.{pair_runs_are_joined}
 use Rattle.laws.proofs.Joining.Ends.{AreEnds, joined-out, joined-back}
 use Rattle.laws.proofs.Secondary.Numbers.{AreCounted, numbers-rise}
+use Rattle.laws.proofs.Rules.Memory.{ack-in-has, receive-has}
+use Rattle.laws.proofs.Rules.RefusedFrames.{frame-has, item-has}
 
 -- Two nodes whose ends of each connection are honest ones of a link.
 record AreHonest (settings : Settings) (p : PrimaryHistory) (s : SecondaryHistory) : Type 0 where
@@ -151,17 +154,12 @@ IsHonestReply (reply.Closed count) = Unit {0}
 
 -- tests that refuse nothing as one
 abbrev AreMild : List Test → Type 0
-AreMild [] = Unit {0}
-AreMild (test ∷ tests) = (is_protocol_error test.1 ≡ false) × AreMild tests
+AreMild tests = list_any (λ (test : Test). is_protocol_error test.1) tests ≡ false
 
 first-mild : (tests : List Test) → AreMild tests → (refusal : Refusal) → first_refusal tests ≡ Some refusal → is_protocol_error refusal ≡ false
 first-mild [] mild refusal is = absurd (cc)
-first-mild (test ∷ tests) mild refusal is = go test.0 is (first-mild tests mild.1 refusal)
-  where
-    go : (b : Bool) → (if b then Some test.1 else first_refusal tests) ≡ Some refusal → (first_refusal tests ≡ Some refusal → is_protocol_error refusal ≡ false)
-        → is_protocol_error refusal ≡ false
-    go true same rest = let one : test.1 ≡ refusal = cc in subst (λ r. is_protocol_error r ≡ false) one mild.0
-    go false same rest = rest same
+first-mild ((true, first) ∷ tests) mild refusal is = let same : first ≡ refusal = cc in ap is_protocol_error (sym same) ∙ (or_parts _ _ mild).0
+first-mild ((false, first) ∷ tests) mild refusal is = first-mild tests (or_parts _ _ mild).1 refusal is
 
 -- what follows of tests, where those that refuse are mild
 by-tests : {X : Type 0} (tests : List Test) (h : X) (done : Unit {0} → Reply × X) → AreMild tests → (first_refusal tests ≡ None → IsHonestReply (done tt).0)
@@ -173,37 +171,39 @@ by-tests {X} tests h done mild honest = go (first_refusal tests) refl
     go (Some refusal) is = first-mild tests mild refusal is
     go None is = honest is
 
+-- what refuses no frame is no protocol error
+mild-other : (refusal : Refusal) → is_refused_frame refusal ≡ false → is_protocol_error refusal ≡ false
+mild-other PrimaryStale other = refl
+mild-other SplitBrain other = refl
+mild-other Unrelated other = refl
+mild-other UsedIdentifier other = refl
+mild-other refusal other = other
+
 -- Steps of the primary.
 
 honest-submit : (first : ℕ) (contents : List (List ℕ)) (starved : Bool) (h : PrimaryHistory) → IsHonestReply (submit first contents starved h).0
 honest-submit first contents starved h =
-    by-tests (submit_tests h first contents starved) h (λ _. succeeding (what.Write (suc (length h.writes))) (submitted h first contents)) (
-      refl,
-      (refl, (refl, (refl, (refl, (refl, (refl, (refl, tt))))))),
-    ) (λ none. tt)
+    by-tests (submit_tests h first contents starved) h (λ _. succeeding (what.Write (suc (length h.writes))) (submitted h first contents)) refl (λ none. tt)
 
 honest-local : (number : ℕ) (h : PrimaryHistory) → IsHonestReply (local_done number h).0
 honest-local number h = by-tests ((not (is_unfinished h number), UnknownJob) ∷ []) h (λ _. succeeding what.Nothing (releasing h (with_outcome number OnDisk h)))
-    (refl, tt) (λ none. tt)
+    refl (λ none. tt)
 
 honest-fault : (number kept : ℕ) (h : PrimaryHistory) → IsHonestReply (local_fault_kept number kept h).0
 honest-fault number kept h =
     by-tests ((not (is_unfinished h number), UnknownJob) ∷
     (keeps_too_many kept (option_map (λ accepted. length accepted.write.contents) (accepted_at h number)), BadRange) ∷ []) h
-    (λ _. local_fault number (below kept) h) (refl, (refl, tt)) (λ none.
-    by-tests ((not (is_unfinished h number), UnknownJob) ∷ []) h (λ _. succeeding what.Nothing (faulted number (below kept) h)) (refl, tt) (λ free. tt))
+    (λ _. local_fault number (below kept) h) refl (λ none.
+    by-tests ((not (is_unfinished h number), UnknownJob) ∷ []) h (λ _. succeeding what.Nothing (faulted number (below kept) h)) refl (λ free. tt))
 
 honest-send : (room starved : Bool) (h : PrimaryHistory) → IsHonestReply (send room starved h).0
-honest-send room starved h = by-tests (send_tests h room starved) h (λ _. succeeding (sending h) (with_outward pushing h)) (
-  refl,
-  (refl, (refl, (refl, tt))),
-) (λ none. tt)
+honest-send room starved h = by-tests (send_tests h room starved) h (λ _. succeeding (sending h) (with_outward pushing h)) refl (λ none. tt)
 
 honest-resync : (starved : Bool) (h : PrimaryHistory) → IsHonestReply (resync_next starved h).0
 honest-resync starved h = by-tests (resync_tests h starved) h (λ _. elim (free_block h) as (λ _. Reply × PrimaryHistory) [
   | None ↦ (reply.Refused NothingToDo, h)
   | Some block ↦ succeeding (what.Block (record { 0 = block }) (length (outward h).stream)) (appending (ResyncItem block (unwrap_or (local_map h block) [])) h)
-]) (refl, (refl, (refl, (refl, tt)))) (λ none. go (free_block h))
+]) refl (λ none. go (free_block h))
   where
     go : (v : Option ℕ) → IsHonestReply (elim v as (λ _. Reply × PrimaryHistory) [
       | None ↦ (reply.Refused NothingToDo, h)
@@ -214,11 +214,11 @@ honest-resync starved h = by-tests (resync_tests h starved) h (λ _. elim (free_
     go (Some block) = tt
 
 honest-resync-fault : (starved : Bool) (h : PrimaryHistory) → IsHonestReply (resync_fault starved h).0
-honest-resync-fault starved h = by-tests (resync_tests h starved) h (λ _. (reply.Refused ReadFault, h)) (refl, (refl, (refl, (refl, tt)))) (λ none. refl)
+honest-resync-fault starved h = by-tests (resync_tests h starved) h (λ _. (reply.Refused ReadFault, h)) refl (λ none. refl)
 
 honest-close : (h : PrimaryHistory) → IsHonestReply (close_primary h).0
 honest-close h = by-tests (((outward h).closed, NotConnected) ∷ []) h
-    (λ _. let after = follows (closing h) in (reply.Closed (length after.completed), after.history)) (refl, tt) (λ none. tt)
+    (λ _. let after = follows (closing h) in (reply.Closed (length after.completed), after.history)) refl (λ none. tt)
 
 -- a frame that is read is a packet that was pushed
 read-packet : (v : Option Packet) (frame : Received) → option_map (λ packet. Ok packet) v ≡ Some frame
@@ -235,32 +235,16 @@ honest-frame settings h packet a standing next =
     let ends = last-ends settings p s a (inl standing) in
     let at : slice_get (take (inward s).pushed (answers_due settings (inward s))) (length (outward p).taken) ≡ Some packet
     = subst (λ (x : Settings). slice_get (take (inward s).pushed (answers_due x (inward s))) (length (outward p).taken) ≡ Some packet) a.there next in
-    go (taking (Ok packet) p (with_outward (with_frame (Ok packet)) p))
+    frame-has (λ r. IsHonestReply r.0) IsFineToo (Ok packet) p
     (acknowledging-fine settings p (with_outward (with_frame (Ok packet)) p) (inward s) packet a.here a.here (a.ends _ (outward p) (inward s) ends) standing
-    (a.begins _ (outward p) (inward s) ends) at)
-  where
-    go : (v : Taken) → IsFineToo v → IsHonestReply (elim v as (λ _. Reply × PrimaryHistory) [
-      | Ok done ↦ succeeding done.0 done.1
-      | Err error ↦ (reply.Refused error.0, (follows (closing (with_outward refusing error.1))).history)
-    ]).0
-    go (Ok done) fine = tt
-    go (Err error) fine = fine
+    (a.begins _ (outward p) (inward s) ends) at) (λ done fine. tt) (λ error fine. fine)
 
 honest-ack-in : (settings : Settings) (starved : Bool) (h : PairHistory) → AreHonest settings h.primary h.secondary
     → IsHonestReply (ack_in (next_answer h) starved h.primary).0
-honest-ack-in settings starved h a =
-    let rest : List Test = (not (outward h.primary).begun && starved, NoMemory) ∷ (is_none (next_answer h), NothingThere) ∷ [] in
-    by-tests (((outward h.primary).closed, NotConnected) ∷ rest) h.primary
-    (λ _. elim (next_answer h) as (λ _. Reply × PrimaryHistory)
-    [ None ↦ (reply.Refused NothingThere, h.primary) | Some taken ↦ take_frame taken h.primary ]) (refl, (refl, (refl, tt)))
-    (λ none. go (next_answer h) refl (test-passed (outward h.primary).closed NotConnected rest none).0)
-  where
-    go : (v : Option Received) → next_answer h ≡ v → (outward h.primary).closed ≡ false
-        → IsHonestReply (elim v as (λ _. Reply × PrimaryHistory) [ None ↦ (reply.Refused NothingThere, h.primary) | Some taken ↦ take_frame taken h.primary ]).0
-    go None is standing = refl
-    go (Some taken) is standing =
-        let found = read-packet (slice_get (pushed_answers h) (length (outward h.primary).taken)) taken is in
-        subst (λ (f : Received). IsHonestReply (take_frame f h.primary).0) (sym found.2) (honest-frame settings h found.0 a standing found.1)
+honest-ack-in settings starved h a = ack-in-has (λ r. IsHonestReply r.0) (next_answer h) starved h.primary (λ refusal other. mild-other refusal other)
+    (λ taken is standing.
+    let found = read-packet (slice_get (pushed_answers h) (length (outward h.primary).taken)) taken is in
+    subst (λ (f : Received). IsHonestReply (take_frame f h.primary).0) (sym found.2) (honest-frame settings h found.0 a standing found.1))
 
 -- Steps of the secondary.
 
@@ -273,71 +257,44 @@ honest-item settings h packet a standing next =
     let ends = last-ends settings p s a (inr standing) in
     let at : slice_get (take (outward p).pushed (frames_due settings (outward p))) (length (inward s).taken) ≡ Some packet
     = subst (λ (x : Settings). slice_get (take (outward p).pushed (frames_due x (outward p))) (length (inward s).taken) ≡ Some packet) a.here next in
-    go (checking (Ok packet) (inward s) (with_inward (framed (Ok packet)) s))
+    item-has (λ r. IsHonestReply r.0) IsFine (Ok packet) s
     (receiving-fine settings (outward p) (inward s) packet (with_inward (framed (Ok packet)) s) (a.ends _ (outward p) (inward s) ends) standing a.there at)
-  where
-    go : (v : Checked) → IsFine v → IsHonestReply (elim v as (λ _. Reply × SecondaryHistory) [
-      | Ok done ↦ succeeding_secondary done.0 done.1
-      | Err refusal ↦ (reply.Refused refusal, with_inward refused_end (with_inward (framed (Ok packet)) h.secondary))
-    ]).0
-    go (Ok done) fine = tt
-    go (Err refusal) fine = fine
+    (λ done fine. tt) (λ refusal fine. fine)
 
 honest-receive : (settings : Settings) (starved : Bool) (h : PairHistory) → AreHonest settings h.primary h.secondary
     → IsHonestReply (receive (next_frame h) starved h.secondary).0
-honest-receive settings starved h a =
-    let s : SecondaryHistory = h.secondary in
-    let rest : List Test = (nat_le s.settings.pending (length (pending (inward s))), PendingFull) ∷ (starved, NoMemory) ∷ (
-      is_none (next_frame h),
-      NothingThere,
-    ) ∷ [] in
-    by-tests (((inward s).closed, NotConnected) ∷ rest) s
-    (λ _. elim (next_frame h) as (λ _. Reply × SecondaryHistory) [ None ↦ (reply.Refused NothingThere, s) | Some taken ↦ take_item taken s ]) (
-      refl,
-      (refl, (refl, (refl, tt))),
-    )
-    (λ none. go (next_frame h) refl (test-passed (inward s).closed NotConnected rest none).0)
-  where
-    go : (v : Option Received) → next_frame h ≡ v → (inward h.secondary).closed ≡ false
-        → IsHonestReply (elim v as (λ _. Reply × SecondaryHistory)
-        [ None ↦ (reply.Refused NothingThere, h.secondary) | Some taken ↦ take_item taken h.secondary ]).0
-    go None is standing = refl
-    go (Some taken) is standing =
-        let found = read-packet (slice_get (pushed_frames h) (length (inward h.secondary).taken)) taken is in
-        subst (λ (f : Received). IsHonestReply (take_item f h.secondary).0) (sym found.2) (honest-item settings h found.0 a standing found.1)
+honest-receive settings starved h a = receive-has (λ r. IsHonestReply r.0) (next_frame h) starved h.secondary (λ refusal other. mild-other refusal other)
+    (λ taken is standing.
+    let found = read-packet (slice_get (pushed_frames h) (length (inward h.secondary).taken)) taken is in
+    subst (λ (f : Received). IsHonestReply (take_item f h.secondary).0) (sym found.2) (honest-item settings h found.0 a standing found.1))
 
 honest-peer : (place : ℕ) (h : SecondaryHistory) → IsHonestReply (peer place h).0
-honest-peer place h = by-tests (peer_tests h place) h (λ _. succeeding_secondary what.Nothing (with_inward (applying h.settings.protocol place) h)) (
-  refl,
-  (refl, tt),
-) (λ none. tt)
+honest-peer place h =
+    by-tests (peer_tests h place) h (λ _. succeeding_secondary what.Nothing (with_inward (applying h.settings.protocol place) h)) refl (λ none. tt)
 
 honest-peer-fault : (place kept : ℕ) (h : SecondaryHistory) → IsHonestReply (peer_fault_kept place kept h).0
 honest-peer-fault place kept h =
     by-tests (peer_tests h place ++ (
       keeps_too_many kept (option_map (λ item. length (contents_of item)) (slice_get (items_taken (inward h)) place)),
       BadRange,
-    ) ∷ []) h (λ _. peer_fault place (below kept) h) (refl, (refl, (refl, tt))) (λ none.
-    by-tests (peer_tests h place) h (λ _. (reply.Ok (done_with what.Nothing), with_inward (failing place (below kept)) h)) (refl, (refl, tt)) (λ free. tt))
+    ) ∷ []) h (λ _. peer_fault place (below kept) h) refl (λ none.
+    by-tests (peer_tests h place) h (λ _. (reply.Ok (done_with what.Nothing), with_inward (failing place (below kept)) h)) refl (λ free. tt))
 
 honest-push : (room starved : Bool) (h : SecondaryHistory) → IsHonestReply (ack_out room starved h).0
 honest-push room starved h = by-tests (ack_out_tests h room starved) h
-    (λ _. (reply.Ok (done_with (answering_with h)), with_inward (λ c. record c { pushed = suc c.pushed }) h)) (refl, (refl, (refl, (refl, tt)))) (λ none. tt)
+    (λ _. (reply.Ok (done_with (answering_with h)), with_inward (λ c. record c { pushed = suc c.pushed }) h)) refl (λ none. tt)
 
 honest-close-too : (h : SecondaryHistory) → IsHonestReply (close_secondary h).0
 honest-close-too h = by-tests (((inward h).closed, NotConnected) ∷ []) h
-    (λ _. (reply.Ok (done_with what.Nothing), with_inward (λ c. record c { closed = true }) h)) (refl, tt) (λ none. tt)
+    (λ _. (reply.Ok (done_with what.Nothing), with_inward (λ c. record c { closed = true }) h)) refl (λ none. tt)
 
 -- Steps of the pair.
 
 honest-open : (sync loss : ℕ) (starved : Bool) (h : PairHistory) → IsHonestReply (open_pair sync loss starved h).0
 honest-open sync loss starved h = by-tests (open_pair_tests h sync loss starved) h
     (λ _. let primary = open_primary sync loss starved h.primary in (primary.0, record { primary = primary.1; secondary = (open_secondary 0 h.secondary).1 }))
-    (refl, (refl, (refl, (refl, (refl, tt)))))
-    (λ none. by-tests (open_tests h.primary sync loss starved) h.primary (λ _. succeeding what.Nothing (opened h.primary sync loss)) (
-      refl,
-      (refl, (refl, (refl, tt))),
-    ) (λ free. tt))
+    refl
+    (λ none. by-tests (open_tests h.primary sync loss starved) h.primary (λ _. succeeding what.Nothing (opened h.primary sync loss)) refl (λ free. tt))
 
 honest-step : (settings : Settings) (event : Event) (starved : Bool) (h : PairHistory) → AreHonest settings h.primary h.secondary
     → IsHonestReply (step event starved h).0

@@ -1,5 +1,5 @@
 -- What a primary does that refuses a frame: the marks, the tuple and the completions of the close in the same step.
-use Rattle.std.proofs.Common.{ℕ, zero, suc, ◌≡◌, ◌-◌, ◌==◌, Bool, true, false, not, ◌&&◌, ◌||◌, List, [], ◌∷◌, ◌++◌, length, map, Option, Some, None, slice_get}
+use Rattle.std.proofs.Common.{ℕ, ◌≡◌, ◌-◌, ◌==◌, Bool, true, false, not, ◌&&◌, List, [], ◌∷◌, ◌++◌, length, map, Option, Some, None, slice_get}
 use Rattle.std.proofs.Common.{refl, sym, ◌∙◌, ap, ◌⊎◌, inl, inr}
 use Rattle.std.specs.Prelude.{if◌then◌else◌, option_map}
 use Rattle.std.specs.List.{list_any}
@@ -13,8 +13,8 @@ use Rattle.model.specs.Frames.{Received, counting}
 use Rattle.model.specs.Identifiers.{lost}
 use Rattle.model.specs.Marks.{marking_unreleased}
 use Rattle.model.specs.Primary.{LocalOutcome, Waiting, OnDisk, Failed, Accepted, Completion, PrimaryHistory, Outward, no_outward, outward, last_of, last_index}
-use Rattle.model.specs.Primary.{change_last, is_alone, is_answered, is_barrier_ack, barrier_acknowledged, is_completed, is_confirmed, is_failed, is_on_disk}
-use Rattle.model.specs.Primary.{is_open, is_released, is_waiting, completes, unreleased, accepted_frames}
+use Rattle.model.specs.Primary.{change_last, is_alone, is_answered, is_barrier_ack, is_completed, is_confirmed, is_failed, is_on_disk}
+use Rattle.model.specs.Primary.{is_open, is_released, completes, unreleased, accepted_frames}
 use Rattle.model.specs.PrimarySteps.{follows, closing, newly_completed, completion_of, with_completions, appending, ending_resync, epoch_is_over}
 use Rattle.model.specs.PrimarySteps.{resync_is_over}
 use Rattle.model.specs.Acknowledgements.{ack_in}
@@ -28,65 +28,31 @@ use Rattle.laws.proofs.Primary.Moves.{after_barrier, after_resync, follows-histo
 use Rattle.laws.proofs.Primary.StaysClosed.{open-stands}
 use Rattle.laws.proofs.Rules.ResyncEnds.{over-stands}
 use Rattle.laws.proofs.Pair.RefusedFrames.{close-open, refused-open, others-count, had-open, refused_frames_close_the_primary}
+use Rattle.laws.proofs.Rules.RefusedFrames.{refusing_frame}
+use Rattle.laws.proofs.Rules.Releases.{released-same}
+use Rattle.laws.proofs.Primary.Seen.{alone-seen, confirmed-seen}
 
 -- The frame itself releases nothing.
 
--- an end with a frame taken and refused
-abbrev refusing_end : Received → Outward → Outward
-refusing_end frame c = record c { taken = c.taken ++ frame ∷ []; refused = true }
-
--- what is read off an element sees no change of the last one that it does not see there
-unseen : {X Y : Type 0} (seen : Option X → Y) (f : X → X) (none : X) (xs : List X) (k : ℕ) → seen (Some (f (last_of none xs))) ≡ seen (Some (last_of none xs))
-    → seen (slice_get (change_last f xs) k) ≡ seen (slice_get xs k)
-unseen seen f none [] k same = refl
-unseen seen f none (x ∷ []) zero same = same
-unseen seen f none (x ∷ []) (suc k) same = refl
-unseen seen f none (x ∷ y ∷ xs) zero same = refl
-unseen seen f none (x ∷ y ∷ xs) (suc k) same = unseen seen f x (y ∷ xs) k same
-
 -- the same frames count
-frames-same : (frame : Received) (c : Outward) → c.refused ≡ false → accepted_frames (refusing_end frame c) ≡ accepted_frames c
+frames-same : (frame : Received) (c : Outward) → c.refused ≡ false → accepted_frames (refusing_frame frame c) ≡ accepted_frames c
 frames-same frame c unrefused = others-count frame c.taken ∙ sym (ap (λ b. counting b c.taken) unrefused)
 
 -- the same epochs are acknowledged
 confirmed-same : (frame : Received) (p : PrimaryHistory) → (outward p).refused ≡ false → (a : Accepted)
     → is_confirmed (with_refused frame p) a ≡ is_confirmed p a
-confirmed-same frame p unrefused a = go a.home
-  where
-    go : (home : Option StreamPosition) → elim home as
-        (λ _. Bool) [
-          | None ↦ false
-          | Some h ↦ elim (slice_get (with_refused frame p).connections h.index) as
-              (λ _. Bool) [ None ↦ false | Some c ↦ barrier_acknowledged c (epoch_of c.stream h.place) ]
-        ]
-        ≡ elim home as (λ _. Bool) [
-          | None ↦ false
-          | Some h ↦ elim (slice_get p.connections h.index) as
-              (λ _. Bool) [ None ↦ false | Some c ↦ barrier_acknowledged c (epoch_of c.stream h.place) ]
-        ]
-    go None = refl
-    go (Some home) =
-        unseen (λ (v : Option Outward). elim v as (λ _. Bool) [ None ↦ false | Some c ↦ barrier_acknowledged c (epoch_of c.stream home.place) ])
-        (refusing_end frame) (no_outward p.tuple) p.connections home.index
-        (ap (λ (frames : List Received). list_any (is_barrier_ack (epoch_of (outward p).stream home.place)) frames) (frames-same frame (outward p) unrefused))
+confirmed-same frame p unrefused = confirmed-seen p (with_refused frame p) (refusing_frame frame) refl
+    (λ place. ap (λ (frames : List Received). list_any (is_barrier_ack (epoch_of (outward p).stream place)) frames) (frames-same frame (outward p) unrefused))
 
 -- the same writes are without a connection
 alone-same : (frame : Received) (p : PrimaryHistory) (a : Accepted) → is_alone (with_refused frame p) a ≡ is_alone p a
-alone-same frame p a = go a.home
-  where
-    go : (home : Option StreamPosition) → elim home as
-        (λ _. Bool) [ None ↦ true | Some h ↦ elim (slice_get (with_refused frame p).connections h.index) as (λ _. Bool) [ None ↦ true | Some c ↦ c.closed ] ]
-        ≡ elim home as (λ _. Bool) [ None ↦ true | Some h ↦ elim (slice_get p.connections h.index) as (λ _. Bool) [ None ↦ true | Some c ↦ c.closed ] ]
-    go None = refl
-    go (Some home) = unseen (λ (v : Option Outward). elim v as (λ _. Bool) [ None ↦ true | Some c ↦ c.closed ]) (refusing_end frame)
-        (no_outward p.tuple) p.connections home.index refl
+alone-same frame p = alone-seen p (with_refused frame p) (refusing_frame frame) refl refl
 
 -- the same writes are unreleased
 unreleased-same : (frame : Received) (p : PrimaryHistory) → (outward p).refused ≡ false → unreleased (with_refused frame p) ≡ unreleased p
 unreleased-same frame p unrefused =
     filter_agree (λ a. not (is_released (with_refused frame p) a)) (λ a. not (is_released p a))
-    (λ a. ap (λ b. not (not (is_waiting a.outcome) && (b || is_alone (with_refused frame p) a))) (confirmed-same frame p unrefused a)
-    ∙ ap (λ b. not (not (is_waiting a.outcome) && (is_confirmed p a || b))) (alone-same frame p a)) p.writes
+    (λ a. ap not (released-same p (with_refused frame p) a (confirmed-same frame p unrefused a) (alone-same frame p a))) p.writes
 
 -- The close.
 
@@ -103,11 +69,11 @@ lost-follows p = following-from (IsLost p) (IsLost p) (IsLost p) (λ h is. recor
     (λ g over is. absurd (both_ways (outward g).closed (open-stands (outward g) (over-stands g over)) is.closed)) (λ g is. is)
 
 -- the last end with the frame refused, where there is one
-refused-last : (frame : Received) (p : PrimaryHistory) → (outward p).closed ≡ false → outward (with_refused frame p) ≡ refusing_end frame (outward p)
-refused-last frame p standing = go (last-change (refusing_end frame) (no_outward p.tuple) (no_outward p.tuple) p.connections)
+refused-last : (frame : Received) (p : PrimaryHistory) → (outward p).closed ≡ false → outward (with_refused frame p) ≡ refusing_frame frame (outward p)
+refused-last frame p standing = go (last-change (refusing_frame frame) (no_outward p.tuple) (no_outward p.tuple) p.connections)
   where
-    go : (p.connections ≡ []) ⊎ (last_of (no_outward p.tuple) (change_last (refusing_end frame) p.connections) ≡ refusing_end frame (outward p))
-        → last_of (no_outward p.tuple) (change_last (refusing_end frame) p.connections) ≡ refusing_end frame (outward p)
+    go : (p.connections ≡ []) ⊎ (last_of (no_outward p.tuple) (change_last (refusing_frame frame) p.connections) ≡ refusing_frame frame (outward p))
+        → last_of (no_outward p.tuple) (change_last (refusing_frame frame) p.connections) ≡ refusing_frame frame (outward p)
     go (inl empty) = absurd (both_ways (outward p).closed standing (ap (λ (cs : List Outward). (last_of (no_outward p.tuple) cs).closed) empty))
     go (inr is) = is
 
@@ -205,7 +171,7 @@ refused_frames_lose_the_connection frame starved p refusal unrefused is other = 
       ap (λ (h : PrimaryHistory). is_completed h a.write.number) after
       ∙ (ap (λ (journal : List Completion). list_any (λ entry. entry.write.number == a.write.number) journal) (follows-journal (closing (with_refused frame p)))
       ∙ completes-alone (closing (with_refused frame p)) n a at on_disk (closing-alone (with_refused frame p) a place (home
-      ∙ ap (λ k. let at : StreamPosition = record { index = k - 1; place = place } in Some at) (sym (length-change (refusing_end frame) p.connections)))));
+      ∙ ap (λ k. let at : StreamPosition = record { index = k - 1; place = place } in Some at) (sym (length-change (refusing_frame frame) p.connections)))));
 }
   where
     standing : (outward p).closed ≡ false

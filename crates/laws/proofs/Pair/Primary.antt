@@ -1,11 +1,10 @@
 -- The primary's steps keep its connections linked to the ends of the other node, whatever those are.
-use Rattle.std.proofs.Common.{ℕ, zero, suc, ◌≡◌, ◌-◌, ◌<◌, inl, inr, Bool, true, false, cond, not, ◌&&◌, ◌||◌, List, [], ◌∷◌, ◌++◌, length, take, map, Option}
-use Rattle.std.proofs.Common.{Some, None, is_none, slice_get, Result, Ok, Err, refl, sym, ◌∙◌, ap, subst, nat_le}
+use Rattle.std.proofs.Common.{ℕ, zero, suc, ◌≡◌, ◌-◌, ◌<◌, inl, inr, Bool, true, false, cond, not, ◌||◌, List, [], ◌∷◌, ◌++◌, length, take, map, Option}
+use Rattle.std.proofs.Common.{Some, None, slice_get, Result, Ok, Err, refl, sym, ◌∙◌, ap, subst}
 use Rattle.std.specs.Prelude.{option_map, unwrap_or}
-use Rattle.std.proofs.lemmas.Bool.{leb-false}
 use Rattle.std.proofs.lemmas.Option.{slice_get-map}
 use Rattle.blocks.specs.declared.refusal.Refusal.{Refusal}
-use Rattle.blocks.specs.declared.refusal.Refusal.TheVariants.{NoMemory, LinkFull, NotConnected, NothingThere, NothingToDo, ReadFault, UnknownJob}
+use Rattle.blocks.specs.declared.refusal.Refusal.TheVariants.{NotConnected, NothingToDo, ReadFault, UnknownJob}
 use Rattle.blocks.specs.declared.refusal.Refusal.TheVariants.{UsedIdentifier}
 use Rattle.blocks.specs.declared.outcome.Decision.{Decision}
 use Rattle.blocks.specs.declared.outcome.Decision.TheVariants.{NoSync, BitmapSync, FullSync}
@@ -19,7 +18,6 @@ use Rattle.model.specs.Stream.{Item, WriteItem, ResyncItem, SyncUuidItem, IsBegi
 use Rattle.model.specs.Frames.{Packet, ProtocolFrame, UuidsFrame, SizesFrame, RecvAckFrame, WriteAckFrame, RsWriteAckFrame, BarrierAckFrame, Received}
 use Rattle.model.specs.Identifiers.{decision, stands_in}
 use Rattle.model.specs.Marks.{marking, clearing, releasing}
-use Rattle.model.specs.Refusals.{Test}
 use Rattle.model.specs.Primary.{Accepted, Waiting, OnDisk, Failed, last_index, PrimaryHistory, Outward, no_outward, outward, last_of, change_last, with_outward}
 use Rattle.model.specs.Primary.{stands, frames_due, local_map, free_block}
 use Rattle.model.specs.PrimarySteps.{follows, appending, succeeding, submission, submit_tests, submitted, submit, is_unfinished, with_outcome, local_done}
@@ -29,12 +27,13 @@ use Rattle.model.specs.Acknowledgements.{Taken, begun_with, meeting, taking_hell
 use Rattle.model.specs.Secondary.{Inward, answers_due}
 use Rattle.laws.proofs.Lists.Beginnings.{begins-self}
 use Rattle.laws.proofs.Lists.Last.{last-at, last-change, change-none}
-use Rattle.laws.proofs.Primary.Moves.{with_frame, refusing, pushing, following-from, tested-keeps}
+use Rattle.laws.proofs.Primary.Moves.{with_frame, pushing, following-from, tested-keeps}
 use Rattle.laws.proofs.Primary.Homes.{HasHomes}
 use Rattle.laws.proofs.Pair.Links.{AreLinked, GoesOn, linked-on, linked-pushing, linked-taking}
 use Rattle.laws.proofs.Joining.Taking.{read}
 use Rattle.laws.proofs.Lists.Pairs.{Pairs, pairs-here}
-use Rattle.laws.proofs.Lists.Tests.{test-passed}
+use Rattle.laws.proofs.Rules.Memory.{may-send, ack-in-has}
+use Rattle.laws.proofs.Rules.RefusedFrames.{refusing, frame-has}
 
 -- The connections of a primary are linked to these ends.
 pub record HasEnds (here there : Settings) (ends : List Inward) (h : PrimaryHistory) : Type 0 where
@@ -228,11 +227,7 @@ module _ (here there : Settings) (ends : List Inward) (none : Inward) where
   pub ends-send : (room starved : Bool) (h : PrimaryHistory) → HasEnds here there ends h → HasEnds here there ends (send room starved h).1
   ends-send room starved h e = tested-keeps (HasEnds here there ends) h (send_tests h room starved) (λ _. succeeding (sending h) (with_outward pushing h)) e
       (λ passed.
-      let rest : List Test = (starved, NoMemory) ∷ (not room, LinkFull) ∷ [] in
-      let nothing : Bool = nat_le (length (frames_due h.settings (outward h))) (outward h).pushed in
-      let one = test-passed (outward h).closed NotConnected ((nothing, NothingThere) ∷ rest) passed in
-      let two = test-passed nothing NothingThere rest one.1 in
-      let due = leb-false (length (frames_due h.settings (outward h))) (outward h).pushed two.0 in
+      let due = (may-send h room starved passed).owes in
       ends-following (with_outward pushing h) (ends-change h (with_outward pushing h) pushing e refl refl
       (linked-pushing here there (outward h) (last_of none ends)
       (subst (λ (s : Settings). (outward h).pushed < length (frames_due s (outward h))) e.settings due))))
@@ -271,7 +266,11 @@ module _ (here there : Settings) (ends : List Inward) (none : Inward) where
   ends-frame : (frame : Received) (h : PrimaryHistory) → HasHomes h → HasEnds here there ends h
       → slice_get (map read (take (last_of none ends).pushed (answers_due there (last_of none ends)))) (length (outward h).taken) ≡ Some frame
       → HasEnds here there ends (take_frame frame h).1
-  ends-frame frame h homes e next = go (taking frame h (with_outward (with_frame frame) h)) (so-taking frame h homes)
+  ends-frame frame h homes e next =
+      frame-has (λ r. HasEnds here there ends r.1) (TakesSo (with_outward (with_frame frame) h)) frame h (so-taking frame h homes)
+      (λ done so. ends-following done.1 (ends-on (with_outward (with_frame frame) h) done.1 so.0 taken so.2 so.3 so.1))
+      (λ error so. ends-following (closing (with_outward refusing error.1))
+      (ends-closing (with_outward refusing error.1) (refused error.1 (record { settings = so.0 ∙ taken.settings; pairs = rw so.1 taken.pairs }))))
     where
       taken : HasEnds here there ends (with_outward (with_frame frame) h)
       taken = ends-change h (with_outward (with_frame frame) h) (with_frame frame) e refl refl
@@ -281,27 +280,10 @@ module _ (here there : Settings) (ends : List Inward) (none : Inward) where
       refused f e' = ends-on f (with_outward refusing f) refusing e' refl refl
           (record { hello = refl; stream = begins-self (outward f).stream; pushed = refl; taken = refl })
 
-      go : (v : Taken) → TakesSo (with_outward (with_frame frame) h) v → HasEnds here there ends (elim v as (λ _. Reply × PrimaryHistory) [
-        | Ok done ↦ succeeding done.0 done.1
-        | Err error ↦ (reply.Refused error.0, (follows (closing (with_outward refusing error.1))).history)
-      ]).1
-      go (Ok done) so = ends-following done.1 (ends-on (with_outward (with_frame frame) h) done.1 so.0 taken so.2 so.3 so.1)
-      go (Err error) so =
-          ends-following (closing (with_outward refusing error.1))
-          (ends-closing (with_outward refusing error.1) (refused error.1 (record { settings = so.0 ∙ taken.settings; pairs = rw so.1 taken.pairs })))
-
   -- the next frame that the other end pushed is taken, if there is one
   pub ends-ack-in : (frame : Option Received) (starved : Bool) (h : PrimaryHistory) → HasHomes h → HasEnds here there ends h
       → frame ≡ option_map read (slice_get (take (last_of none ends).pushed (answers_due there (last_of none ends))) (length (outward h).taken))
       → HasEnds here there ends (ack_in frame starved h).1
-  ends-ack-in frame starved h homes e next =
-      let rest : List Test = (not (outward h).begun && starved, NoMemory) ∷ (is_none frame, NothingThere) ∷ [] in
-      tested-keeps (HasEnds here there ends) h (((outward h).closed, NotConnected) ∷ rest)
-      (λ _. elim frame as (λ _. Reply × PrimaryHistory) [ None ↦ (reply.Refused NothingThere, h) | Some taken ↦ take_frame taken h ]) e
-      (λ passed. go frame refl)
-    where
-      go : (v : Option Received) → frame ≡ v
-          → HasEnds here there ends (elim v as (λ _. Reply × PrimaryHistory) [ None ↦ (reply.Refused NothingThere, h) | Some taken ↦ take_frame taken h ]).1
-      go None is = e
-      go (Some taken) is = ends-frame taken h homes e
-          (slice_get-map read (take (last_of none ends).pushed (answers_due there (last_of none ends))) (length (outward h).taken) ∙ (sym next ∙ is))
+  ends-ack-in frame starved h homes e next = ack-in-has (λ r. HasEnds here there ends r.1) frame starved h (λ refusal other. e)
+      (λ taken is standing. ends-frame taken h homes e
+      (slice_get-map read (take (last_of none ends).pushed (answers_due there (last_of none ends))) (length (outward h).taken) ∙ (sym next ∙ is)))

@@ -1,11 +1,11 @@
 -- A step of the pair that is refused leaves the history as it was, but where a frame is refused: then that end closes.
-use Rattle.std.proofs.Common.{ℕ, zero, suc, ◌≡◌, Bool, true, false, not, ◌&&◌, ◌||◌, nat_lt, nat_le, List, [], ◌∷◌, ◌++◌, length, Option, Some, None, Result}
-use Rattle.std.proofs.Common.{Ok, Err, is_none, slice_get, refl, ap, ◌⊎◌, inl, inr, sym, ◌∙◌}
+use Rattle.std.proofs.Common.{ℕ, zero, suc, ◌≡◌, Bool, true, false, not, ◌&&◌, ◌||◌, nat_lt, List, [], ◌∷◌, ◌++◌, length, Option, Some, None, Result}
+use Rattle.std.proofs.Common.{Ok, Err, slice_get, refl, ap, subst, ◌⊎◌, inl, inr, sym, ◌∙◌}
 use Rattle.std.specs.Prelude.{option_map, if◌then◌else◌, unwrap_or}
 use Rattle.std.proofs.lemmas.Bool.{both_ways}
 use Rattle.blocks.specs.declared.tuple.Tuple.{Tuple}
 use Rattle.blocks.specs.declared.refusal.Refusal.{Refusal}
-use Rattle.blocks.specs.declared.refusal.Refusal.TheVariants.{BadRange, NoMemory, NothingToDo, NotConnected, NothingThere, ReadFault, UnknownJob, PendingFull}
+use Rattle.blocks.specs.declared.refusal.Refusal.TheVariants.{BadRange, NothingToDo, NotConnected, ReadFault, UnknownJob}
 use Rattle.blocks.specs.declared.refusal.Refusal.TheVariants.{UsedIdentifier, NotDrained}
 use Rattle.blocks.specs.declared.outcome.Decision.{Decision}
 use Rattle.blocks.specs.declared.outcome.Done.{Done}
@@ -24,7 +24,7 @@ use Rattle.model.specs.PrimarySteps.{follows, appending, succeeding, open_primar
 use Rattle.model.specs.PrimarySteps.{accepted_at, faulted, local_fault, send_tests, sending, send, resync_tests, resync_next, resync_fault, closing}
 use Rattle.model.specs.PrimarySteps.{close_primary, open_tests, opened}
 use Rattle.model.specs.Acknowledgements.{Taken, begun_with, meeting, taking_hello, taking_ack, taking, take_frame, ack_in}
-use Rattle.model.specs.Secondary.{SecondaryHistory, Inward, inward, with_inward, items_taken, is_drained, pending, no_inward}
+use Rattle.model.specs.Secondary.{SecondaryHistory, Inward, inward, with_inward, items_taken, is_drained, no_inward}
 use Rattle.model.specs.SecondarySteps.{succeeding_secondary, Checked, checking_hello, checking_item, checking, take_item, receive, peer_tests, peer, peer_fault}
 use Rattle.model.specs.SecondarySteps.{applying, failing, answering_with, ack_out_tests, ack_out, open_secondary, close_secondary}
 use Rattle.model.specs.Pair.{Event, OpenEvent, SubmitEvent, LocalEvent, LocalFaultEvent, SendEvent, ReceiveEvent, PeerEvent, PeerFaultEvent, AckOutEvent}
@@ -35,10 +35,12 @@ use Rattle.laws.proofs.Rules.Decisions.{decision-has}
 use Rattle.laws.proofs.Rules.EpochEnds.{over-standing}
 use Rattle.laws.specs.Statements.{is_refused_frame, is_refused_by, is_closed_by, RefusedStepsChangeNothing, RefusedFramesClose}
 use Rattle.laws.proofs.Lists.Tests.{test-passed}
-use Rattle.laws.proofs.Primary.Moves.{with_frame, refusing, pushing, following-from}
-use Rattle.laws.proofs.Secondary.Moves.{framed, refused_end, pushed_one, closed_end}
+use Rattle.laws.proofs.Primary.Moves.{with_frame, pushing, following-from}
+use Rattle.laws.proofs.Secondary.Moves.{framed, pushed_one, closed_end}
 use Rattle.laws.proofs.Primary.StaysClosed.{open-stands}
 use Rattle.laws.proofs.Rules.ResyncEnds.{over-stands}
+use Rattle.laws.proofs.Rules.Memory.{ack-in-has, receive-has}
+use Rattle.laws.proofs.Rules.RefusedFrames.{refusing, refused_end, frame-has, item-has}
 
 -- a step that leaves what it was given, where it is refused
 abbrev IsSpared : {X : Type 0} → X → Reply × X → Type 0
@@ -71,30 +73,15 @@ IsSparedOrCloses {X} closed h done =
     (refusal : Refusal) → done.0 ≡ reply.Refused refusal
     → ((is_refused_frame refusal ≡ false) × (done.1 ≡ h)) ⊎ ((is_refused_frame refusal ≡ true) × (closed done.1 ≡ true))
 
--- no test is about a frame
-abbrev pub AreOthers : List Test → Type 0
-AreOthers [] = Unit {0}
-AreOthers (test ∷ tests) = (is_refused_frame test.1 ≡ false) × AreOthers tests
+-- one that is refused for no frame
+spared-mild : {X : Type 0} (closed : X → Bool) (h : X) (first : Refusal) → is_refused_frame first ≡ false → IsSparedOrCloses closed h (reply.Refused first, h)
+spared-mild closed h first mild refusal refused = let same : first ≡ refusal = cc in inl (ap is_refused_frame (sym same) ∙ mild, refl)
 
--- nor then is the first that holds
-pub first-other : (tests : List Test) (refusal : Refusal) → AreOthers tests → first_refusal tests ≡ Some refusal → is_refused_frame refusal ≡ false
-first-other [] refusal others is = absurd (cc)
-first-other ((true, first) ∷ tests) refusal others is = let same : first ≡ refusal = cc in ap is_refused_frame (sym same) ∙ others.0
-first-other ((false, first) ∷ tests) refusal others is = first-other tests refusal others.1 is
-
--- one by tests, none of them about a frame
-closes-tests : {X : Type 0} (closed : X → Bool) (tests : List Test) (h : X) (done : Unit {0} → Reply × X) → AreOthers tests
-    → IsSparedOrCloses closed h (done tt)
-    → IsSparedOrCloses closed h (elim (first_refusal tests) as (λ _. Reply × X) [ Some refusal ↦ (reply.Refused refusal, h) | None ↦ done tt ])
-closes-tests {X} closed tests h done others taken = go (first_refusal tests) refl
-  where
-    go : (v : Option Refusal) → first_refusal tests ≡ v
-        → IsSparedOrCloses closed h (elim v as (λ _. Reply × X) [ Some refusal ↦ (reply.Refused refusal, h) | None ↦ done tt ])
-    go (Some first) is = λ refusal refused. let same : first ≡ refusal = cc in inl (
-      first-other tests refusal others (is ∙ ap (λ (r : Refusal). Some r) same),
-      refl,
-    )
-    go None is = taken
+-- what holds of each packet that was read
+of-packet : (P : Received → Type 0) (v : Option Packet) → ((packet : Packet) → P (Ok packet)) → (taken : Received)
+    → option_map {U = Received} (λ packet. Ok packet) v ≡ Some taken → P taken
+of-packet P None each taken is = absurd (cc)
+of-packet P (Some packet) each taken is = subst P (let same : Ok packet ≡ taken = cc in same) (each packet)
 
 -- The last of the connections, once it is closed.
 last-closed : {X : Type 0} (closed : X → Bool) (f : X → X) → ((x : X) → closed (f x) ≡ true) → (none : X) → closed none ≡ true → (xs : List X)
@@ -341,77 +328,35 @@ spared-close h = spared-tests (((outward h).closed, NotConnected) ∷ []) h
 
 -- a frame that the primary takes
 closes-frame : (packet : Packet) (h : PrimaryHistory) → IsSparedOrCloses (λ (p : PrimaryHistory). (outward p).closed) h (take_frame (Ok packet) h)
-closes-frame packet h = go (taking (Ok packet) h (with_outward (with_frame (Ok packet)) h)) (taking-other packet h (with_outward (with_frame (Ok packet)) h))
-  where
-    go : (v : Taken) → IsOtherTaken v → IsSparedOrCloses (λ (p : PrimaryHistory). (outward p).closed) h (elim v as (λ _. Reply × PrimaryHistory) [
-      | Ok done ↦ succeeding done.0 done.1
-      | Err error ↦ (reply.Refused error.0, (follows (closing (with_outward refusing error.1))).history)
-    ])
-    go (Ok done) other refusal refused = absurd (cc)
-    go (Err error) other refusal refused = let same : error.0 ≡ refusal = cc in inr (
-      ap is_refused_frame (sym same)
-          ∙ other,
-      refused-closed (with_outward refusing error.1),
-    )
-
--- the next one of the link, if there is one
-closes-answer : (h : PrimaryHistory) (v : Option Packet)
-    → IsSparedOrCloses (λ (p : PrimaryHistory). (outward p).closed) h
-    (elim (option_map {U = Received} (λ packet. Ok packet) v) as
-    (λ _. Reply × PrimaryHistory) [ None ↦ (reply.Refused NothingThere, h) | Some taken ↦ take_frame taken h ])
-closes-answer h None = λ refusal refused. let same : NothingThere ≡ refusal = cc in inl (ap is_refused_frame (sym same), refl)
-closes-answer h (Some packet) = closes-frame packet h
+closes-frame packet h = frame-has (IsSparedOrCloses (λ (p : PrimaryHistory). (outward p).closed) h) IsOtherTaken (Ok packet) h
+    (taking-other packet h (with_outward (with_frame (Ok packet)) h)) (λ done other refusal refused. absurd (cc))
+    (λ error other refusal refused. let same : error.0 ≡ refusal = cc in
+    inr (ap is_refused_frame (sym same) ∙ other, refused-closed (with_outward refusing error.1)))
 
 -- the primary takes what the link has for it
 closes-ack-in : (starved : Bool) (h : PairHistory)
     → IsSparedOrCloses (λ (p : PrimaryHistory). (outward p).closed) h.primary (ack_in (next_answer h) starved h.primary)
-closes-ack-in starved h =
-    let p : PrimaryHistory = h.primary in
-    closes-tests (λ (p : PrimaryHistory). (outward p).closed)
-    (((outward p).closed, NotConnected) ∷ (not (outward p).begun && starved, NoMemory) ∷ (is_none (next_answer h), NothingThere) ∷ []) p
-    (λ _. elim (next_answer h) as (λ _. Reply × PrimaryHistory) [ None ↦ (reply.Refused NothingThere, p) | Some taken ↦ take_frame taken p ]) (
-      refl,
-      (refl, (refl, tt)),
-    ) (closes-answer p (slice_get (pushed_answers h) (length (outward p).taken)))
+closes-ack-in starved h = ack-in-has (IsSparedOrCloses (λ (p : PrimaryHistory). (outward p).closed) h.primary) (next_answer h) starved h.primary
+    (spared-mild (λ (p : PrimaryHistory). (outward p).closed) h.primary)
+    (λ taken is standing. of-packet (λ frame. IsSparedOrCloses (λ (p : PrimaryHistory). (outward p).closed) h.primary (take_frame frame h.primary))
+    (slice_get (pushed_answers h) (length (outward h.primary).taken)) (λ packet. closes-frame packet h.primary) taken is)
 
 -- Steps of the secondary.
 
 -- a frame that the secondary takes
 closes-item : (packet : Packet) (h : SecondaryHistory) → IsSparedOrCloses (λ (s : SecondaryHistory). (inward s).closed) h (take_item (Ok packet) h)
-closes-item packet h = go (checking (Ok packet) (inward h) (with_inward (framed (Ok packet)) h))
-    (checking-other packet (inward h) (with_inward (framed (Ok packet)) h))
-  where
-    go : (v : Checked) → IsOtherChecked v → IsSparedOrCloses (λ (s : SecondaryHistory). (inward s).closed) h (elim v as (λ _. Reply × SecondaryHistory) [
-      | Ok done ↦ succeeding_secondary done.0 done.1
-      | Err refusal ↦ (reply.Refused refusal, with_inward refused_end (with_inward (framed (Ok packet)) h))
-    ])
-    go (Ok done) other refusal refused = absurd (cc)
-    go (Err error) other refusal refused = let same : error ≡ refusal = cc in inr (
-      ap is_refused_frame (sym same)
-          ∙ other,
-      refused-closed-too (with_inward (framed (Ok packet)) h),
-    )
-
--- the next one of the link, if there is one
-closes-next : (h : SecondaryHistory) (v : Option Packet)
-    → IsSparedOrCloses (λ (s : SecondaryHistory). (inward s).closed) h
-    (elim (option_map {U = Received} (λ packet. Ok packet) v) as
-    (λ _. Reply × SecondaryHistory) [ None ↦ (reply.Refused NothingThere, h) | Some taken ↦ take_item taken h ])
-closes-next h None = λ refusal refused. let same : NothingThere ≡ refusal = cc in inl (ap is_refused_frame (sym same), refl)
-closes-next h (Some packet) = closes-item packet h
+closes-item packet h = item-has (IsSparedOrCloses (λ (s : SecondaryHistory). (inward s).closed) h) IsOtherChecked (Ok packet) h
+    (checking-other packet (inward h) (with_inward (framed (Ok packet)) h)) (λ done other refusal refused. absurd (cc))
+    (λ error other refusal refused. let same : error ≡ refusal = cc in
+    inr (ap is_refused_frame (sym same) ∙ other, refused-closed-too (with_inward (framed (Ok packet)) h)))
 
 -- the secondary takes what the link has for it
 closes-receive : (starved : Bool) (h : PairHistory)
     → IsSparedOrCloses (λ (s : SecondaryHistory). (inward s).closed) h.secondary (receive (next_frame h) starved h.secondary)
-closes-receive starved h =
-    let s : SecondaryHistory = h.secondary in
-    closes-tests (λ (s : SecondaryHistory). (inward s).closed)
-    (((inward s).closed, NotConnected) ∷ (nat_le s.settings.pending (length (pending (inward s))), PendingFull) ∷ (starved, NoMemory) ∷
-    (is_none (next_frame h), NothingThere) ∷ []) s
-    (λ _. elim (next_frame h) as (λ _. Reply × SecondaryHistory) [ None ↦ (reply.Refused NothingThere, s) | Some taken ↦ take_item taken s ]) (
-      refl,
-      (refl, (refl, (refl, tt))),
-    ) (closes-next s (slice_get (pushed_frames h) (length (inward s).taken)))
+closes-receive starved h = receive-has (IsSparedOrCloses (λ (s : SecondaryHistory). (inward s).closed) h.secondary) (next_frame h) starved h.secondary
+    (spared-mild (λ (s : SecondaryHistory). (inward s).closed) h.secondary)
+    (λ taken is standing. of-packet (λ frame. IsSparedOrCloses (λ (s : SecondaryHistory). (inward s).closed) h.secondary (take_item frame h.secondary))
+    (slice_get (pushed_frames h) (length (inward h.secondary).taken)) (λ packet. closes-item packet h.secondary) taken is)
 
 -- the secondary's disk does an item
 spared-peer : (place : ℕ) (h : SecondaryHistory) → IsSpared h (peer place h)

@@ -1,6 +1,6 @@
 -- An end that refuses a frame has all effects of a close: its step leaves what the close leaves once the frame counts as taken.
-use Rattle.std.proofs.Common.{◌+◌, ◌-◌, ◌⊎◌, drop, take, filter, arith, ℕ, zero, suc, ◌≡◌, Bool, true, false, not, ◌&&◌, ◌||◌, List, [], ◌∷◌, ◌++◌, length}
-use Rattle.std.proofs.Common.{Option, Some, None, Result, Ok, Err, refl, ap, inl, inr, sym, ◌∙◌, nat_le}
+use Rattle.std.proofs.Common.{◌+◌, ◌-◌, ◌⊎◌, drop, take, filter, arith, ℕ, zero, suc, ◌≡◌, Bool, true, false, ◌||◌, List, [], ◌∷◌, ◌++◌, length}
+use Rattle.std.proofs.Common.{Option, Some, None, Result, Ok, Err, refl, ap, inl, inr, sym, ◌∙◌}
 use Rattle.std.specs.Prelude.{filter_map}
 use Rattle.std.proofs.Math.Seq.{take-append_seam}
 use Rattle.std.proofs.lemmas.List.{length-append}
@@ -12,7 +12,7 @@ use Rattle.std.specs.Prelude.{if◌then◌else◌}
 use Rattle.std.proofs.lemmas.Bool.{both_ways}
 use Rattle.blocks.specs.declared.tuple.Tuple.{Tuple}
 use Rattle.blocks.specs.declared.refusal.Refusal.{Refusal}
-use Rattle.blocks.specs.declared.refusal.Refusal.TheVariants.{NoMemory, NotConnected, NothingThere, PendingFull, UsedIdentifier}
+use Rattle.blocks.specs.declared.refusal.Refusal.TheVariants.{NotConnected, UsedIdentifier}
 use Rattle.blocks.specs.declared.outcome.Decision.{Decision}
 use Rattle.blocks.specs.declared.outcome.What.{What}
 use Rattle.blocks.specs.declared.outcome.What.TheVariants as what
@@ -20,20 +20,21 @@ use Rattle.blocks.specs.declared.outcome.Reply.{Reply}
 use Rattle.blocks.specs.declared.outcome.Reply.TheVariants as reply
 use Rattle.model.specs.Frames.{Packet, DataFrame, RsDataReplyFrame, BarrierFrame, ProtocolFrame, UuidsFrame, SizesFrame, SyncUuidFrame, RecvAckFrame}
 use Rattle.model.specs.Frames.{WriteAckFrame, RsWriteAckFrame, BarrierAckFrame, Received}
-use Rattle.model.specs.Refusals.{Test, first_refusal, done_with}
+use Rattle.model.specs.Refusals.{first_refusal, done_with}
 use Rattle.model.specs.Identifiers.{stands_in, decision}
 use Rattle.model.specs.Primary.{PrimaryHistory, Outward, outward, with_outward, no_outward, last_of, change_last}
-use Rattle.model.specs.PrimarySteps.{follows, succeeding, closing, close_primary}
+use Rattle.model.specs.PrimarySteps.{follows, closing, close_primary}
 use Rattle.model.specs.Acknowledgements.{Taken, begun_with, meeting, taking_hello, taking_ack, taking, take_frame, ack_in}
 use Rattle.model.specs.Secondary.{SecondaryHistory, Inward, inward, with_inward, pending, no_inward}
-use Rattle.model.specs.SecondarySteps.{succeeding_secondary, Checked, checking, take_item, receive, close_secondary}
+use Rattle.model.specs.SecondarySteps.{take_item, receive, close_secondary}
 use Rattle.laws.specs.Statements.{is_refused_frame, seen_after, with_refused, with_refused_too, RefusedFramesCloseThePrimary, RefusedFramesCloseTheSecondary}
 use Rattle.laws.specs.Statements.{RefusedFramesLeaveTheItems}
 use Rattle.laws.proofs.Lists.Last.{change-twice, last-change}
-use Rattle.laws.proofs.Lists.Tests.{test-passed}
-use Rattle.laws.proofs.Primary.Moves.{with_frame, refusing}
-use Rattle.laws.proofs.Secondary.Moves.{framed, refused_end, closed_end}
-use Rattle.laws.proofs.Pair.Refused.{first-other}
+use Rattle.laws.proofs.Primary.Moves.{with_frame}
+use Rattle.laws.proofs.Secondary.Moves.{framed, closed_end}
+use Rattle.std.proofs.Common.{subst}
+use Rattle.laws.proofs.Rules.Memory.{ack-in-has, receive-has}
+use Rattle.laws.proofs.Rules.RefusedFrames.{refusing, refusing_frame, refusing-last, refusing_too, refused_end, refused-last-too, frame-has, item-has}
 
 -- What a refused frame leaves of the primary's history, beside the frame.
 
@@ -139,10 +140,6 @@ taking-left (Ok packet) before h = go (outward before).begun
     go true = ack-left packet before h
     go false = hello-left (length (outward before).taken) packet h
 
--- a secondary's end with a frame taken and refused
-abbrev refusing_too : Received → Inward → Inward
-refusing_too frame c = record c { taken = c.taken ++ frame ∷ []; refused = true }
-
 -- Closes of an open end.
 
 -- a primary's, past its test
@@ -176,7 +173,7 @@ close-open-too h standing = go (inward h).closed standing
 
 -- a refused frame leaves the primary's end open until the close
 pub refused-open : (frame : Received) (p : PrimaryHistory) → (outward p).closed ≡ false → (outward (with_refused frame p)).closed ≡ false
-refused-open frame p standing = elim (last-change (λ (c : Outward). refusing (with_frame frame c)) (no_outward p.tuple) (no_outward p.tuple) p.connections) [
+refused-open frame p standing = elim (last-change (λ (c : Outward). refusing_frame frame c) (no_outward p.tuple) (no_outward p.tuple) p.connections) [
   | inl empty ↦ absurd (both_ways (outward p).closed standing (ap (λ (cs : List Outward). (last_of (no_outward p.tuple) cs).closed) empty))
   | inr last ↦ ap (λ (c : Outward). c.closed) last ∙ standing
 ]
@@ -193,97 +190,54 @@ refused-open-too frame s standing = elim (last-change (refusing_too frame) (no_i
 -- a frame that an open primary takes, and refuses
 frame-closes : (frame : Received) (p : PrimaryHistory) (refusal : Refusal) → (outward p).closed ≡ false → (take_frame frame p).0 ≡ reply.Refused refusal
     → (take_frame frame p).1 ≡ (close_primary (with_refused frame p)).1
-frame-closes frame p refusal standing = go (taking frame p (with_outward (with_frame frame) p)) (taking-left frame p (with_outward (with_frame frame) p))
+frame-closes frame p refusal standing =
+    frame-has (λ r. r.0 ≡ reply.Refused refusal → r.1 ≡ (close_primary (with_refused frame p)).1)
+    (IsLeft (with_outward (with_frame frame) p) (seen_by frame p p)) frame p (taking-left frame p (with_outward (with_frame frame) p))
+    (λ done left refused. absurd (cc)) (λ error left refused.
+    ap (λ (h : PrimaryHistory). (follows (closing h)).history) (same error.1 left) ∙ sym (close-open (with_refused frame p) (refused-open frame p standing)))
   where
     -- what the step closes is the history with the frame taken and refused
     same : (h : PrimaryHistory) → h ≡ record (with_outward (with_frame frame) p) { peer = seen_by frame p p } → with_outward refusing h ≡ with_refused frame p
     same h is =
         ap (λ (g : PrimaryHistory). with_outward refusing g) is
-        ∙ ap (λ (cs : List Outward). record p { peer = seen_by frame p p; connections = cs }) (change-twice (with_frame frame) refusing p.connections)
-
-    go : (v : Taken) → IsLeft (with_outward (with_frame frame) p) (seen_by frame p p) v
-        → (elim v as (λ _. Reply × PrimaryHistory) [
-          | Ok done ↦ succeeding done.0 done.1
-          | Err error ↦ (
-            reply.Refused error.0,
-            (follows (closing (with_outward refusing error.1))).history,
-          )
-        ]).0 ≡ reply.Refused refusal
-        → (elim v as (λ _. Reply × PrimaryHistory) [
-          | Ok done ↦ succeeding done.0 done.1
-          | Err error ↦ (
-            reply.Refused error.0,
-            (follows (closing (with_outward refusing error.1))).history,
-          )
-        ]).1 ≡ (close_primary (with_refused frame p)).1
-    go (Ok done) left refused = absurd (cc)
-    go (Err error) left refused =
-        ap (λ (h : PrimaryHistory). (follows (closing h)).history) (same error.1 left) ∙ sym (close-open (with_refused frame p) (refused-open frame p standing))
+        ∙ ap (λ (cs : List Outward). record p { peer = seen_by frame p p; connections = cs }) (refusing-last frame p.connections)
 
 -- one that an open secondary takes, and refuses
 frame-closes-too : (frame : Received) (s : SecondaryHistory) (refusal : Refusal) → (inward s).closed ≡ false → (take_item frame s).0 ≡ reply.Refused refusal
     → (take_item frame s).1 ≡ (close_secondary (with_refused_too frame s)).1
-frame-closes-too frame s refusal standing = go (checking frame (inward s) (with_inward (framed frame) s))
+frame-closes-too frame s refusal standing =
+    item-has (λ r. r.0 ≡ reply.Refused refusal → r.1 ≡ (close_secondary (with_refused_too frame s)).1) (λ v. Unit {0}) frame s tt
+    (λ done any refused. absurd (cc)) (λ error any refused. ap (λ (cs : List Inward). record s { connections = cs }) same
+    ∙ sym (close-open-too (with_refused_too frame s) (refused-open-too frame s standing)))
   where
     -- both closes change the last end alike
     same : change_last refused_end (change_last (framed frame) s.connections) ≡ change_last closed_end (with_refused_too frame s).connections
-    same = change-twice (framed frame) refused_end s.connections ∙ sym (change-twice (refusing_too frame) closed_end s.connections)
+    same = refused-last-too frame s ∙ sym (change-twice (refusing_too frame) closed_end s.connections)
 
-    go : (v : Checked)
-        → (elim v as (λ _. Reply × SecondaryHistory) [
-          | Ok done ↦ succeeding_secondary done.0 done.1
-          | Err error ↦ (
-            reply.Refused error,
-            with_inward refused_end (with_inward (framed frame) s),
-          )
-        ]).0 ≡ reply.Refused refusal
-        → (elim v as (λ _. Reply × SecondaryHistory) [
-          | Ok done ↦ succeeding_secondary done.0 done.1
-          | Err error ↦ (
-            reply.Refused error,
-            with_inward refused_end (with_inward (framed frame) s),
-          )
-        ]).1 ≡ (close_secondary (with_refused_too frame s)).1
-    go (Ok done) refused = absurd (cc)
-    go (Err error) refused = ap (λ (cs : List Inward). record s { connections = cs }) same
-        ∙ sym (close-open-too (with_refused_too frame s) (refused-open-too frame s standing))
+-- there is one frame to take
+only : (frame taken : Received) → Some frame ≡ Some taken → frame ≡ taken
+only frame taken same = cc
+
+-- what is about no frame is another refusal
+not-first : (first refusal : Refusal) → is_refused_frame first ≡ false → is_refused_frame refusal ≡ true → reply.Refused first ≡ reply.Refused refusal → ⊥
+not-first first refusal mild other is =
+    let same : first ≡ refusal = cc in both_ways (is_refused_frame refusal) (ap is_refused_frame (sym same) ∙ mild) other
 
 -- A primary that refuses a frame has all effects of a close.
 pub refused_frames_close_the_primary : RefusedFramesCloseThePrimary
-refused_frames_close_the_primary frame starved p refusal is other = go (first_refusal tests) refl is
-  where
-    tests : List Test
-    tests = ((outward p).closed, NotConnected) ∷ (not (outward p).begun && starved, NoMemory) ∷ (false, NothingThere) ∷ []
-
-    go : (v : Option Refusal) → first_refusal tests ≡ v
-        → (elim v as (λ _. Reply × PrimaryHistory) [ Some refusal ↦ (reply.Refused refusal, p) | None ↦ take_frame frame p ]).0 ≡ reply.Refused refusal
-        → (elim v as (λ _. Reply × PrimaryHistory) [ Some refusal ↦ (reply.Refused refusal, p) | None ↦ take_frame frame p ]).1 ≡
-        (close_primary (with_refused frame p)).1
-    go (Some first) found refused =
-        let same : first ≡ refusal = cc in
-        absurd (both_ways (is_refused_frame refusal) (first-other tests refusal (refl, (refl, (refl, tt))) (found ∙ ap (λ (r : Refusal). Some r) same)) other)
-    go None found refused = frame-closes frame p refusal
-        (test-passed (outward p).closed NotConnected ((not (outward p).begun && starved, NoMemory) ∷ (false, NothingThere) ∷ []) found).0 refused
+refused_frames_close_the_primary frame starved p refusal is other =
+    ack-in-has (λ r. r.0 ≡ reply.Refused refusal → r.1 ≡ (close_primary (with_refused frame p)).1) (Some frame) starved p
+    (λ first mild refused. absurd (not-first first refusal mild other refused))
+    (λ taken same standing. subst (λ (f : Received). (take_frame f p).0 ≡ reply.Refused refusal → (take_frame f p).1 ≡ (close_primary (with_refused frame p)).1)
+    (only frame taken same) (frame-closes frame p refusal standing)) is
 
 -- A secondary that refuses a frame has all effects of a close.
 pub refused_frames_close_the_secondary : RefusedFramesCloseTheSecondary
-refused_frames_close_the_secondary frame starved s refusal is other = go (first_refusal tests) refl is
-  where
-    later : List Test
-    later = (nat_le s.settings.pending (length (pending (inward s))), PendingFull) ∷ (starved, NoMemory) ∷ (false, NothingThere) ∷ []
-
-    tests : List Test
-    tests = ((inward s).closed, NotConnected) ∷ later
-
-    go : (v : Option Refusal) → first_refusal tests ≡ v
-        → (elim v as (λ _. Reply × SecondaryHistory) [ Some refusal ↦ (reply.Refused refusal, s) | None ↦ take_item frame s ]).0 ≡ reply.Refused refusal
-        → (elim v as (λ _. Reply × SecondaryHistory) [ Some refusal ↦ (reply.Refused refusal, s) | None ↦ take_item frame s ]).1 ≡
-        (close_secondary (with_refused_too frame s)).1
-    go (Some first) found refused =
-        let same : first ≡ refusal = cc in
-        absurd (both_ways (is_refused_frame refusal) (first-other tests refusal (refl, (refl, (refl, (refl, tt)))) (found ∙ ap (λ (r : Refusal). Some r) same))
-        other)
-    go None found refused = frame-closes-too frame s refusal (test-passed (inward s).closed NotConnected later found).0 refused
+refused_frames_close_the_secondary frame starved s refusal is other =
+    receive-has (λ r. r.0 ≡ reply.Refused refusal → r.1 ≡ (close_secondary (with_refused_too frame s)).1) (Some frame) starved s
+    (λ first mild refused. absurd (not-first first refusal mild other refused))
+    (λ taken same standing. subst (λ (f : Received). (take_item f s).0 ≡ reply.Refused refusal → (take_item f s).1 ≡ (close_secondary
+    (with_refused_too frame s)).1) (only frame taken same) (frame-closes-too frame s refusal standing)) is
 
 -- Items.
 
@@ -302,28 +256,16 @@ items-stay frame c unrefused = ap (λ (taken : List Received). filter_map receiv
 -- a secondary that refuses a frame was open
 was-open : (frame : Received) (starved : Bool) (s : SecondaryHistory) (refusal : Refusal) → (receive (Some frame) starved s).0 ≡ reply.Refused refusal
     → is_refused_frame refusal ≡ true → (inward s).closed ≡ false
-was-open frame starved s refusal is other = go (inward s).closed is
-  where
-    later : List Test
-    later = (nat_le s.settings.pending (length (pending (inward s))), PendingFull) ∷ (starved, NoMemory) ∷ (false, NothingThere) ∷ []
-
-    go : (closed : Bool) → (elim (first_refusal ((closed, NotConnected) ∷ later)) as
-        (λ _. Reply × SecondaryHistory) [ Some refusal ↦ (reply.Refused refusal, s) | None ↦ take_item frame s ]).0 ≡ reply.Refused refusal → closed ≡ false
-    go true refused = let same : NotConnected ≡ refusal = cc in absurd (both_ways (is_refused_frame refusal) (ap is_refused_frame (sym same)) other)
-    go false refused = refl
+was-open frame starved s refusal is other = receive-has (λ r. r.0 ≡ reply.Refused refusal → (inward s).closed ≡ false) (Some frame) starved s
+    (λ first mild refused. absurd (not-first first refusal mild other refused))
+    (λ taken same standing refused. standing) is
 
 -- nor was a primary closed that refuses one
 pub had-open : (frame : Received) (starved : Bool) (p : PrimaryHistory) (refusal : Refusal) → (ack_in (Some frame) starved p).0 ≡ reply.Refused refusal
     → is_refused_frame refusal ≡ true → (outward p).closed ≡ false
-had-open frame starved p refusal is other = go (outward p).closed is
-  where
-    later : List Test
-    later = (not (outward p).begun && starved, NoMemory) ∷ (false, NothingThere) ∷ []
-
-    go : (closed : Bool) → (elim (first_refusal ((closed, NotConnected) ∷ later)) as
-        (λ _. Reply × PrimaryHistory) [ Some refusal ↦ (reply.Refused refusal, p) | None ↦ take_frame frame p ]).0 ≡ reply.Refused refusal → closed ≡ false
-    go true refused = let same : NotConnected ≡ refusal = cc in absurd (both_ways (is_refused_frame refusal) (ap is_refused_frame (sym same)) other)
-    go false refused = refl
+had-open frame starved p refusal is other = ack-in-has (λ r. r.0 ≡ reply.Refused refusal → (outward p).closed ≡ false) (Some frame) starved p
+    (λ first mild refused. absurd (not-first first refusal mild other refused))
+    (λ taken same standing refused. standing) is
 
 -- its end after the step
 refused-end : (frame : Received) (s : SecondaryHistory) → (inward s).closed ≡ false

@@ -11,11 +11,12 @@ use Rattle.model.specs.Secondary.{Inward, SecondaryHistory, no_inward, inward, w
 use Rattle.model.specs.SecondarySteps.{answering, barrier_answer, barriers_to_answer, receive, peer, peer_fault, ack_out, close_secondary, offsets_at}
 use Rattle.model.specs.SecondarySteps.{applied_answer, applying, failing, adopting}
 use Rattle.laws.proofs.Lists.Beginnings.{begins-self}
-use Rattle.laws.proofs.Secondary.Moves.{framed, receipting, refused_end, pushed_one, closed_end, after-receive, after-peer, after-fault, after-push}
+use Rattle.laws.proofs.Secondary.Moves.{framed, receipting, pushed_one, closed_end, after-receive, after-peer, after-fault, after-push}
 use Rattle.laws.proofs.Secondary.Moves.{after-close}
 use Rattle.laws.proofs.Pair.Links.{AreLinked, GoesOnToo, linked-on-too, linked-pushing-too, linked-taking-too}
 use Rattle.laws.proofs.Joining.Taking.{read}
 use Rattle.laws.proofs.Lists.Pairs.{Pairs, pairs-there}
+use Rattle.laws.proofs.Rules.RefusedFrames.{refused_end}
 
 -- The connections of a secondary are linked to these ends.
 pub record HasEndsToo (here there : Settings) (ends : List Outward) (h : SecondaryHistory) : Type 0 where

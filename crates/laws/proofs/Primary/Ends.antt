@@ -12,6 +12,7 @@ use Rattle.model.specs.Primary.{Outward, PrimaryHistory, outward, stands, accept
 use Rattle.laws.proofs.Lists.Beginnings.{begins-self}
 use Rattle.laws.proofs.Primary.Moves.{with_frame, pushing}
 use Rattle.laws.proofs.Primary.Homes.{HasHomes, KeepsConnection}
+use Rattle.laws.proofs.Rules.RefusedFrames.{refused_out}
 
 -- no write stands in an empty list
 pub no-more : (n : ℕ) (write : Write) → slice_get [] n ≡ Some (WriteItem write) → ⊥
@@ -40,7 +41,7 @@ frames-taking c frame plain = (frame ∷ [], ap (λ (l : List Received). l ++ fr
 
 -- a frame that is refused is accepted by nobody
 pub frames-refusing : (c : Outward) (frame : Received) → c.refused ≡ false
-    → accepted_frames (record c { taken = c.taken ++ frame ∷ []; refused = true; closed = true }) ≡ accepted_frames c
+    → accepted_frames (refused_out frame c) ≡ accepted_frames c
 frames-refusing c frame plain =
     let size : length (c.taken ++ frame ∷ []) - 1 ≡ length c.taken = let long = length-append c.taken (frame ∷ []) in omega arith in
     ap (λ n. take n (c.taken ++ frame ∷ [])) size ∙ (take-append_seam c.taken (frame ∷ []) ∙ sym (accepted-all c plain))
@@ -85,7 +86,7 @@ keeps-taking h frame homes standing k at = record {
 
 -- so does one that refuses a frame, and closes
 pub keeps-refusing : (h : PrimaryHistory) (frame : Received) → HasHomes h → (outward h).closed ≡ false → (k : ℕ) → slice_get h.connections k ≡ Some (outward h)
-    → KeepsConnection (outward h) (record (outward h) { taken = (outward h).taken ++ frame ∷ []; refused = true; closed = true })
+    → KeepsConnection (outward h) (refused_out frame (outward h))
 keeps-refusing h frame homes standing k at =
     let same = frames-refusing (outward h) frame (not-refused h homes standing k at) in
     record {

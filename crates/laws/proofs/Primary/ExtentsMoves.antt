@@ -1,8 +1,8 @@
 -- The active extents of a primary are never more than its slots.
-use Rattle.std.proofs.Common.{ℕ, ◌≡◌, ◌≤◌, ◌<◌, ◌⊎◌, inl, inr, Bool, true, false, not, ◌||◌, List, [], ◌∷◌, ◌++◌, length, map, Option, Some, None, slice_get}
+use Rattle.std.proofs.Common.{ℕ, ◌≡◌, ◌≤◌, ◌<◌, ◌⊎◌, inl, inr, Bool, true, false, not, List, [], ◌∷◌, ◌++◌, length, map, Option, Some, None, slice_get}
 use Rattle.std.proofs.Common.{Ok, refl, sym, ◌∙◌, ap, subst, arith, ◌==◌}
 use Rattle.std.specs.Prelude.{if◌then◌else◌, option_map, unwrap_or}
-use Rattle.std.proofs.lemmas.Bool.{both_ways, not-true, and_parts, and_from, or_cases, or_left, or_right, false_from_ne_true}
+use Rattle.std.proofs.lemmas.Bool.{both_ways, not-true, false_from_ne_true}
 use Rattle.std.proofs.lemmas.Option.{slice_get-map, slice_get_within}
 use Rattle.blocks.specs.Positions.{StreamPosition}
 use Rattle.blocks.specs.declared.settings.Settings.{Settings}
@@ -24,13 +24,15 @@ use Rattle.laws.proofs.Rules.ActiveExtents.{has, has-extent, extents-bound, more
 use Rattle.laws.proofs.Lists.Beginnings.{begins-self, any-grows}
 use Rattle.laws.proofs.Lists.Last.{get-change, change-twice}
 use Rattle.laws.proofs.Streams.Places.{epoch-grows}
-use Rattle.laws.proofs.Primary.Moves.{following-from, IsKeptByMoves, IsKeptByReleases, kept-by-releases, MaySubmit, keeps-run, with_frame, refusing, pushing}
-use Rattle.laws.proofs.Primary.Homes.{HasHomes, alone-at, confirmed-at}
+use Rattle.laws.proofs.Primary.Moves.{following-from, IsKeptByMoves, IsKeptByReleases, kept-by-releases, MaySubmit, keeps-run, with_frame, pushing}
+use Rattle.laws.proofs.Primary.Homes.{alone-homeless, HasHomes, alone-at, confirmed-at}
 use Rattle.laws.proofs.Primary.HomesMoves.{homes-kept, homes-marks, homes-opening}
 use Rattle.laws.proofs.Lists.Elements.{get-left, get-more}
 use Rattle.laws.proofs.Lists.Picks.{filtered-pick, pick-filtered}
 use Rattle.laws.proofs.Primary.Ends.{not-refused, frames-taking}
 use Rattle.laws.proofs.Primary.HomesFollowing.{homes-completions, homes-ending, homes-parting}
+use Rattle.laws.proofs.Rules.RefusedFrames.{refused_out, refused-last}
+use Rattle.laws.proofs.Rules.Releases.{is_freed, freed-cases, freed-confirmed, freed-alone, released-parts, released-by}
 
 -- A later state of a connection, at which what was released stays so: a closed end stays closed, and what is confirmed
 -- stays confirmed, or the end is closed.
@@ -68,25 +70,16 @@ LaterWrites ws vs = (i : ℕ) (b : Accepted) → slice_get vs i ≡ Some b
 later-self : (ws : List Accepted) → LaterWrites ws ws
 later-self ws i b at = (b, at, refl, refl, λ done. done)
 
--- a write without a home is alone
-alone-without : (h : PrimaryHistory) (a : Accepted) → a.home ≡ None → is_alone h a ≡ true
-alone-without h a is = ap (λ (v : Option StreamPosition). elim v as (λ _. Bool) [
-  | None ↦ true
-  | Some at ↦ elim (slice_get h.connections at.index) as (λ _. Bool) [ None ↦ true | Some x ↦ x.closed ]
-]) is
-
 -- a write that was released is so later
 released-later : (h later : PrimaryHistory) (i : ℕ) (a b : Accepted) → HasHomes h → AllKeep h.connections later.connections → slice_get h.writes i ≡ Some a
     → b.home ≡ a.home
     → (is_waiting a.outcome ≡ false → is_waiting b.outcome ≡ false)
     → is_released h a ≡ true → is_released later b ≡ true
 released-later h later i a b homes keep at same done released =
-    let parts = and_parts (not (is_waiting a.outcome)) (is_confirmed h a || is_alone h a) released in
-    and_from (not (is_waiting b.outcome)) (is_confirmed later b || is_alone later b) (ap not (done (not-true (is_waiting a.outcome) parts.0)))
-    (go a.home refl parts.1)
+    let parts = released-parts h a released in released-by later b (done parts.done) (go a.home refl parts.freed)
   where
-    go : (v : Option StreamPosition) → a.home ≡ v → (is_confirmed h a || is_alone h a) ≡ true → (is_confirmed later b || is_alone later b) ≡ true
-    go None is was = or_right (is_confirmed later b) (is_alone later b) (alone-without later b (same ∙ is))
+    go : (v : Option StreamPosition) → a.home ≡ v → is_freed h a ≡ true → is_freed later b ≡ true
+    go None is was = freed-alone later b (alone-homeless later b (same ∙ is))
     go (Some home) is was =
         let housed = homes.housed i home.index home.place a at is in
         let c : Outward = housed.0 in
@@ -94,13 +87,13 @@ released-later h later i a b homes keep at same done released =
         let d : Outward = now.0 in
         let confirmed : is_confirmed later b ≡ barrier_acknowledged d (epoch_of d.stream home.place) = confirmed-at later b home d (same ∙ is) now.1 in
         let alone : is_alone later b ≡ d.closed = alone-at later b home d (same ∙ is) now.1 in
-        elim (or_cases (is_confirmed h a) (is_alone h a) was) [
+        elim (freed-cases h a was) [
           | inl before ↦ elim (now.2.confirmed home.place (slice_get_within c.stream home.place (WriteItem a.write) housed.2)
               (sym (confirmed-at h a home c is housed.1) ∙ before)) [
-                | inl still ↦ or_left (is_confirmed later b) (is_alone later b) (confirmed ∙ still)
-                | inr closed ↦ or_right (is_confirmed later b) (is_alone later b) (alone ∙ closed)
+                | inl still ↦ freed-confirmed later b (confirmed ∙ still)
+                | inr closed ↦ freed-alone later b (alone ∙ closed)
               ]
-          | inr before ↦ or_right (is_confirmed later b) (is_alone later b) (alone ∙ now.2.closed (sym (alone-at h a home c is housed.1) ∙ before))
+          | inr before ↦ freed-alone later b (alone ∙ now.2.closed (sym (alone-at h a home c is housed.1) ∙ before))
         ]
 
 -- the extent of a write that is unreleased later, and was there before, was active before
@@ -348,9 +341,8 @@ few-kept settings = record {
   );
   refuses = λ h frame peer standing p. (
     homes-kept.refuses h frame peer standing p.0,
-    few-change settings h _ (λ c. record c { taken = c.taken ++ frame ∷ []; refused = true; closed = true }) refl
-        (ap (change_last (λ (c : Outward). record c { closed = true })) (change-twice (with_frame frame) refusing h.connections)
-        ∙ change-twice (λ c. refusing (with_frame frame c)) (λ c. record c { closed = true }) h.connections) refl
+    few-change settings h _ (refused_out frame) refl
+        (refused-last frame peer h) refl
         (λ k at. keeps-closed (outward h) _ refl) p.0 p.1,
   );
   resyncs = λ h block runs alone is p. (

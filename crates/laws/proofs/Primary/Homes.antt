@@ -1,20 +1,19 @@
 -- Where the accepted writes stand, and what the journal of completions says: kept by every step of a primary.
-use Rattle.std.proofs.Common.{ℕ, suc, ◌≡◌, ◌-◌, ◌≤◌, ◌⊎◌, inl, inr, Bool, true, false, ◌||◌, List, [], ◌++◌, length, Some, slice_get, refl, sym, ◌∙◌, ap, subst}
+use Rattle.std.proofs.Common.{ℕ, suc, ◌≡◌, ◌-◌, ◌≤◌, ◌⊎◌, inl, inr, Bool, true, false, List, [], ◌++◌, length, Some, slice_get, refl, sym, ◌∙◌, ap, subst}
 use Rattle.std.proofs.Common.{arith, Option, None, ◌==◌}
-use Rattle.std.proofs.lemmas.Bool.{both_ways, ltb-true, lt-ltb}
+use Rattle.std.proofs.lemmas.Bool.{both_ways}
 use Rattle.blocks.specs.declared.settings.Protocol.{Protocol}
-use Rattle.blocks.specs.declared.settings.Protocol.TheVariants as protocol
 use Rattle.model.specs.Contents.{Write}
 use Rattle.model.specs.Stream.{Item, WriteItem, IsBeginning, epoch_of}
-use Rattle.model.specs.Frames.{naming}
-use Rattle.model.specs.Primary.{Accepted, Linked, Completion, Outward, PrimaryHistory, no_outward, last_of, outward, change_last, accepted_frames, is_recv_ack}
-use Rattle.model.specs.Primary.{is_write_ack, is_answered_by, is_alone, is_confirmed, barrier_acknowledged, LocalOutcome}
-use Rattle.laws.proofs.Lists.Beginnings.{begins-self, any-grows}
+use Rattle.model.specs.Primary.{Accepted, Linked, Completion, Outward, PrimaryHistory, no_outward, last_of, outward, change_last, accepted_frames}
+use Rattle.model.specs.Primary.{is_answered_by, is_alone, is_confirmed, barrier_acknowledged, LocalOutcome}
+use Rattle.laws.proofs.Lists.Beginnings.{begins-self}
 use Rattle.laws.proofs.Lists.Last.{get-change, get-change-back, last-at}
 use Rattle.laws.proofs.Lists.Elements.{get-left, get-split}
 use Rattle.std.specs.Prelude.{if◌then◌else◌}
 use Rattle.blocks.specs.Positions.{StreamPosition}
 use Rattle.model.specs.PrimarySteps.{set_outcome}
+use Rattle.laws.proofs.Rules.Answered.{answered-more}
 
 -- A later state of a connection: its stream, what was pushed and what was accepted have only grown.
 pub record Grows (c d : Outward) : Type 0 where
@@ -33,9 +32,7 @@ AllGrow cs ds = (k : ℕ) (c : Outward) → slice_get cs k ≡ Some c → (d : O
 -- what was answered stays so
 pub answered-grows : (asked : Protocol) (c d : Outward) (place : ℕ) (item : Item) → Grows c d → is_answered_by asked c place item ≡ true
     → is_answered_by asked d place item ≡ true
-answered-grows protocol.A c d place item g h = let sent = ltb-true place (c.pushed - 3) h in let more = g.pushed in lt-ltb place (d.pushed - 3) (omega arith)
-answered-grows protocol.B c d place item g h = any-grows (is_recv_ack (naming place item)) (accepted_frames c) (accepted_frames d) g.frames h
-answered-grows protocol.C c d place item g h = any-grows (is_write_ack (naming place item)) (accepted_frames c) (accepted_frames d) g.frames h
+answered-grows asked c d place item g h = answered-more asked c d place item g.pushed g.frames h
 
 -- an entry that was completed over the link: its write stands at its home, and is answered there
 pub record IsLinked (asked : Protocol) (connections : List Outward) (entry : Completion) : Type 0 where
@@ -188,12 +185,6 @@ confirmed-at h a home c is at =
 pub alone-homeless : (h : PrimaryHistory) (a : Accepted) → a.home ≡ None → is_alone h a ≡ true
 alone-homeless h a is = ap (λ (v : Option StreamPosition). elim v as
     (λ _. Bool) [ None ↦ true | Some home ↦ elim (slice_get h.connections home.index) as (λ _. Bool) [ None ↦ true | Some c ↦ c.closed ] ]) is
-
--- a release wants one of the two
-pub told-at : (h : PrimaryHistory) (a : Accepted) (home : StreamPosition) (c : Outward) → a.home ≡ Some home → slice_get h.connections home.index ≡ Some c
-    → (is_confirmed h a || is_alone h a) ≡ (barrier_acknowledged c (epoch_of c.stream home.place) || c.closed)
-told-at h a home c is at = ap (λ b. b || is_alone h a) (confirmed-at h a home c is at)
-    ∙ ap (λ b. barrier_acknowledged c (epoch_of c.stream home.place) || b) (alone-at h a home c is at)
 
 -- the outcome of a write changes neither the write nor its home
 pub outcome-write : (number : ℕ) (outcome : LocalOutcome) (a : Accepted) → (set_outcome number outcome a).write ≡ a.write

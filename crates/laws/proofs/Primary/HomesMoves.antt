@@ -19,12 +19,13 @@ use Rattle.model.specs.PrimarySteps.{appending, opened, submission, submitted, s
 use Rattle.model.specs.Acknowledgements.{begun_with}
 use Rattle.laws.proofs.Lists.Beginnings.{begins-self}
 use Rattle.laws.proofs.Lists.Last.{get-change, get-change-back, change-twice, change-none, get-last-changed}
-use Rattle.laws.proofs.Primary.Moves.{IsKeptByMoves, IsKeptByReleases, kept-by-releases, with_frame, refusing, pushing}
+use Rattle.laws.proofs.Primary.Moves.{IsKeptByMoves, IsKeptByReleases, kept-by-releases, with_frame, pushing}
 use Rattle.laws.proofs.Primary.Homes.{HasHomes, AllGrow, Grows, grows-self, linked-grows, KeepsConnection, SameWrites, same-writes, open-at, homes-change}
 use Rattle.laws.proofs.Primary.Homes.{outcome-write, outcome-home}
 use Rattle.laws.proofs.Lists.Elements.{get-left, get-more, get-end}
 use Rattle.laws.proofs.Primary.Ends.{no-more, stands-parts, not-refused, frames-taking, keeps-self, keeps-pushing, keeps-taking, keeps-refusing, keeps-closing}
 use Rattle.laws.proofs.Primary.HomesFollowing.{homes-appending, homes-following}
+use Rattle.laws.proofs.Rules.RefusedFrames.{refused_out, refused_by, refused-last}
 
 -- Effects.
 
@@ -325,10 +326,9 @@ homes-kept = record {
       λ h ack standing begun may homes. homes-with h (record (with_outward (with_frame (Ok (RsWriteAckFrame ack))) h) { marks = clearing ack.first h.marks })
       (with_frame (Ok (RsWriteAckFrame ack))) homes refl refl refl refl (keeps-taking h (Ok (RsWriteAckFrame ack)) homes standing);
   confirms = λ h number size standing begun turn homes. homes-with h _ (with_frame _) homes refl refl refl refl (keeps-taking h _ homes standing);
-  refuses = λ h frame peer standing homes. homes-with h (closing (with_outward refusing (record (with_outward (with_frame frame) h) { peer = peer })))
-      (λ c. record c { taken = c.taken ++ frame ∷ []; refused = true; closed = true }) homes refl
-      (ap (change_last (λ (c : Outward). record c { closed = true })) (change-twice (with_frame frame) refusing h.connections)
-      ∙ change-twice (λ c. refusing (with_frame frame c)) (λ c. record c { closed = true }) h.connections) refl refl
+  refuses = λ h frame peer standing homes. homes-with h (closing (refused_by frame peer h))
+      (refused_out frame) homes refl
+      (refused-last frame peer h) refl refl
       (keeps-refusing h frame homes standing);
   resyncs = λ h block runs alone is homes. homes-appending h _ (λ write e. cc)
       (stands-parts (outward h) (and_parts (stands (outward h)) (in_resync (outward h).stream) runs).0).1 homes;

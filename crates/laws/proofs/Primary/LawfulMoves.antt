@@ -22,7 +22,7 @@ use Rattle.model.specs.LocalRuns.{PrimaryEvent, primary_run}
 use Rattle.laws.proofs.Lists.Last.{get-change-back, change-twice, last-change}
 use Rattle.laws.proofs.Rules.EpochEnds.{most_writes, TakesWrites, takes-writes, HasRoom, goes-on, over-standing, not-over, empty-on}
 use Rattle.laws.proofs.Streams.Places.{barriers-append}
-use Rattle.laws.proofs.Primary.Moves.{following-from, IsKeptByMoves, IsKeptByReleases, kept-by-releases, MaySubmit, keeps-run, with_frame, refusing, pushing}
+use Rattle.laws.proofs.Primary.Moves.{following-from, IsKeptByMoves, IsKeptByReleases, kept-by-releases, MaySubmit, keeps-run, with_frame, pushing}
 use Rattle.laws.proofs.Primary.Homes.{HasHomes}
 use Rattle.laws.proofs.Primary.HomesMoves.{homes-kept, homes-marks, homes-opening}
 use Rattle.laws.proofs.Primary.StaysClosed.{open-stands}
@@ -30,6 +30,7 @@ use Rattle.laws.proofs.Rules.ResyncEnds.{over-stands}
 use Rattle.laws.proofs.Streams.Lawful.{MayFollow, lawful-append, lawful-empty, meets-none, size-grow, barrier-empties}
 use Rattle.laws.proofs.Primary.LastEpoch.{unsettled-more, write-follows, resync-follows}
 use Rattle.laws.proofs.Lists.Elements.{get-more}
+use Rattle.laws.proofs.Rules.RefusedFrames.{refused_out, refused-last}
 
 -- all streams are lawful
 pub record HasLawfulStreams (settings : Settings) (h : PrimaryHistory) : Type 0 where
@@ -288,9 +289,8 @@ lawful-kept settings bound = record {
   );
   refuses = λ h frame peer standing p. (
     homes-kept.refuses h frame peer standing p.0,
-    lawful-change settings h _ (λ c. record c { taken = c.taken ++ frame ∷ []; refused = true; closed = true }) refl
-        (ap (change_last (λ (c : Outward). record c { closed = true })) (change-twice (with_frame frame) refusing h.connections)
-        ∙ change-twice (λ c. refusing (with_frame frame c)) (λ c. record c { closed = true }) h.connections) (λ k at lawful. lawful) p.1.streams,
+    lawful-change settings h _ (refused_out frame) refl
+        (refused-last frame peer h) (λ k at lawful. lawful) p.1.streams,
   );
   resyncs = λ h block runs alone is p. (
     homes-kept.resyncs h block runs alone is p.0,

@@ -19,11 +19,12 @@ use Rattle.model.specs.LocalRuns.{PrimaryEvent, primary_run}
 use Rattle.laws.proofs.Lists.Each.{Each, each-append, each-change}
 use Rattle.laws.proofs.Lists.Elements.{get-left, get-end}
 use Rattle.laws.proofs.Lists.Last.{change-twice}
-use Rattle.laws.proofs.Primary.Moves.{IsKeptByMoves, IsKeptByReleases, kept-by-releases, IsGreeting, following-from, keeps-run, with_frame, refusing, pushing}
+use Rattle.laws.proofs.Primary.Moves.{IsKeptByMoves, IsKeptByReleases, kept-by-releases, IsGreeting, following-from, keeps-run, with_frame, pushing}
 use Rattle.laws.proofs.Primary.Homes.{HasHomes, open-at}
 use Rattle.laws.proofs.Primary.HomesMoves.{homes-kept, homes-marks, homes-opening}
 use Rattle.laws.proofs.Primary.Ends.{not-refused}
 use Rattle.model.specs.Contents.{BlockMap}
+use Rattle.laws.proofs.Rules.RefusedFrames.{refused_out, refused-last}
 
 -- An end that has begun took the peer's size, which is its own; so did one that has refused nothing and took two frames.
 pub record HasMet (settings : Settings) (c : Outward) : Type 0 where
@@ -153,8 +154,8 @@ module _ (settings : Settings) where
           refl refl
 
   met-closing : (h later : PrimaryHistory) (frame : Received) → later.settings ≡ h.settings
-      → later.connections ≡ change_last (λ c. record c { taken = c.taken ++ frame ∷ []; refused = true; closed = true }) h.connections → Kept h → Kept later
-  met-closing h later frame same connections all = met-change h later (λ c. record c { taken = c.taken ++ frame ∷ []; refused = true; closed = true }) all same
+      → later.connections ≡ change_last (refused_out frame) h.connections → Kept h → Kept later
+  met-closing h later frame same connections all = met-change h later (refused_out frame) all same
       connections (λ m. record {
         sized = λ either long. elim either [
           | inl begun ↦ get-left (outward h).taken (frame ∷ []) 1 (Ok (SizesFrame settings.blocks)) (m.sized (inl begun) (m.late begun))
@@ -204,8 +205,7 @@ module _ (settings : Settings) where
     refuses = λ h frame peer standing p. (
       homes-kept.refuses h frame peer standing p.0,
       met-closing h _ frame refl
-          (ap (change_last (λ (c : Outward). record c { closed = true })) (change-twice (with_frame frame) refusing h.connections)
-          ∙ change-twice (λ c. refusing (with_frame frame c)) (λ c. record c { closed = true }) h.connections) p.1,
+          (refused-last frame peer h) p.1,
     );
     resyncs = λ h block runs alone is p. (
       homes-kept.resyncs h block runs alone is p.0,

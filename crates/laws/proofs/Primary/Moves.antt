@@ -1,11 +1,11 @@
 -- A primary's steps, taken apart: what has to be shown of a property so that every step keeps it.
-use Rattle.std.proofs.Common.{ℕ, zero, suc, ◌≡◌, ◌<◌, ◌⊎◌, inl, inr, Bool, true, false, cond, not, ◌&&◌, ◌||◌, List, [], ◌∷◌, ◌++◌, length, Option, Some, None}
-use Rattle.std.proofs.Common.{is_none, Result, Ok, Err, refl, sym, ◌∙◌, subst, ◌==◌, nat_lt, nat_le, ap, arith}
+use Rattle.std.proofs.Common.{ℕ, suc, ◌≡◌, ◌<◌, ◌⊎◌, inl, inr, Bool, true, false, cond, not, ◌&&◌, ◌||◌, List, [], ◌∷◌, ◌++◌, length, Option, Some, None}
+use Rattle.std.proofs.Common.{Result, Ok, Err, refl, sym, ◌∙◌, subst, ◌==◌, nat_lt, ap, arith}
 use Rattle.std.specs.Prelude.{is_some, unwrap_or}
-use Rattle.std.proofs.lemmas.Bool.{both_ways, not-true, not-false, or_parts, and_parts, leb-false, eqb-true}
+use Rattle.std.proofs.lemmas.Bool.{both_ways, not-true, not-false, or_parts, and_parts}
 use Rattle.blocks.specs.declared.refusal.Refusal.{Refusal}
-use Rattle.blocks.specs.declared.refusal.Refusal.TheVariants.{StreamFull, NoMemory, NothingToDo, LinkFull, NotConnected, NothingThere, ReadFault, UnknownJob}
-use Rattle.blocks.specs.declared.refusal.Refusal.TheVariants.{BadBarrierAck, UnknownAck, UsedIdentifier, OtherProtocol, OtherSize, NotDrained}
+use Rattle.blocks.specs.declared.refusal.Refusal.TheVariants.{NothingToDo, NotConnected, ReadFault, UnknownJob}
+use Rattle.blocks.specs.declared.refusal.Refusal.TheVariants.{BadBarrierAck, UnknownAck, UsedIdentifier}
 use Rattle.blocks.specs.declared.outcome.Decision.{Decision}
 use Rattle.blocks.specs.declared.outcome.What.{What}
 use Rattle.blocks.specs.declared.outcome.What.TheVariants as what
@@ -31,19 +31,18 @@ use Rattle.model.specs.Acknowledgements.{same_protocol, Taken, begun_with, meeti
 use Rattle.model.specs.Acknowledgements.{taking, take_frame, ack_in}
 use Rattle.model.specs.LocalRuns.{PrimaryEvent, Opens, Submits, WritesLocally, FailsLocally, Sends, Takes, Resyncs, FailsResync, Closes, Receipts}
 use Rattle.model.specs.LocalRuns.{primary_after, primary_run}
+use Rattle.laws.proofs.Rules.Hellos.{taking-is, hello-has}
 use Rattle.laws.proofs.Rules.Receipts.{receipt-has}
 use Rattle.laws.proofs.Rules.Submissions.{accepted-by-tests}
 use Rattle.laws.proofs.Lists.Last.{last-change}
 use Rattle.laws.proofs.Lists.Tests.{test-passed}
 use Rattle.blocks.specs.declared.settings.Protocol.{Protocol}
+use Rattle.laws.proofs.Rules.Memory.{may-open, may-send, may-copy-open, ack-in-has}
+use Rattle.laws.proofs.Rules.RefusedFrames.{refusing, refused_by, frame-has}
 
 -- a frame is taken
 abbrev pub with_frame : Received → Outward → Outward
 with_frame frame c = record c { taken = c.taken ++ frame ∷ [] }
-
--- an end that refused a frame
-abbrev pub refusing : Outward → Outward
-refusing c = record c { refused = true }
 
 -- an end that pushed a frame more
 abbrev pub pushing : Outward → Outward
@@ -96,7 +95,7 @@ pub record IsKeptByMoves (P Q : PrimaryHistory → Type 0) : Type 0 where
       → Q (with_outward (with_frame (Ok (BarrierAckFrame number size))) h)
   -- a protocol error: the frame is taken and refused, the peer's tuple may have been seen, and the end closes
   pub refuses : (h : PrimaryHistory) (frame : Received) (peer : Option Tuple) → (outward h).closed ≡ false → P h
-      → Q (closing (with_outward refusing (record (with_outward (with_frame frame) h) { peer = peer })))
+      → Q (closing (refused_by frame peer h))
   pub resyncs : (h : PrimaryHistory) (block : ℕ) → resync_runs (outward h) ≡ true → nat_lt 0 (length (under_way (outward h))) ≡ false
       → free_block h ≡ Some block → P h
       → Q (appending (ResyncItem block (unwrap_or (local_map h block) [])) h)
@@ -201,13 +200,7 @@ fine-if Q taken done false name refusal q = (taken.peer, refl)
 module _ (P Q : PrimaryHistory → Type 0) (K : IsKeptByMoves P Q) (R : IsKeptByReleases P Q) where
   keeps-open : (sync loss : ℕ) (starved : Bool) (h : PrimaryHistory) → P h → P (open_primary sync loss starved h).1
   keeps-open sync loss starved h p = tested-keeps P h (open_tests h sync loss starved) (λ _. succeeding what.Nothing (opened h sync loss)) p (λ none.
-      let first = test-passed (not (outward h).closed) NotDrained
-      ((not (are_fresh sync loss (known_tuples h)), UsedIdentifier) ∷ (nat_le 4294967295 (length h.connections), StreamFull) ∷ (starved, NoMemory) ∷ [])
-      none in
-      let second = test-passed (not (are_fresh sync loss (known_tuples h))) UsedIdentifier
-      ((nat_le 4294967295 (length h.connections), StreamFull) ∷ (starved, NoMemory) ∷ []) first.1 in
-      K.following (opened h sync loss)
-      (K.opens h sync loss (not-false (outward h).closed first.0) (not-false (are_fresh sync loss (known_tuples h)) second.0) p))
+      let may = may-open h sync loss starved none in K.following (opened h sync loss) (K.opens h sync loss may.closed may.fresh p))
 
   keeps-submit : (first : ℕ) (contents : List (List ℕ)) (starved : Bool) (h : PrimaryHistory) → P h → P (submit first contents starved h).1
   keeps-submit first contents starved h p =
@@ -230,13 +223,7 @@ module _ (P Q : PrimaryHistory → Type 0) (K : IsKeptByMoves P Q) (R : IsKeptBy
 
   keeps-send : (room starved : Bool) (h : PrimaryHistory) → P h → P (send room starved h).1
   keeps-send room starved h p = tested-keeps P h (send_tests h room starved) (λ _. succeeding (sending h) (with_outward pushing h)) p (λ none.
-      let one = test-passed (outward h).closed NotConnected ((nat_le (length (frames_due h.settings (outward h))) (outward h).pushed, NothingThere) ∷ (
-        starved,
-        NoMemory,
-      ) ∷ (not room, LinkFull) ∷ []) none in
-      let two = test-passed (nat_le (length (frames_due h.settings (outward h))) (outward h).pushed) NothingThere
-      ((starved, NoMemory) ∷ (not room, LinkFull) ∷ []) one.1 in
-      K.following (with_outward pushing h) (K.sends h one.0 (leb-false (length (frames_due h.settings (outward h))) (outward h).pushed two.0) p))
+      let may = may-send h room starved none in K.following (with_outward pushing h) (K.sends h may.stands may.owes p))
 
   keeps-close : (h : PrimaryHistory) → P h → P (close_primary h).1
   keeps-close h p = tested-keeps P h (((outward h).closed, NotConnected) ∷ [])
@@ -249,15 +236,8 @@ module _ (P Q : PrimaryHistory → Type 0) (K : IsKeptByMoves P Q) (R : IsKeptBy
     | Some block ↦ succeeding (what.Block (record { 0 = block }) (length (outward h).stream))
         (appending (ResyncItem block (unwrap_or (local_map h block) [])) h)
   ]) p (λ none.
-      let c : Outward = outward h in
-      let rest : List Test = (nat_le 4294967288 (length c.stream), StreamFull) ∷ (starved, NoMemory) ∷ [] in
-      let idle : Bool = is_none (free_block h) in
-      let busy : Bool = not (resync_runs c) || (nat_lt 0 (length (under_way c)) || idle) in
-      let one = test-passed c.closed NotConnected ((busy, NothingToDo) ∷ rest) none in
-      let two = test-passed busy NothingToDo rest one.1 in
-      let parts = or_parts (not (resync_runs c)) (nat_lt 0 (length (under_way c)) || idle) two.0 in
-      let more = or_parts (nat_lt 0 (length (under_way c))) idle parts.1 in
-      go (free_block h) refl (not-false (resync_runs c) parts.0) more.0)
+      let may = (may-copy-open h starved none).1 in
+      go (free_block h) refl may.runs may.alone)
     where
       go : (v : Option ℕ) → free_block h ≡ v → resync_runs (outward h) ≡ true → nat_lt 0 (length (under_way (outward h))) ≡ false
           → P (elim v as (λ _. Reply × PrimaryHistory) [
@@ -304,45 +284,16 @@ module _ (P Q : PrimaryHistory → Type 0) (K : IsKeptByMoves P Q) (R : IsKeptBy
 
   keeps-hello : (h : PrimaryHistory) → (outward h).closed ≡ false → (outward h).begun ≡ false → P h → (n : ℕ) (packet : Packet) → length (outward h).taken ≡ n
       → Fine Q (with_outward (with_frame (Ok packet)) h) (taking_hello n packet (with_outward (with_frame (Ok packet)) h))
-  keeps-hello h standing new p zero (DataFrame write at) is = (h.peer, refl)
-  keeps-hello h standing new p zero (RsDataReplyFrame block contents at) is = (h.peer, refl)
-  keeps-hello h standing new p zero (BarrierFrame number) is = (h.peer, refl)
-  keeps-hello h standing new p zero (ProtocolFrame asked) is =
-      fine-if Q (with_outward (with_frame (Ok (ProtocolFrame asked))) h) (with_outward (with_frame (Ok (ProtocolFrame asked))) h)
-      (same_protocol asked h.settings.protocol) (what.Frame command.Protocol None) OtherProtocol
-      (λ same. K.greets h (Ok (ProtocolFrame asked)) standing new (inl (is, (asked, refl, same))) p)
-  keeps-hello h standing new p zero (UuidsFrame tuple) is = (h.peer, refl)
-  keeps-hello h standing new p zero (SizesFrame blocks) is = (h.peer, refl)
-  keeps-hello h standing new p zero (SyncUuidFrame word) is = (h.peer, refl)
-  keeps-hello h standing new p zero (RecvAckFrame ack) is = (h.peer, refl)
-  keeps-hello h standing new p zero (WriteAckFrame ack) is = (h.peer, refl)
-  keeps-hello h standing new p zero (RsWriteAckFrame ack) is = (h.peer, refl)
-  keeps-hello h standing new p zero (BarrierAckFrame number size) is = (h.peer, refl)
-  keeps-hello h standing new p (suc zero) (DataFrame write at) is = (h.peer, refl)
-  keeps-hello h standing new p (suc zero) (RsDataReplyFrame block contents at) is = (h.peer, refl)
-  keeps-hello h standing new p (suc zero) (BarrierFrame number) is = (h.peer, refl)
-  keeps-hello h standing new p (suc zero) (ProtocolFrame asked) is = (h.peer, refl)
-  keeps-hello h standing new p (suc zero) (UuidsFrame tuple) is = (h.peer, refl)
-  keeps-hello h standing new p (suc zero) (SizesFrame blocks) is =
-      fine-if Q (with_outward (with_frame (Ok (SizesFrame blocks))) h) (with_outward (with_frame (Ok (SizesFrame blocks))) h) (blocks == h.settings.blocks)
-      (what.Frame command.Sizes None) OtherSize
-      (λ same. K.greets h (Ok (SizesFrame blocks)) standing new (inr (is, ap (λ (b : ℕ). Ok (SizesFrame b)) (eqb-true blocks h.settings.blocks same))) p)
-  keeps-hello h standing new p (suc zero) (SyncUuidFrame word) is = (h.peer, refl)
-  keeps-hello h standing new p (suc zero) (RecvAckFrame ack) is = (h.peer, refl)
-  keeps-hello h standing new p (suc zero) (WriteAckFrame ack) is = (h.peer, refl)
-  keeps-hello h standing new p (suc zero) (RsWriteAckFrame ack) is = (h.peer, refl)
-  keeps-hello h standing new p (suc zero) (BarrierAckFrame number size) is = (h.peer, refl)
-  keeps-hello h standing new p (suc (suc n)) (DataFrame write at) is = (h.peer, refl)
-  keeps-hello h standing new p (suc (suc n)) (RsDataReplyFrame block contents at) is = (h.peer, refl)
-  keeps-hello h standing new p (suc (suc n)) (BarrierFrame number) is = (h.peer, refl)
-  keeps-hello h standing new p (suc (suc n)) (ProtocolFrame asked) is = (h.peer, refl)
-  keeps-hello h standing new p (suc (suc n)) (UuidsFrame tuple) is = keeps-meeting h standing new (omega arith) p tuple
-  keeps-hello h standing new p (suc (suc n)) (SizesFrame blocks) is = (h.peer, refl)
-  keeps-hello h standing new p (suc (suc n)) (SyncUuidFrame word) is = (h.peer, refl)
-  keeps-hello h standing new p (suc (suc n)) (RecvAckFrame ack) is = (h.peer, refl)
-  keeps-hello h standing new p (suc (suc n)) (WriteAckFrame ack) is = (h.peer, refl)
-  keeps-hello h standing new p (suc (suc n)) (RsWriteAckFrame ack) is = (h.peer, refl)
-  keeps-hello h standing new p (suc (suc n)) (BarrierAckFrame number size) is = (h.peer, refl)
+  keeps-hello h standing new p n packet is = subst (Fine Q taken) (taking-is n packet taken)
+      (hello-has (Fine Q taken) (λ name. Ok (name, taken)) (λ refusal. Err (refusal, taken)) (λ peer. meeting peer taken) h.settings n packet
+      (λ asked none of same. K.greets h (Ok packet) standing new (inl (is ∙ none, (asked, ap Ok of, same))) p)
+      (λ one of. K.greets h (Ok packet) standing new (inr (is ∙ one, ap Ok of)) p)
+      (λ m peer late of.
+      subst (λ (x : Packet). Fine Q (with_outward (with_frame (Ok x)) h) (meeting peer (with_outward (with_frame (Ok x)) h))) (sym of)
+      (keeps-meeting h standing new (omega (arith, is, late)) p peer)) (h.peer, refl) (h.peer, refl) (h.peer, refl))
+    where
+      taken : PrimaryHistory
+      taken = with_outward (with_frame (Ok packet)) h
 
   keeps-ack : (h : PrimaryHistory) → (outward h).closed ≡ false → (outward h).begun ≡ true → P h → (packet : Packet)
       → Fine Q (with_outward (with_frame (Ok packet)) h) (taking_ack packet h (with_outward (with_frame (Ok packet)) h))
@@ -399,27 +350,13 @@ module _ (P Q : PrimaryHistory → Type 0) (K : IsKeptByMoves P Q) (R : IsKeptBy
       go false is = keeps-hello h standing is p (length (outward h).taken) packet refl
 
   keeps-frame : (h : PrimaryHistory) → (outward h).closed ≡ false → P h → (frame : Received) → P (take_frame frame h).1
-  keeps-frame h standing p frame = go (taking frame h (with_outward (with_frame frame) h)) (keeps-taking h standing p frame)
-    where
-      go : (v : Taken) → Fine Q (with_outward (with_frame frame) h) v → P (elim v as (λ _. Reply × PrimaryHistory) [
-        | Ok done ↦ succeeding done.0 done.1
-        | Err error ↦ (reply.Refused error.0, (follows (closing (with_outward refusing error.1))).history)
-      ]).1
-      go (Ok done) fine = K.following done.1 fine
-      go (Err error) fine = subst (λ (e : PrimaryHistory). P (follows (closing (with_outward refusing e))).history) (sym fine.1)
-          (K.following _ (K.refuses h frame fine.0 standing p))
+  keeps-frame h standing p frame =
+      frame-has (λ r. P r.1) (Fine Q (with_outward (with_frame frame) h)) frame h (keeps-taking h standing p frame) (λ done fine. K.following done.1 fine)
+      (λ error fine. subst (λ (e : PrimaryHistory). P (follows (closing (with_outward refusing e))).history) (sym fine.1)
+      (K.following _ (K.refuses h frame fine.0 standing p)))
 
   keeps-ack-in : (frame : Option Received) (starved : Bool) (h : PrimaryHistory) → P h → P (ack_in frame starved h).1
-  keeps-ack-in frame starved h p =
-      let rest : List Test = (not (outward h).begun && starved, NoMemory) ∷ (is_none frame, NothingThere) ∷ [] in
-      tested-keeps P h (((outward h).closed, NotConnected) ∷ rest)
-      (λ _. elim frame as (λ _. Reply × PrimaryHistory) [ None ↦ (reply.Refused NothingThere, h) | Some taken ↦ take_frame taken h ]) p
-      (λ none. go frame (test-passed (outward h).closed NotConnected rest none).0)
-    where
-      go : (v : Option Received) → (outward h).closed ≡ false
-          → P (elim v as (λ _. Reply × PrimaryHistory) [ None ↦ (reply.Refused NothingThere, h) | Some taken ↦ take_frame taken h ]).1
-      go None standing = p
-      go (Some taken) standing = keeps-frame h standing p taken
+  keeps-ack-in frame starved h p = ack-in-has (λ r. P r.1) frame starved h (λ refusal other. p) (λ taken is standing. keeps-frame h standing p taken)
 
   keeps-receipt : (number : ℕ) (h : PrimaryHistory) → P h → P (take_completed number h).1
   keeps-receipt number h p = receipt-has (λ r. P r.1) number h (λ refusal. p) (K.receipts h number p) (λ entry. K.receipts h number p)

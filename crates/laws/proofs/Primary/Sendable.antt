@@ -1,11 +1,11 @@
 -- Whatever frames a primary takes, its streams can be sent, and an open end has taken three frames once its stream has begun.
-use Rattle.std.proofs.Common.{ℕ, zero, suc, ◌≡◌, ◌+◌, ◌-◌, ◌≤◌, ◌<◌, Bool, true, false, cond, not, ◌&&◌, ◌||◌, List, [], ◌∷◌, ◌++◌, length, Option, Some, None}
-use Rattle.std.proofs.Common.{is_none, Result, Ok, Err, refl, sym, ◌∙◌, ap, subst, arith, nat_lt, nat_le, length-append}
+use Rattle.std.proofs.Common.{ℕ, zero, suc, ◌≡◌, ◌+◌, ◌-◌, ◌≤◌, ◌<◌, Bool, true, false, cond, not, ◌||◌, List, [], ◌∷◌, ◌++◌, length, Option, Some, None}
+use Rattle.std.proofs.Common.{Result, Ok, Err, refl, sym, ◌∙◌, ap, subst, arith, nat_lt, length-append}
 use Rattle.std.specs.Prelude.{unwrap_or}
-use Rattle.std.proofs.lemmas.Bool.{both_ways, and_parts, or_parts, not-false, leb-false, ltb-true, le-leb, eq-eqb, and_from}
+use Rattle.std.proofs.lemmas.Bool.{both_ways, and_parts, ltb-true, le-leb, eq-eqb, and_from}
 use Rattle.blocks.specs.declared.refusal.Refusal.{Refusal}
-use Rattle.blocks.specs.declared.refusal.Refusal.TheVariants.{StreamFull, NoMemory, NothingToDo, NotConnected, NothingThere, ReadFault, UnknownJob}
-use Rattle.blocks.specs.declared.refusal.Refusal.TheVariants.{UsedIdentifier, NotDrained}
+use Rattle.blocks.specs.declared.refusal.Refusal.TheVariants.{NothingToDo, NotConnected, ReadFault, UnknownJob}
+use Rattle.blocks.specs.declared.refusal.Refusal.TheVariants.{UsedIdentifier}
 use Rattle.blocks.specs.declared.outcome.Decision.{Decision}
 use Rattle.blocks.specs.declared.outcome.Decision.TheVariants.{NoSync, BitmapSync, FullSync}
 use Rattle.blocks.specs.declared.outcome.What.{What}
@@ -17,12 +17,11 @@ use Rattle.blocks.specs.declared.tuple.Tuple.{Tuple}
 use Rattle.model.specs.Contents.{BlockMap, is_range, extent_of}
 use Rattle.model.specs.Stream.{Item, WriteItem, ResyncItem, SyncUuidItem, within, last_epoch, items_of_epoch}
 use Rattle.model.specs.Frames.{Packet, ProtocolFrame, UuidsFrame, SizesFrame, RecvAckFrame, WriteAckFrame, RsWriteAckFrame, BarrierAckFrame, Received}
-use Rattle.model.specs.Identifiers.{are_fresh, decision, stands_in, sync_end}
+use Rattle.model.specs.Identifiers.{decision, stands_in, sync_end}
 use Rattle.model.specs.Marks.{marking, releasing}
-use Rattle.model.specs.Refusals.{Test}
 use Rattle.model.specs.Primary.{Accepted, Waiting, OnDisk, Failed, Outward, PrimaryHistory, primary_opening, no_outward, outward, last_index, change_last}
-use Rattle.model.specs.Primary.{with_outward, stands, local_map, in_resync, resync_runs, under_way, free_block}
-use Rattle.model.specs.PrimarySteps.{follows, appending, succeeding, epoch_is_over, known_tuples, open_tests, opened, open_primary, submission, submit_tests}
+use Rattle.model.specs.Primary.{with_outward, stands, local_map, in_resync, resync_runs, free_block}
+use Rattle.model.specs.PrimarySteps.{follows, appending, succeeding, epoch_is_over, open_tests, opened, open_primary, submission, submit_tests}
 use Rattle.model.specs.PrimarySteps.{submitted, submit, is_unfinished, with_outcome, local_done, accepted_at, faulted, local_fault, send_tests, sending, send}
 use Rattle.model.specs.PrimarySteps.{resync_tests, resync_next, resync_fault, closing, close_primary, take_completed}
 use Rattle.model.specs.Acknowledgements.{Taken, begun_with, meeting, taking_hello, taking_ack, taking, take_frame, ack_in}
@@ -36,10 +35,11 @@ use Rattle.laws.proofs.Rules.EpochEnds.{TakesWrites, over-work}
 use Rattle.laws.proofs.Lists.Each.{Each, each-append, each-change}
 use Rattle.laws.proofs.Lists.Last.{change-twice}
 use Rattle.laws.proofs.Lists.Picks.{any-pick}
-use Rattle.laws.proofs.Lists.Tests.{test-passed}
-use Rattle.laws.proofs.Primary.Moves.{with_frame, refusing, pushing, tested-keeps, following-from}
+use Rattle.laws.proofs.Primary.Moves.{with_frame, pushing, tested-keeps, following-from}
 use Rattle.laws.proofs.Primary.LawfulMoves.{last-changed}
 use Rattle.laws.proofs.Streams.Sendable.{IsSendable, is_work, is_busy, sendable-work, sendable-barrier, sendable-end, sendable-empty, sendable-start}
+use Rattle.laws.proofs.Rules.Memory.{may-open, may-copy-open, ack-in-has}
+use Rattle.laws.proofs.Rules.RefusedFrames.{refusing, refused_out, refused-last, frame-has}
 
 -- A connection whose stream can be sent and whose sync word is not zero; while it is open, its stream begins with the third
 -- frame that it takes.
@@ -92,11 +92,7 @@ module _ (settings : Settings) (bound : TakesWrites settings) where
   fit-open : (sync loss : ℕ) (starved : Bool) (h : PrimaryHistory) → HasFitEnds settings h → HasFitEnds settings (open_primary sync loss starved h).1
   fit-open sync loss starved h a = tested-keeps (HasFitEnds settings) h (open_tests h sync loss starved) (λ _. succeeding what.Nothing (opened h sync loss)) a
       (λ none.
-      let t3 : List Test = (nat_le 4294967295 (length h.connections), StreamFull) ∷ (starved, NoMemory) ∷ [] in
-      let t2 : List Test = (not (are_fresh sync loss (known_tuples h)), UsedIdentifier) ∷ t3 in
-      let one = test-passed (not (outward h).closed) NotDrained t2 none in
-      let two = test-passed (not (are_fresh sync loss (known_tuples h))) UsedIdentifier t3 one.1 in
-      let fresh = not-false (are_fresh sync loss (known_tuples h)) two.0 in
+      let fresh = (may-open h sync loss starved none).fresh in
       let sync_word = (and_parts _ _ (and_parts _ _ fresh).0).0 in
       let word = ltb-true 0 sync (and_parts (nat_lt 0 sync) _ sync_word).0 in
       fit-following (opened h sync loss) (record {
@@ -188,17 +184,8 @@ module _ (settings : Settings) (bound : TakesWrites settings) where
     | Some block ↦ succeeding (what.Block (record { 0 = block }) (length (outward h).stream))
         (appending (ResyncItem block (unwrap_or (local_map h block) [])) h)
   ]) a (λ none.
-      let c : Outward = outward h in
-      let t4 : List Test = (starved, NoMemory) ∷ [] in
-      let full : Bool = nat_le 4294967288 (length c.stream) in
-      let t3 : List Test = (full, StreamFull) ∷ t4 in
-      let idle : Bool = is_none (free_block h) in
-      let busy : Bool = not (resync_runs c) || (nat_lt 0 (length (under_way c)) || idle) in
-      let one = test-passed c.closed NotConnected ((busy, NothingToDo) ∷ t3) none in
-      let two = test-passed busy NothingToDo t3 one.1 in
-      let three = test-passed full StreamFull t4 two.1 in
-      let parts = or_parts (not (resync_runs c)) (nat_lt 0 (length (under_way c)) || idle) two.0 in
-      go (free_block h) refl (not-false (resync_runs c) parts.0) (leb-false 4294967288 (length c.stream) three.0))
+      let may = (may-copy-open h starved none).1 in
+      go (free_block h) refl may.runs may.places)
     where
       go : (v : Option ℕ) → free_block h ≡ v → resync_runs (outward h) ≡ true → length (outward h).stream < 4294967288
           → HasFitEnds settings (elim v as (λ _. Reply × PrimaryHistory) [
@@ -338,10 +325,9 @@ module _ (settings : Settings) (bound : TakesWrites settings) where
   fit-refuses : (h : PrimaryHistory) (frame : Received) (e : PrimaryHistory) → e.settings ≡ h.settings
       → e.connections ≡ change_last (with_frame frame) h.connections → HasFitEnds settings h
       → HasFitEnds settings (closing (with_outward refusing e))
-  fit-refuses h frame e same connections a = fit-change h _ (λ c. record c { taken = c.taken ++ frame ∷ []; refused = true; closed = true }) same
+  fit-refuses h frame e same connections a = fit-change h _ (refused_out frame) same
       (ap (λ (l : List Outward). change_last (λ (c : Outward). record c { closed = true }) (change_last refusing l)) connections
-      ∙ (ap (change_last (λ (c : Outward). record c { closed = true })) (change-twice (with_frame frame) refusing h.connections)
-      ∙ change-twice (λ c. refusing (with_frame frame c)) (λ c. record c { closed = true }) h.connections))
+      ∙ refused-last frame h.peer h)
       (λ f. record {
         stream = f.stream;
         fresh = f.fresh;
@@ -351,26 +337,13 @@ module _ (settings : Settings) (bound : TakesWrites settings) where
       }) a
 
   fit-frame : (h : PrimaryHistory) (frame : Received) → (outward h).closed ≡ false → HasFitEnds settings h → HasFitEnds settings (take_frame frame h).1
-  fit-frame h frame standing a = go (taking frame h (with_outward (with_frame frame) h)) (fit-taking h frame standing a)
-    where
-      go : (v : Taken) → FitTaken (with_outward (with_frame frame) h) v → HasFitEnds settings (elim v as (λ _. Reply × PrimaryHistory) [
-        | Ok done ↦ succeeding done.0 done.1
-        | Err error ↦ (reply.Refused error.0, (follows (closing (with_outward refusing error.1))).history)
-      ]).1
-      go (Ok done) fine = fit-following done.1 fine
-      go (Err error) fine = fit-following _ (fit-refuses h frame error.1 fine.0 fine.1 a)
+  fit-frame h frame standing a =
+      frame-has (λ r. HasFitEnds settings r.1) (FitTaken (with_outward (with_frame frame) h)) frame h (fit-taking h frame standing a)
+      (λ done fine. fit-following done.1 fine) (λ error fine. fit-following _ (fit-refuses h frame error.1 fine.0 fine.1 a))
 
   fit-ack-in : (frame : Option Received) (starved : Bool) (h : PrimaryHistory) → HasFitEnds settings h → HasFitEnds settings (ack_in frame starved h).1
   fit-ack-in frame starved h a =
-      let rest : List Test = (not (outward h).begun && starved, NoMemory) ∷ (is_none frame, NothingThere) ∷ [] in
-      tested-keeps (HasFitEnds settings) h (((outward h).closed, NotConnected) ∷ rest)
-      (λ _. elim frame as (λ _. Reply × PrimaryHistory) [ None ↦ (reply.Refused NothingThere, h) | Some taken ↦ take_frame taken h ]) a
-      (λ none. go frame (test-passed (outward h).closed NotConnected rest none).0)
-    where
-      go : (v : Option Received) → (outward h).closed ≡ false
-          → HasFitEnds settings (elim v as (λ _. Reply × PrimaryHistory) [ None ↦ (reply.Refused NothingThere, h) | Some taken ↦ take_frame taken h ]).1
-      go None standing = a
-      go (Some taken) standing = fit-frame h taken standing a
+      ack-in-has (λ r. HasFitEnds settings r.1) frame starved h (λ refusal other. a) (λ taken is standing. fit-frame h taken standing a)
 
   fit-receipt : (number : ℕ) (h : PrimaryHistory) → HasFitEnds settings h → HasFitEnds settings (take_completed number h).1
   fit-receipt number h a = receipt-has (λ r. HasFitEnds settings r.1) number h (λ refusal. a) (fit-same h _ refl refl a) (λ entry. fit-same h _ refl refl a)

@@ -1,5 +1,5 @@
 -- A closed end of the primary stays as it is, whatever the run and wherever it began.
-use Rattle.std.proofs.Common.{ℕ, ◌≡◌, inl, inr, Bool, true, false, not, List, ◌∷◌, [], length, Option, Some, None, slice_get, Ok, refl, sym, ◌∙◌, ap}
+use Rattle.std.proofs.Common.{ℕ, ◌≡◌, inl, inr, Bool, true, false, not, List, ◌∷◌, [], length, Option, Some, None, slice_get, Ok, refl, sym, ◌∙◌}
 use Rattle.std.proofs.Common.{subst, ◌++◌}
 use Rattle.std.proofs.lemmas.Bool.{both_ways, not-true, and_parts}
 use Rattle.blocks.specs.declared.tuple.Tuple.{Tuple}
@@ -17,8 +17,9 @@ use Rattle.model.specs.Headline.{StaysClosed}
 use Rattle.laws.proofs.Rules.ResyncEnds.{over-stands}
 use Rattle.laws.proofs.Rules.EpochEnds.{over-standing}
 use Rattle.laws.proofs.Lists.Last.{get-change, change-twice}
-use Rattle.laws.proofs.Primary.Moves.{following-from, IsKeptByMoves, IsKeptByReleases, kept-by-releases, keeps-run, with_frame, refusing, pushing}
+use Rattle.laws.proofs.Primary.Moves.{following-from, IsKeptByMoves, IsKeptByReleases, kept-by-releases, keeps-run, with_frame, pushing}
 use Rattle.laws.proofs.Lists.Elements.{get-left}
+use Rattle.laws.proofs.Rules.RefusedFrames.{refused_out, refused-last}
 
 -- an end that stands is open
 pub open-stands : (c : Outward) → stands c ≡ true → c.closed ≡ false
@@ -112,9 +113,8 @@ stays-kept p = record {
   applies = λ h ack standing begun may stays. stays-change p h _ (with_frame _) refl standing stays;
   clears = λ h ack standing begun may stays. stays-change p h _ (with_frame _) refl standing stays;
   confirms = λ h number size standing begun turn stays. stays-change p h _ (with_frame _) refl standing stays;
-  refuses = λ h frame peer standing stays. stays-change p h _ (λ c. record c { taken = c.taken ++ frame ∷ []; refused = true; closed = true })
-      (ap (change_last (λ (c : Outward). record c { closed = true })) (change-twice (with_frame frame) refusing h.connections)
-      ∙ change-twice (λ c. refusing (with_frame frame c)) (λ c. record c { closed = true }) h.connections) standing stays;
+  refuses = λ h frame peer standing stays. stays-change p h _ (refused_out frame)
+      (refused-last frame peer h) standing stays;
   resyncs = λ h block runs alone is stays. stays-change p h _ _ refl
       (open-stands (outward h) (and_parts (stands (outward h)) (in_resync (outward h).stream) runs).0) stays;
   closes = λ h standing stays. stays-change p h _ (λ c. record c { closed = true }) refl standing stays;

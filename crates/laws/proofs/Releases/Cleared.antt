@@ -1,8 +1,8 @@
 -- Of two writes that share a block the earlier one is released first. So a block that a release clears was written last by a write
 -- that is on the local disk, and whose epoch on the standing stream is acknowledged.
-use Rattle.std.proofs.Common.{ℕ, suc, ◌≡◌, ◌<◌, ◌≤◌, inl, inr, true, false, not, ◌||◌, List, ◌++◌, length, take, Option, Some, None, slice_get, Ok, refl, sym}
+use Rattle.std.proofs.Common.{ℕ, suc, ◌≡◌, ◌<◌, ◌≤◌, inl, inr, true, false, not, List, ◌++◌, length, take, Option, Some, None, slice_get, Ok, refl, sym}
 use Rattle.std.proofs.Common.{◌∙◌, ap, subst, arith, ◌==◌, drop}
-use Rattle.std.proofs.lemmas.Bool.{cases_Bool, both_ways, and_parts, and_from, not_from_false, not-true, or_right, or_left, or_cases, eqb-true}
+use Rattle.std.proofs.lemmas.Bool.{cases_Bool, both_ways, and_from, not_from_false, not-true, or_cases, eqb-true}
 use Rattle.std.proofs.lemmas.List.{take-append-drop}
 use Rattle.std.proofs.lemmas.Option.{slice_get_within}
 use Rattle.blocks.specs.Positions.{StreamPosition}
@@ -12,7 +12,7 @@ use Rattle.model.specs.Stream.{items_meet, Item, WriteItem, barriers_in, epoch_o
 use Rattle.model.specs.Frames.{BarrierAckFrame}
 use Rattle.model.specs.Marks.{is_cleared}
 use Rattle.model.specs.Primary.{OnDisk, Accepted, Outward, PrimaryHistory, no_outward, outward, last_index, with_outward, stands, barrier_acknowledged}
-use Rattle.model.specs.Primary.{is_on_disk, is_waiting, is_alone, is_confirmed, is_released, unreleased}
+use Rattle.model.specs.Primary.{is_on_disk, is_alone, is_confirmed, is_released, unreleased}
 use Rattle.model.specs.PrimarySteps.{set_outcome, with_outcome}
 use Rattle.laws.proofs.Rules.ReleaseClears.{Clears, cleared-by}
 use Rattle.laws.proofs.Lists.Elements.{same-at}
@@ -20,7 +20,7 @@ use Rattle.laws.proofs.Lists.Last.{get-change}
 use Rattle.laws.proofs.Lists.Picks.{pick-any, pick-filtered, pick-image, filtered-pick}
 use Rattle.laws.proofs.Streams.Places.{barriers-append, epoch-front}
 use Rattle.laws.proofs.Primary.Moves.{with_frame}
-use Rattle.laws.proofs.Primary.Homes.{alone-homeless, told-at, HasHomes, open-at, alone-at, confirmed-at}
+use Rattle.laws.proofs.Primary.Homes.{alone-homeless, HasHomes, open-at, alone-at, confirmed-at}
 use Rattle.laws.proofs.Primary.Ends.{not-refused}
 use Rattle.laws.proofs.Primary.LastOpen.{open-is-last, IsLastOpen}
 use Rattle.laws.proofs.Releases.InOrder.{IsInOrder, said-taking}
@@ -28,6 +28,7 @@ use Rattle.laws.proofs.Rules.Conflicts.{meeting}
 use Rattle.laws.proofs.Releases.InOrderMoves.{Ordered}
 use Rattle.laws.proofs.Primary.Writes.{KeepsWrites, keeps-writes, keeps-outcome}
 use Rattle.laws.proofs.Tracked.Outcomes.{outcome-cases}
+use Rattle.laws.proofs.Rules.Releases.{is_freed, freed-cases, freed-linked, freed-confirmed, freed-alone, freed-same, released-parts, released-by, IsReleased}
 
 -- a later place is in no earlier epoch
 epoch-rises : (items : List Item) (place later : ℕ) → place < later → later ≤ length items → epoch_of items place ≤ epoch_of items later
@@ -43,8 +44,7 @@ pub released-in-order : (settings : Settings) (h : PrimaryHistory) → Ordered s
     → slice_get h.writes i ≡ Some a → slice_get h.writes j ≡ Some b → covers a.write block ≡ true → covers b.write block ≡ true
     → is_released h b ≡ true → is_released h a ≡ true
 released-in-order settings h p i j block a b less ata atb cova covb released =
-    and_from (not (is_waiting a.outcome)) (is_confirmed h a || is_alone h a)
-    (not_from_false (is_waiting a.outcome) (order.settled_first i j block a b less ata atb cova covb)) (by-home a.home refl)
+    released-by h a (order.settled_first i j block a b less ata atb cova covb) (by-home a.home refl)
   where
     order : IsInOrder h
     order = p.1.1.1
@@ -52,26 +52,26 @@ released-in-order settings h p i j block a b less ata atb cova covb released =
     homes : HasHomes h
     homes = p.1.1.0.0
 
-    said : (is_confirmed h b || is_alone h b) ≡ true
-    said = (and_parts (not (is_waiting b.outcome)) (is_confirmed h b || is_alone h b) released).1
+    said : is_freed h b ≡ true
+    said = (released-parts h b released).freed
 
-    by-other : (home : StreamPosition) → a.home ≡ Some home → (v : Option StreamPosition) → b.home ≡ v → (is_confirmed h a || is_alone h a) ≡ true
+    by-other : (home : StreamPosition) → a.home ≡ Some home → (v : Option StreamPosition) → b.home ≡ v → is_freed h a ≡ true
     by-other home ha None hb =
         let was = homes.housed i home.index home.place a ata ha in
-        or_right (is_confirmed h a) (is_alone h a) (alone-at h a home was.0 ha was.1 ∙ order.alone_later i j a b home was.0 less ata atb ha hb was.1)
+        freed-alone h a (alone-at h a home was.0 ha was.1 ∙ order.alone_later i j a b home was.0 less ata atb ha hb was.1)
     by-other home ha (Some other) hb =
         let was = homes.housed i home.index home.place a ata ha in
         let its = homes.housed j other.index other.place b atb hb in
         elim (order.rise i j a b home other less ata atb ha hb) [
           | inl early ↦
               let within = slice_get_within h.connections other.index its.0 its.1 in
-              or_right (is_confirmed h a) (is_alone h a) (alone-at h a home was.0 ha was.1 ∙ p.1.0 home.index was.0 was.1 (omega arith))
+              freed-alone h a (alone-at h a home was.0 ha was.1 ∙ p.1.0 home.index was.0 was.1 (omega arith))
           | inr here ↦
               let end : its.0 ≡ was.0 =
               same-at h.connections home.index its.0 was.0 (subst (λ (n : ℕ). slice_get h.connections n ≡ Some its.0) (sym here.0) its.1)
               was.1 in
-              elim (or_cases (is_confirmed h b) (is_alone h b) said) [
-                | inr alone ↦ or_right (is_confirmed h a) (is_alone h a) (alone-at h a home was.0 ha was.1
+              elim (freed-cases h b said) [
+                | inr alone ↦ freed-alone h a (alone-at h a home was.0 ha was.1
                     ∙ (ap (λ (c : Outward). c.closed) (sym end) ∙ (sym (alone-at h b other its.0 hb its.1) ∙ alone)))
                 | inl confirmed ↦
                     let acknowledged : barrier_acknowledged was.0 (epoch_of was.0.stream other.place) ≡ true =
@@ -80,14 +80,14 @@ released-in-order settings h p i j block a b less ata atb cova covb released =
                     let inside = slice_get_within was.0.stream other.place (WriteItem b.write)
                     (subst (λ (c : Outward). slice_get c.stream other.place ≡ Some (WriteItem b.write)) end its.2) in
                     let rising = epoch-rises was.0.stream home.place other.place here.1 (omega arith) in
-                    or_left (is_confirmed h a) (is_alone h a) (confirmed-at h a home was.0 ha was.1
+                    freed-confirmed h a (confirmed-at h a home was.0 ha was.1
                     ∙ order.acknowledged home.index was.0 was.1 (epoch_of was.0.stream home.place) (epoch_of was.0.stream other.place)
                     (omega arith) rising acknowledged)
               ]
         ]
 
-    by-home : (v : Option StreamPosition) → a.home ≡ v → (is_confirmed h a || is_alone h a) ≡ true
-    by-home None is = or_right (is_confirmed h a) (is_alone h a) (alone-homeless h a is)
+    by-home : (v : Option StreamPosition) → a.home ≡ v → is_freed h a ≡ true
+    by-home None is = freed-alone h a (alone-homeless h a is)
     by-home (Some home) is = by-other home is b.home refl
 
 -- A step that releases writes.
@@ -163,35 +163,35 @@ confirmed-releases settings h number size standing p = record {
         × (number ≡ epoch_of (outward h).stream place)
     placed i a new = by-home a.home refl
       where
-        parts : (not (is_waiting a.outcome) ≡ true) × ((is_confirmed later a || is_alone later a) ≡ true)
-        parts = and_parts (not (is_waiting a.outcome)) (is_confirmed later a || is_alone later a) new.now
+        parts : IsReleased later a
+        parts = released-parts later a new.now
 
         -- it was not released before
-        not-so : (is_confirmed h a || is_alone h a) ≡ true → ⊥
-        not-so said = both_ways (is_released h a) (new.before a new.at) (and_from (not (is_waiting a.outcome)) (is_confirmed h a || is_alone h a) parts.0 said)
+        not-so : is_freed h a ≡ true → ⊥
+        not-so said = both_ways (is_released h a) (new.before a new.at) (released-by h a parts.done said)
 
         by-home : (v : Option StreamPosition) → a.home ≡ v
             → (place : ℕ) × (a.home ≡ Some (record { index = last_index h.connections; place = place }))
             × (slice_get (outward h).stream place ≡ Some (WriteItem a.write))
             × (number ≡ epoch_of (outward h).stream place)
-        by-home None is = absurd (not-so (or_right (is_confirmed h a) (is_alone h a) (alone-homeless h a is)))
+        by-home None is = absurd (not-so (freed-alone h a (alone-homeless h a is)))
         by-home (Some home) is =
             let was = homes.housed i home.index home.place a new.at is in
             let epoch : ℕ = epoch_of was.0.stream home.place in
-            let before : (is_confirmed h a || is_alone h a) ≡ (barrier_acknowledged was.0 epoch || was.0.closed) = told-at h a home was.0 is was.1 in
             elim (get-change (with_frame (Ok (BarrierAckFrame number size))) (no_outward h.tuple) h.connections home.index was.0 was.1) [
-              | inl same ↦ absurd (not-so (before ∙ (sym (told-at later a home was.0 is same) ∙ parts.1)))
+              | inl same ↦ absurd (not-so (freed-same later h a a (confirmed-at h a home was.0 is was.1 ∙ sym (confirmed-at later a home was.0 is same))
+                  (alone-at h a home was.0 is was.1 ∙ sym (alone-at later a home was.0 is same)) ∙ parts.freed))
               | inr changed ↦
                   let plain : was.0.refused ≡ false = subst (λ (c : Outward). c.refused ≡ false) (sym changed.1)
                   (not-refused h homes standing (last_index h.connections) (open-at h standing)) in
-                  let said : (barrier_acknowledged (with_frame (Ok (BarrierAckFrame number size)) was.0) epoch || was.0.closed) ≡ true =
-                  sym (told-at later a home (with_frame (Ok (BarrierAckFrame number size)) was.0) is changed.0) ∙ parts.1 in
                   let index : home.index ≡ last_index h.connections = let end = changed.2 in omega arith in
-                  elim (or_cases (barrier_acknowledged (with_frame (Ok (BarrierAckFrame number size)) was.0) epoch) was.0.closed said) [
-                    | inr shut ↦ absurd (not-so (before ∙ or_right (barrier_acknowledged was.0 epoch) was.0.closed shut))
+                  elim (freed-cases later a parts.freed) [
+                    | inr shut ↦ absurd (not-so (freed-alone h a (alone-at h a home was.0 is was.1
+                        ∙ (sym (alone-at later a home (with_frame (Ok (BarrierAckFrame number size)) was.0) is changed.0) ∙ shut))))
                     | inl acknowledged ↦ elim (or_cases (barrier_acknowledged was.0 epoch) (number == epoch)
-                        (sym (said-taking was.0 (Ok (BarrierAckFrame number size)) epoch plain) ∙ acknowledged)) [
-                          | inl old ↦ absurd (not-so (before ∙ or_left (barrier_acknowledged was.0 epoch) was.0.closed old))
+                        (sym (said-taking was.0 (Ok (BarrierAckFrame number size)) epoch plain)
+                        ∙ (sym (confirmed-at later a home (with_frame (Ok (BarrierAckFrame number size)) was.0) is changed.0) ∙ acknowledged))) [
+                          | inl old ↦ absurd (not-so (freed-confirmed h a (confirmed-at h a home was.0 is was.1 ∙ old)))
                           | inr now ↦ (
                             home.place,
                             is ∙ ap (λ (n : ℕ). let at : StreamPosition = record { index = n; place = home.place } in Some at) index,
@@ -233,8 +233,7 @@ at-home : (h : PrimaryHistory) (i : ℕ) (a : Accepted) → HasHomes h → IsLas
 at-home h i a homes last at released connected = by-home a.home refl
   where
     confirmed : is_confirmed h a ≡ true
-    confirmed = elim (or_cases (is_confirmed h a) (is_alone h a) (and_parts (not (is_waiting a.outcome)) (is_confirmed h a || is_alone h a) released).1)
-        [ inl is ↦ is | inr alone ↦ absurd (both_ways (is_alone h a) connected alone) ]
+    confirmed = freed-linked h a (released-parts h a released).freed connected
 
     by-home : (v : Option StreamPosition) → a.home ≡ v → IsAtHome h a
     by-home None is = absurd (both_ways (is_alone h a) connected (alone-homeless h a is))

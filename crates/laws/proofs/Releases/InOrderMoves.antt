@@ -29,7 +29,7 @@ use Rattle.laws.proofs.Lists.Picks.{filtered-pick}
 use Rattle.laws.proofs.Streams.Barriers.{barrier-of}
 use Rattle.laws.proofs.Streams.Places.{epoch-front}
 use Rattle.laws.proofs.Primary.Homes.{HasHomes, open-at, alone-at}
-use Rattle.laws.proofs.Primary.Moves.{IsKeptByMoves, IsGreeting, MaySubmit, following-from, with_frame, refusing, pushing}
+use Rattle.laws.proofs.Primary.Moves.{IsKeptByMoves, IsGreeting, MaySubmit, following-from, with_frame, pushing}
 use Rattle.laws.proofs.Primary.Ends.{not-refused, frames-refusing, stands-parts}
 use Rattle.laws.proofs.Primary.LastOpen.{IsLastOpen, last-open-kept, alone-at-rest}
 use Rattle.laws.proofs.Primary.LawfulMoves.{Before, After, lawful-kept}
@@ -37,6 +37,7 @@ use Rattle.laws.proofs.Releases.InOrder.{AreInTurn, IsInOrder, KeepsTurn, order-
 use Rattle.laws.proofs.Tracked.Kept.{IsKnown, known-kept, waits-open}
 use Rattle.laws.proofs.Primary.Writes.{keeps-writes, keeps-outcome, KeepsWrites}
 use Rattle.model.specs.Identifiers.{sync_end}
+use Rattle.laws.proofs.Rules.RefusedFrames.{refused_out, refused-last}
 
 -- Between steps: what is known of the blocks, that the last end alone may be open, lawful streams, and the order.
 abbrev pub Ordered : Settings → PrimaryHistory → Type 0
@@ -350,12 +351,11 @@ in-order-kept settings bound = record {
       last-open-kept.refuses h frame peer standing p.1.0,
       (
         (lawful-kept settings bound).refuses h frame peer standing p.1.1.0,
-        order-change h _ (λ c. record c { taken = c.taken ++ frame ∷ []; refused = true; closed = true }) p.1.1.1
-            (ap (change_last (λ (c : Outward). record c { closed = true })) (change-twice (with_frame frame) refusing h.connections)
-            ∙ change-twice (λ c. refusing (with_frame frame c)) (λ c. record c { closed = true }) h.connections) (keeps-writes h.writes)
+        order-change h _ (refused_out frame) p.1.1.1
+            (refused-last frame peer h) (keeps-writes h.writes)
             (record {
               closed = λ shut. refl;
-              turn = turn-frames (outward h) (record (outward h) { taken = (outward h).taken ++ frame ∷ []; refused = true; closed = true })
+              turn = turn-frames (outward h) (refused_out frame (outward h))
                   (frames-refusing (outward h) frame (not-refused h p.1.1.0.0 standing (length h.connections - 1) (open-at h standing)));
             }),
       ),

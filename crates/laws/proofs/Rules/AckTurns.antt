@@ -13,6 +13,7 @@ use Rattle.model.specs.Acknowledgements.{is_acknowledged, is_unacknowledged, old
 use Rattle.laws.proofs.Lists.Fronts.{get-front, front-get, find-first, all-get, all-at}
 use Rattle.laws.proofs.Lists.Picks.{found-passes, pick-filtered, filtered-pick}
 use Rattle.laws.proofs.Streams.Places.{placed-at, placed-back}
+use Rattle.laws.proofs.Rules.Answered.{answered-has, answered-or}
 
 -- Its epoch's barrier was sent and is not acknowledged, each barrier before it is, the size is that of the epoch, and of each item of the
 -- epoch the acknowledgement was taken that the protocol asks for.
@@ -82,9 +83,9 @@ turn-has h number size turn = go (oldest_barrier (outward h)) refl firsts.0
 
     asked : (p : Protocol) (place : ℕ) (write : Write) → is_acknowledged p (outward h) (place, WriteItem write) ≡ true
         → (p ≡ protocol.A) ⊎ (is_answered_by p (outward h) place (WriteItem write) ≡ true)
-    asked protocol.A place write is = inl refl
-    asked protocol.B place write is = inr is
-    asked protocol.C place write is = inr is
+    asked p place write is = answered-or p (outward h) place (WriteItem write)
+        (λ of. subst (λ (q : Protocol). is_acknowledged q (outward h) (place, WriteItem write) ≡ true) of is)
+        (λ of. subst (λ (q : Protocol). is_acknowledged q (outward h) (place, WriteItem write) ≡ true) of is)
 
     go : (v : Option Item) → oldest_barrier (outward h) ≡ v → is_barrier_of number v ≡ true → IsTurn h number size
     go None found is = absurd (cc)
@@ -132,9 +133,8 @@ turn-by h number size t =
 
     asked : (p : Protocol) (place : ℕ) (write : Write) → is_answered_by p (outward h) place (WriteItem write) ≡ true
         → is_acknowledged p (outward h) (place, WriteItem write) ≡ true
-    asked protocol.A place write is = refl
-    asked protocol.B place write is = is
-    asked protocol.C place write is = is
+    asked p place write is = answered-has (λ q. is_acknowledged q (outward h) (place, WriteItem write) ≡ true) (outward h) place (WriteItem write)
+        (λ sent. refl) (λ received. received) (λ written. written) p is
 
     answered : (place : ℕ) (item : Item) → slice_get (outward h).stream place ≡ Some item → epoch_of (outward h).stream place ≡ number
         → is_acknowledged h.settings.protocol (outward h) (place, item) ≡ true

@@ -1,11 +1,12 @@
 -- When a receipt is given: what holds of a refusal, of a failed write's and of each entry's, holds of what a caller gets.
-use Rattle.std.proofs.Common.{ℕ, ◌==◌, Option, Some, None, Result, Ok, Err}
+use Rattle.std.proofs.Common.{ℕ, ◌≡◌, ◌==◌, Bool, ◌&&◌, ◌||◌, [], ◌∷◌, Option, Some, None, is_none, Result, Ok, Err}
 use Rattle.std.specs.Prelude.{find}
+use Rattle.std.specs.List.{list_any}
 use Rattle.blocks.specs.declared.refusal.Refusal.{Refusal}
-use Rattle.blocks.specs.declared.refusal.Refusal.TheVariants.{LocalFault}
+use Rattle.blocks.specs.declared.refusal.Refusal.TheVariants.{LocalFault, NotCompleted, UnknownJob}
 use Rattle.model.specs.Refusals.{first_refusal}
-use Rattle.model.specs.Primary.{Completion, PrimaryHistory}
-use Rattle.model.specs.PrimarySteps.{take_completed_tests, receipted, take_completed}
+use Rattle.model.specs.Primary.{Accepted, Completion, PrimaryHistory, is_open}
+use Rattle.model.specs.PrimarySteps.{accepted_at, take_completed_tests, receipted, take_completed}
 
 -- the history stays where it is refused, and else has the receipt
 pub receipt-has : (P : Result Completion Refusal × PrimaryHistory → Type 0) (number : ℕ) (h : PrimaryHistory) → ((refusal : Refusal) → P (Err refusal, h))
@@ -24,3 +25,17 @@ receipt-has P number h refused failed given = go (first_refusal (take_completed_
     go (Some refusal) found = refused refusal
     go None None = failed
     go None (Some entry) = given entry
+
+-- what a caller gets, by what is asked: whether the number is unknown or its receipt was taken, whether its write is open, its entry
+abbrev pub receipt_by : ℕ → PrimaryHistory → Bool → Bool → Option Completion → Result Completion Refusal × PrimaryHistory
+receipt_by number h gone waits found = elim (first_refusal ((gone, UnknownJob) ∷ (waits, NotCompleted) ∷ [])) [
+  | Some refusal ↦ (Err refusal, h)
+  | None ↦ elim found [ None ↦ (Err LocalFault, receipted number h) | Some entry ↦ (Ok entry, receipted number h) ]
+]
+
+-- whatever asks the same gets the same
+pub receipt-by : (number : ℕ) (h : PrimaryHistory) (gone waits : Bool) (found : Option Completion)
+    → gone ≡ (is_none (accepted_at h number) || list_any (λ taken. taken == number) h.receipts)
+    → waits ≡ list_any (λ (a : Accepted). (a.write.number == number) && is_open h a) h.writes
+    → found ≡ find (λ (entry : Completion). entry.write.number == number) h.journal → receipt_by number h gone waits found ≡ take_completed number h
+receipt-by number h gone waits found is_gone is_waiting is_found = λ i. receipt_by number h (is_gone i) (is_waiting i) (is_found i)

@@ -1,8 +1,8 @@
 -- In which order a submission is refused: what holds of one that every test lets through, and the tests by what they ask.
-use Rattle.std.proofs.Common.{ℕ, ◌≡◌, ◌<◌, Bool, true, false, not, ◌&&◌, List, [], ◌∷◌, length, Option, None, subst, nat_le, ◌==◌}
+use Rattle.std.proofs.Common.{ℕ, ◌≡◌, ◌<◌, Bool, true, false, not, ◌&&◌, List, ◌∷◌, length, drop, Option, None, subst, nat_le, ◌==◌}
 use Rattle.std.specs.Prelude.{is_some, unwrap_or}
 use Rattle.std.proofs.lemmas.Bool.{not-false, leb-false}
-use Rattle.blocks.specs.declared.refusal.Refusal.TheVariants.{BadRange, Conflict, LogFull, ActivityFull, JournalFull, StreamFull, NoMemory, NotConnected}
+use Rattle.blocks.specs.declared.refusal.Refusal.TheVariants.{BadRange, Conflict, LogFull, ActivityFull, JournalFull, StreamFull, NotConnected}
 use Rattle.model.specs.Contents.{is_range, extent_of}
 use Rattle.model.specs.Refusals.{Test, first_refusal}
 use Rattle.model.specs.Primary.{PrimaryHistory, outward, stands, unreleased}
@@ -18,11 +18,11 @@ pub record IsAccepted (h : PrimaryHistory) (first : ℕ) (contents : List (List 
   pub active : activity_is_full h (extent_of first) ≡ false
   pub places : stands (outward h) ≡ true → length (outward h).stream < 4294967288
 
--- the tests, by what each of them asks
-abbrev pub tests_of : Bool → Bool → ℕ → Bool → Option ℕ → Bool → Bool → Bool → List Test
-tests_of ranged down written full met active long starved =
+-- the tests, by what each of them asks, but for the last
+abbrev tests_of : Bool → Bool → ℕ → Bool → Option ℕ → Bool → Bool → List Test → List Test
+tests_of ranged down written full met active long rest =
     (not ranged, BadRange) ∷ (down, NotConnected) ∷ (nat_le 1048576 written, JournalFull) ∷ (full, LogFull) ∷ (is_some met, Conflict (unwrap_or met 0))
-    ∷ (active, ActivityFull) ∷ (long, StreamFull) ∷ (starved, NoMemory) ∷ []
+    ∷ (active, ActivityFull) ∷ (long, StreamFull) ∷ rest
 
 -- a submission that no test refuses
 pub accepted-by-tests : (h : PrimaryHistory) (first : ℕ) (contents : List (List ℕ)) (starved : Bool)
@@ -45,47 +45,29 @@ accepted-by-tests h first contents starved none = record {
     long : Bool
     long = stands (outward h) && nat_le 4294967288 (length (outward h).stream)
 
-    t8 : List Test
-    t8 = (starved, NoMemory) ∷ []
+    after : ℕ → List Test
+    after n = drop n (submit_tests h first contents starved)
 
-    t7 : List Test
-    t7 = (long, StreamFull) ∷ t8
+    one : (not (is_range h.settings first (length contents)) ≡ false) × (first_refusal (after 1) ≡ None)
+    one = test-passed (not (is_range h.settings first (length contents))) BadRange (after 1) none
 
-    t6 : List Test
-    t6 = (activity_is_full h (extent_of first), ActivityFull) ∷ t7
+    two : (down ≡ false) × (first_refusal (after 2) ≡ None)
+    two = test-passed down NotConnected (after 2) one.1
 
-    t5 : List Test
-    t5 = (is_some met, Conflict (unwrap_or met 0)) ∷ t6
+    three : (nat_le 1048576 (length h.writes) ≡ false) × (first_refusal (after 3) ≡ None)
+    three = test-passed (nat_le 1048576 (length h.writes)) JournalFull (after 3) two.1
 
-    t4 : List Test
-    t4 = (nat_le h.settings.backlog (length (unreleased h)), LogFull) ∷ t5
+    four : (nat_le h.settings.backlog (length (unreleased h)) ≡ false) × (first_refusal (after 4) ≡ None)
+    four = test-passed (nat_le h.settings.backlog (length (unreleased h))) LogFull (after 4) three.1
 
-    t3 : List Test
-    t3 = (nat_le 1048576 (length h.writes), JournalFull) ∷ t4
+    five : (is_some met ≡ false) × (first_refusal (after 5) ≡ None)
+    five = test-passed (is_some met) (Conflict (unwrap_or met 0)) (after 5) four.1
 
-    t2 : List Test
-    t2 = (down, NotConnected) ∷ t3
+    six : (activity_is_full h (extent_of first) ≡ false) × (first_refusal (after 6) ≡ None)
+    six = test-passed (activity_is_full h (extent_of first)) ActivityFull (after 6) five.1
 
-    one : (not (is_range h.settings first (length contents)) ≡ false) × (first_refusal t2 ≡ None)
-    one = test-passed (not (is_range h.settings first (length contents))) BadRange t2 none
-
-    two : (down ≡ false) × (first_refusal t3 ≡ None)
-    two = test-passed down NotConnected t3 one.1
-
-    three : (nat_le 1048576 (length h.writes) ≡ false) × (first_refusal t4 ≡ None)
-    three = test-passed (nat_le 1048576 (length h.writes)) JournalFull t4 two.1
-
-    four : (nat_le h.settings.backlog (length (unreleased h)) ≡ false) × (first_refusal t5 ≡ None)
-    four = test-passed (nat_le h.settings.backlog (length (unreleased h))) LogFull t5 three.1
-
-    five : (is_some met ≡ false) × (first_refusal t6 ≡ None)
-    five = test-passed (is_some met) (Conflict (unwrap_or met 0)) t6 four.1
-
-    six : (activity_is_full h (extent_of first) ≡ false) × (first_refusal t7 ≡ None)
-    six = test-passed (activity_is_full h (extent_of first)) ActivityFull t7 five.1
-
-    seven : (long ≡ false) × (first_refusal t8 ≡ None)
-    seven = test-passed long StreamFull t8 six.1
+    seven : (long ≡ false) × (first_refusal (after 7) ≡ None)
+    seven = test-passed long StreamFull (after 7) six.1
 
 -- whatever asks the same has the same tests
 pub tests-by : (h : PrimaryHistory) (first : ℕ) (contents : List (List ℕ)) (starved ranged down : Bool) (written : ℕ) (full : Bool) (met : Option ℕ)
@@ -93,6 +75,6 @@ pub tests-by : (h : PrimaryHistory) (first : ℕ) (contents : List (List ℕ)) (
     → ranged ≡ is_range h.settings first (length contents) → down ≡ (not (stands (outward h)) && (h.tuple.bitmap == 0)) → written ≡ length h.writes
     → full ≡ nat_le h.settings.backlog (length (unreleased h)) → met ≡ conflict h (submission h first contents) → active ≡ activity_is_full h (extent_of first)
     → long ≡ (stands (outward h) && nat_le 4294967288 (length (outward h).stream))
-    → tests_of ranged down written full met active long starved ≡ submit_tests h first contents starved
+    → tests_of ranged down written full met active long (drop 7 (submit_tests h first contents starved)) ≡ submit_tests h first contents starved
 tests-by h first contents starved ranged down written full met active long ranges downs writes fulls meets actives longs =
-    λ i. tests_of (ranges i) (downs i) (writes i) (fulls i) (meets i) (actives i) (longs i) starved
+    λ i. tests_of (ranges i) (downs i) (writes i) (fulls i) (meets i) (actives i) (longs i) (drop 7 (submit_tests h first contents starved))

@@ -15,7 +15,8 @@ use Rattle.laws.proofs.Lists.Last.{get-change-back, last-at, length-change}
 use Rattle.laws.proofs.Lists.Elements.{get-more}
 use Rattle.laws.proofs.Lists.Tests.{test-passed}
 use Rattle.laws.proofs.Secondary.Runs.{tested-keeps}
-use Rattle.laws.proofs.Secondary.Moves.{after-receive, after-peer, after-fault, after-push, after-close, framed, refused_end, pushed_one, closed_end}
+use Rattle.laws.proofs.Secondary.Moves.{after-receive, after-peer, after-fault, after-push, after-close, framed, pushed_one, closed_end}
+use Rattle.laws.proofs.Rules.RefusedFrames.{refused_end}
 
 -- nothing is pending before the last connection
 abbrev AreDrained : List Inward → Type 0

@@ -18,6 +18,7 @@ use Rattle.laws.proofs.Secondary.Sound.{IsSound, starting, sound-taking, sound-s
 use Rattle.laws.proofs.Lists.Beginnings.{begins-drop}
 use Rattle.laws.proofs.Lists.Elements.{same-at}
 use Rattle.laws.proofs.Lists.Picks.{pick-below}
+use Rattle.laws.proofs.Rules.RefusedFrames.{refused_in}
 
 -- A connection as it has to be: sound, and closed once a frame of it was refused.
 pub record IsGood (d : Inward) : Type 0 where
@@ -95,7 +96,7 @@ good-taking frame d standing good =
 
 -- a frame that is refused brings nothing
 pub items-refusing : (frame : Received) (d : Inward) → d.refused ≡ false
-    → items_taken (record d { taken = d.taken ++ frame ∷ []; refused = true; closed = true }) ≡ items_taken d
+    → items_taken (refused_in frame d) ≡ items_taken d
 items-refusing frame d accepted =
     let old : accepted_of d ≡ drop 3 d.taken = ap (λ b. drop 3 (if b then take (length d.taken - 1) d.taken else d.taken)) accepted in
     let size : length (d.taken ++ frame ∷ []) - 1 ≡ length d.taken = let long = length-append d.taken (frame ∷ []) in omega arith in
@@ -105,7 +106,7 @@ items-refusing frame d accepted =
 
 -- an open end that refuses a frame closes, and stays good
 pub good-refusing : (frame : Received) (d : Inward) → d.closed ≡ false → IsGood d
-    → IsGood (record d { taken = d.taken ++ frame ∷ []; refused = true; closed = true })
+    → IsGood (refused_in frame d)
 good-refusing frame d standing good =
     let accepted : d.refused ≡ false =
     elim (cases_Bool d.refused) [ inl was ↦ absurd (both_ways d.closed standing (good.refused was)) | inr not_so ↦ not_so ] in
@@ -113,10 +114,10 @@ good-refusing frame d standing good =
     let size : length (d.taken ++ frame ∷ []) - 1 ≡ length d.taken = let long = length-append d.taken (frame ∷ []) in omega arith in
     let whole : take (length (d.taken ++ frame ∷ []) - 1) (d.taken ++ frame ∷ []) ≡ d.taken = ap (λ n. take n (d.taken ++ frame ∷ [])) size
     ∙ take-append_seam d.taken (frame ∷ []) in
-    let items : items_taken (record d { taken = d.taken ++ frame ∷ []; refused = true; closed = true }) ≡ items_taken d =
+    let items : items_taken (refused_in frame d) ≡ items_taken d =
     ap (λ (l : List Received). filter_map received_item (drop 3 l)) whole ∙ ap (filter_map received_item) (sym old) in
     record {
-      sound = sound-same d (record d { taken = d.taken ++ frame ∷ []; refused = true; closed = true }) good.sound items refl refl (λ c. refl);
+      sound = sound-same d (refused_in frame d) good.sound items refl refl (λ c. refl);
       refused = λ h. refl;
     }
 

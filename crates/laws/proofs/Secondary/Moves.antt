@@ -1,12 +1,11 @@
 -- A secondary's steps, taken apart: what has to be shown of a property so that it holds after a step.
-use Rattle.std.proofs.Common.{ℕ, zero, suc, ◌≡◌, ◌<◌, Bool, true, false, cond, not, ◌&&◌, List, [], ◌∷◌, ◌++◌, length, Option, Some, None, is_none, Ok, Err}
-use Rattle.std.proofs.Common.{refl, sym, ap, ◌⊎◌, inl, inr, nat_lt, nat_le}
-use Rattle.std.proofs.lemmas.Bool.{both_ways, not-false, and_parts, leb-false}
+use Rattle.std.proofs.Common.{ℕ, zero, suc, ◌≡◌, ◌<◌, Bool, true, false, cond, not, ◌&&◌, List, [], ◌∷◌, ◌++◌, length, Option, Some, Ok, Err}
+use Rattle.std.proofs.Common.{refl, ap, ◌⊎◌, inl, inr, nat_lt}
+use Rattle.std.proofs.lemmas.Bool.{not-false, and_parts}
 use Rattle.blocks.specs.declared.refusal.Refusal.{Refusal}
-use Rattle.blocks.specs.declared.refusal.Refusal.TheVariants.{NothingThere, NotConnected, PendingFull, NoMemory, LinkFull, UnknownJob, EpochOpen, NotDrained}
+use Rattle.blocks.specs.declared.refusal.Refusal.TheVariants.{NotConnected, UnknownJob, EpochOpen, NotDrained}
 use Rattle.blocks.specs.declared.outcome.What.{What}
 use Rattle.blocks.specs.declared.outcome.What.TheVariants as what
-use Rattle.blocks.specs.declared.outcome.Reply.{Reply}
 use Rattle.blocks.specs.declared.outcome.Reply.TheVariants as reply
 use Rattle.blocks.specs.declared.settings.Protocol.{Protocol}
 use Rattle.blocks.specs.declared.settings.Protocol.TheVariants as protocol
@@ -14,16 +13,20 @@ use Rattle.blocks.specs.declared.tuple.Tuple.{Tuple}
 use Rattle.model.specs.Contents.{Write}
 use Rattle.model.specs.Stream.{Item, WriteItem, ResyncItem, BarrierItem, SyncUuidItem, UuidsItem}
 use Rattle.model.specs.Primary.{is_sync_start, is_sync_end, is_resync}
-use Rattle.model.specs.Frames.{Packet, DataFrame, RsDataReplyFrame, BarrierFrame, ProtocolFrame, UuidsFrame, SizesFrame, SyncUuidFrame, RecvAckFrame, Received}
+use Rattle.model.specs.Frames.{Packet, DataFrame, ProtocolFrame, UuidsFrame, SizesFrame, SyncUuidFrame, RecvAckFrame, Received}
 use Rattle.model.specs.Frames.{naming}
-use Rattle.model.specs.Refusals.{Test, done_with}
-use Rattle.model.specs.Secondary.{Inward, SecondaryHistory, inward, with_inward, items_taken, received_item, is_drained, pending, answers_due, is_in_resync}
+use Rattle.model.specs.Refusals.{done_with}
+use Rattle.model.specs.Secondary.{Inward, SecondaryHistory, inward, with_inward, items_taken, received_item, is_drained, answers_due, is_in_resync}
 use Rattle.model.specs.SecondarySteps.{answering, succeeding_secondary, open_secondary_tests, opened_secondary, open_secondary, Checked, checking_hello}
-use Rattle.model.specs.SecondarySteps.{checking_item, checking, adopting, receiving, take_item, receive, peer_tests, is_apart, is_pending_at, has_earlier}
+use Rattle.model.specs.SecondarySteps.{checking_item, checking, adopting, receiving, take_item, receive, peer_tests, is_pending_at, has_earlier}
 use Rattle.model.specs.SecondarySteps.{applying, peer, failing, peer_fault, ack_out_tests, answering_with, ack_out, close_secondary}
 use Rattle.model.specs.LocalRuns.{SecondaryEvent, OpensToo, Receives, Applies, FailsToApply, Acknowledges, ClosesToo, secondary_after}
 use Rattle.laws.proofs.Secondary.Runs.{tested-keeps}
 use Rattle.laws.proofs.Lists.Tests.{test-passed}
+use Rattle.laws.proofs.Rules.Memory.{may-answer, receive-has}
+use Rattle.laws.proofs.Rules.RefusedFrames.{refused_by_too, item-has}
+use Rattle.std.proofs.Common.{subst}
+use Rattle.laws.proofs.Rules.TakenItems.{item-checked}
 
 -- a frame is taken
 abbrev pub framed : Received → Inward → Inward
@@ -32,10 +35,6 @@ framed frame c = record c { taken = c.taken ++ frame ∷ [] }
 -- the write at this place is acknowledged as received
 abbrev pub receipting : ℕ → Write → Inward → Inward
 receipting place write c = record c { due = c.due ++ RecvAckFrame (naming place (WriteItem write)) ∷ [] }
-
--- the last frame is refused, and the end closes
-abbrev pub refused_end : Inward → Inward
-refused_end c = record c { refused = true; closed = true }
 
 -- one more of the frames due is pushed
 abbrev pub pushed_one : Inward → Inward
@@ -53,7 +52,7 @@ pub record AfterFrame (R : SecondaryHistory → Type 0) (h : SecondaryHistory) (
       → R (with_inward answering (with_inward (receipting (length (items_taken (inward h))) write) (with_inward (framed frame) h)))
   pub adopts : (item : Item) (tuple : Tuple) (consistent : Bool) → received_item frame ≡ Some item → nat_lt (length (inward h).taken) 3 ≡ false
       → R (with_inward answering (adopting tuple consistent (with_inward (framed frame) h)))
-  pub refuses : R (with_inward refused_end (with_inward (framed frame) h))
+  pub refuses : R (refused_by_too frame h)
 
 -- A frame that is taken as one of the hello, or brings an item that neither begins nor ends a resync; a block of one comes in a
 -- resync.
@@ -72,7 +71,7 @@ pub record AfterKind (R : SecondaryHistory → Type 0) (h : SecondaryHistory) (f
       → R (with_inward answering (adopting (record h.tuple { current = word }) false (with_inward (framed frame) h)))
   pub ends : (tuple : Tuple) → frame ≡ Ok (UuidsFrame tuple) → nat_lt (length (inward h).taken) 3 ≡ false
       → R (with_inward answering (adopting tuple true (with_inward (framed frame) h)))
-  pub refuses : R (with_inward refused_end (with_inward (framed frame) h))
+  pub refuses : R (refused_by_too frame h)
 
 -- what holds whatever the kind
 of-kind : (R : SecondaryHistory → Type 0) (h : SecondaryHistory) (frame : Received) → AfterFrame R h frame → AfterKind R h frame
@@ -101,53 +100,41 @@ judged-hello R (suc zero) (SizesFrame blocks) h r = judged-if R _ _ h _ (λ good
 judged-hello R (suc (suc n)) (UuidsFrame tuple) h r = r
 judged-hello R n packet h r = tt
 
-judged-write : (R : SecondaryHistory → Type 0) (h : SecondaryHistory) (write : Write) (at : ℕ) → nat_lt (length (inward h).taken) 3 ≡ false
-    → AfterKind R h (Ok (DataFrame write at))
-    → R (with_inward answering (receiving (length (items_taken (inward h))) (WriteItem write) (with_inward (framed (Ok (DataFrame write at))) h)))
-judged-write R h write at late after = go h.settings.protocol
+-- an item that neither begins nor ends a resync
+plain-item : (h : SecondaryHistory) (packet : Packet) (item : Item) → nat_lt (length (inward h).taken) 3 ≡ false → received_item (Ok packet) ≡ Some item
+    → is_sync_start item ≡ false → is_sync_end item ≡ false → (is_resync item ≡ true → is_in_resync (inward h) ≡ true) → IsPlain h (Ok packet)
+plain-item h packet item late brings start end resync = inr (
+  late,
+  λ other is. subst (λ (x : Item). (is_sync_start x ≡ false) × ((is_sync_end x ≡ false) × (is_resync x ≡ true → is_in_resync (inward h) ≡ true)))
+      (let same : item ≡ other = cc in same) (start, (end, resync)),
+)
+
+judged-write : (R : SecondaryHistory → Type 0) (h : SecondaryHistory) (packet : Packet) (write : Write) (at : ℕ) → packet ≡ DataFrame write at
+    → nat_lt (length (inward h).taken) 3 ≡ false → AfterKind R h (Ok packet)
+    → R (with_inward answering (receiving (length (items_taken (inward h))) (WriteItem write) (with_inward (framed (Ok packet)) h)))
+judged-write R h packet write at is late after = go h.settings.protocol
   where
-    plain : IsPlain h (Ok (DataFrame write at))
-    plain = inr (
-      late,
-      λ item is. let same : WriteItem write ≡ item = cc in (
-        ap is_sync_start (sym same),
-        (ap is_sync_end (sym same), λ block. absurd (both_ways (is_resync item) (ap is_resync (sym same)) block)),
-      ),
-    )
+    plain : IsPlain h (Ok packet)
+    plain = plain-item h packet (WriteItem write) late (ap (λ (p : Packet). received_item (Ok p)) is) refl refl (λ block. absurd (cc))
 
     go : (asked : Protocol) → R (with_inward answering (elim asked as (λ _. SecondaryHistory) [
-      | protocol.A ↦ with_inward (framed (Ok (DataFrame write at))) h
-      | protocol.B ↦ with_inward (receipting (length (items_taken (inward h))) write) (with_inward (framed (Ok (DataFrame write at))) h)
-      | protocol.C ↦ with_inward (framed (Ok (DataFrame write at))) h
+      | protocol.A ↦ with_inward (framed (Ok packet)) h
+      | protocol.B ↦ with_inward (receipting (length (items_taken (inward h))) write) (with_inward (framed (Ok packet)) h)
+      | protocol.C ↦ with_inward (framed (Ok packet)) h
     ]))
     go protocol.A = after.accepts plain
-    go protocol.B = after.receipts write at refl late
+    go protocol.B = after.receipts write at (ap Ok is) late
     go protocol.C = after.accepts plain
 
 judged-item : (R : SecondaryHistory → Type 0) (h : SecondaryHistory) (packet : Packet) → nat_lt (length (inward h).taken) 3 ≡ false → AfterKind R h (Ok packet)
     → Judged R (checking_item packet (length (items_taken (inward h))) (inward h) (with_inward (framed (Ok packet)) h))
-judged-item R h (DataFrame write at) late after = judged-if R _ _ _ _ (λ good. judged-write R h write at late after)
-judged-item R h (RsDataReplyFrame block contents at) late after = judged-if R _ _ _ _ (λ good. after.accepts (inr (
-  late,
-  λ item is.
-      let same : ResyncItem block contents ≡ item = cc in (
-        ap is_sync_start (sym same),
-        (
-          ap is_sync_end (sym same),
-          λ resync. (and_parts (is_in_resync (inward h)) _
-              (and_parts _ (is_in_resync (inward h) && is_apart (ResyncItem block contents) (items_taken (inward h))) good).1).0,
-        ),
-      ),
-)))
-judged-item R h (BarrierFrame number) late after = judged-if R _ _ _ _ (λ good. after.accepts (inr (
-  late,
-  λ item is.
-      let same : BarrierItem number ≡ item = cc in
-      (ap is_sync_start (sym same), (ap is_sync_end (sym same), λ resync. absurd (both_ways (is_resync item) (ap is_resync (sym same)) resync))),
-)))
-judged-item R h (UuidsFrame tuple) late after = judged-if R _ _ _ _ (λ good. after.ends tuple refl late)
-judged-item R h (SyncUuidFrame word) late after = judged-if R _ _ _ _ (λ good. after.starts word refl late)
-judged-item R h packet late after = tt
+judged-item R h packet late after = item-checked (Judged R) packet (length (items_taken (inward h))) (inward h) (with_inward (framed (Ok packet)) h)
+    (λ write at is may. judged-write R h packet write at is late after)
+    (λ block contents at is may. after.accepts (plain-item h packet (ResyncItem block contents) late (ap (λ (p : Packet). received_item (Ok p)) is) refl refl
+    (λ resync. may.resync)))
+    (λ number is. after.accepts (plain-item h packet (BarrierItem number) late (ap (λ (p : Packet). received_item (Ok p)) is) refl refl
+    (λ resync. absurd (cc))))
+    (λ word is. after.starts word (ap Ok is) late) (λ tuple is. after.ends tuple (ap Ok is) late) (λ refusal. tt)
 
 judged : (R : SecondaryHistory → Type 0) (h : SecondaryHistory) (frame : Received) → AfterKind R h frame
     → Judged R (checking frame (inward h) (with_inward (framed frame) h))
@@ -163,14 +150,7 @@ judged R h (Ok packet) after = go (nat_lt (length (inward h).taken) 3) refl
 
 -- What holds before and after a frame was taken.
 pub after-kind : (R : SecondaryHistory → Type 0) (h : SecondaryHistory) (frame : Received) → AfterKind R h frame → R (take_item frame h).1
-after-kind R h frame after = go (checking frame (inward h) (with_inward (framed frame) h)) (judged R h frame after)
-  where
-    go : (v : Checked) → Judged R v → R (elim v as (λ _. Reply × SecondaryHistory) [
-      | Ok done ↦ succeeding_secondary done.0 done.1
-      | Err refusal ↦ (reply.Refused refusal, with_inward refused_end (with_inward (framed frame) h))
-    ]).1
-    go (Ok done) j = j
-    go (Err refusal) j = after.refuses
+after-kind R h frame after = item-has (λ r. R r.1) (Judged R) frame h (judged R h frame after) (λ done j. j) (λ refusal j. after.refuses)
 
 -- the same in less detail
 pub after-take : (R : SecondaryHistory → Type 0) (h : SecondaryHistory) (frame : Received) → AfterFrame R h frame → R (take_item frame h).1
@@ -179,17 +159,8 @@ after-take R h frame after = after-kind R h frame (of-kind R h frame after)
 -- After a step that takes the next frame, if there is one.
 pub receive-kind : (R : SecondaryHistory → Type 0) (h : SecondaryHistory) (frame : Option Received) (starved : Bool) → R h
     → ((taken : Received) → frame ≡ Some taken → (inward h).closed ≡ false → AfterKind R h taken) → R (receive frame starved h).1
-receive-kind R h frame starved same takes = tested-keeps R h (((inward h).closed, NotConnected) ∷ rest)
-    (λ _. elim frame as (λ _. Reply × SecondaryHistory) [ None ↦ (reply.Refused NothingThere, h) | Some taken ↦ take_item taken h ])
-    same (λ passed. go frame refl (test-passed (inward h).closed NotConnected rest passed).0)
-  where
-    rest : List Test
-    rest = (nat_le h.settings.pending (length (pending (inward h))), PendingFull) ∷ (starved, NoMemory) ∷ (is_none frame, NothingThere) ∷ []
-
-    go : (v : Option Received) → frame ≡ v → (inward h).closed ≡ false
-        → R (elim v as (λ _. Reply × SecondaryHistory) [ None ↦ (reply.Refused NothingThere, h) | Some taken ↦ take_item taken h ]).1
-    go None is standing = same
-    go (Some taken) is standing = after-kind R h taken (takes taken is standing)
+receive-kind R h frame starved same takes =
+    receive-has (λ r. R r.1) frame starved h (λ refusal other. same) (λ taken is standing. after-kind R h taken (takes taken is standing))
 
 -- the same in less detail
 pub after-receive : (R : SecondaryHistory → Type 0) (h : SecondaryHistory) (frame : Option Received) (starved : Bool) → R h
@@ -229,11 +200,7 @@ pub after-push : (R : SecondaryHistory → Type 0) (h : SecondaryHistory) (room 
     → ((inward h).closed ≡ false → (inward h).pushed < length (answers_due h.settings (inward h)) → R (with_inward pushed_one h)) → R (ack_out room starved h).1
 after-push R h room starved same pushes = tested-keeps R h (ack_out_tests h room starved)
     (λ _. (reply.Ok (done_with (answering_with h)), with_inward pushed_one h)) same (λ passed.
-    let rest : List Test = (starved, NoMemory) ∷ (not room, LinkFull) ∷ [] in
-    let none : Bool = nat_le (length (answers_due h.settings (inward h))) (inward h).pushed in
-    let one = test-passed (inward h).closed NotConnected ((none, NothingThere) ∷ rest) passed in
-    let two = test-passed none NothingThere rest one.1 in
-    pushes one.0 (leb-false (length (answers_due h.settings (inward h))) (inward h).pushed two.0))
+    let may = may-answer h room starved passed in pushes may.stands may.owes)
 
 -- After a close.
 pub after-close : (R : SecondaryHistory → Type 0) (h : SecondaryHistory) → R h → ((inward h).closed ≡ false → R (with_inward closed_end h))

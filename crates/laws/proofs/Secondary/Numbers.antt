@@ -16,8 +16,9 @@ use Rattle.laws.proofs.Lists.Elements.{get-more, same-at}
 use Rattle.laws.proofs.Lists.Fronts.{find-first}
 use Rattle.laws.proofs.Lists.Last.{get-change-back, last-at}
 use Rattle.laws.proofs.Lists.Picks.{pick-found}
-use Rattle.laws.proofs.Secondary.Moves.{framed, refused_end, pushed_one, closed_end, receipting, after-event, after-open, after-receive, after-peer}
+use Rattle.laws.proofs.Secondary.Moves.{framed, pushed_one, closed_end, receipting, after-event, after-open, after-receive, after-peer}
 use Rattle.laws.proofs.Secondary.Moves.{after-fault, after-push, after-close}
+use Rattle.laws.proofs.Rules.RefusedFrames.{refused_end}
 
 -- they rise from 1 on
 pub record NumbersRise (ds : List Inward) : Type 0 where

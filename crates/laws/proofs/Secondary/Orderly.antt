@@ -17,11 +17,12 @@ use Rattle.model.specs.SecondarySteps.{answering, barrier_answer, barriers_to_an
 use Rattle.laws.proofs.Lists.Elements.{get-split}
 use Rattle.laws.proofs.Rules.DiskFaults.{reached, fault-applied}
 use Rattle.laws.proofs.Lists.Picks.{pick-image}
-use Rattle.laws.proofs.Secondary.Moves.{framed, refused_end, pushed_one, closed_end}
+use Rattle.laws.proofs.Secondary.Moves.{pushed_one, closed_end}
 use Rattle.laws.proofs.Secondary.Sound.{sound-same}
 use Rattle.laws.proofs.Secondary.Good.{IsGood, good-due, good-new, good-refusing, items-refusing, good-failing}
 use Rattle.laws.proofs.Secondary.Fits.{is_said, is_answered_to, Fits, fits-grow, said-grows, answered-grows}
 use Rattle.laws.proofs.Secondary.InTurn.{answers-fit}
+use Rattle.laws.proofs.Rules.RefusedFrames.{refused_in}
 
 -- each acknowledgement that is due fits those that were due before it
 abbrev pub AllFit : Protocol → Inward → Type 0
@@ -169,7 +170,7 @@ plain d good standing = elim (cases_Bool d.refused) [ inl was ↦ absurd (both_w
 
 -- a frame is refused, and the end closes
 pub orderly-refusing : (asked : Protocol) (frame : Received) (d : Inward) → d.closed ≡ false → IsOrderly asked d
-    → IsOrderly asked (refused_end (framed frame d))
+    → IsOrderly asked (refused_in frame d)
 orderly-refusing asked frame d standing o =
-    orderly-same asked d (refused_end (framed frame d)) [] o (good-refusing frame d standing o.good) (items-refusing frame d (plain d o.good standing))
+    orderly-same asked d (refused_in frame d) [] o (good-refusing frame d standing o.good) (items-refusing frame d (plain d o.good standing))
     (sym (append-nil d.applied)) refl (inl refl)

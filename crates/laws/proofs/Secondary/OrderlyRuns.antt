@@ -1,11 +1,8 @@
 -- Whatever frames a secondary takes and however its disk fails, its acknowledgements fit.
-use Rattle.std.proofs.Common.{ℕ, zero, suc, ◌≡◌, Bool, true, false, cond, List, [], ◌∷◌, length, Option, Some, None, is_none, Ok, Err, refl, sym, ◌∙◌, ap}
-use Rattle.std.proofs.Common.{subst, nat_lt, nat_le}
+use Rattle.std.proofs.Common.{ℕ, zero, suc, ◌≡◌, Bool, true, false, cond, List, [], ◌∷◌, length, Option, Some, Ok, Err, refl, sym, ◌∙◌, ap}
+use Rattle.std.proofs.Common.{subst, nat_lt}
 use Rattle.blocks.specs.declared.refusal.Refusal.{Refusal}
-use Rattle.blocks.specs.declared.refusal.Refusal.TheVariants.{NothingThere, NotConnected, PendingFull, NoMemory}
 use Rattle.blocks.specs.declared.outcome.What.{What}
-use Rattle.blocks.specs.declared.outcome.Reply.{Reply}
-use Rattle.blocks.specs.declared.outcome.Reply.TheVariants as reply
 use Rattle.blocks.specs.declared.settings.Settings.{Settings}
 use Rattle.blocks.specs.declared.settings.Protocol.{Protocol}
 use Rattle.blocks.specs.declared.settings.Protocol.TheVariants as protocol
@@ -14,18 +11,17 @@ use Rattle.model.specs.Contents.{BlockMap, Write}
 use Rattle.model.specs.Stream.{WriteItem}
 use Rattle.model.specs.Frames.{Packet, DataFrame, RsDataReplyFrame, BarrierFrame, ProtocolFrame, UuidsFrame, SizesFrame, SyncUuidFrame, Received}
 use Rattle.model.specs.Primary.{change_last}
-use Rattle.model.specs.Refusals.{Test}
-use Rattle.model.specs.Secondary.{Inward, SecondaryHistory, secondary_opening, no_inward, inward, with_inward, items_taken, received_item, pending}
-use Rattle.model.specs.SecondarySteps.{answering, succeeding_secondary, opened_secondary, Checked, checking_hello, checking_item, checking, adopting, receiving}
+use Rattle.model.specs.Secondary.{Inward, SecondaryHistory, secondary_opening, no_inward, inward, with_inward, items_taken, received_item}
+use Rattle.model.specs.SecondarySteps.{answering, opened_secondary, Checked, checking_hello, checking_item, checking, adopting, receiving}
 use Rattle.model.specs.SecondarySteps.{take_item, receive, applying, failing}
 use Rattle.model.specs.LocalRuns.{SecondaryEvent, OpensToo, Receives, Applies, FailsToApply, Acknowledges, ClosesToo, secondary_after, secondary_run}
 use Rattle.laws.proofs.Lists.Each.{Each, each-append, each-change}
 use Rattle.laws.proofs.Lists.Last.{change-twice}
-use Rattle.laws.proofs.Lists.Tests.{test-passed}
-use Rattle.laws.proofs.Secondary.Runs.{tested-keeps}
-use Rattle.laws.proofs.Secondary.Moves.{framed, receipting, refused_end, pushed_one, closed_end, after-open, after-peer, after-fault, after-push, after-close}
+use Rattle.laws.proofs.Secondary.Moves.{framed, receipting, pushed_one, closed_end, after-open, after-peer, after-fault, after-push, after-close}
 use Rattle.laws.proofs.Secondary.Orderly.{IsOrderly, orderly-new, orderly-answering, orderly-pushing, orderly-closing, orderly-failing, orderly-refusing}
 use Rattle.laws.proofs.Secondary.OrderlyTaking.{orderly-taking, orderly-receipting, orderly-applying}
+use Rattle.laws.proofs.Rules.Memory.{receive-has}
+use Rattle.laws.proofs.Rules.RefusedFrames.{refused_in, refused-last-too, item-has}
 
 -- every connection is orderly, under the protocol of the settings
 pub record HasOrderlyEnds (asked : Protocol) (h : SecondaryHistory) : Type 0 where
@@ -118,30 +114,14 @@ module _ (asked : Protocol) where
       go false is = judged-item packet h standing is a
 
   orderly-take : (frame : Received) (h : SecondaryHistory) → (inward h).closed ≡ false → HasOrderlyEnds asked h → HasOrderlyEnds asked (take_item frame h).1
-  orderly-take frame h standing a = go (checking frame (inward h) (with_inward (framed frame) h)) (judged frame h standing a)
-    where
-      go : (v : Checked) → Judged v → HasOrderlyEnds asked (elim v as (λ _. Reply × SecondaryHistory) [
-        | Ok done ↦ succeeding_secondary done.0 done.1
-        | Err refusal ↦ (reply.Refused refusal, with_inward refused_end (with_inward (framed frame) h))
-      ]).1
-      go (Ok done) j = j
-      go (Err refusal) j = orderly-change h _ (λ c. refused_end (framed frame c)) refl (change-twice (framed frame) refused_end h.connections)
-          (orderly-refusing asked frame (inward h) standing) a
+  orderly-take frame h standing a =
+      item-has (λ r. HasOrderlyEnds asked r.1) Judged frame h (judged frame h standing a) (λ done j. j)
+      (λ refusal j. orderly-change h _ (refused_in frame) refl (refused-last-too frame h) (orderly-refusing asked frame (inward h) standing) a)
 
   orderly-receive : (frame : Option Received) (starved : Bool) (h : SecondaryHistory) → HasOrderlyEnds asked h
       → HasOrderlyEnds asked (receive frame starved h).1
   orderly-receive frame starved h a =
-      tested-keeps (HasOrderlyEnds asked) h (((inward h).closed, NotConnected) ∷ rest)
-      (λ _. elim frame as (λ _. Reply × SecondaryHistory) [ None ↦ (reply.Refused NothingThere, h) | Some taken ↦ take_item taken h ])
-      a (λ passed. go frame (test-passed (inward h).closed NotConnected rest passed).0)
-    where
-      rest : List Test
-      rest = (nat_le h.settings.pending (length (pending (inward h))), PendingFull) ∷ (starved, NoMemory) ∷ (is_none frame, NothingThere) ∷ []
-
-      go : (v : Option Received) → (inward h).closed ≡ false
-          → HasOrderlyEnds asked (elim v as (λ _. Reply × SecondaryHistory) [ None ↦ (reply.Refused NothingThere, h) | Some taken ↦ take_item taken h ]).1
-      go None standing = a
-      go (Some taken) standing = orderly-take taken h standing a
+      receive-has (λ r. HasOrderlyEnds asked r.1) frame starved h (λ refusal other. a) (λ taken is standing. orderly-take taken h standing a)
 
   -- Every event keeps it, and so does every run.
 

@@ -1,6 +1,6 @@
 -- A secondary by itself, over every list of its events: its parts are closed and its disks follow one another.
-use Rattle.std.proofs.Common.{ℕ, zero, suc, ◌≡◌, Bool, true, false, cond, not, List, [], ◌∷◌, ◌++◌, length, Option, Some, None, is_none, Ok, Err, refl, sym}
-use Rattle.std.proofs.Common.{subst, ◌==◌, nat_lt, nat_le}
+use Rattle.std.proofs.Common.{ℕ, zero, suc, ◌≡◌, Bool, true, false, cond, not, List, [], ◌∷◌, ◌++◌, length, Option, Some, None, Ok, Err, refl, sym}
+use Rattle.std.proofs.Common.{subst, ◌==◌, nat_lt}
 use Rattle.std.proofs.lemmas.Bool.{not-false}
 use Rattle.blocks.specs.declared.refusal.Refusal.{Refusal}
 use Rattle.blocks.specs.declared.outcome.What.{What}
@@ -14,24 +14,25 @@ use Rattle.model.specs.Stream.{Item, WriteItem}
 use Rattle.model.specs.Frames.{Packet, DataFrame, RsDataReplyFrame, BarrierFrame, ProtocolFrame, UuidsFrame, SizesFrame, SyncUuidFrame, RecvAckFrame}
 use Rattle.model.specs.Frames.{WriteAckFrame, RsWriteAckFrame, BarrierAckFrame, Received, naming}
 use Rattle.model.specs.Refusals.{Test, first_refusal, done_with}
-use Rattle.model.specs.Secondary.{Inward, SecondaryHistory, secondary_opening, no_inward, inward, with_inward, items_taken, pending, secondary_map}
+use Rattle.model.specs.Secondary.{Inward, SecondaryHistory, secondary_opening, no_inward, inward, with_inward, items_taken, secondary_map}
 use Rattle.model.specs.SecondarySteps.{answering, succeeding_secondary, tested_secondary, open_secondary_tests, opened_secondary, open_secondary, Checked}
 use Rattle.model.specs.SecondarySteps.{checking_hello, checking_item, checking, adopting, receiving, take_item, receive, peer_tests, is_pending_at, has_earlier}
 use Rattle.model.specs.SecondarySteps.{applying, peer, failing, peer_fault, ack_out_tests, answering_with, ack_out, close_secondary}
 use Rattle.model.specs.Acknowledgements.{same_protocol}
 use Rattle.blocks.specs.declared.outcome.Reply.TheVariants as reply
-use Rattle.blocks.specs.declared.refusal.Refusal.TheVariants.{NothingThere, NotConnected, PendingFull, NoMemory, UnknownJob, EpochOpen}
+use Rattle.blocks.specs.declared.refusal.Refusal.TheVariants.{NotConnected, UnknownJob, EpochOpen}
 use Rattle.blocks.specs.declared.outcome.What.TheVariants as what
 use Rattle.model.specs.LocalRuns.{SecondaryEvent, OpensToo, Receives, Applies, FailsToApply, Acknowledges, ClosesToo, secondary_after, secondary_run}
 use Rattle.model.specs.Theorems.{secondary_at}
 use Rattle.laws.specs.Statements.{SecondaryHoldsEarlierEpochs}
 use Rattle.laws.proofs.Secondary.Sound.{sound-same}
-use Rattle.laws.proofs.Lists.Last.{change-twice}
 use Rattle.laws.proofs.Lists.Each.{Each, each-get, each-append, each-change}
 use Rattle.laws.proofs.Lists.Tests.{test-passed}
 use Rattle.laws.proofs.Secondary.Chained.{AreChained, chained-append, chained-change, chained-next, chained-first, last-disk}
 use Rattle.laws.proofs.Secondary.Good.{IsGood, good-due, good-answering, base-answering, good-new, good-taking, good-refusing, base-applying, good-applying}
 use Rattle.laws.proofs.Secondary.Good.{good-failing}
+use Rattle.laws.proofs.Rules.Memory.{receive-has}
+use Rattle.laws.proofs.Rules.RefusedFrames.{refused_end, refused_in, item-has, refused-last-too}
 
 -- What every step of a secondary keeps: its connections are good, and its disks follow one another.
 pub record IsKept (h : SecondaryHistory) : Type 0 where
@@ -156,43 +157,22 @@ kept-checking (Ok packet) c h result kept is = go (nat_lt (length c.taken) 3) is
     go false is = kept-item packet (length (items_taken c)) c h result kept is
 
 kept-take : (frame : Received) (h : SecondaryHistory) → (inward h).closed ≡ false → IsKept h → IsKept (take_item frame h).1
-kept-take frame h standing kept = go (checking frame (inward h) taken) refl
+kept-take frame h standing kept = item-has (λ r. IsKept r.1) (λ v. checking frame (inward h) taken ≡ v) frame h refl
+    (λ done is. kept-succeeding done.0 done.1 (kept-checking frame (inward h) _ done kept-taken is)) (λ refusal is. record {
+      good = subst (Each IsGood) (sym (refused-last-too frame h))
+          (each-change IsGood (refused_in frame) (no_inward h) h.connections kept.good (good-refusing frame (inward h) standing));
+      chained = chained-change refused_end (λ d block. refl) h.opening_map _ kept-taken.chained;
+    })
   where
     taken : SecondaryHistory
     taken = with_inward (λ c. record c { taken = c.taken ++ frame ∷ [] }) h
 
-    kept-taken : IsKept (with_inward (λ c. record c { taken = c.taken ++ frame ∷ [] }) h)
+    kept-taken : IsKept taken
     kept-taken = kept-change (λ c. record c { taken = c.taken ++ frame ∷ [] }) h kept (λ d block. refl) (good-taking frame (inward h) standing)
 
-    go : (v : Checked) → checking frame (inward h) (with_inward (λ c. record c { taken = c.taken ++ frame ∷ [] }) h) ≡ v
-        → IsKept (elim v as (λ _. Reply × SecondaryHistory) [
-          | Ok done ↦ succeeding_secondary done.0 done.1
-          | Err refusal ↦ (
-            reply.Refused refusal,
-            with_inward (λ c. record c { refused = true; closed = true }) (with_inward (λ c. record c { taken = c.taken ++ frame ∷ [] }) h),
-          )
-        ]).1
-    go (Ok done) is = kept-succeeding done.0 done.1 (kept-checking frame (inward h) _ done kept-taken is)
-    go (Err refusal) is = record {
-      good = subst (Each IsGood) (sym
-          (change-twice (λ c. record c { taken = c.taken ++ frame ∷ [] }) (λ c. record c { refused = true; closed = true }) h.connections))
-          (each-change IsGood (λ c. record c { taken = c.taken ++ frame ∷ []; refused = true; closed = true }) (no_inward h) h.connections kept.good
-          (good-refusing frame (inward h) standing));
-      chained = chained-change (λ c. record c { refused = true; closed = true }) (λ d block. refl) h.opening_map _ kept-taken.chained;
-    }
-
 kept-receive : (frame : Option Received) (starved : Bool) (h : SecondaryHistory) → IsKept h → IsKept (receive frame starved h).1
-kept-receive frame starved h kept = tested-keeps IsKept h (((inward h).closed, NotConnected) ∷ rest)
-    (λ _. elim frame as (λ _. Reply × SecondaryHistory) [ None ↦ (reply.Refused NothingThere, h) | Some taken ↦ take_item taken h ])
-    kept (λ passed. go frame (test-passed (inward h).closed NotConnected rest passed).0)
-  where
-    rest : List Test
-    rest = (nat_le h.settings.pending (length (pending (inward h))), PendingFull) ∷ (starved, NoMemory) ∷ (is_none frame, NothingThere) ∷ []
-
-    go : (v : Option Received) → (inward h).closed ≡ false
-        → IsKept (elim v as (λ _. Reply × SecondaryHistory) [ None ↦ (reply.Refused NothingThere, h) | Some taken ↦ take_item taken h ]).1
-    go None standing = kept
-    go (Some taken) standing = kept-take taken h standing kept
+kept-receive frame starved h kept =
+    receive-has (λ r. IsKept r.1) frame starved h (λ refusal other. kept) (λ taken is standing. kept-take taken h standing kept)
 
 -- The disk.
 

@@ -9,8 +9,9 @@ use Rattle.model.specs.SecondarySteps.{answering, barrier_answer, barriers_to_an
 use Rattle.model.specs.LocalRuns.{SecondaryEvent, secondary_after, secondary_run}
 use Rattle.model.specs.Headline.{StaysClosedToo}
 use Rattle.laws.proofs.Lists.Last.{get-change, change-twice}
-use Rattle.laws.proofs.Secondary.Moves.{framed, receipting, refused_end, pushed_one, closed_end, after-event}
+use Rattle.laws.proofs.Secondary.Moves.{framed, receipting, pushed_one, closed_end, after-event}
 use Rattle.laws.proofs.Lists.Elements.{get-left}
+use Rattle.laws.proofs.Rules.RefusedFrames.{refused_in, refused_by_too, refused-last-too}
 
 -- where nothing happened
 stays-self : (s : SecondaryHistory) → StaysClosedToo s s
@@ -92,8 +93,8 @@ stays-after event s = after-event (StaysClosedToo s) s event (record {
         (change-twice (framed frame) (receipting (length (items_taken (inward s))) write) s.connections) standing);
     adopts = λ item tuple consistent is late. stays-answering s _
         (stays-open s (adopting tuple consistent (with_inward (framed frame) s)) (framed frame) refl standing);
-    refuses = stays-open s (with_inward refused_end (with_inward (framed frame) s)) (λ c. refused_end (framed frame c))
-        (change-twice (framed frame) refused_end s.connections) standing;
+    refuses = stays-open s (refused_by_too frame s) (refused_in frame)
+        (refused-last-too frame s) standing;
   };
   applies = λ place waiting none. stays-answering s _
       (stays-change s (with_inward (applying s.settings.protocol place) s) (applying s.settings.protocol place) refl

@@ -1,16 +1,15 @@
 -- What a secondary's acknowledgements say is true: what they name was taken, or is applied. Over every list of its events.
 use Rattle.std.proofs.Common.{ℕ, zero, suc, ◌≡◌, ◌-◌, ◌<◌, ◌⊎◌, inl, inr, Bool, true, false, cond, not, ◌&&◌, ◌||◌, List, [], ◌∷◌, ◌++◌, length, take, drop}
-use Rattle.std.proofs.Common.{map, Option, Some, None, is_none, slice_get, Ok, Err, refl, sym, ◌∙◌, ap, subst, arith, ◌==◌, nat_lt, nat_le}
+use Rattle.std.proofs.Common.{map, Option, Some, None, slice_get, Ok, Err, refl, sym, ◌∙◌, ap, subst, arith, ◌==◌, nat_lt}
 use Rattle.std.specs.Prelude.{filter_map, if◌then◌else◌}
 use Rattle.std.proofs.lemmas.Bool.{cases_Bool, both_ways, not-false, and_from, or_left, or_right, eq-eqb, ltb-false, cases_lt, and_parts, eqb-true}
 use Rattle.std.proofs.lemmas.List.Elements.{filter_map-append}
 use Rattle.std.proofs.lemmas.List.{append-nil, map-append, drop-append-le}
 use Rattle.blocks.specs.declared.refusal.Refusal.{Refusal}
-use Rattle.blocks.specs.declared.refusal.Refusal.TheVariants.{NothingThere, NotConnected, PendingFull, NoMemory, UnknownJob, EpochOpen}
+use Rattle.blocks.specs.declared.refusal.Refusal.TheVariants.{NotConnected, UnknownJob, EpochOpen}
 use Rattle.blocks.specs.declared.outcome.What.{What}
 use Rattle.blocks.specs.declared.outcome.What.TheVariants as what
 use Rattle.blocks.specs.declared.command.Command.TheVariants as command
-use Rattle.blocks.specs.declared.outcome.Reply.{Reply}
 use Rattle.blocks.specs.declared.outcome.Reply.TheVariants as reply
 use Rattle.blocks.specs.declared.settings.Protocol.{Protocol}
 use Rattle.blocks.specs.declared.settings.Protocol.TheVariants as protocol
@@ -20,8 +19,8 @@ use Rattle.model.specs.Stream.{Item, WriteItem, ResyncItem, BarrierItem, SyncUui
 use Rattle.model.specs.Frames.{Packet, DataFrame, RsDataReplyFrame, BarrierFrame, ProtocolFrame, UuidsFrame, SizesFrame, SyncUuidFrame, RecvAckFrame}
 use Rattle.model.specs.Frames.{WriteAckFrame, RsWriteAckFrame, BarrierAckFrame, Acknowledged, Received, naming}
 use Rattle.model.specs.Primary.{change_last, same_naming}
-use Rattle.model.specs.Refusals.{Test, done_with}
-use Rattle.model.specs.Secondary.{Inward, SecondaryHistory, no_inward, inward, with_inward, items_taken, accepted_of, received_item, pending, secondary_map}
+use Rattle.model.specs.Refusals.{done_with}
+use Rattle.model.specs.Secondary.{Inward, SecondaryHistory, no_inward, inward, with_inward, items_taken, accepted_of, received_item, secondary_map}
 use Rattle.model.specs.SecondarySteps.{answering, barrier_answer, barriers_to_answer, succeeding_secondary, open_secondary_tests, opened_secondary}
 use Rattle.model.specs.SecondarySteps.{open_secondary, Checked, checking_hello, checking_item, checking, adopting, receiving, take_item, receive, peer_tests}
 use Rattle.model.specs.SecondarySteps.{is_pending_at, has_earlier, offsets_at, applied_answer, applying, peer, failing, peer_fault, ack_out_tests}
@@ -38,6 +37,8 @@ use Rattle.laws.proofs.Lists.Each.{Each, each-append, each-change}
 use Rattle.laws.proofs.Lists.Tests.{test-passed}
 use Rattle.laws.proofs.Secondary.Good.{IsGood, good-new, taking-more, good-taking, items-refusing, good-refusing, good-failing}
 use Rattle.laws.proofs.Lists.Picks.{pick-below}
+use Rattle.laws.proofs.Rules.Memory.{receive-has}
+use Rattle.laws.proofs.Rules.RefusedFrames.{refused_in, item-has, refused-last-too}
 
 -- the item that an acknowledgement names was taken
 pub record NamesTaken (d : Inward) (ack : Acknowledged) : Type 0 where
@@ -310,24 +311,21 @@ named frame d write at is accepted late zero packet there =
 named frame d write at is accepted late (suc n) packet there = absurd (cc)
 
 truthful-refusing : (frame : Received) (d : Inward) → d.closed ≡ false → IsTruthful d
-    → IsTruthful (record d { taken = d.taken ++ frame ∷ []; refused = true; closed = true })
+    → IsTruthful (refused_in frame d)
 truthful-refusing frame d standing t = truthful-same d _ t (good-refusing frame d standing t.good) (items-refusing frame d (plain d t.good standing)) refl refl
 
 all-take : (frame : Received) (h : SecondaryHistory) → (inward h).closed ≡ false → AreTruthful h → AreTruthful (take_item frame h).1
-all-take frame h standing all = go (checking frame (inward h) (with_inward (λ c. record c { taken = c.taken ++ frame ∷ [] }) h)) refl
+all-take frame h standing all = item-has (λ r. AreTruthful r.1)
+    (λ v. checking frame (inward h) (with_inward (λ c. record c { taken = c.taken ++ frame ∷ [] }) h) ≡ v) frame h refl accepted (λ refusal is.
+    subst (Each IsTruthful) (sym (refused-last-too frame h)) (each-change IsTruthful (refused_in frame) (no_inward h) h.connections all
+    (truthful-refusing frame (inward h) standing)))
   where
     all-taken : AreTruthful (with_inward (λ c. record c { taken = c.taken ++ frame ∷ [] }) h)
     all-taken = all-change (λ c. record c { taken = c.taken ++ frame ∷ [] }) h all (truthful-taking frame (inward h) standing)
 
-    go : (v : Checked) → checking frame (inward h) (with_inward (λ c. record c { taken = c.taken ++ frame ∷ [] }) h) ≡ v
-        → AreTruthful (elim v as (λ _. Reply × SecondaryHistory) [
-          | Ok done ↦ succeeding_secondary done.0 done.1
-          | Err refusal ↦ (
-            reply.Refused refusal,
-            with_inward (λ c. record c { refused = true; closed = true }) (with_inward (λ c. record c { taken = c.taken ++ frame ∷ [] }) h),
-          )
-        ]).1
-    go (Ok done) is = all-succeeding done.0 done.1
+    accepted : (done : What × SecondaryHistory) → checking frame (inward h) (with_inward (λ c. record c { taken = c.taken ++ frame ∷ [] }) h) ≡ Ok done
+        → AreTruthful (succeeding_secondary done.0 done.1).1
+    accepted done is = all-succeeding done.0 done.1
         (elim (accepts-frame frame (inward h) (with_inward (λ c. record c { taken = c.taken ++ frame ∷ [] }) h) done is) [
           | inl same ↦ rw same all-taken
           | inr new ↦
@@ -344,23 +342,10 @@ all-take frame h standing all = go (checking frame (inward h) (with_inward (λ c
               truthful-due d (ack ∷ []) t' (good-same d _ t'.good refl refl refl (λ c. c) refl)
               (named frame (inward h) new.0 new.1 new.2 (plain (inward h) t.good standing) new.3)))
         ])
-    go (Err refusal) is = rw (change-twice (λ (c : Inward). record c { taken = c.taken ++ frame ∷ [] })
-        (λ (c : Inward). record c { refused = true; closed = true }) h.connections)
-        (each-change IsTruthful (λ (c : Inward). record c { taken = c.taken ++ frame ∷ []; refused = true; closed = true }) (no_inward h) h.connections all
-        (truthful-refusing frame (inward h) standing))
 
 all-receive : (frame : Option Received) (starved : Bool) (h : SecondaryHistory) → AreTruthful h → AreTruthful (receive frame starved h).1
-all-receive frame starved h all = tested-keeps AreTruthful h (((inward h).closed, NotConnected) ∷ rest)
-    (λ _. elim frame as (λ _. Reply × SecondaryHistory) [ None ↦ (reply.Refused NothingThere, h) | Some taken ↦ take_item taken h ])
-    all (λ passed. go frame (test-passed (inward h).closed NotConnected rest passed).0)
-  where
-    rest : List Test
-    rest = (nat_le h.settings.pending (length (pending (inward h))), PendingFull) ∷ (starved, NoMemory) ∷ (is_none frame, NothingThere) ∷ []
-
-    go : (v : Option Received) → (inward h).closed ≡ false
-        → AreTruthful (elim v as (λ _. Reply × SecondaryHistory) [ None ↦ (reply.Refused NothingThere, h) | Some taken ↦ take_item taken h ]).1
-    go None standing = all
-    go (Some taken) standing = all-take taken h standing all
+all-receive frame starved h all =
+    receive-has (λ r. AreTruthful r.1) frame starved h (λ refusal other. all) (λ taken is standing. all-take taken h standing all)
 
 -- The disk.
 

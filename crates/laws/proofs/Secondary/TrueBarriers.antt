@@ -16,17 +16,17 @@ use Rattle.model.specs.Secondary.{Inward, SecondaryHistory, secondary_opening, n
 use Rattle.model.specs.SecondarySteps.{answering, barrier_answer, barriers_to_answer, opened_secondary, offsets_at, applied_answer, applying}
 use Rattle.model.specs.SecondarySteps.{failing, adopting}
 use Rattle.model.specs.LocalRuns.{SecondaryEvent, secondary_after, secondary_run}
-use Rattle.laws.proofs.Lists.Last.{change-twice}
 use Rattle.laws.proofs.Rules.BarrierAnswers as rule
 use Rattle.laws.proofs.Rules.DiskFaults.{reached, fault-applied}
 use Rattle.laws.proofs.Streams.Parts.{in-append, whole-grows, whole-from}
 use Rattle.laws.proofs.Streams.Places.{barriers-append, epoch-grows, epoch-behind, get-grows}
-use Rattle.laws.proofs.Secondary.Moves.{framed, receipting, refused_end, pushed_one, closed_end, after-event}
+use Rattle.laws.proofs.Secondary.Moves.{framed, receipting, pushed_one, closed_end, after-event}
 use Rattle.laws.proofs.Secondary.TrueAnswers.{NamesApplied, in-below}
 use Rattle.laws.proofs.Lists.Elements.{get-left, get-split}
 use Rattle.laws.proofs.Lists.Picks.{pick-image}
 use Rattle.laws.proofs.Lists.Each.{Each, each-get, each-append, each-change}
 use Rattle.laws.proofs.Secondary.Good.{taking-more, items-refusing}
+use Rattle.laws.proofs.Rules.RefusedFrames.{refused_in, refused-last-too}
 
 -- Every item of the epochs up to a number is taken to its barrier, and applied.
 pub record AnswersBarrier (d : Inward) (number : ℕ) : Type 0 where
@@ -153,10 +153,10 @@ true-taking frame d standing t =
     let more = taking-more frame d (plain d t standing) in
     true-change d (framed frame d) more.0 [] [] t more.1 (sym (append-nil d.applied)) (sym (append-nil d.due)) t.refused (none-more (framed frame d))
 
-true-refusing : (frame : Received) (d : Inward) → d.closed ≡ false → HasTrueAnswers d → HasTrueAnswers (refused_end (framed frame d))
+true-refusing : (frame : Received) (d : Inward) → d.closed ≡ false → HasTrueAnswers d → HasTrueAnswers (refused_in frame d)
 true-refusing frame d standing t =
-    true-change d (refused_end (framed frame d)) [] [] [] t (items-refusing frame d (plain d t standing)
-    ∙ sym (append-nil (items_taken d))) (sym (append-nil d.applied)) (sym (append-nil d.due)) (λ r. refl) (none-more (refused_end (framed frame d)))
+    true-change d (refused_in frame d) [] [] [] t (items-refusing frame d (plain d t standing)
+    ∙ sym (append-nil (items_taken d))) (sym (append-nil d.applied)) (sym (append-nil d.due)) (λ r. refl) (none-more (refused_in frame d))
 
 true-receipting : (place : ℕ) (write : Write) (d : Inward) → HasTrueAnswers d → HasTrueAnswers (receipting place write d)
 true-receipting place write d t = true-change d (receipting place write d) [] [] (answer ∷ []) t (sym (append-nil (items_taken d)))
@@ -267,8 +267,8 @@ true-after event h all = after-event AllTrue h event (record {
             (true-with (receipting (length (items_taken (inward h))) write) (with_inward (framed frame) h) taken
             (true-receipting (length (items_taken (inward h))) write (inward (with_inward (framed frame) h))));
         adopts = λ item tuple consistent is late. then-answering (adopting tuple consistent (with_inward (framed frame) h)) taken;
-        refuses = rw (change-twice (framed frame) refused_end h.connections)
-            (true-with (λ c. refused_end (framed frame c)) h all (true-refusing frame (inward h) standing));
+        refuses = rw (refused-last-too frame h)
+            (true-with (refused_in frame) h all (true-refusing frame (inward h) standing));
       };
   applies = λ place waiting first. then-answering (with_inward (applying h.settings.protocol place) h)
       (true-with (applying h.settings.protocol place) h all (true-applying h.settings.protocol place (inward h)));

@@ -19,10 +19,11 @@ use Rattle.model.specs.Secondary.{secondary_map}
 use Rattle.model.specs.SecondarySteps.{answering, barrier_answer, barriers_to_answer, opened_secondary, offsets_at, applied_answer, applying, failing, adopting}
 use Rattle.model.specs.SecondarySteps.{next_number}
 use Rattle.model.specs.LocalRuns.{SecondaryEvent, secondary_after, secondary_run}
-use Rattle.laws.proofs.Lists.Last.{get-change, get-change-back, change-twice, last-at, get-last-changed}
-use Rattle.laws.proofs.Secondary.Moves.{framed, receipting, refused_end, pushed_one, closed_end, after-event}
+use Rattle.laws.proofs.Lists.Last.{get-change, get-change-back, last-at, get-last-changed}
+use Rattle.laws.proofs.Secondary.Moves.{framed, receipting, pushed_one, closed_end, after-event}
 use Rattle.laws.proofs.Lists.Elements.{get-left, get-more, append-empty, append-one}
 use Rattle.laws.proofs.Secondary.Good.{taking-more, items-refusing}
+use Rattle.laws.proofs.Rules.RefusedFrames.{refused_in, refused_by_too, refused-last-too}
 
 -- While no item was taken, the tuple is the first one, and so is each hello with no item taken before it. An end that
 -- refused a frame is closed.
@@ -99,7 +100,7 @@ front-taking frame d accepted =
     let more = taking-more frame d accepted in
     record { hello = refl; items = λ none. append-empty (items_taken d) more.0 (sym more.1 ∙ none); refused = λ was. was }
 
-front-refusing : (frame : Received) (d : Inward) → d.refused ≡ false → KeepsFront d (refused_end (framed frame d))
+front-refusing : (frame : Received) (d : Inward) → d.refused ≡ false → KeepsFront d (refused_in frame d)
 front-refusing frame d accepted = record { hello = refl; items = λ none. sym (items-refusing frame d accepted) ∙ none; refused = λ was r. refl }
 
 -- a frame of an item that is taken behind the hello is not lost
@@ -190,8 +191,8 @@ tuples-after tuple event h t = after-event (KeepsTuple tuple) h event (record {
         adopts = λ item adopted consistent is late. then-answering tuple (adopting adopted consistent (with_inward (framed frame) h))
             (tuples-adopting tuple h frame item adopted consistent is late standing t);
         refuses =
-            tuples-with tuple h (with_inward refused_end (with_inward (framed frame) h)) (λ c. refused_end (framed frame c)) t
-            (change-twice (framed frame) refused_end h.connections) refl (front-refusing frame (inward h) accepted);
+            tuples-with tuple h (refused_by_too frame h) (refused_in frame) t
+            (refused-last-too frame h) refl (front-refusing frame (inward h) accepted);
       };
   applies = λ place waiting first. then-answering tuple (with_inward (applying h.settings.protocol place) h)
       (tuples-with tuple h (with_inward (applying h.settings.protocol place) h) (applying h.settings.protocol place) t refl refl

@@ -26,7 +26,7 @@ use Rattle.laws.proofs.Rules.EpochEnds.{over-standing}
 use Rattle.laws.specs.Reflections.{content_at}
 use Rattle.laws.proofs.Blocks.LatestPlaces.{latest-last}
 use Rattle.laws.proofs.Lists.Last.{last-change, change-twice, last-more}
-use Rattle.laws.proofs.Primary.Moves.{with_frame, refusing, pushing, MayAcknowledge}
+use Rattle.laws.proofs.Primary.Moves.{with_frame, pushing, MayAcknowledge}
 use Rattle.laws.proofs.Primary.Homes.{HasHomes, open-at}
 use Rattle.laws.proofs.Primary.HomesMoves.{homes-kept}
 use Rattle.laws.proofs.Blocks.Latest.{latest, content_of, sent_map, settling_map}
@@ -36,6 +36,7 @@ use Rattle.laws.proofs.Lists.Picks.{pick-any, pick-filtered, pick-image}
 use Rattle.laws.proofs.Tracked.Moves.{some-connection, unanswered-before, untouched, changed, tracked-quiet, tracked-turn, tracked-appending}
 use Rattle.laws.proofs.Primary.Ends.{stands-parts, not-refused, frames-taking}
 use Rattle.laws.proofs.Primary.HomesFollowing.{homes-completions, homes-ending, homes-parting}
+use Rattle.laws.proofs.Rules.RefusedFrames.{refusing, refused_by}
 
 -- What follows a step.
 
@@ -210,9 +211,9 @@ tracked-closes h standing t =
 
 -- A frame is refused, and the end closes.
 pub tracked-refuses : (h : PrimaryHistory) (frame : Received) (peer : Option Tuple) → (outward h).closed ≡ false → IsTracked h
-    → IsTracked (closing (with_outward refusing (record (with_outward (with_frame frame) h) { peer = peer })))
+    → IsTracked (closing (refused_by frame peer h))
 tracked-refuses h frame peer standing t =
-    let g : PrimaryHistory = with_outward refusing (record (with_outward (with_frame frame) h) { peer = peer }) in
+    let g : PrimaryHistory = refused_by frame peer h in
     tracked-closed h (change_last refusing (change_last (with_frame frame) h.connections)) (marking_unreleased g) (if (outward g).begun
     then lost (outward g).loss h.tuple else h.tuple) peer t (homes-kept.refuses h frame peer standing t.homes)
     (λ block. latest-same refusing (change_last (with_frame frame) h.connections) block (λ c. refl)

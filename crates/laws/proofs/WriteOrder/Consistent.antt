@@ -22,11 +22,12 @@ use Rattle.model.specs.SecondarySteps.{failing, adopting}
 use Rattle.model.specs.LocalRuns.{SecondaryEvent, secondary_after, secondary_run}
 use Rattle.laws.proofs.Lists.Beginnings.{begins-self, get-beginning}
 use Rattle.laws.proofs.Lists.Elements.{get-left, get-more, get-end}
-use Rattle.laws.proofs.Lists.Last.{get-change, get-change-back, change-twice, get-last-changed, length-change}
+use Rattle.laws.proofs.Lists.Last.{get-change, get-change-back, get-last-changed, length-change}
 use Rattle.laws.proofs.Lists.Picks.{pick-any}
 use Rattle.laws.proofs.Secondary.Good.{taking-more, items-refusing}
-use Rattle.laws.proofs.Secondary.Moves.{framed, receipting, refused_end, pushed_one, closed_end, IsPlain, after-kinds}
+use Rattle.laws.proofs.Secondary.Moves.{framed, receipting, pushed_one, closed_end, IsPlain, after-kinds}
 use Rattle.laws.proofs.Secondary.Tuples.{open-there, taken-item}
+use Rattle.laws.proofs.Rules.RefusedFrames.{refused_in, refused_by_too, refused-last-too}
 
 -- An end whose hello has this tuple, and whose items neither begin nor end a resync, nor are blocks of one.
 pub record IsPlainEnd (tuple : Tuple) (d : Inward) : Type 0 where
@@ -335,9 +336,9 @@ synced-after event h t = after-kinds HasSynced h event (record {
             (synced-starts h frame (record h.tuple { current = word }) t);
         ends = λ tuple is late. subst (λ (x : Received). HasSynced (with_inward answering (adopting tuple true (with_inward (framed x) h)))) (sym is)
             (then-answering (adopting tuple true (with_inward (framed (Ok (UuidsFrame tuple))) h)) (synced-ends h tuple standing late t));
-        refuses = synced-change h (with_inward refused_end (with_inward (framed frame) h)) (λ c. refused_end (framed frame c))
-            (change-twice (framed frame) refused_end h.connections) refl refl refl
-            (same-items (inward h) (refused_end (framed frame (inward h))) refl (items-refusing frame (inward h) plain) (λ was r. refl)) t;
+        refuses = synced-change h (refused_by_too frame h) (refused_in frame)
+            (refused-last-too frame h) refl refl refl
+            (same-items (inward h) (refused_in frame (inward h)) refl (items-refusing frame (inward h) plain) (λ was r. refl)) t;
       };
   applies = λ place. then-answering (with_inward (applying h.settings.protocol place) h)
       (synced-change h (with_inward (applying h.settings.protocol place) h) (applying h.settings.protocol place) refl refl refl refl

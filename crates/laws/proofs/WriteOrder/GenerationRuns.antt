@@ -22,12 +22,13 @@ use Rattle.laws.proofs.Rules.EpochEnds.{TakesWrites, takes-writes}
 use Rattle.laws.proofs.Lists.Beginnings.{begins-self}
 use Rattle.laws.proofs.Lists.Last.{change-twice}
 use Rattle.laws.proofs.Primary.Homes.{HasHomes, open-at}
-use Rattle.laws.proofs.Primary.Moves.{IsKeptByMoves, IsKeptByReleases, keeps-run, with_frame, refusing, pushing}
+use Rattle.laws.proofs.Primary.Moves.{IsKeptByMoves, IsKeptByReleases, keeps-run, with_frame, pushing}
 use Rattle.laws.proofs.Accounted.{IsAccounted}
 use Rattle.laws.proofs.WriteOrder.SpanRuns.{Spanned, SpannedAfter, spans-kept, spans-released, spans-run}
 use Rattle.laws.proofs.WriteOrder.Generations.{outward-change, start-current}
 use Rattle.laws.proofs.WriteOrder.GenerationMoves.{HasLeft, left-still, left-with, left-appends, left-following, left-closes, left-opens}
 use Rattle.laws.proofs.WriteOrder.GenerationBegins.{left-beginning}
+use Rattle.laws.proofs.Rules.RefusedFrames.{refusing_frame, refused_out, refused_by, refusing-last}
 
 left-submits : (h : PrimaryHistory) (first : ℕ) (contents : List (List ℕ)) → HasLeft h → HasLeft (submitted h first contents)
 left-submits h first contents t = go (stands (outward h))
@@ -148,20 +149,20 @@ closed-tuple h tuple is = go (outward h).begun refl is
     go false begun is = inr (begun, is)
 
 left-refuses : (h : PrimaryHistory) (frame : Received) (peer : Option Tuple) → (outward h).closed ≡ false → HasLeft h
-    → HasLeft (closing (with_outward refusing (record (with_outward (with_frame frame) h) { peer = peer })))
+    → HasLeft (closing (refused_by frame peer h))
 left-refuses h frame peer standing t =
-    let mid : PrimaryHistory = with_outward refusing (record (with_outward (with_frame frame) h) { peer = peer }) in
+    let mid : PrimaryHistory = refused_by frame peer h in
     let later : PrimaryHistory = closing mid in
-    let f : Outward → Outward = λ c. record c { taken = c.taken ++ frame ∷ []; refused = true; closed = true } in
-    let twice : mid.connections ≡ change_last (λ c. refusing (with_frame frame c)) h.connections = change-twice (with_frame frame) refusing h.connections in
-    let end : outward mid ≡ refusing (with_frame frame (outward h)) = elim (outward-change h mid (λ c. refusing (with_frame frame c)) twice) [
+    let f : Outward → Outward = refused_out frame in
+    let twice : mid.connections ≡ change_last (refusing_frame frame) h.connections = refusing-last frame h.connections in
+    let end : outward mid ≡ refusing_frame frame (outward h) = elim (outward-change h mid (refusing_frame frame) twice) [
       | inl none ↦ absurd (both_ways (outward h).closed standing (ap (λ (l : List Outward). (last_of (no_outward h.tuple) l).closed) none))
       | inr is ↦ is
     ] in
     let tuple : later.tuple ≡ (if (outward h).begun then lost (outward h).loss h.tuple else h.tuple) = ap (λ (c : Outward). if c.begun then lost c.loss h.tuple
     else h.tuple) end in
     left-closes h later f standing (ap (change_last (λ (c : Outward). record c { closed = true })) twice
-    ∙ change-twice (λ c. refusing (with_frame frame c)) (λ c. record c { closed = true }) h.connections) refl (closed-tuple h later.tuple tuple) refl refl
+    ∙ change-twice (refusing_frame frame) (λ c. record c { closed = true }) h.connections) refl (closed-tuple h later.tuple tuple) refl refl
     refl refl refl (frame ∷ [], refl) t
 
 -- Every move keeps it, beside the spans.

@@ -11,7 +11,7 @@ use Rattle.model.specs.Contents.{Write, covers, overlay}
 use Rattle.model.specs.Stream.{Item, WriteItem, ResyncItem, UuidsItem, IsBeginning, epoch_of, last_epoch}
 use Rattle.model.specs.Frames.{Received, Acknowledged, RsWriteAckFrame}
 use Rattle.model.specs.Marks.{clearing}
-use Rattle.model.specs.Primary.{LocalOutcome, Waiting, OnDisk, Failed, Accepted, Outward, PrimaryHistory, outward, change_last, with_outward, stands}
+use Rattle.model.specs.Primary.{LocalOutcome, Waiting, OnDisk, Failed, Accepted, Outward, PrimaryHistory, outward, with_outward, stands}
 use Rattle.model.specs.Primary.{local_layer, local_map, offset_reached, is_waiting, is_failed, is_resync, was_resynced, resync_runs}
 use Rattle.model.specs.Primary.{in_resync, free_block, accepted_frames}
 use Rattle.model.specs.PrimarySteps.{epoch_is_over, appending, opened, closing}
@@ -19,12 +19,11 @@ use Rattle.laws.proofs.Rules.FreeBlocks.{IsFree, free-found}
 use Rattle.laws.proofs.Rules.EpochEnds.{goes-on}
 use Rattle.laws.proofs.Lists.Beginnings.{begins-self}
 use Rattle.laws.proofs.Lists.Elements.{get-left, get-more, same-at}
-use Rattle.laws.proofs.Lists.Last.{change-twice}
 use Rattle.laws.proofs.Blocks.Overlays.{overlay-agrees, under-alike, under-outside, overlay-some}
 use Rattle.laws.proofs.Streams.Lawful.{epoch-end, epoch-bound}
 use Rattle.laws.proofs.Streams.Places.{epoch-grows}
 use Rattle.laws.proofs.Primary.Homes.{HasHomes, open-at}
-use Rattle.laws.proofs.Primary.Moves.{MayAcknowledge, with_frame, refusing}
+use Rattle.laws.proofs.Primary.Moves.{MayAcknowledge, with_frame}
 use Rattle.laws.proofs.Primary.Ends.{not-refused, frames-refusing}
 use Rattle.laws.proofs.Primary.LastOpen.{IsLastOpen, open-is-last}
 use Rattle.laws.proofs.Primary.StaysClosed.{open-stands}
@@ -37,6 +36,7 @@ use Rattle.laws.proofs.WriteOrder.Sets.{IsRead}
 use Rattle.laws.proofs.WriteOrder.Spans.{NoneFailed, IsTold, left_by, Passes}
 use Rattle.laws.proofs.WriteOrder.SpanMoves.{HasSpans, span-shut, keeps-quiet}
 use Rattle.laws.proofs.WriteOrder.SpanKept.{grows-with, grows-item, spans-end, spans-takes}
+use Rattle.laws.proofs.Rules.RefusedFrames.{refused_out, refused_by, refused-last}
 
 -- An acknowledged block of a resync.
 pub spans-clears : (h : PrimaryHistory) (ack : Acknowledged) → HasHomes h → IsLastOpen h → (outward h).closed ≡ false → (outward h).begun ≡ true
@@ -71,12 +71,11 @@ spans-closes h last t =
 
 -- The same where it refuses a frame.
 pub spans-refuses : (h : PrimaryHistory) (frame : Received) (peer : Option Tuple) → HasHomes h → IsLastOpen h → (outward h).closed ≡ false → HasSpans h
-    → HasSpans (closing (with_outward refusing (record (with_outward (with_frame frame) h) { peer = peer })))
+    → HasSpans (closing (refused_by frame peer h))
 spans-refuses h frame peer homes last standing t =
-    let f : Outward → Outward = λ c. record c { taken = c.taken ++ frame ∷ []; refused = true; closed = true } in
-    let later : PrimaryHistory = closing (with_outward refusing (record (with_outward (with_frame frame) h) { peer = peer })) in
-    spans-end h later f last (ap (change_last (λ (c : Outward). record c { closed = true })) (change-twice (with_frame frame) refusing h.connections)
-    ∙ change-twice (λ c. refusing (with_frame frame c)) (λ c. record c { closed = true }) h.connections) refl
+    let f : Outward → Outward = refused_out frame in
+    let later : PrimaryHistory = closing (refused_by frame peer h) in
+    spans-end h later f last (refused-last frame peer h) refl
     (refl, (refl, (refl, refl))) refl (frame ∷ [], refl)
     (keeps-quiet h later (f (outward h)) refl
     (λ k at. grows-with (outward h) (f (outward h)) refl (omega arith)

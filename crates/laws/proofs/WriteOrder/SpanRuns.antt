@@ -1,5 +1,5 @@
 -- Every run of a primary keeps the spans of its connections.
-use Rattle.std.proofs.Common.{ℕ, zero, suc, ◌≡◌, ◌-◌, ◌<◌, ◌≤◌, inl, inr, Bool, true, false, not, ◌&&◌, ◌||◌, nat_lt, List, [], ◌∷◌, ◌++◌, length, Some}
+use Rattle.std.proofs.Common.{ℕ, zero, suc, ◌≡◌, ◌-◌, ◌<◌, ◌≤◌, inl, inr, Bool, true, false, not, nat_lt, List, [], ◌∷◌, ◌++◌, length, Some}
 use Rattle.std.proofs.Common.{slice_get, Ok, refl, sym, ◌∙◌, ap, subst, arith}
 use Rattle.std.specs.Prelude.{is_some}
 use Rattle.std.specs.List.{list_any}
@@ -15,7 +15,7 @@ use Rattle.model.specs.Stream.{Item, WriteItem, ResyncItem, SyncUuidItem, UuidsI
 use Rattle.model.specs.Frames.{Received, UuidsFrame, BarrierAckFrame}
 use Rattle.model.specs.Identifiers.{decision}
 use Rattle.model.specs.Primary.{OnDisk, Accepted, Outward, PrimaryHistory, no_outward, outward, last_index, change_last, with_outward, stands, local_map}
-use Rattle.model.specs.Primary.{accepted_frames, primary_opening, unreleased, is_released, is_confirmed, is_alone}
+use Rattle.model.specs.Primary.{accepted_frames, primary_opening, unreleased, is_released}
 use Rattle.model.specs.PrimarySteps.{with_outcome, receipted}
 use Rattle.model.specs.Acknowledgements.{begun_with}
 use Rattle.model.specs.LocalRuns.{PrimaryEvent, primary_run}
@@ -41,6 +41,7 @@ use Rattle.laws.proofs.WriteOrder.SpanKept.{grows-with, spans-still, spans-end, 
 use Rattle.laws.proofs.WriteOrder.SpanSteps.{spans-done, spans-faults, spans-releasing}
 use Rattle.laws.proofs.WriteOrder.SpanBegins.{spans-clears, spans-closes, spans-refuses, spans-opens, local-full, spans-resyncs}
 use Rattle.laws.proofs.WriteOrder.SpanSubmits.{spans-submits}
+use Rattle.laws.proofs.Rules.Releases.{held-waiting}
 
 -- What the begin of a stream does to its connection, its stream and the marks.
 record BeginsStream (h later : PrimaryHistory) (peer : Tuple) (decided : Decision) (f : Outward → Outward) : Type 0 where
@@ -118,7 +119,7 @@ module _ (h later : PrimaryHistory) (peer : Tuple) (decided : Decision) (f : Out
   -- so the local disk has there what all writes leave
   holds : NoneFailed h → (block : ℕ) → h.marks block ≡ false → local_map h block ≡ left_by h (length h.writes) block
   holds fine block unmarked = local-full h block fine (λ i a at waits. false_from_ne_true (covers a.write block) (λ covered.
-      let held : is_released h a ≡ false = ap (λ w. not w && (is_confirmed h a || is_alone h a)) waits in
+      let held : is_released h a ≡ false = held-waiting h a waits in
       both_ways (list_any (λ (x : Accepted). covers x.write block) (unreleased h)) (or_parts (is_marked h block) _ (uncovered block unmarked)).1
       (held-covers h block i a at held covered)))
 

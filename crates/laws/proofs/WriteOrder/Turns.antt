@@ -34,7 +34,7 @@ use Rattle.laws.proofs.Lists.Picks.{pick-any, pick-filtered, pick-image}
 use Rattle.laws.proofs.Streams.Lawful.{epoch-end, epoch-bound}
 use Rattle.laws.proofs.Streams.Places.{epoch-grows}
 use Rattle.laws.proofs.Primary.Homes.{HasHomes, open-at, outcome-write, outcome-home}
-use Rattle.laws.proofs.Primary.Moves.{IsKeptByMoves, IsKeptByReleases, following-from, keeps-run, with_frame, refusing, pushing}
+use Rattle.laws.proofs.Primary.Moves.{IsKeptByMoves, IsKeptByReleases, following-from, keeps-run, with_frame, pushing}
 use Rattle.laws.proofs.Releases.InOrderMoves.{Ordered, OrderedAfter, in-order-kept}
 use Rattle.laws.proofs.Primary.LastEpoch.{write-open}
 use Rattle.laws.proofs.Primary.Ends.{stands-parts}
@@ -43,6 +43,7 @@ use Rattle.laws.proofs.Releases.Runs.{ordered-released, ordered-opening}
 use Rattle.std.specs.Prelude.{is_some, if◌then◌else◌}
 use Rattle.blocks.specs.Positions.{StreamPosition}
 use Rattle.laws.proofs.WriteOrder.Sets.{AreInTurn}
+use Rattle.laws.proofs.Rules.RefusedFrames.{refused_out, refused-last}
 
 -- In turn; and what that is seen by: no write was accepted with a longer journal, and each home is a place of its stream.
 pub record HasTurns (h : PrimaryHistory) : Type 0 where
@@ -389,9 +390,8 @@ turns-kept settings bound =
       confirms = λ h number size standing begun turn p. (order.confirms h number size standing begun turn p.0, takes h _ p.1);
       refuses = λ h frame peer standing p. (
         order.refuses h frame peer standing p.0,
-        turns-change h _ (λ c. record c { taken = c.taken ++ frame ∷ []; refused = true; closed = true })
-            (ap (change_last (λ (c : Outward). record c { closed = true })) (change-twice (with_frame frame) refusing h.connections)
-            ∙ change-twice (λ c. refusing (with_frame frame c)) (λ c. record c { closed = true }) h.connections) (begins-self (outward h).stream) refl refl
+        turns-change h _ (refused_out frame)
+            (refused-last frame peer h) (begins-self (outward h).stream) refl refl
             p.1,
       );
       resyncs = λ h block runs alone is p. (

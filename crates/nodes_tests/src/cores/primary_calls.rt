@@ -103,7 +103,7 @@ fn receipt(core: &mut PrimaryCore, number: u64) -> Answer {
 
 fn given(core: &PrimaryCore, alloc: Global, number: u64, fill: (u8, u8)) -> Answer {
     let wanted = filled(alloc, fill.0, fill.1)?;
-    let write = core.local_write(number)?;
+    let write = core.start(number)?;
     let range = write.range();
     let is_same = *write.contents() == wanted;
     Ok(Said::Given(write.number(), range.first.0, range.count, is_same))
@@ -125,9 +125,15 @@ fn do_step(core: &mut PrimaryCore, alloc: Global, step: Step) -> Answer {
             Ok(told_of(core.submit(0, &bytes)?))
         }
         Step::Given(number, blocks, byte) => given(core, alloc, number, (blocks, byte)),
-        Step::Next => Ok(Said::Next(core.next_local())),
-        Step::Local(number) => Ok(told_of(core.local_done(number)?)),
-        Step::LocalFail(number) => Ok(told_of(core.local_failed(number)?)),
+        Step::Next => Ok(Said::Next(core.next())),
+        Step::Local(number) => {
+            core.start(number)?;
+            Ok(told_of(core.done(number)))
+        }
+        Step::LocalFail(number) => {
+            core.start(number)?;
+            Ok(told_of(core.failed(number)))
+        }
         Step::Send(frame) => send(core, alloc, frame),
         Step::Take(frame) => Ok(told_of(core.take(packet_of(alloc, frame))?)),
         Step::Resync(byte) => resync(core, alloc, byte),
@@ -158,7 +164,7 @@ fn is_true(core: &PrimaryCore, fact: Fact) -> bool {
         Fact::Resync(wanted) => core.is_resync() == wanted,
         Fact::Tuple(wanted) => core.tuple() == wanted,
         Fact::Peer(wanted) => core.peer() == wanted,
-        Fact::Connections(wanted) => core.connections() == wanted,
+        Fact::Connections(wanted) => core.connection() == wanted,
         Fact::Accepted(wanted) => core.accepted() == wanted,
         Fact::OpenWrites(wanted) => core.open_writes() == wanted,
         Fact::Unanswered(wanted) => core.unanswered_writes() == wanted,

@@ -268,7 +268,7 @@ fn run(rt: &impl Abort, core: &mut SecondaryCore, scene: Scene, rows: &[Row]) {
 
 fn is_true(core: &SecondaryCore, fact: Fact) -> bool {
     match fact {
-        Fact::Number(wanted) => core.number() == wanted,
+        Fact::Number(wanted) => core.connection() == wanted,
         Fact::HelloDone(wanted) => core.is_hello_done() == wanted,
         Fact::Open(wanted) => core.is_open() == wanted,
         Fact::Drained(wanted) => core.is_drained() == wanted,

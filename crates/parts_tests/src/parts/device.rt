@@ -1,7 +1,7 @@
 use bitmap::Bitmap;
 use blocks::{Block, Extent, Range};
 use overlap::Held;
-use resync::{Resync, next};
+use resync::{Resync, UnderWay, next};
 use std::test::Fail;
 
 #[test]
@@ -65,10 +65,21 @@ fn a_resync_takes_the_lowest_marked_block_that_nobody_holds(rt: HostRuntime) -> 
     held.hold(1, range)?;
     assert_eq!(rt; next(&bitmap, &held), Some(Block(2)));
     let mut resync = Resync::new();
-    resync.begin(Block(2));
-    assert!(rt; !resync.acked(Block(1)));
-    assert_eq!(rt; resync.under_way(), Some(Block(2)));
-    assert!(rt; resync.acked(Block(2)));
+    resync.begin();
+    let way = UnderWay {
+        block: Block(2),
+        place: 1,
+        epoch: 1,
+    };
+    resync.copy(way);
+    assert!(rt; !resync.is_under_way(Block(1), 1));
+    assert!(rt; !resync.is_under_way(Block(2), 0));
+    assert!(rt; !resync.is_in_epoch(2));
+    assert!(rt; resync.is_under_way(Block(2), 1) && !resync.is_waiting());
+    resync.acknowledged();
     assert_eq!(rt; resync.under_way(), None);
+    assert!(rt; resync.is_waiting());
+    resync.end();
+    assert!(rt; !resync.goes_on());
     Ok(())
 }

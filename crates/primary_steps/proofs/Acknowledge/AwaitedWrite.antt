@@ -1,14 +1,14 @@
 -- An acknowledgement of a write: the log awaits it exactly where the history does.
-use Rattle.std.proofs.Common.{ℕ, ◌≡◌, inl, inr, Bool, true, false, not, ◌&&◌, ◌||◌, length, Option, Some, None, slice_get, refl, sym, ◌∙◌, ap, nat_lt, ◌==◌}
+use Rattle.std.proofs.Common.{ℕ, ◌≡◌, Bool, true, false, not, ◌&&◌, length, Option, Some, None, slice_get, refl, sym, ◌∙◌, ap, nat_lt, ◌==◌}
 use Rattle.std.specs.Prelude.{find, is_some, option_map}
 use Rattle.std.specs.List.{list_any}
-use Rattle.std.proofs.lemmas.Bool.{both_ways, and_parts, or_cases, not-true, eqb-true, eq-eqb, false_from_ne_true}
+use Rattle.std.proofs.lemmas.Bool.{both_ways, and_parts, not-true, eqb-true, eq-eqb, false_from_ne_true}
 use Rattle.blocks.specs.Positions.{StreamPosition}
 use Rattle.model.specs.Contents.{Write}
 use Rattle.model.specs.Stream.{Item, WriteItem, ResyncItem, BarrierItem, SyncUuidItem, UuidsItem, is_write}
 use Rattle.model.specs.Frames.{Acknowledged, naming}
 use Rattle.model.specs.Primary.{Accepted, Outward, PrimaryHistory, outward, last_index, stands, items_sent, same_naming, is_answered_by, is_answered, is_alone}
-use Rattle.model.specs.Primary.{is_confirmed, is_released, is_waiting, unreleased}
+use Rattle.model.specs.Primary.{is_released, unreleased}
 use Rattle.model.specs.Acknowledgements.{names_sent, was_named}
 use Rattle.transferlog.specs.Log.{awaits_in}
 use Rattle.transferlog.specs.Ring.{write_at}
@@ -23,6 +23,7 @@ use Rattle.primary_steps.specs.Leaves.{is_sent, logged_of, Leaves}
 use Rattle.primary_steps.proofs.Common.Numbers.{any-some}
 use Rattle.primary_steps.proofs.Common.Releasing.{IsHere, not-alone, confirmed-answered}
 use Rattle.primary_steps.proofs.LocalDisk.Writes.{one, found-is}
+use Rattle.laws.proofs.Rules.Releases.{freed-linked, released-parts}
 
 -- whether a write at a place of the last connection is answered, and sent
 pub answered-here : (h : PrimaryHistory) (a : Accepted) (place : ℕ) → a.home ≡ Some (record { index = last_index h.connections; place = place })
@@ -61,13 +62,6 @@ module _ (s : PrimaryState) (h : PrimaryHistory) (left : Leaves s h) (homes : Ha
     (ack : Acknowledged) where
   last-there : slice_get h.connections (last_index h.connections) ≡ Some (outward h)
   last-there = open-at h (stands-parts (outward h) on).0
-
-  numbered : Accepted → Bool
-  numbered a = a.write.number == ack.number
-
-  -- the test of the history, with the protocol's answer
-  wanted : Bool
-  wanted = names_sent is_write ack (outward h) && not (was_named (is_answered_by h.settings.protocol) ack (outward h))
 
   -- what a sent name names
   pub names : names_sent is_write ack (outward h) ≡ true → Names h ack
@@ -123,10 +117,7 @@ module _ (s : PrimaryState) (h : PrimaryHistory) (left : Leaves s h) (homes : Ha
           alone-at h n.accepted (record { index = last_index h.connections; place = ack.place }) (outward h) n.home last-there
           ∙ (stands-parts (outward h) on).0 in
           let held : is_released h n.accepted ≡ false = false_from_ne_true (is_released h n.accepted) (λ rel.
-          let told = (and_parts (not (is_waiting n.accepted.outcome)) (is_confirmed h n.accepted || is_alone h n.accepted) rel).1 in
-          let confirmed : is_confirmed h n.accepted ≡ true =
-          elim (or_cases (is_confirmed h n.accepted) (is_alone h n.accepted) told)
-          [ inl is ↦ is | inr alone ↦ absurd (both_ways (is_alone h n.accepted) linked alone) ] in
+          let confirmed = freed-linked h n.accepted (released-parts h n.accepted rel).freed linked in
           both_ways (is_answered h n.accepted) unanswered
           (confirmed-answered h s.log homes last left.rest.log.protocol left.stream.on n.index n.accepted n.at linked confirmed)) in
           let kept = filtered-pick (λ x. not (is_released h x)) h.writes n.index n.accepted n.at (ap not held) in

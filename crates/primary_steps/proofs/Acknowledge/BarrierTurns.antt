@@ -13,7 +13,7 @@ use Rattle.model.specs.Contents.{Write}
 use Rattle.model.specs.Stream.{Item, WriteItem, ResyncItem, BarrierItem, SyncUuidItem, UuidsItem, barriers_in, epoch_of, epoch_size, placed}
 use Rattle.model.specs.Stream.{IsLawful}
 use Rattle.model.specs.Primary.{Accepted, Outward, PrimaryHistory, outward, last_index, stands, items_sent, is_answered_by, is_answered, is_alone, is_confirmed}
-use Rattle.model.specs.Primary.{is_released, is_waiting, unreleased, barrier_acknowledged, is_resync, was_resynced, under_way}
+use Rattle.model.specs.Primary.{is_released, unreleased, barrier_acknowledged, is_resync, was_resynced, under_way}
 use Rattle.model.specs.Acknowledgements.{is_in_turn}
 use Rattle.transferlog.specs.Log.{LogState, may_confirm, lacks_answer, asks_answers}
 use Rattle.epochs.specs.Epochs.{is_awaited, begins_with}
@@ -32,6 +32,7 @@ use Rattle.primary_steps.proofs.Common.Appending.{under-way-at}
 use Rattle.primary_steps.proofs.Acknowledge.AwaitedWrite.{answered-here}
 use Rattle.primary_steps.proofs.Common.Epochs.{sizes-many}
 use Rattle.primary_steps.proofs.Common.Filters.{any-map}
+use Rattle.laws.proofs.Rules.Releases.{held-linked}
 
 -- what is dropped stands behind
 get-behind : {X : Type 0} (n : ℕ) (xs : List X) (k : ℕ) (x : X) → slice_get (drop n xs) k ≡ Some x → slice_get xs (n + k) ≡ Some x
@@ -193,11 +194,7 @@ module _ (settings : Settings) (s : PrimaryState) (h : PrimaryHistory) (e : EndS
         linked = alone-at h found.1 (record { index = last_index h.connections; place = place }) (outward h) found.4 there ∙ end.stands
 
         held : is_released h found.1 ≡ false
-        held = (λ i. not (is_waiting found.1.outcome) && (unconfirmed i || linked i)) ∙ and-false (not (is_waiting found.1.outcome))
-          where
-            and-false : (b : Bool) → (b && false) ≡ false
-            and-false true = refl
-            and-false false = refl
+        held = held-linked h found.1 unconfirmed linked
 
         -- it is one of those that the log looks at
         between : is_between (s.log.confirmed + 1) size found.1.write.number ≡ true

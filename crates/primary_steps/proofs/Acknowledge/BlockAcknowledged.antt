@@ -1,6 +1,6 @@
 -- The peer has the block under way: what that leaves, before what follows.
-use Rattle.std.proofs.Common.{ℕ, zero, suc, ◌≡◌, ◌+◌, ◌-◌, ◌<◌, ◌≤◌, Bool, true, false, not, ◌&&◌, ◌||◌, List, [], ◌∷◌, ◌++◌, length, map, filter, Option, Some}
-use Rattle.std.proofs.Common.{None, slice_get, Ok, refl, sym, ◌∙◌, ap, subst, arith, nat_lt, ◌==◌}
+use Rattle.std.proofs.Common.{ℕ, zero, suc, ◌≡◌, ◌+◌, ◌-◌, ◌<◌, ◌≤◌, Bool, true, false, not, ◌&&◌, ◌||◌, List, [], ◌∷◌, ◌++◌, length, map, filter, Some}
+use Rattle.std.proofs.Common.{None, slice_get, Ok, refl, sym, ◌∙◌, ap, subst, arith, ◌==◌}
 use Rattle.std.proofs.Math.Bool.{or-false}
 use Rattle.std.specs.Prelude.{set, if◌then◌else◌}
 use Rattle.std.specs.List.{list_any}
@@ -10,16 +10,15 @@ use Rattle.std.proofs.lemmas.Option.{slice_get_within}
 use Rattle.blocks.specs.Positions.{StreamPosition}
 use Rattle.blocks.specs.declared.settings.Settings.{Settings}
 use Rattle.blocks.specs.declared.settings.Protocol.{Protocol}
-use Rattle.blocks.specs.declared.settings.Protocol.TheVariants as protocol
 use Rattle.blocks.specs.Ranges.{below}
 use Rattle.epochs.specs.Epochs.{EpochsState, ended_if}
 use Rattle.model.specs.Contents.{Write}
 use Rattle.model.specs.Stream.{Item, WriteItem, ResyncItem, BarrierItem, SyncUuidItem, UuidsItem, barriers_in, epoch_of, last_epoch, items_of_epoch, placed}
 use Rattle.model.specs.Frames.{RsWriteAckFrame, Acknowledged, Received, naming}
 use Rattle.model.specs.Marks.{clearing}
-use Rattle.model.specs.Primary.{Accepted, Outward, PrimaryHistory, no_outward, outward, last_index, change_last, stands, items_sent, is_resync, is_recv_ack}
-use Rattle.model.specs.Primary.{is_write_ack, is_rs_write_ack, is_barrier_ack, same_naming, was_resynced, is_answered_by, is_answered, is_alone, is_confirmed}
-use Rattle.model.specs.Primary.{is_waiting, is_open, open_writes, barrier_acknowledged, under_way}
+use Rattle.model.specs.Primary.{Accepted, Outward, PrimaryHistory, no_outward, outward, last_index, stands, is_resync}
+use Rattle.model.specs.Primary.{is_rs_write_ack, is_barrier_ack, same_naming, was_resynced, is_answered_by, is_answered, is_alone, is_confirmed}
+use Rattle.model.specs.Primary.{is_open, open_writes, barrier_acknowledged, under_way}
 use Rattle.model.specs.PrimarySteps.{with_completions, epoch_is_over, appending}
 use Rattle.overlap.specs.Holdings.{Holding, without}
 use Rattle.transferlog.specs.Log as log
@@ -38,7 +37,7 @@ use Rattle.primary_steps.specs.Core.{EndState, PrimaryState, unmarking}
 use Rattle.primary_steps.specs.Leaves.{is_sent, logged_of, holding_item, holding_write, held_of, marks_in, LeavesEpochs, LeavesEnd, LeavesStream, Leaves}
 use Rattle.primary_steps.specs.Taking.{without_block}
 use Rattle.primary_steps.proofs.Acknowledge.WriteAnswered.{any-frame}
-use Rattle.primary_steps.proofs.Common.Connections.{SeesSame, look}
+use Rattle.primary_steps.proofs.Common.Connections.{SeesSame}
 use Rattle.primary_steps.proofs.Common.Epochs.{epochs-same, epochs-barrier}
 use Rattle.primary_steps.proofs.Common.Filters.{map-at, filter-map, filter-all, filter-none}
 use Rattle.primary_steps.proofs.Common.Following.{IsDue, parted, barrier_of}
@@ -48,6 +47,10 @@ use Rattle.primary_steps.proofs.Common.Marks.{get-below, length-below, unmarking
 use Rattle.primary_steps.proofs.Acknowledge.AwaitedBlock.{NamesBlock, block-waits, block-sent, block-fresh, only-one}
 use Rattle.primary_steps.proofs.Common.NothingFollows.{quiet-none}
 use Rattle.primary_steps.proofs.Common.EndChanges.{IsUnseen, turned, journal-stays, writes-same, quiet-same, connections-same, activity-same}
+use Rattle.laws.proofs.Rules.Releases.{released-same}
+use Rattle.primary_steps.proofs.Acknowledge.WriteAnswered.{frames-more}
+use Rattle.laws.proofs.Rules.Answered.{answered-other}
+use Rattle.laws.proofs.Primary.Seen.{alone-seen, sent-seen, answered-seen, confirmed-seen}
 
 or-true : (b : Bool) → (b || true) ≡ true
 or-true true = refl
@@ -104,69 +107,28 @@ module _ (settings : Settings) (bound : TakesWrites settings) (s : PrimaryState)
 
   answers : (asked : Protocol) (place : ℕ) (item : Item)
       → is_answered_by asked (with_frame frame (outward h)) place item ≡ is_answered_by asked (outward h) place item
-  answers protocol.A place item = refl
-  answers protocol.B place item = any-frame (is_recv_ack (naming place item)) (outward h) frame end.plain
-      ∙ or-false (is_answered_by protocol.B (outward h) place item)
-  answers protocol.C place item = any-frame (is_write_ack (naming place item)) (outward h) frame end.plain
-      ∙ or-false (is_answered_by protocol.C (outward h) place item)
+  answers asked place item =
+      answered-other asked (outward h) (with_frame frame (outward h)) frame place item refl (frames-more (outward h) frame end.plain) refl refl
 
   acknowledged : (epoch : ℕ) → barrier_acknowledged (with_frame frame (outward h)) epoch ≡ barrier_acknowledged (outward h) epoch
   acknowledged epoch = any-frame (is_barrier_ack epoch) (outward h) frame end.plain ∙ or-false (barrier_acknowledged (outward h) epoch)
 
   alone-framed : (a : Accepted) → is_alone later a ≡ is_alone h a
-  alone-framed a = go a.home
-    where
-      see : Option Outward → Bool
-      see v = elim v as (λ _. Bool) [ None ↦ true | Some c ↦ c.closed ]
-
-      go : (v : Option StreamPosition)
-          → elim v as (λ _. Bool) [ None ↦ true | Some home ↦ see (slice_get (change_last (with_frame frame) h.connections) home.index) ] ≡
-          elim v as (λ _. Bool) [ None ↦ true | Some home ↦ see (slice_get h.connections home.index) ]
-      go None = refl
-      go (Some home) = look see (with_frame frame) (no_outward h.tuple) h.connections home.index refl
+  alone-framed = alone-seen h later (with_frame frame) refl refl
 
   sent-framed : (a : Accepted) → is_sent later a ≡ is_sent h a
-  sent-framed a = go a.home
-    where
-      see : ℕ → Option Outward → Bool
-      see place v = elim v as (λ _. Bool) [ None ↦ false | Some c ↦ nat_lt place (items_sent c) ]
-
-      go : (v : Option StreamPosition) → elim v as
-          (λ _. Bool) [ None ↦ false | Some home ↦ see home.place (slice_get (change_last (with_frame frame) h.connections) home.index) ] ≡ elim v as
-          (λ _. Bool) [ None ↦ false | Some home ↦ see home.place (slice_get h.connections home.index) ]
-      go None = refl
-      go (Some home) = look (see home.place) (with_frame frame) (no_outward h.tuple) h.connections home.index refl
+  sent-framed = sent-seen h later (with_frame frame) refl refl
 
   answered-framed : (a : Accepted) → is_answered later a ≡ is_answered h a
-  answered-framed a = go a.home
-    where
-      see : ℕ → Option Outward → Bool
-      see place v = elim v as (λ _. Bool) [ None ↦ false | Some c ↦ is_answered_by h.settings.protocol c place (WriteItem a.write) ]
-
-      go : (v : Option StreamPosition) → elim v as
-          (λ _. Bool) [ None ↦ false | Some home ↦ see home.place (slice_get (change_last (with_frame frame) h.connections) home.index) ] ≡ elim v as
-          (λ _. Bool) [ None ↦ false | Some home ↦ see home.place (slice_get h.connections home.index) ]
-      go None = refl
-      go (Some home) =
-          look (see home.place) (with_frame frame) (no_outward h.tuple) h.connections home.index (answers h.settings.protocol home.place (WriteItem a.write))
+  answered-framed = answered-seen h later (with_frame frame) refl refl (answers h.settings.protocol)
 
   confirmed-framed : (a : Accepted) → is_confirmed later a ≡ is_confirmed h a
-  confirmed-framed a = go a.home
-    where
-      see : ℕ → Option Outward → Bool
-      see place v = elim v as (λ _. Bool) [ None ↦ false | Some c ↦ barrier_acknowledged c (epoch_of c.stream place) ]
-
-      go : (v : Option StreamPosition) → elim v as
-          (λ _. Bool) [ None ↦ false | Some home ↦ see home.place (slice_get (change_last (with_frame frame) h.connections) home.index) ] ≡ elim v as
-          (λ _. Bool) [ None ↦ false | Some home ↦ see home.place (slice_get h.connections home.index) ]
-      go None = refl
-      go (Some home) =
-          look (see home.place) (with_frame frame) (no_outward h.tuple) h.connections home.index (acknowledged (epoch_of (outward h).stream home.place))
+  confirmed-framed = confirmed-seen h later (with_frame frame) refl (λ place. acknowledged (epoch_of (outward h).stream place))
 
   unseen : IsUnseen h (turned (with_frame frame) h.tuple h.peer (clearing ack.first h.marks) h)
   unseen = record {
     logged = λ i a at. λ j. record (logged_of h a) { linked = not (alone-framed a j); sent = sent-framed a j; answered = answered-framed a j };
-    released = λ i a at. λ j. not (is_waiting a.outcome) && (confirmed-framed a j || alone-framed a j);
+    released = λ i a at. released-same h later a (confirmed-framed a) (alone-framed a);
   }
 
   -- Nothing is under way then.

@@ -1,21 +1,20 @@
 -- The peer acknowledges an epoch: what that leaves, before what follows.
 use Rattle.std.proofs.Common.{ℕ, zero, suc, ◌≡◌, ◌+◌, ◌-◌, ◌<◌, ◌≤◌, ◌⊎◌, inl, inr, Bool, true, false, not, ◌&&◌, ◌||◌, List, [], ◌∷◌, ◌++◌, length, map}
-use Rattle.std.proofs.Common.{filter, take, drop, Option, Some, None, slice_get, Result, Ok, Err, refl, sym, ◌∙◌, ap, subst, arith, nat_lt, nat_le, ◌==◌}
+use Rattle.std.proofs.Common.{filter, take, drop, Option, Some, None, slice_get, Result, Ok, Err, refl, sym, ◌∙◌, ap, subst, arith, nat_le, ◌==◌}
 use Rattle.std.proofs.Math.Bool.{or-false}
 use Rattle.std.proofs.lemmas.List.{append-nil}
 use Rattle.std.specs.Prelude.{if◌then◌else◌}
-use Rattle.std.proofs.lemmas.Bool.{cases_lt, both_ways, and_parts, or_cases, eqb-true, eq-eqb, lt-ltb, le-leb, lt-leb, leb-true, false_from_ne_true}
+use Rattle.std.proofs.lemmas.Bool.{cases_lt, both_ways, and_parts, eqb-true, eq-eqb, lt-ltb, le-leb, lt-leb, leb-true, false_from_ne_true}
 use Rattle.std.proofs.lemmas.Option.{slice_get_within}
 use Rattle.blocks.specs.Positions.{StreamPosition}
 use Rattle.blocks.specs.declared.settings.Settings.{Settings}
 use Rattle.blocks.specs.declared.settings.Protocol.{Protocol}
-use Rattle.blocks.specs.declared.settings.Protocol.TheVariants as protocol
 use Rattle.model.specs.Contents.{Write}
 use Rattle.model.specs.Stream.{Item, WriteItem, BarrierItem, placed, barriers_in, epoch_of, last_epoch, epoch_size}
 use Rattle.model.specs.Frames.{BarrierAckFrame, Received, naming}
 use Rattle.model.specs.Marks.{releasing}
 use Rattle.model.specs.Primary.{Accepted, Outward, PrimaryHistory, no_outward, outward, last_index, change_last, with_outward, stands, items_sent}
-use Rattle.model.specs.Primary.{is_answered_by, is_answered, is_alone, is_confirmed, is_released, is_waiting, is_recv_ack, is_write_ack}
+use Rattle.model.specs.Primary.{is_answered_by, is_answered, is_alone, is_confirmed, is_released}
 use Rattle.model.specs.Primary.{is_rs_write_ack, is_barrier_ack, barrier_acknowledged, was_resynced, unreleased, open_writes, under_way, is_resync}
 use Rattle.model.specs.PrimarySteps.{newly_completed, completion_of, with_completions, epoch_is_over, appending}
 use Rattle.model.specs.Acknowledgements.{is_in_turn}
@@ -38,7 +37,6 @@ use Rattle.primary_steps.specs.Core.{EndState, PrimaryState, unmarking, leaving}
 use Rattle.primary_steps.specs.Leaves.{numbers_after, total, is_sent, logged_of, held_of, holding_item, holding_write, LeavesLog, LeavesStream, LeavesEpochs}
 use Rattle.primary_steps.specs.Leaves.{LeavesActivity, LeavesEnd, EndLeft, IsQuiet, Leaves}
 use Rattle.primary_steps.proofs.Acknowledge.WriteAnswered.{any-frame}
-use Rattle.primary_steps.proofs.Common.Connections.{look}
 use Rattle.primary_steps.proofs.Common.Filters.{filter-at}
 use Rattle.primary_steps.proofs.Common.Following.{IsDue, parted}
 use Rattle.primary_steps.proofs.Acknowledge.AcceptedFrame.{end-framed, way-framed}
@@ -50,6 +48,10 @@ use Rattle.primary_steps.proofs.Common.Reporting.{reports-of}
 use Rattle.primary_steps.proofs.Common.NothingFollows.{quiet-none}
 use Rattle.primary_steps.proofs.Common.WriteStates.{settled-seen, not-not}
 use Rattle.primary_steps.proofs.Acknowledge.BarrierTurns.{turn-back, epochs, first-total, next-is, ended-one, size-is, its-barrier, its-answer}
+use Rattle.laws.proofs.Rules.Releases.{is_freed, freed-cases, freed-confirmed, freed-alone, released-parts, released-by, released-with}
+use Rattle.primary_steps.proofs.Acknowledge.WriteAnswered.{frames-more}
+use Rattle.laws.proofs.Rules.Answered.{answered-other}
+use Rattle.laws.proofs.Primary.Seen.{alone-seen, sent-seen, answered-seen}
 
 module _ (settings : Settings) (bound : TakesWrites settings) (s : PrimaryState) (h : PrimaryHistory) (e : EndState) (left : Leaves s h)
     (ordered : Ordered settings h) (is : s.end ≡ Some e) (end : LeavesEnd e (outward h)) (begun : (outward h).begun ≡ true)
@@ -113,60 +115,19 @@ module _ (settings : Settings) (bound : TakesWrites settings) (s : PrimaryState)
 
   answered-by : (asked : Protocol) (place : ℕ) (item : Item)
       → is_answered_by asked (with_frame frame (outward h)) place item ≡ is_answered_by asked (outward h) place item
-  answered-by protocol.A place item = refl
-  answered-by protocol.B place item = any-frame (is_recv_ack (naming place item)) (outward h) frame end.plain
-      ∙ or-false (is_answered_by protocol.B (outward h) place item)
-  answered-by protocol.C place item = any-frame (is_write_ack (naming place item)) (outward h) frame end.plain
-      ∙ or-false (is_answered_by protocol.C (outward h) place item)
+  answered-by asked place item =
+      answered-other asked (outward h) (with_frame frame (outward h)) frame place item refl (frames-more (outward h) frame end.plain) refl refl
 
   -- What a write sees.
 
   alone-same : (a : Accepted) → is_alone later a ≡ is_alone h a
-  alone-same a = go a.home
-    where
-      go : (v : Option StreamPosition) → elim v as (λ _. Bool) [
-        | None ↦ true
-        | Some home ↦ elim (slice_get (change_last (with_frame frame) h.connections) home.index) as
-            (λ _. Bool) [ None ↦ true | Some c ↦ c.closed ]
-      ]
-          ≡ elim v as (λ _. Bool) [ None ↦ true | Some home ↦ elim (slice_get h.connections home.index) as (λ _. Bool) [ None ↦ true | Some c ↦ c.closed ] ]
-      go None = refl
-      go (Some home) =
-          look (λ v. elim v as (λ _. Bool) [ None ↦ true | Some c ↦ c.closed ]) (with_frame frame) (no_outward h.tuple) h.connections home.index refl
+  alone-same = alone-seen h later (with_frame frame) refl refl
 
   sent-same : (a : Accepted) → is_sent later a ≡ is_sent h a
-  sent-same a = go a.home
-    where
-      go : (v : Option StreamPosition) → elim v as (λ _. Bool) [
-        | None ↦ false
-        | Some home ↦ elim (slice_get (change_last (with_frame frame) h.connections) home.index) as
-            (λ _. Bool) [ None ↦ false | Some c ↦ nat_lt home.place (items_sent c) ]
-      ]
-          ≡ elim v as (λ _. Bool) [
-            | None ↦ false
-            | Some home ↦ elim (slice_get h.connections home.index) as
-                (λ _. Bool) [ None ↦ false | Some c ↦ nat_lt home.place (items_sent c) ]
-          ]
-      go None = refl
-      go (Some home) = look (λ v. elim v as (λ _. Bool) [ None ↦ false | Some c ↦ nat_lt home.place (items_sent c) ]) (with_frame frame)
-          (no_outward h.tuple) h.connections home.index refl
+  sent-same = sent-seen h later (with_frame frame) refl refl
 
   answered-same : (a : Accepted) → is_answered later a ≡ is_answered h a
-  answered-same a = go a.home
-    where
-      go : (v : Option StreamPosition) → elim v as (λ _. Bool) [
-        | None ↦ false
-        | Some home ↦ elim (slice_get (change_last (with_frame frame) h.connections) home.index) as
-            (λ _. Bool) [ None ↦ false | Some c ↦ is_answered_by h.settings.protocol c home.place (WriteItem a.write) ]
-      ]
-          ≡ elim v as (λ _. Bool) [
-            | None ↦ false
-            | Some home ↦ elim (slice_get h.connections home.index) as
-                (λ _. Bool) [ None ↦ false | Some c ↦ is_answered_by h.settings.protocol c home.place (WriteItem a.write) ]
-          ]
-      go None = refl
-      go (Some home) = look (λ v. elim v as (λ _. Bool) [ None ↦ false | Some c ↦ is_answered_by h.settings.protocol c home.place (WriteItem a.write) ])
-          (with_frame frame) (no_outward h.tuple) h.connections home.index (answered-by h.settings.protocol home.place (WriteItem a.write))
+  answered-same = answered-seen h later (with_frame frame) refl refl (answered-by h.settings.protocol)
 
   seen : (a : Accepted) → logged_of later a ≡ logged_of h a
   seen a = λ j. record (logged_of h a) { linked = not (alone-same a j); sent = sent-same a j; answered = answered-same a j }
@@ -223,11 +184,11 @@ module _ (settings : Settings) (bound : TakesWrites settings) (s : PrimaryState)
     writes = same-list h.writes;
     write = λ a. refl;
     logged = λ i a at. seen a;
-    released = λ i a at. (λ j. settled-seen a.outcome j && (not-not (is_alone h a) j || nat_le a.write.number upto))
-        ∙ (by-alone i a at (is_alone h a) refl ∙ λ j. not (is_waiting a.outcome) && (is_confirmed later a || sym (alone-same a) j));
+    released = λ i a at. released-with later a _ _ _ (settled-seen a.outcome) (not-not (is_alone h a) ∙ sym (alone-same a))
+        (λ linked. confirmed-number i a at (sym (alone-same a) ∙ linked));
     stays = λ i a at so.
-        let parts = and_parts (not (is_waiting a.outcome)) (is_confirmed h a || is_alone h a) so in
-        λ j. parts.0 j && stays-told i a at parts.1 j;
+        let parts = released-parts h a so in
+        released-by later a parts.done (stays-told i a at parts.freed);
     failed = λ i a at so. so;
   }
     where
@@ -235,26 +196,10 @@ module _ (settings : Settings) (bound : TakesWrites settings) (s : PrimaryState)
       same-list [] = refl
       same-list (a ∷ ws) = ap (λ (l : List Accepted). a ∷ l) (same-list ws)
 
-      or-true : (b : Bool) → (b || true) ≡ true
-      or-true true = refl
-      or-true false = refl
-
-      by-alone : (i : ℕ) (a : Accepted) → slice_get h.writes i ≡ Some a → (b : Bool) → is_alone h a ≡ b
-          → (not (is_waiting a.outcome) && (is_alone h a || nat_le a.write.number upto)) ≡
-          (not (is_waiting a.outcome) && (is_confirmed later a || is_alone h a))
-      by-alone i a at true alone = (λ j. not (is_waiting a.outcome) && (alone j || nat_le a.write.number upto))
-          ∙ (ap (λ b. not (is_waiting a.outcome) && b) (sym (or-true (is_confirmed later a)))
-          ∙ λ j. not (is_waiting a.outcome) && (is_confirmed later a || sym alone j))
-      by-alone i a at false linked =
-          (λ j. not (is_waiting a.outcome) && (linked j || nat_le a.write.number upto))
-          ∙ (ap (λ b. not (is_waiting a.outcome) && b) (sym (confirmed-number i a at linked) ∙ sym (or-false (is_confirmed later a)))
-          ∙ λ j. not (is_waiting a.outcome) && (is_confirmed later a || sym linked j))
-
-      stays-told : (i : ℕ) (a : Accepted) → slice_get h.writes i ≡ Some a → (is_confirmed h a || is_alone h a) ≡ true
-          → (is_confirmed later a || is_alone later a) ≡ true
-      stays-told i a at told = elim (or_cases (is_confirmed h a) (is_alone h a) told) [
-        | inl confirmed ↦ λ j. confirmed-stays i a at confirmed j || is_alone later a
-        | inr alone ↦ (λ j. is_confirmed later a || (alone-same a ∙ alone) j) ∙ or-true (is_confirmed later a)
+      stays-told : (i : ℕ) (a : Accepted) → slice_get h.writes i ≡ Some a → is_freed h a ≡ true → is_freed later a ≡ true
+      stays-told i a at told = elim (freed-cases h a told) [
+        | inl confirmed ↦ freed-confirmed later a (confirmed-stays i a at confirmed)
+        | inr alone ↦ freed-alone later a (alone-same a ∙ alone)
       ]
 
   -- The log then.

@@ -1,11 +1,11 @@
 -- The primary takes a frame.
-use Rattle.std.proofs.Common.{ℕ, ◌≡◌, ◌-◌, ◌<◌, Bool, true, false, not, ◌&&◌, ◌||◌, [], ◌∷◌, length, Option, Some, None, is_none, Result, Ok, Err, refl, sym}
+use Rattle.std.proofs.Common.{ℕ, ◌≡◌, ◌-◌, ◌<◌, Bool, true, false, not, ◌&&◌, ◌||◌, ◌∷◌, length, Option, Some, None, Result, Ok, Err, refl, sym}
 use Rattle.std.proofs.Common.{◌∙◌, ap, subst}
 use Rattle.std.specs.Prelude.{if◌then◌else◌}
 use Rattle.std.proofs.lemmas.Bool.{both_ways, or_parts}
 use Rattle.blocks.specs.declared.settings.Settings.{Settings}
 use Rattle.blocks.specs.declared.refusal.Refusal.{Refusal}
-use Rattle.blocks.specs.declared.refusal.Refusal.TheVariants.{NoMemory, NotConnected, NothingThere, BadCommand, BadBarrierAck}
+use Rattle.blocks.specs.declared.refusal.Refusal.TheVariants.{NotConnected, NothingThere, BadCommand, BadBarrierAck}
 use Rattle.blocks.specs.declared.outcome.Done.{Done}
 use Rattle.blocks.specs.declared.outcome.Reply.{Reply}
 use Rattle.blocks.specs.declared.outcome.Reply.TheVariants as reply
@@ -23,7 +23,7 @@ use Rattle.laws.proofs.Rules.EpochEnds.{TakesWrites, takes-writes}
 use Rattle.laws.proofs.Lists.Each.{each-get}
 use Rattle.laws.proofs.Primary.Homes.{open-at}
 use Rattle.laws.proofs.Releases.InOrderMoves.{Ordered}
-use Rattle.laws.proofs.Primary.Moves.{with_frame, refusing}
+use Rattle.laws.proofs.Primary.Moves.{with_frame}
 use Rattle.laws.proofs.Primary.Sendable.{HasFitEnds, primary_fit}
 use Rattle.primary_steps.specs.Core as core_state
 use Rattle.primary_steps.specs.Core.{EndState, PrimaryState}
@@ -42,6 +42,10 @@ use Rattle.primary_steps.proofs.Acknowledge.Blocks.{block-agrees}
 use Rattle.primary_steps.proofs.Connect.Hello.{hello-agrees}
 use Rattle.primary_steps.proofs.Common.TakenAlike.{TakenAlike}
 use Rattle.primary_steps.proofs.Acknowledge.BarrierTurns.{turn-forth, turn-back}
+use Rattle.laws.proofs.Rules.Memory.{take-tests-by}
+use Rattle.std.proofs.Common.{drop}
+use Rattle.blocks.specs.declared.outcome.What.{What}
+use Rattle.laws.proofs.Rules.RefusedFrames.{refusing, frame-has}
 
 -- Acknowledgements.
 
@@ -149,21 +153,23 @@ module _ (s : PrimaryState) (h : PrimaryHistory) (e : EndState) (reached : IsRea
 
   -- accepted, or refused with the effects of a close
   frame-agrees : (frame : Received) → Agrees reply.Ok (core.taken_by e (core.taking frame e s)) (model.take_frame frame h)
-  frame-agrees frame = go (core.taking frame e s) (model.taking frame h (with_outward (with_frame frame) h)) (taken-alike frame)
+  frame-agrees frame = frame-has (Agrees reply.Ok (core.taken_by e (core.taking frame e s))) (TakenAlike frame s h (core.taking frame e s)) frame h
+      (taken-alike frame) (accepted (core.taking frame e s)) (refused (core.taking frame e s))
     where
-      answer : model.Taken → Reply × PrimaryHistory
-      answer v = elim v [
-        | Ok done ↦ step.succeeding done.0 done.1
-        | Err error ↦ (reply.Refused error.0, (step.follows (step.closing (with_outward refusing error.1))).history)
-      ]
+      accepted : (got : core.Taken) (done : What × PrimaryHistory) → TakenAlike frame s h got (Ok done)
+          → Agrees reply.Ok (core.taken_by e got) (step.succeeding done.0 done.1)
+      accepted (Ok got) done alike = alike
+      accepted (Err got) done alike = absurd alike
 
-      go : (got : core.Taken) (said : model.Taken) → TakenAlike frame s h got said → Agrees reply.Ok (core.taken_by e got) (answer said)
-      go (Ok got) (Ok done) alike = alike
-      go (Ok got) (Err error) alike = absurd alike
-      go (Err got) (Ok done) alike = absurd alike
-      go (Err got) (Err error) alike =
-          subst (λ x. Agrees reply.Ok (Err got.0, (closing e x).1) (answer (Err error))) (sym alike.1.1)
-          (subst (λ x. Agrees reply.Ok (Err got.0, (closing e (record s { peer = alike.1.0 })).1) (answer (Err (error.0, x)))) (sym alike.1.2) (record {
+      answer : Refusal × PrimaryHistory → Reply × PrimaryHistory
+      answer error = (reply.Refused error.0, (step.follows (step.closing (with_outward refusing error.1))).history)
+
+      refused : (got : core.Taken) (error : Refusal × PrimaryHistory) → TakenAlike frame s h got (Err error)
+          → Agrees reply.Ok (core.taken_by e got) (answer error)
+      refused (Ok got) error alike = absurd alike
+      refused (Err got) error alike =
+          subst (λ x. Agrees reply.Ok (Err got.0, (closing e x).1) (answer error)) (sym alike.1.1)
+          (subst (λ x. Agrees reply.Ok (Err got.0, (closing e (record s { peer = alike.1.0 })).1) (answer (error.0, x))) (sym alike.1.2) (record {
             reply = ap (λ (r : Refusal). reply.Refused r) alike.0;
             leaves = refused-leaves known.settings known.bound s h e left known.ordered is end frame alike.1.0;
           }))
@@ -187,19 +193,19 @@ takes-agree frame starved s h reached left = by-end s.end refl left.rest.end
     core-by : Option EndState → Result Done Refusal × PrimaryState
     core-by v = elim v [
       | None ↦ (Err NotConnected, s)
-      | Some e ↦ core_state.tested s ((not (core_state.stands s) && starved, NoMemory) ∷ (is_none frame, NothingThere) ∷ []) (λ u. core-rest s u e)
+      | Some e ↦ core_state.tested s (core.take_tests frame starved s) (λ u. core-rest s u e)
     ]
 
     model-by : Bool → Reply × PrimaryHistory
-    model-by closed = step.tested h ((closed, NotConnected) ∷ (not (outward h).begun && starved, NoMemory) ∷ (is_none frame, NothingThere) ∷ []) model-rest
+    model-by closed = step.tested h ((closed, NotConnected) ∷ drop 1 (model.ack_in_tests h frame starved)) model-rest
 
     by-end : (v : Option EndState) → s.end ≡ v → EndLeft v (outward h) → Agrees reply.Ok (core-by s.end) (model-by (outward h).closed)
     by-end None none shut = refused-agrees reply.Ok s h NotConnected (core-by s.end) (model-by (outward h).closed) (ap core-by none) (ap model-by shut) left
     by-end (Some e) is end =
         subst (λ v. Agrees reply.Ok (core-by v) (model-by (outward h).closed)) (sym is)
         (subst (λ b. Agrees reply.Ok (core-by (Some e)) (model-by b)) (sym end.stands)
-        (tested-agrees reply.Ok s h _ ((not (outward h).begun && starved, NoMemory) ∷ (is_none frame, NothingThere) ∷ []) (λ u. core-rest s u e) model-rest
-        (λ i. (not ((stands-same s h left ∙ λ j. not (end.stands j) && (outward h).begun) i) && starved, NoMemory) ∷ (is_none frame, NothingThere) ∷ []) left
+        (tested-agrees reply.Ok s h (core.take_tests frame starved s) (drop 1 (model.ack_in_tests h frame starved)) (λ u. core-rest s u e) model-rest
+        (take-tests-by h frame starved (core_state.stands s) (stands-same s h left ∙ λ j. not (end.stands j) && (outward h).begun)) left
         (λ none. rest frame)))
       where
         answer : Received → Option EndState → Result Done Refusal × PrimaryState

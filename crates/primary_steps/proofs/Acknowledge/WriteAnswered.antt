@@ -1,6 +1,6 @@
 -- The peer answers a write: what that leaves, before what follows.
 use Rattle.std.proofs.Common.{ℕ, ◌≡◌, inl, inr, Bool, true, false, not, ◌&&◌, ◌||◌, List, [], ◌∷◌, ◌++◌, length, map, filter, Option, Some, None, slice_get}
-use Rattle.std.proofs.Common.{refl, sym, ◌∙◌, ap, subst, nat_lt, ◌==◌}
+use Rattle.std.proofs.Common.{refl, sym, ◌∙◌, ap, subst, ◌==◌}
 use Rattle.std.proofs.Math.Bool.{or-false}
 use Rattle.std.specs.Prelude.{if◌then◌else◌}
 use Rattle.std.specs.List.{list_any}
@@ -11,8 +11,8 @@ use Rattle.blocks.specs.declared.settings.Settings.{Settings}
 use Rattle.blocks.specs.declared.settings.Protocol.{Protocol}
 use Rattle.model.specs.Stream.{Item, WriteItem, epoch_of}
 use Rattle.model.specs.Frames.{Acknowledged, Received, naming, counting}
-use Rattle.model.specs.Primary.{Accepted, Outward, PrimaryHistory, no_outward, outward, last_index, change_last, with_outward, stands, items_sent, same_naming}
-use Rattle.model.specs.Primary.{accepted_frames, is_answered_by, is_answered, is_alone, is_confirmed, is_released, is_waiting, is_on_disk, barrier_acknowledged}
+use Rattle.model.specs.Primary.{Accepted, Outward, PrimaryHistory, no_outward, outward, last_index, change_last, with_outward, stands, same_naming}
+use Rattle.model.specs.Primary.{accepted_frames, is_answered_by, is_answered, is_alone, is_confirmed, is_released, is_on_disk, barrier_acknowledged}
 use Rattle.model.specs.Primary.{was_resynced, completes}
 use Rattle.transferlog.specs.Log.{changing}
 use Rattle.transferlog.specs.Ring.{on}
@@ -32,12 +32,13 @@ use Rattle.primary_steps.specs.Leaves.{is_sent, logged_of, LeavesEnd, EndLeft, L
 use Rattle.primary_steps.proofs.Acknowledge.AwaitedWrite.{Names}
 use Rattle.primary_steps.proofs.Common.OneWriteLeaves.{change-due, entries-stay, held-stays}
 use Rattle.primary_steps.proofs.Common.OneWrite.{IsChange, released-is}
-use Rattle.primary_steps.proofs.Common.Connections.{look}
 use Rattle.primary_steps.proofs.Common.Following.{IsDue}
 use Rattle.primary_steps.proofs.Common.Reached.{outward-of}
 use Rattle.primary_steps.proofs.Common.Marks.{unmarking-none}
 use Rattle.primary_steps.proofs.Common.WriteStates.{completes-seen, disk-seen}
 use Rattle.primary_steps.proofs.LocalDisk.Writes.{one}
+use Rattle.laws.proofs.Rules.Releases.{released-same}
+use Rattle.laws.proofs.Primary.Seen.{alone-seen, sent-seen, confirmed-seen}
 
 -- A frame that is accepted is the last of those that count.
 pub frames-more : (c : Outward) (frame : Received) → c.refused ≡ false → accepted_frames (with_frame frame c) ≡ accepted_frames c ++ frame ∷ []
@@ -84,51 +85,13 @@ module _ (settings : Settings) (s : PrimaryState) (h : PrimaryHistory) (e : EndS
   out = outward-of (with_frame frame) h later refl (stands-parts (outward h) standing).0
 
   alone-framed : (a : Accepted) → is_alone later a ≡ is_alone h a
-  alone-framed a = go a.home
-    where
-      go : (v : Option StreamPosition) → elim v as (λ _. Bool) [
-        | None ↦ true
-        | Some home ↦ elim (slice_get (change_last (with_frame frame) h.connections) home.index) as
-            (λ _. Bool) [ None ↦ true | Some c ↦ c.closed ]
-      ]
-          ≡ elim v as (λ _. Bool) [ None ↦ true | Some home ↦ elim (slice_get h.connections home.index) as (λ _. Bool) [ None ↦ true | Some c ↦ c.closed ] ]
-      go None = refl
-      go (Some home) =
-          look (λ v. elim v as (λ _. Bool) [ None ↦ true | Some c ↦ c.closed ]) (with_frame frame) (no_outward h.tuple) h.connections home.index refl
+  alone-framed = alone-seen h later (with_frame frame) refl refl
 
   sent-framed : (a : Accepted) → is_sent later a ≡ is_sent h a
-  sent-framed a = go a.home
-    where
-      go : (v : Option StreamPosition) → elim v as (λ _. Bool) [
-        | None ↦ false
-        | Some home ↦ elim (slice_get (change_last (with_frame frame) h.connections) home.index) as
-            (λ _. Bool) [ None ↦ false | Some c ↦ nat_lt home.place (items_sent c) ]
-      ]
-          ≡ elim v as (λ _. Bool) [
-            | None ↦ false
-            | Some home ↦ elim (slice_get h.connections home.index) as
-                (λ _. Bool) [ None ↦ false | Some c ↦ nat_lt home.place (items_sent c) ]
-          ]
-      go None = refl
-      go (Some home) = look (λ v. elim v as (λ _. Bool) [ None ↦ false | Some c ↦ nat_lt home.place (items_sent c) ]) (with_frame frame)
-          (no_outward h.tuple) h.connections home.index refl
+  sent-framed = sent-seen h later (with_frame frame) refl refl
 
   confirmed-framed : (a : Accepted) → is_confirmed later a ≡ is_confirmed h a
-  confirmed-framed a = go a.home
-    where
-      go : (v : Option StreamPosition) → elim v as (λ _. Bool) [
-        | None ↦ false
-        | Some home ↦ elim (slice_get (change_last (with_frame frame) h.connections) home.index) as
-            (λ _. Bool) [ None ↦ false | Some c ↦ barrier_acknowledged c (epoch_of c.stream home.place) ]
-      ]
-          ≡ elim v as (λ _. Bool) [
-            | None ↦ false
-            | Some home ↦ elim (slice_get h.connections home.index) as
-                (λ _. Bool) [ None ↦ false | Some c ↦ barrier_acknowledged c (epoch_of c.stream home.place) ]
-          ]
-      go None = refl
-      go (Some home) = look (λ v. elim v as (λ _. Bool) [ None ↦ false | Some c ↦ barrier_acknowledged c (epoch_of c.stream home.place) ]) (with_frame frame)
-          (no_outward h.tuple) h.connections home.index (no_barrier (epoch_of (outward h).stream home.place))
+  confirmed-framed = confirmed-seen h later (with_frame frame) refl (λ place. no_barrier (epoch_of (outward h).stream place))
 
   -- the logged write, by what is answered of it
   framed-as : (a : Accepted) (answered : Bool) → is_answered later a ≡ answered → logged_of later a ≡ record (logged_of h a) { answered = answered }
@@ -233,7 +196,7 @@ module _ (settings : Settings) (s : PrimaryState) (h : PrimaryHistory) (e : EndS
       (released-is s h later ack.number writes.answering (λ a. a) (with_frame frame) left homes ordered.1.0 answered-change) at) in
       let stood = pick-filtered (λ a. not (is_released h a) && is_released later a) h.writes n of.0 of.1 in
       let parts = and_parts (not (is_released h of.0)) (is_released later of.0) stood.2 in
-      let same : is_released later of.0 ≡ is_released h of.0 = λ j. not (is_waiting of.0.outcome) && (confirmed-framed of.0 j || alone-framed of.0 j) in
+      let same : is_released later of.0 ≡ is_released h of.0 = released-same h later of.0 (confirmed-framed of.0) (alone-framed of.0) in
       absurd (both_ways (not (is_released h of.0)) (ap not (sym same ∙ parts.1)) parts.0)
 
   pub answered-due : IsDue (record s { log = (changing ack.number writes.answering s.log).1 }) (changing ack.number writes.answering s.log).0 later

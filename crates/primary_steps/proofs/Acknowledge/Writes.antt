@@ -15,8 +15,8 @@ use Rattle.blocks.specs.declared.outcome.What.TheVariants as what
 use Rattle.blocks.specs.declared.command.Command.TheVariants as command
 use Rattle.model.specs.Stream.{Item, WriteItem, is_write}
 use Rattle.model.specs.Frames.{RecvAckFrame, WriteAckFrame, Acknowledged, Received, naming}
-use Rattle.model.specs.Primary.{Outward, PrimaryHistory, outward, with_outward, stands, is_recv_ack, is_write_ack, is_rs_write_ack, is_barrier_ack}
-use Rattle.model.specs.Primary.{is_answered_by, was_received, was_written, was_resynced, barrier_acknowledged, same_naming}
+use Rattle.model.specs.Primary.{Outward, PrimaryHistory, outward, with_outward, stands, is_rs_write_ack, is_barrier_ack}
+use Rattle.model.specs.Primary.{is_answered_by, was_received, was_written, was_resynced, barrier_acknowledged}
 use Rattle.model.specs.Acknowledgements as model
 use Rattle.model.specs.Acknowledgements.{names_sent, was_named, same_protocol}
 use Rattle.transferlog.specs.Log.{LogState, changing, awaits_in, is_asked}
@@ -37,6 +37,9 @@ use Rattle.primary_steps.proofs.Common.Following.{follow}
 use Rattle.primary_steps.proofs.Acknowledge.AcceptedFrame.{NamesNone, end-framed, way-framed, other-place}
 use Rattle.primary_steps.proofs.Common.Reached.{from-follow}
 use Rattle.primary_steps.proofs.Common.TakenAlike.{TakenAlike}
+use Rattle.primary_steps.proofs.Acknowledge.WriteAnswered.{frames-more}
+use Rattle.laws.proofs.Primary.Ends.{frames-taking}
+use Rattle.laws.proofs.Rules.Answered.{answered-more, answered-receipt, answered-written}
 
 -- what nobody changed
 pub peer-same : (frame : Received) (s : PrimaryState) (h : PrimaryHistory) (refusal : Refusal) → Leaves s h
@@ -46,9 +49,7 @@ peer-same frame s h refusal left = (refl, (s.peer, refl, λ i. record (with_outw
 -- what was answered stays so
 mono : (c : Outward) (frame : Received) → c.refused ≡ false → (asked : Protocol) (place : ℕ) (item : Item) → is_answered_by asked c place item ≡ true
     → is_answered_by asked (with_frame frame c) place item ≡ true
-mono c frame plain protocol.A place item so = so
-mono c frame plain protocol.B place item so = any-frame (is_recv_ack (naming place item)) c frame plain ∙ λ i. so i || is_recv_ack (naming place item) frame
-mono c frame plain protocol.C place item so = any-frame (is_write_ack (naming place item)) c frame plain ∙ λ i. so i || is_write_ack (naming place item) frame
+mono c frame plain asked place item so = answered-more asked c (with_frame frame c) place item (omega arith) (frames-taking c frame plain) so
 
 module _ (settings : Settings) (bound : TakesWrites settings) (s : PrimaryState) (h : PrimaryHistory) (e : EndState) (left : Leaves s h)
     (ordered : Ordered settings h) (is : s.end ≡ Some e) (end : LeavesEnd e (outward h)) (begun : (outward h).begun ≡ true)
@@ -119,9 +120,8 @@ module _ (settings : Settings) (bound : TakesWrites settings) (s : PrimaryState)
       ((in-order-kept settings bound).receives h ack end.stands begun (record { names = named_so; first = unnamed }) ordered) on n is
       (end-framed e (outward h) (Ok (RecvAckFrame ack)) e.under_way end begun long (received-names n)
       (way-framed e.under_way (outward h) (Ok (RecvAckFrame ack)) (same-block (Ok (RecvAckFrame ack)) (λ of. refl)) end.under_way))
-      (λ place item. ap (λ (p : Protocol). is_answered_by p (with_frame (Ok (RecvAckFrame ack)) (outward h)) place item) asked
-      ∙ (any-frame (is_recv_ack (naming place item)) (outward h) (Ok (RecvAckFrame ack)) end.plain
-      ∙ ap (λ (p : Protocol). is_answered_by p (outward h) place item || same_naming (naming place item) ack) (sym asked)))
+      (λ place item. answered-receipt h.settings.protocol (outward h) (with_frame (Ok (RecvAckFrame ack)) (outward h)) ack place item asked
+      (frames-more (outward h) (Ok (RecvAckFrame ack)) end.plain))
       (mono (outward h) (Ok (RecvAckFrame ack)) end.plain) (same-barrier (Ok (RecvAckFrame ack)) (λ epoch. refl))
       (same-block (Ok (RecvAckFrame ack)) (λ of. refl))) (what.Frame command.RecvAck None))
 
@@ -178,9 +178,8 @@ module _ (settings : Settings) (bound : TakesWrites settings) (s : PrimaryState)
       ((in-order-kept settings bound).applies h ack end.stands begun (record { names = named_so; first = unnamed }) ordered) on n is
       (end-framed e (outward h) (Ok (WriteAckFrame ack)) e.under_way end begun long (written-names n)
       (way-framed e.under_way (outward h) (Ok (WriteAckFrame ack)) (same-block (Ok (WriteAckFrame ack)) (λ of. refl)) end.under_way))
-      (λ place item. ap (λ (p : Protocol). is_answered_by p (with_frame (Ok (WriteAckFrame ack)) (outward h)) place item) asked
-      ∙ (any-frame (is_write_ack (naming place item)) (outward h) (Ok (WriteAckFrame ack)) end.plain
-      ∙ ap (λ (p : Protocol). is_answered_by p (outward h) place item || same_naming (naming place item) ack) (sym asked)))
+      (λ place item. answered-written h.settings.protocol (outward h) (with_frame (Ok (WriteAckFrame ack)) (outward h)) ack place item asked
+      (frames-more (outward h) (Ok (WriteAckFrame ack)) end.plain))
       (mono (outward h) (Ok (WriteAckFrame ack)) end.plain) (same-barrier (Ok (WriteAckFrame ack)) (λ epoch. refl))
       (same-block (Ok (WriteAckFrame ack)) (λ of. refl))) (what.Frame command.WriteAck None))
 

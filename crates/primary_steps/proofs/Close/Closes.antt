@@ -4,7 +4,7 @@ use Rattle.blocks.specs.declared.refusal.Refusal.{Refusal}
 use Rattle.blocks.specs.declared.refusal.Refusal.TheVariants.{NotConnected}
 use Rattle.blocks.specs.declared.outcome.Reply.{Reply}
 use Rattle.blocks.specs.declared.outcome.Reply.TheVariants as reply
-use Rattle.model.specs.Primary.{Outward, PrimaryHistory, outward}
+use Rattle.model.specs.Primary.{PrimaryHistory, outward}
 use Rattle.model.specs.PrimarySteps as step
 use Rattle.model.specs.PrimarySteps.{closing, follows}
 use Rattle.laws.proofs.Releases.InOrderMoves.{in-order-kept}
@@ -14,10 +14,6 @@ use Rattle.primary_steps.specs.Leaves.{EndLeft}
 use Rattle.primary_steps.specs.Steps.{Agrees, ClosesAgree}
 use Rattle.primary_steps.proofs.Close.Closing.{IsClose, close-leaves, close-count}
 use Rattle.primary_steps.proofs.Common.Reached.{reached-ordered, outward-of, refused-agrees}
-
--- the end is marked closed
-shutting : Outward → Outward
-shutting c = record c { closed = true }
 
 close-is : (h : PrimaryHistory) → (outward h).closed ≡ false → IsClose h (closing h) (λ c. record c { closed = true })
 close-is h unshut = record {

@@ -1,25 +1,23 @@
 -- An end closes, by a call or by a protocol error: what that leaves.
-use Rattle.std.proofs.Common.{ℕ, ◌≡◌, ◌-◌, ◌≤◌, inl, inr, Bool, true, false, not, ◌&&◌, ◌||◌, List, [], ◌∷◌, ◌++◌, length, map, filter, Option, Some, None}
-use Rattle.std.proofs.Common.{slice_get, refl, sym, ◌∙◌, ap, subst, arith, nat_lt, ◌==◌}
+use Rattle.std.proofs.Common.{ℕ, ◌≡◌, ◌≤◌, inl, inr, Bool, true, false, not, ◌&&◌, ◌||◌, List, [], ◌∷◌, ◌++◌, length, map, filter, Option, Some, None}
+use Rattle.std.proofs.Common.{slice_get, refl, sym, ◌∙◌, ap, subst, arith, ◌==◌}
 use Rattle.std.specs.Prelude.{find, is_some, if◌then◌else◌}
 use Rattle.std.specs.List.{list_any}
-use Rattle.std.proofs.lemmas.Bool.{both_ways, and_parts, eqb-true, false_from_ne_true}
+use Rattle.std.proofs.lemmas.Bool.{both_ways, eqb-true, false_from_ne_true}
 use Rattle.std.proofs.lemmas.List.{length-map}
 use Rattle.std.proofs.lemmas.List.Elements.{filter-append}
 use Rattle.blocks.specs.Positions.{StreamPosition}
 use Rattle.blocks.specs.declared.tuple.Tuple.{Tuple}
 use Rattle.blocks.specs.declared.settings.Settings.{Settings}
 use Rattle.blocks.specs.declared.settings.Protocol.{Protocol}
-use Rattle.blocks.specs.declared.settings.Protocol.TheVariants as protocol
 use Rattle.blocks.specs.declared.outcome.What.TheVariants as what
 use Rattle.blocks.specs.Identifiers.{lost}
 use Rattle.blocks.specs.Ranges.{below, is_between}
-use Rattle.model.specs.Stream.{Item, WriteItem, BarrierItem, last_epoch}
-use Rattle.model.specs.Frames.{naming}
+use Rattle.model.specs.Stream.{Item, BarrierItem, last_epoch}
 use Rattle.model.specs.Marks.{marking_unreleased}
-use Rattle.model.specs.Primary.{Accepted, Completion, Outward, PrimaryHistory, no_outward, outward, last_index, change_last, stands, items_sent}
-use Rattle.model.specs.Primary.{accepted_frames, is_recv_ack, is_write_ack, is_answered_by, is_answered, is_alone, is_failed, is_waiting}
-use Rattle.model.specs.Primary.{is_confirmed, is_released, is_completed, is_open, open_writes, completes, unreleased, under_way}
+use Rattle.model.specs.Primary.{Accepted, Completion, Outward, PrimaryHistory, no_outward, outward, last_index, change_last, stands}
+use Rattle.model.specs.Primary.{accepted_frames, is_answered_by, is_answered, is_alone, is_failed}
+use Rattle.model.specs.Primary.{is_released, is_completed, is_open, open_writes, completes, unreleased, under_way}
 use Rattle.model.specs.PrimarySteps.{Followed, newly_completed, with_completions, appending, resync_is_over, ending_resync, follows}
 use Rattle.transferlog.specs.Log.{draining}
 use Rattle.transferlog.specs.Writes as writes
@@ -39,12 +37,14 @@ use Rattle.primary_steps.specs.Core.{Fate, Failed, EndState, PrimaryState, unmar
 use Rattle.primary_steps.specs.Transitions as transition
 use Rattle.primary_steps.specs.Leaves.{local_of, is_sent, logged_of, entry_of, fate_in, latest_in, holding_item, holding_write, held_of, marks_in, LeavesLog}
 use Rattle.primary_steps.specs.Leaves.{LeavesStream, LeavesEnd, Leaves}
-use Rattle.primary_steps.proofs.Common.Connections.{look}
 use Rattle.primary_steps.proofs.Common.Filters.{filter-map, filter-all, filter-none, map-at, any-map}
 use Rattle.primary_steps.proofs.Common.Following.{IsDue, follow, parted, barrier_of}
 use Rattle.primary_steps.proofs.Common.Marks.{unmarking-none, marking-in, marks-same}
 use Rattle.primary_steps.proofs.Common.WritesChange.{IsMoved, left-then, moved-released, moved-completed, moved-activity}
 use Rattle.primary_steps.proofs.Common.WriteStates.{settled-seen}
+use Rattle.laws.proofs.Rules.Releases.{freed-alone, released-parts, released-by, released-with}
+use Rattle.laws.proofs.Rules.Answered as rule
+use Rattle.laws.proofs.Primary.Seen.{sent-seen, answered-seen}
 
 -- What a close does: the last end is closed, and nothing that a write sees of it changes but that; unreleased writes are marked, and
 -- the tuple goes by `lost` where a stream had begun.
@@ -93,51 +93,13 @@ module _ (s : PrimaryState) (h h1 : PrimaryHistory) (k : Outward → Outward) (e
               ∙ c.closed
 
   sent-same : (a : Accepted) → is_sent h1 a ≡ is_sent h a
-  sent-same a = go a.home
-    where
-      go : (v : Option StreamPosition) → elim v as
-          (λ _. Bool) [
-            | None ↦ false
-            | Some home ↦ elim (slice_get h1.connections home.index) as
-                (λ _. Bool) [ None ↦ false | Some d ↦ nat_lt home.place (items_sent d) ]
-          ]
-          ≡ elim v as (λ _. Bool) [
-            | None ↦ false
-            | Some home ↦ elim (slice_get h.connections home.index) as
-                (λ _. Bool) [ None ↦ false | Some d ↦ nat_lt home.place (items_sent d) ]
-          ]
-      go None = refl
-      go (Some home) =
-          let see : Option Outward → Bool = λ v. elim v as (λ _. Bool) [ None ↦ false | Some d ↦ nat_lt home.place (items_sent d) ] in
-          ap see (there home.index) ∙ look see k (no_outward h.tuple) h.connections home.index (ap (λ n. nat_lt home.place (n - 3)) c.pushed)
+  sent-same = sent-seen h h1 k c.connections c.pushed
 
   answered-by : (asked : Protocol) (place : ℕ) (item : Item) → is_answered_by asked (k (outward h)) place item ≡ is_answered_by asked (outward h) place item
-  answered-by protocol.A place item = ap (λ n. nat_lt place (n - 3)) c.pushed
-  answered-by protocol.B place item = ap (list_any (is_recv_ack (naming place item))) c.frames
-  answered-by protocol.C place item = ap (list_any (is_write_ack (naming place item))) c.frames
+  answered-by asked place item = rule.answered-same asked (outward h) (k (outward h)) place item c.pushed c.frames
 
   answered-same : (a : Accepted) → is_answered h1 a ≡ is_answered h a
-  answered-same a = go a.home
-    where
-      go : (v : Option StreamPosition) → elim v as
-          (λ _. Bool) [
-            | None ↦ false
-            | Some home ↦ elim (slice_get h1.connections home.index) as
-                (λ _. Bool) [ None ↦ false | Some d ↦ is_answered_by h1.settings.protocol d home.place (WriteItem a.write) ]
-          ]
-          ≡ elim v as (λ _. Bool) [
-            | None ↦ false
-            | Some home ↦ elim (slice_get h.connections home.index) as
-                (λ _. Bool) [ None ↦ false | Some d ↦ is_answered_by h.settings.protocol d home.place (WriteItem a.write) ]
-          ]
-      go None = refl
-      go (Some home) =
-          let see : Option Outward → Bool =
-          λ v. elim v as (λ _. Bool) [ None ↦ false | Some d ↦ is_answered_by h1.settings.protocol d home.place (WriteItem a.write) ] in
-          ap see (there home.index)
-          ∙ (look see k (no_outward h.tuple) h.connections home.index (answered-by h1.settings.protocol home.place (WriteItem a.write))
-          ∙ ap (λ (x : Settings). elim (slice_get h.connections home.index) as
-          (λ _. Bool) [ None ↦ false | Some d ↦ is_answered_by x.protocol d home.place (WriteItem a.write) ]) c.settings)
+  answered-same = answered-seen h h1 k c.connections c.settings (answered-by h.settings.protocol)
 
   closed-moved : IsMoved h h1 writes.unlinking (λ a. a) s.log.confirmed
   closed-moved = record {
@@ -146,26 +108,15 @@ module _ (s : PrimaryState) (h h1 : PrimaryHistory) (k : Outward → Outward) (e
     writes = c.writes ∙ same-list h.writes;
     write = λ a. refl;
     logged = λ i a at. λ j. record (logged_of h a) { linked = not (all-alone i a at j); sent = sent-same a j; answered = answered-same a j };
-    released = λ i a at. (λ j. settled-seen a.outcome j && true)
-        ∙ sym ((λ j. not (is_waiting a.outcome) && (is_confirmed h1 a || all-alone i a at j))
-        ∙ ap (λ b. not (is_waiting a.outcome) && b) (or-true (is_confirmed h1 a)));
-    stays = λ i a at so. (λ j. not (is_waiting a.outcome) && (is_confirmed h1 a || all-alone i a at j))
-        ∙ (ap (λ b. not (is_waiting a.outcome) && b) (or-true (is_confirmed h1 a))
-        ∙ (and-true (not (is_waiting a.outcome)) ∙ (and_parts (not (is_waiting a.outcome)) (is_confirmed h a || is_alone h a) so).0));
+    released = λ i a at. released-with h1 a _ true false (settled-seen a.outcome) (sym (all-alone i a at))
+        (λ linked. absurd (both_ways (is_alone h1 a) linked (all-alone i a at)));
+    stays = λ i a at so. released-by h1 a (released-parts h a so).done (freed-alone h1 a (all-alone i a at));
     failed = λ i a at so. so;
   }
     where
       same-list : (ws : List Accepted) → ws ≡ map (λ a. a) ws
       same-list [] = refl
       same-list (a ∷ ws) = ap (λ (l : List Accepted). a ∷ l) (same-list ws)
-
-      or-true : (b : Bool) → (b || true) ≡ true
-      or-true true = refl
-      or-true false = refl
-
-      and-true : (b : Bool) → (b && true) ≡ b
-      and-true true = refl
-      and-true false = refl
 
   -- no stream stands
   down : stands (outward h1) ≡ false

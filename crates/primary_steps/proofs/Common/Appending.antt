@@ -21,7 +21,7 @@ use Rattle.laws.proofs.Streams.Places.{epoch-grows, placed-back}
 use Rattle.primary_steps.specs.Core.{UnderWay, EndState, PrimaryState}
 use Rattle.primary_steps.specs.Leaves.{logged_of, LeavesActivity, LeavesRest, LeavesEnd, EndLeft, UnderWayLeft, holding_item, holding_write}
 use Rattle.primary_steps.proofs.Common.Filters.{filter-at, map-at}
-use Rattle.primary_steps.proofs.Common.Connections.{SeesSame, seen-same, released-same, alone-same, answers-same}
+use Rattle.primary_steps.proofs.Common.Connections.{SeesSame, seen-same, released-alike, alone-same, answers-same}
 
 -- what is under way, with one item more that is no block of a resync
 pub under-way-more : (c d : Outward) (item : Item) → SeesSame c d → d.stream ≡ c.stream ++ item ∷ [] → is_resync item ≡ false → under_way d ≡ under_way c
@@ -91,9 +91,6 @@ end-more e c d item same stream sync loss hello begun plain l = record {
 
 module _ (t : PrimaryState) (g : PrimaryHistory) (item : Item) (left : LeavesRest t g) (homes : HasHomes g) (on : stands (outward g) ≡ true)
     (plain : is_resync item ≡ false) where
-  f : Outward → Outward
-  f c = record c { stream = c.stream ++ item ∷ [] }
-
   later : PrimaryHistory
   later = appending item g
 
@@ -111,7 +108,7 @@ module _ (t : PrimaryState) (g : PrimaryHistory) (item : Item) (left : LeavesRes
 
   pub unreleased-more : unreleased (appending item g) ≡ unreleased g
   unreleased-more = filter-at (λ a. not (is_released (appending item g) a)) (λ a. not (is_released g a)) g.writes
-      (λ i a at. ap not (released-same g (appending item g) (λ c. record c { stream = c.stream ++ item ∷ [] }) refl refl same homes (item ∷ []) refl i a at))
+      (λ i a at. ap not (released-alike g (appending item g) (λ c. record c { stream = c.stream ++ item ∷ [] }) refl refl same homes (item ∷ []) refl i a at))
 
   ends : (v : Option EndState) → EndLeft v (outward g)
       → EndLeft (option_map (queued (item ∷ []) (resync_runs (outward (appending item g)))) v) (outward (appending item g))

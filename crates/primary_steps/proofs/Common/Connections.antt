@@ -1,28 +1,19 @@
 -- A change of the last connection that the log does not see.
-use Rattle.std.proofs.Common.{ℕ, zero, suc, ◌≡◌, ◌≤◌, inl, inr, Bool, true, false, not, ◌&&◌, ◌||◌, List, [], ◌∷◌, ◌++◌, length, Option, Some, None, slice_get}
-use Rattle.std.proofs.Common.{refl, sym, ◌∙◌, ap, subst, arith, nat_lt}
+use Rattle.std.proofs.Common.{ℕ, ◌≡◌, ◌≤◌, inl, inr, Bool, false, not, List, ◌++◌, length, Option, Some, None, slice_get}
+use Rattle.std.proofs.Common.{refl, sym, ◌∙◌, ap, subst, arith}
 use Rattle.std.proofs.lemmas.Option.{slice_get_within}
 use Rattle.blocks.specs.Positions.{StreamPosition}
-use Rattle.blocks.specs.declared.settings.Settings.{Settings}
 use Rattle.blocks.specs.declared.settings.Protocol.{Protocol}
-use Rattle.blocks.specs.declared.settings.Protocol.TheVariants as protocol
 use Rattle.model.specs.Stream.{Item, WriteItem, epoch_of}
-use Rattle.model.specs.Primary.{Accepted, Outward, PrimaryHistory, no_outward, last_of, outward, change_last, items_sent, is_answered_by, is_answered, is_alone}
-use Rattle.model.specs.Primary.{is_confirmed, barrier_acknowledged, is_waiting, is_released}
+use Rattle.model.specs.Primary.{Accepted, Outward, PrimaryHistory, no_outward, outward, change_last, is_answered_by, is_answered, is_alone}
+use Rattle.model.specs.Primary.{is_confirmed, barrier_acknowledged, is_released}
 use Rattle.laws.proofs.Lists.Last.{get-change}
 use Rattle.laws.proofs.Primary.Homes.{HasHomes, confirmed-at}
 use Rattle.laws.proofs.Streams.Places.{epoch-grows}
 use Rattle.primary_steps.specs.Leaves.{is_sent, logged_of}
-
--- what a look-up of a connection gives, where the last one changes and that cannot be told
-pub look : {X : Type 0} (see : Option Outward → X) (f : Outward → Outward) (none : Outward) (cs : List Outward) (k : ℕ)
-    → see (Some (f (last_of none cs))) ≡ see (Some (last_of none cs))
-    → see (slice_get (change_last f cs) k) ≡ see (slice_get cs k)
-look see f none [] k same = refl
-look see f none (x ∷ []) zero same = same
-look see f none (x ∷ []) (suc k) same = refl
-look see f none (x ∷ y ∷ xs) zero same = refl
-look see f none (x ∷ y ∷ xs) (suc k) same = look see f x (y ∷ xs) k same
+use Rattle.laws.proofs.Rules.Releases.{released-same}
+use Rattle.laws.proofs.Rules.Answered as rule
+use Rattle.laws.proofs.Primary.Seen.{alone-seen, sent-seen, answered-seen}
 
 -- What the log sees of a connection is the same: whether it is closed, what was pushed, and the frames.
 pub record SeesSame (c d : Outward) : Type 0 where
@@ -33,9 +24,7 @@ pub record SeesSame (c d : Outward) : Type 0 where
 
 pub answered-same : (asked : Protocol) (c d : Outward) (place : ℕ) (item : Item) → SeesSame c d
     → is_answered_by asked d place item ≡ is_answered_by asked c place item
-answered-same protocol.A c d place item s = rw (s.pushed) refl
-answered-same protocol.B c d place item s = rw (s.taken, s.refused) refl
-answered-same protocol.C c d place item s = rw (s.taken, s.refused) refl
+answered-same asked c d place item s = rule.answered-same asked c d place item s.pushed (rw (s.taken, s.refused) refl)
 
 pub confirmed-same : (c d : Outward) (epoch : ℕ) → SeesSame c d → barrier_acknowledged d epoch ≡ barrier_acknowledged c epoch
 confirmed-same c d epoch s = rw (s.taken, s.refused) refl
@@ -46,57 +35,13 @@ module _ (h later : PrimaryHistory) (f : Outward → Outward) (settings : later.
   there k = ap (λ (l : List Outward). slice_get l k) connections
 
   pub alone-same : (a : Accepted) → is_alone later a ≡ is_alone h a
-  alone-same a = go a.home
-    where
-      go : (home : Option StreamPosition) → elim home as
-          (λ _. Bool) [ None ↦ true | Some home ↦ elim (slice_get later.connections home.index) as (λ _. Bool) [ None ↦ true | Some c ↦ c.closed ] ]
-          ≡ elim home as (λ _. Bool) [ None ↦ true | Some home ↦ elim (slice_get h.connections home.index) as (λ _. Bool) [ None ↦ true | Some c ↦ c.closed ] ]
-      go None = refl
-      go (Some home) =
-          let see : Option Outward → Bool = λ v. elim v as (λ _. Bool) [ None ↦ true | Some c ↦ c.closed ] in
-          ap see (there home.index) ∙ look see f (no_outward h.tuple) h.connections home.index same.closed
+  alone-same = alone-seen h later f connections same.closed
 
   sent-same : (a : Accepted) → is_sent later a ≡ is_sent h a
-  sent-same a = go a.home
-    where
-      go : (home : Option StreamPosition) → elim home as
-          (λ _. Bool) [
-            | None ↦ false
-            | Some home ↦ elim (slice_get later.connections home.index) as
-                (λ _. Bool) [ None ↦ false | Some c ↦ nat_lt home.place (items_sent c) ]
-          ]
-          ≡ elim home as (λ _. Bool) [
-            | None ↦ false
-            | Some home ↦ elim (slice_get h.connections home.index) as
-                (λ _. Bool) [ None ↦ false | Some c ↦ nat_lt home.place (items_sent c) ]
-          ]
-      go None = refl
-      go (Some home) =
-          let see : Option Outward → Bool = λ v. elim v as (λ _. Bool) [ None ↦ false | Some c ↦ nat_lt home.place (items_sent c) ] in
-          ap see (there home.index) ∙ look see f (no_outward h.tuple) h.connections home.index (rw (same.pushed) refl)
+  sent-same = sent-seen h later f connections same.pushed
 
   pub answers-same : (a : Accepted) → is_answered later a ≡ is_answered h a
-  answers-same a = go a.home
-    where
-      go : (home : Option StreamPosition) → elim home as
-          (λ _. Bool) [
-            | None ↦ false
-            | Some home ↦ elim (slice_get later.connections home.index) as
-                (λ _. Bool) [ None ↦ false | Some c ↦ is_answered_by later.settings.protocol c home.place (WriteItem a.write) ]
-          ]
-          ≡ elim home as (λ _. Bool) [
-            | None ↦ false
-            | Some home ↦ elim (slice_get h.connections home.index) as
-                (λ _. Bool) [ None ↦ false | Some c ↦ is_answered_by h.settings.protocol c home.place (WriteItem a.write) ]
-          ]
-      go None = refl
-      go (Some home) =
-          let see : Option Outward → Bool =
-          λ v. elim v as (λ _. Bool) [ None ↦ false | Some c ↦ is_answered_by later.settings.protocol c home.place (WriteItem a.write) ] in
-          ap see (there home.index) ∙ (look see f (no_outward h.tuple) h.connections home.index
-          (answered-same later.settings.protocol (outward h) (f (outward h)) home.place (WriteItem a.write) same)
-          ∙ ap (λ (s : Settings). elim (slice_get h.connections home.index) as
-          (λ _. Bool) [ None ↦ false | Some c ↦ is_answered_by s.protocol c home.place (WriteItem a.write) ]) settings)
+  answers-same = answered-seen h later f connections settings (λ place item. answered-same h.settings.protocol (outward h) (f (outward h)) place item same)
 
   -- the log has the same of each write
   pub seen-same : (a : Accepted) → logged_of later a ≡ logged_of h a
@@ -139,5 +84,5 @@ module _ (h later : PrimaryHistory) (f : Outward → Outward) (settings : later.
                   ∙ (ap (λ (c : Outward). barrier_acknowledged c (epoch_of c.stream home.place)) (sym last) ∙ sym (confirmed-at h a home was.0 is was.1)))))
             ]
 
-    pub released-same : (i : ℕ) (a : Accepted) → slice_get h.writes i ≡ Some a → is_released later a ≡ is_released h a
-    released-same i a at = λ j. not (is_waiting a.outcome) && (acknowledged-same i a at j || alone-same a j)
+    pub released-alike : (i : ℕ) (a : Accepted) → slice_get h.writes i ≡ Some a → is_released later a ≡ is_released h a
+    released-alike i a at = released-same h later a (acknowledged-same i a at) (alone-same a)

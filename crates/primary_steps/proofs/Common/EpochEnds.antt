@@ -80,13 +80,6 @@ module _ (s : PrimaryState) (h h1 : PrimaryHistory) (n : ℕ) (f : LogWrite → 
     (left : Leaves s h) (homes : HasHomes h) (last : IsLastOpen h) (quiet : epoch_is_over h ≡ false) (homes1 : HasHomes h1) (done1 : (i : ℕ) (a : Accepted)
     → slice_get h1.writes i ≡ Some a → is_completed h1 a.write.number ≡ true → completes h1 a ≡ true)
     (c : IsChange h h1 n f g k) where
-  g1 : PrimaryHistory
-  g1 = with_completions h1
-
-  -- whether a write that was open is no more
-  closes : Bool
-  closes = closes_any (on n f) s.log
-
   at-then : (i : ℕ) (a : Accepted) → slice_get h.writes i ≡ Some a → slice_get h1.writes i ≡ Some (g a)
   at-then i a at = ap (λ (ws : List Accepted). slice_get ws i) c.writes ∙ (slice_get-map g h.writes i ∙ ap (option_map g) at)
 

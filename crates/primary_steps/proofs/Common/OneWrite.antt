@@ -1,8 +1,6 @@
 -- Something happens to one write: what the log makes of it, and what the history does.
-use Rattle.std.proofs.Common.{ℕ, ◌≡◌, ◌-◌, Bool, true, false, not, ◌&&◌, ◌||◌, List, length, map, filter, Some, None, slice_get, refl, sym, ◌∙◌, ap, nat_le}
-use Rattle.std.proofs.Math.Bool.{or-false}
+use Rattle.std.proofs.Common.{ℕ, ◌≡◌, ◌-◌, true, false, not, ◌&&◌, List, length, map, filter, Some, None, slice_get, sym, ◌∙◌, ap, nat_le}
 use Rattle.std.specs.Prelude.{if◌then◌else◌}
-use Rattle.std.proofs.lemmas.Bool.{and_parts, not-true}
 use Rattle.blocks.specs.declared.settings.Protocol.{Protocol}
 use Rattle.std.proofs.lemmas.List.{length-map}
 use Rattle.blocks.specs.declared.settings.Settings.{Settings}
@@ -21,8 +19,10 @@ use Rattle.laws.proofs.Primary.LastOpen.{IsLastOpen}
 use Rattle.primary_steps.specs.Core.{PrimaryState, leaving}
 use Rattle.primary_steps.specs.Leaves.{logged_of, latest_in, LeavesLog, LeavesActivity, Leaves}
 use Rattle.primary_steps.proofs.Common.WritesChange.{IsMoved, left-then, latest-then, moved-released, moved-completed, moved-activity}
-use Rattle.primary_steps.proofs.Common.Releasing.{confirmed-number, released-seen}
-use Rattle.primary_steps.proofs.Common.WriteStates.{settled-seen}
+use Rattle.primary_steps.proofs.Common.Releasing.{confirmed-number}
+use Rattle.primary_steps.proofs.Common.WriteStates.{settled-seen, not-not}
+use Rattle.model.specs.Contents.{Write}
+use Rattle.laws.proofs.Rules.Releases.{freed-same, released-parts, released-by, released-with}
 
 -- What happens to the write of one number in the history, and to the last connection: what the log sees of it is the change `f`.
 -- What the local disk did, what was answered and what was completed stays so.
@@ -54,44 +54,18 @@ module _ (s : PrimaryState) (h h1 : PrimaryHistory) (n : ℕ) (f : LogWrite → 
   abbrev l1 : LogState
   l1 = (changing n f s.log).1
 
-  fated : (i : ℕ) (a : Accepted) → slice_get h.writes i ≡ Some a → log.is_released s.log.confirmed (logged_of h a) ≡ is_released h a
-  fated = released-seen h s.log homes last left.rest.log.protocol left.stream.on
-
-  -- what the log sees of a write then
-  seen : Accepted → LogWrite
-  seen a = on n f (logged_of h a)
-
   released-then : (i : ℕ) (a : Accepted) → slice_get h.writes i ≡ Some a → log.is_released s.log.confirmed (on n f (logged_of h a)) ≡ is_released h1 (g a)
   released-then i a at =
       ap (log.is_released s.log.confirmed) (sym (c.logged i a at))
-      ∙ ((λ j. settled-then j && (not (not (c.alone i a at j)) || nat_le (c.write a j).number s.log.confirmed))
-      ∙ (go (is_alone h a) refl ∙ λ j. not (is_waiting (g a).outcome) && (sym (c.confirmed i a at) j || sym (c.alone i a at) j)))
-    where
-      settled-then : (log.is_on_disk (logged_of h1 (g a)).local || log.has_failed (logged_of h1 (g a)).local) ≡ not (is_waiting (g a).outcome)
-      settled-then = settled-seen (g a).outcome
-
-      go : (b : Bool) → is_alone h a ≡ b
-          → (not (is_waiting (g a).outcome) && (not (not (is_alone h a)) || nat_le a.write.number s.log.confirmed)) ≡
-          (not (is_waiting (g a).outcome) && (is_confirmed h a || is_alone h a))
-      go true is = (λ j. not (is_waiting (g a).outcome) && (not (not (is j)) || nat_le a.write.number s.log.confirmed))
-          ∙ ((ap (λ b. not (is_waiting (g a).outcome) && b) (sym (or-true (is_confirmed h a))))
-          ∙ λ j. not (is_waiting (g a).outcome) && (is_confirmed h a || sym is j))
-        where
-          or-true : (b : Bool) → (b || true) ≡ true
-          or-true true = refl
-          or-true false = refl
-      go false is =
-          (λ j. not (is_waiting (g a).outcome) && (not (not (is j)) || nat_le a.write.number s.log.confirmed))
-          ∙ (ap (λ b. not (is_waiting (g a).outcome) && b) (sym (confirmed-number h s.log homes last left.rest.log.protocol left.stream.on i a at is)
-          ∙ sym (or-false (is_confirmed h a))) ∙ λ j. not (is_waiting (g a).outcome) && (is_confirmed h a || sym is j))
+      ∙ released-with h1 (g a) _ _ _ (settled-seen (g a).outcome) (not-not (is_alone h1 (g a)))
+      (λ linked. c.confirmed i a at ∙ (confirmed-number h s.log homes last left.rest.log.protocol left.stream.on i a at (sym (c.alone i a at) ∙ linked)
+      ∙ ap (λ (w : Write). nat_le w.number s.log.confirmed) (sym (c.write a))))
 
   -- what was released stays so
   released-stays : (i : ℕ) (a : Accepted) → slice_get h.writes i ≡ Some a → is_released h a ≡ true → is_released h1 (g a) ≡ true
   released-stays i a at is =
-      let parts = and_parts (not (is_waiting a.outcome)) (is_confirmed h a || is_alone h a) is in
-      let told : (is_confirmed h1 (g a) || is_alone h1 (g a)) ≡ true = (λ j. c.confirmed i a at j || c.alone i a at j) ∙ parts.1 in
-      let settled : is_waiting (g a).outcome ≡ false = c.settled i a at (not-true (is_waiting a.outcome) parts.0) in
-      λ j. not (settled j) && told j
+      let parts = released-parts h a is in
+      released-by h1 (g a) (c.settled i a at parts.done) (freed-same h h1 a (g a) (c.confirmed i a at) (c.alone i a at) ∙ parts.freed)
 
   -- the writes are moved
   pub change-moved : IsMoved h h1 (on n f) g s.log.confirmed

@@ -1,8 +1,7 @@
 -- When the log releases a write, and what a released write is.
 use Rattle.std.proofs.Common.{ℕ, ◌≡◌, ◌+◌, inl, inr, Bool, true, false, not, ◌&&◌, ◌||◌, List, Option, Some, None, slice_get, refl, sym, ◌∙◌, ap, subst, arith}
 use Rattle.std.proofs.Common.{nat_le}
-use Rattle.std.proofs.Math.Bool.{or-false}
-use Rattle.std.proofs.lemmas.Bool.{cases_Bool, both_ways, and_parts, or_cases, leb-true}
+use Rattle.std.proofs.lemmas.Bool.{cases_Bool, both_ways, leb-true}
 use Rattle.blocks.specs.Positions.{StreamPosition}
 use Rattle.blocks.specs.declared.settings.Protocol.{Protocol}
 use Rattle.model.specs.Stream.{Item, WriteItem, epoch_of}
@@ -14,6 +13,7 @@ use Rattle.laws.proofs.Primary.Homes.{HasHomes, alone-at, alone-homeless, confir
 use Rattle.laws.proofs.Primary.LastOpen.{IsLastOpen, open-is-last}
 use Rattle.primary_steps.specs.Leaves.{logged_of, LeavesEpochs}
 use Rattle.primary_steps.proofs.Common.WriteStates.{settled-seen, not-not, open-seen}
+use Rattle.laws.proofs.Rules.Releases.{freed-linked, released-parts, released-with, IsReleased}
 
 -- a write on the standing stream
 pub record IsHere (h : PrimaryHistory) (a : Accepted) : Type 0 where
@@ -69,22 +69,7 @@ module _ (h : PrimaryHistory) (l : LogState) (homes : HasHomes h) (last : IsLast
 
   -- the log releases what the history does
   pub released-seen : (i : ℕ) (a : Accepted) → slice_get h.writes i ≡ Some a → log.is_released l.confirmed (logged_of h a) ≡ is_released h a
-  released-seen i a at = (λ j. settled-seen a.outcome j && (not-not (is_alone h a) j || nat_le a.write.number l.confirmed)) ∙ go (is_alone h a) refl
-    where
-      go : (b : Bool) → is_alone h a ≡ b
-          → (not (is_waiting a.outcome) && (is_alone h a || nat_le a.write.number l.confirmed)) ≡
-          (not (is_waiting a.outcome) && (is_confirmed h a || is_alone h a))
-      go true is = ap (λ b. not (is_waiting a.outcome) && (b || nat_le a.write.number l.confirmed)) is
-          ∙ (ap (λ b. not (is_waiting a.outcome) && b) (sym (or-true (is_confirmed h a)))
-          ∙ ap (λ b. not (is_waiting a.outcome) && (is_confirmed h a || b)) (sym is))
-        where
-          or-true : (b : Bool) → (b || true) ≡ true
-          or-true true = refl
-          or-true false = refl
-      go false is =
-          ap (λ b. not (is_waiting a.outcome) && (b || nat_le a.write.number l.confirmed)) is
-          ∙ (ap (λ b. not (is_waiting a.outcome) && b) (sym (confirmed-number i a at is) ∙ sym (or-false (is_confirmed h a)))
-          ∙ ap (λ b. not (is_waiting a.outcome) && (is_confirmed h a || b)) (sym is))
+  released-seen i a at = released-with h a _ _ _ (settled-seen a.outcome) (not-not (is_alone h a)) (confirmed-number i a at)
 
   -- a write that is confirmed is answered
   pub confirmed-answered : (i : ℕ) (a : Accepted) → slice_get h.writes i ≡ Some a → is_alone h a ≡ false → is_confirmed h a ≡ true → is_answered h a ≡ true
@@ -115,16 +100,14 @@ module _ (h : PrimaryHistory) (l : LogState) (homes : HasHomes h) (last : IsLast
   pub released-not-open : (i : ℕ) (a : Accepted) → slice_get h.writes i ≡ Some a → is_released h a ≡ true → log.is_open (logged_of h a) ≡ false
   released-not-open i a at released = open-seen h a ∙ by-outcome a.outcome refl
     where
-      parts : (not (is_waiting a.outcome) ≡ true) × ((is_confirmed h a || is_alone h a) ≡ true)
-      parts = and_parts (not (is_waiting a.outcome)) (is_confirmed h a || is_alone h a) released
+      parts : IsReleased h a
+      parts = released-parts h a released
 
       told : (is_answered h a || is_alone h a) ≡ true
       told = elim (cases_Bool (is_alone h a)) [
         | inl alone ↦ ap (λ b. is_answered h a || b) alone ∙ or-true (is_answered h a)
         | inr linked ↦
-            let confirmed : is_confirmed h a ≡ true =
-            elim (or_cases (is_confirmed h a) (is_alone h a) parts.1) [ inl is ↦ is | inr alone ↦ absurd (both_ways (is_alone h a) linked alone) ] in
-            ap (λ b. b || is_alone h a) (confirmed-answered i a at linked confirmed)
+            ap (λ b. b || is_alone h a) (confirmed-answered i a at linked (freed-linked h a parts.freed linked))
       ]
         where
           or-true : (b : Bool) → (b || true) ≡ true
@@ -132,7 +115,7 @@ module _ (h : PrimaryHistory) (l : LogState) (homes : HasHomes h) (last : IsLast
           or-true false = refl
 
       by-outcome : (o : LocalOutcome) → a.outcome ≡ o → (not (completes h a) && not (is_failed a.outcome)) ≡ false
-      by-outcome Waiting is = absurd (both_ways (not (is_waiting a.outcome)) (ap (λ (o : LocalOutcome). not (is_waiting o)) is) parts.0)
+      by-outcome Waiting is = absurd (both_ways (is_waiting a.outcome) parts.done (ap is_waiting is))
       by-outcome OnDisk is = λ j. not (is_on_disk (is j) && told j) && not (is_failed (is j))
       by-outcome (Failed offsets) is = ap (λ (o : LocalOutcome). not (completes h a) && not (is_failed o)) is ∙ and-false (not (completes h a))
         where

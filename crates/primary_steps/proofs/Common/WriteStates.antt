@@ -51,7 +51,3 @@ waiting-seen h a = ap not (settled-seen a.outcome) ∙ not-not (history.is_waiti
 -- what completes did not fail
 pub completes-not-failed : (h : PrimaryHistory) (a : Accepted) → completes h a ≡ true → is_failed a.outcome ≡ false
 completes-not-failed h a done = disk-not-failed a.outcome (completes-parts h a done).0
-
--- what waits for the local disk is not released
-pub waiting-not-released : (h : PrimaryHistory) (a : Accepted) → history.is_waiting a.outcome ≡ true → is_released h a ≡ false
-waiting-not-released h a waits = ap (λ b. not b && (is_confirmed h a || is_alone h a)) waits

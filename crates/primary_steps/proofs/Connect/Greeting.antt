@@ -16,7 +16,7 @@ use Rattle.model.specs.Refusals.{done_with}
 use Rattle.model.specs.Stream.{Item, WriteItem, epoch_of, placed}
 use Rattle.model.specs.Primary.{Accepted, Outward, PrimaryHistory, no_outward, outward, last_index, change_last, with_outward, stands, items_sent}
 use Rattle.model.specs.Primary.{accepted_frames, is_recv_ack, is_write_ack, is_rs_write_ack, is_barrier_ack, was_received, was_written, was_resynced}
-use Rattle.model.specs.Primary.{barrier_acknowledged, is_answered_by, is_answered, is_alone, is_confirmed, is_waiting, is_resync, under_way, open_writes}
+use Rattle.model.specs.Primary.{barrier_acknowledged, is_answered_by, is_answered, is_alone, is_confirmed, is_resync, under_way, open_writes}
 use Rattle.model.specs.PrimarySteps as step
 use Rattle.laws.proofs.Rules.EpochEnds.{down-on}
 use Rattle.laws.proofs.Lists.Last.{get-change}
@@ -30,6 +30,7 @@ use Rattle.primary_steps.specs.Steps.{Agrees}
 use Rattle.primary_steps.proofs.Common.Reached.{outward-of}
 use Rattle.primary_steps.proofs.Common.NothingFollows.{still, down-rests}
 use Rattle.primary_steps.proofs.Common.EndChanges.{IsUnseen, turned, writes-same, quiet-same, connections-same, activity-same}
+use Rattle.laws.proofs.Rules.Releases.{released-same}
 
 -- Frames.
 
@@ -145,7 +146,7 @@ module _ (h : PrimaryHistory) (homes : HasHomes h) (empty : (outward h).stream �
   pub unseen-new : IsUnseen h (turned f tuple peer marks h)
   unseen-new = record {
     logged = λ i a at. λ j. record (logged_of h a) { linked = not (alone-as i a at j); sent = sent-as i a at j; answered = answered-as i a at j };
-    released = λ i a at. λ j. not (is_waiting a.outcome) && (confirmed-as i a at j || alone-as i a at j);
+    released = λ i a at. released-same h (turned f tuple peer marks h) a (confirmed-as i a at) (alone-as i a at);
   }
 
 -- The frame is taken, and nothing follows.

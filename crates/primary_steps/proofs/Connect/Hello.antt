@@ -1,30 +1,31 @@
 -- A primary takes a frame of its peer's hello.
-use Rattle.std.proofs.Common.{ℕ, zero, suc, ◌≡◌, ◌-◌, ◌<◌, Bool, true, false, ◌||◌, [], ◌∷◌, length, Some, None, Result, Ok, Err, refl, sym, ◌∙◌, ap, subst}
-use Rattle.std.proofs.Common.{arith, ◌==◌}
-use Rattle.std.specs.Prelude.{min, if◌then◌else◌}
+use Rattle.std.proofs.Common.{ℕ, zero, suc, ◌≡◌, ◌-◌, ◌<◌, ◌⊎◌, inl, inr, Bool, true, false, ◌||◌, [], ◌∷◌, length, Some, None, Result, Ok, Err, refl, sym, ◌∙◌}
+use Rattle.std.proofs.Common.{ap, subst, arith}
+use Rattle.std.specs.Prelude.{min}
 use Rattle.std.proofs.lemmas.Bool.{or_parts}
 use Rattle.blocks.specs.declared.tuple.Tuple.{Tuple}
-use Rattle.blocks.specs.declared.command.Command.TheVariants as command
 use Rattle.blocks.specs.declared.settings.Settings.{Settings}
+use Rattle.blocks.specs.declared.settings.Protocol.{Protocol}
 use Rattle.blocks.specs.declared.refusal.Refusal.{Refusal}
-use Rattle.blocks.specs.declared.refusal.Refusal.TheVariants.{BadCommand, OtherProtocol, OtherSize, UsedIdentifier}
+use Rattle.blocks.specs.declared.refusal.Refusal.TheVariants.{UsedIdentifier}
 use Rattle.blocks.specs.declared.outcome.Decision.{Decision}
 use Rattle.blocks.specs.declared.outcome.Decision.TheVariants.{NoSync, BitmapSync, FullSync}
 use Rattle.blocks.specs.declared.outcome.Reply.TheVariants as reply
-use Rattle.blocks.specs.declared.outcome.What.{What}
 use Rattle.blocks.specs.declared.outcome.What.TheVariants as what
 use Rattle.bitmap.specs.Marks.{marking}
 use Rattle.blocks.specs.Identifiers.{stands_in, decision, sync_start}
 use Rattle.model.specs.Acknowledgements as model
 use Rattle.model.specs.Acknowledgements.{same_protocol}
-use Rattle.model.specs.Frames.{Packet, DataFrame, RsDataReplyFrame, BarrierFrame, ProtocolFrame, UuidsFrame, SizesFrame, SyncUuidFrame, RecvAckFrame}
-use Rattle.model.specs.Frames.{WriteAckFrame, RsWriteAckFrame, BarrierAckFrame, Received}
+use Rattle.model.specs.Frames.{Packet, ProtocolFrame, UuidsFrame, SizesFrame}
+use Rattle.model.specs.Frames.{Received}
 use Rattle.model.specs.Marks.{marking_all}
 use Rattle.model.specs.Primary.{Outward, PrimaryHistory, outward, with_outward}
 use Rattle.model.specs.PrimarySteps as step
 use Rattle.model.specs.PrimarySteps.{resync_is_over}
 use Rattle.model.specs.Stream.{SyncUuidItem}
+use Rattle.model.specs.Refusals.{done_with}
 use Rattle.laws.proofs.Rules.EpochEnds.{TakesWrites}
+use Rattle.laws.proofs.Rules.Hellos.{hello_by, taking-is, hello-alike}
 use Rattle.laws.proofs.Lists.Last.{change-twice}
 use Rattle.laws.proofs.Primary.Homes.{HasHomes, open-at}
 use Rattle.laws.proofs.Releases.InOrderMoves.{Ordered, in-order-kept}
@@ -57,13 +58,6 @@ module _ (settings : Settings) (bound : TakesWrites settings) (s : PrimaryState)
   -- a frame that is not as it should be
   refused : (frame : Received) (refusal : Refusal) → TakenAlike frame s h (Err (refusal, s)) (Err (refusal, with_outward (with_frame frame) h))
   refused frame refusal = (refl, (s.peer, refl, λ i. record (with_outward (with_frame frame) h) { peer = sym left.rest.peer i }))
-
-  -- a frame that is, or is not
-  greeted : (frame : Received) → IsNoAnswer frame → (good : Bool) (name : What) (refusal : Refusal)
-      → TakenAlike frame s h (core.greeted good name refusal (hearing e) s) (if good then Ok (name, with_outward (with_frame frame) h)
-      else Err (refusal, with_outward (with_frame frame) h))
-  greeted frame other true name refusal = greeted-agrees s h left homes e end none fresh frame other name
-  greeted frame other false name refusal = refused frame refusal
 
   -- The meeting.
 
@@ -179,72 +173,50 @@ module _ (settings : Settings) (bound : TakesWrites settings) (s : PrimaryState)
 
   -- Which frame comes next.
 
-  first : (packet : Packet) → TakenAlike (Ok packet) s h (core.taking_hello zero packet (hearing e) s)
-      (model.taking_hello zero packet (with_outward (with_frame (Ok packet)) h))
-  first (ProtocolFrame asked) =
-      subst (λ (x : Settings). TakenAlike (Ok (ProtocolFrame asked)) s h
-      (core.greeted (same_protocol asked x.protocol) (what.Frame command.Protocol None) OtherProtocol (hearing e) s)
-      (model.taking_hello zero (ProtocolFrame asked) (with_outward (with_frame (Ok (ProtocolFrame asked))) h)))
-      (sym left.rest.settings)
-      (greeted (Ok (ProtocolFrame asked)) (record { received = λ of. refl; written = λ of. refl; resynced = λ of. refl; applied = λ epoch. refl })
-      (same_protocol asked h.settings.protocol) (what.Frame command.Protocol None) OtherProtocol)
-  first (SizesFrame blocks) = refused _ BadCommand
-  first (UuidsFrame tuple) = refused _ BadCommand
-  first (DataFrame write place) = refused _ BadCommand
-  first (RsDataReplyFrame block contents place) = refused _ BadCommand
-  first (BarrierFrame number) = refused _ BadCommand
-  first (SyncUuidFrame w) = refused _ BadCommand
-  first (RecvAckFrame of) = refused _ BadCommand
-  first (WriteAckFrame of) = refused _ BadCommand
-  first (RsWriteAckFrame of) = refused _ BadCommand
-  first (BarrierAckFrame number size) = refused _ BadCommand
+  -- the state takes it as whatever takes a hello, with these settings
+  abbrev core_by : Settings → ℕ → Packet → core.Taken
+  core_by x n packet = hello_by (λ name. Ok (done_with name, record s { end = Some (hearing e) })) (λ refusal. Err (refusal, s))
+      (λ peer. core.meeting peer (hearing e) s) x n packet
 
-  second : (packet : Packet) → TakenAlike (Ok packet) s h (core.taking_hello 1 packet (hearing e) s)
-      (model.taking_hello 1 packet (with_outward (with_frame (Ok packet)) h))
-  second (SizesFrame blocks) =
-      subst (λ (x : Settings). TakenAlike (Ok (SizesFrame blocks)) s h
-      (core.greeted (blocks == x.blocks) (what.Frame command.Sizes None) OtherSize (hearing e) s)
-      (model.taking_hello 1 (SizesFrame blocks) (with_outward (with_frame (Ok (SizesFrame blocks))) h)))
-      (sym left.rest.settings)
-      (greeted (Ok (SizesFrame blocks)) (record { received = λ of. refl; written = λ of. refl; resynced = λ of. refl; applied = λ epoch. refl })
-      (blocks == h.settings.blocks) (what.Frame command.Sizes None) OtherSize)
-  second (ProtocolFrame asked) = refused _ BadCommand
-  second (UuidsFrame tuple) = refused _ BadCommand
-  second (DataFrame write place) = refused _ BadCommand
-  second (RsDataReplyFrame block contents place) = refused _ BadCommand
-  second (BarrierFrame number) = refused _ BadCommand
-  second (SyncUuidFrame w) = refused _ BadCommand
-  second (RecvAckFrame of) = refused _ BadCommand
-  second (WriteAckFrame of) = refused _ BadCommand
-  second (RsWriteAckFrame of) = refused _ BadCommand
-  second (BarrierAckFrame number size) = refused _ BadCommand
-
-  third : (n m : ℕ) → length (outward h).taken ≡ suc (suc n) → (packet : Packet)
-      → TakenAlike (Ok packet) s h (core.taking_hello (suc (suc m)) packet (hearing e) s)
-      (model.taking_hello (suc (suc n)) packet (with_outward (with_frame (Ok packet)) h))
-  third n m many (UuidsFrame tuple) = meets tuple (omega arith)
-  third n m many (SizesFrame blocks) = refused _ BadCommand
-  third n m many (ProtocolFrame asked) = refused _ BadCommand
-  third n m many (DataFrame write place) = refused _ BadCommand
-  third n m many (RsDataReplyFrame block contents place) = refused _ BadCommand
-  third n m many (BarrierFrame number) = refused _ BadCommand
-  third n m many (SyncUuidFrame w) = refused _ BadCommand
-  third n m many (RecvAckFrame of) = refused _ BadCommand
-  third n m many (WriteAckFrame of) = refused _ BadCommand
-  third n m many (RsWriteAckFrame of) = refused _ BadCommand
-  third n m many (BarrierAckFrame number size) = refused _ BadCommand
+  core-is : (n : ℕ) (packet : Packet) → core_by s.settings n packet ≡ core.taking_hello n packet (hearing e) s
+  core-is zero (ProtocolFrame asked) = refl
+  core-is (suc zero) (SizesFrame blocks) = refl
+  core-is (suc (suc n)) (UuidsFrame peer) = refl
+  core-is n packet = refl
 
   -- three frames at most are counted
+  counted : (n m : ℕ) (packet : Packet) → m ≡ min n 3 → core_by s.settings n packet ≡ core_by s.settings m packet
+  counted zero m packet heard = let is : 0 ≡ m = omega arith in ap (λ k. core_by s.settings k packet) is
+  counted (suc zero) m packet heard = let is : 1 ≡ m = omega arith in ap (λ k. core_by s.settings k packet) is
+  counted (suc (suc n)) m packet heard =
+      let is : suc (suc (m - 2)) ≡ m = omega arith in late n (m - 2) packet ∙ ap (λ k. core_by s.settings k packet) is
+    where
+      late : (a b : ℕ) (packet : Packet) → core_by s.settings (suc (suc a)) packet ≡ core_by s.settings (suc (suc b)) packet
+      late a b (UuidsFrame peer) = refl
+      late a b packet = refl
+
   by-count : (n m : ℕ) → length (outward h).taken ≡ n → m ≡ min n 3 → (packet : Packet)
       → TakenAlike (Ok packet) s h (core.taking_hello m packet (hearing e) s) (model.taking_hello n packet (with_outward (with_frame (Ok packet)) h))
-  by-count zero zero many heard packet = first packet
-  by-count zero (suc m) many heard packet = absurd (omega arith)
-  by-count (suc zero) zero many heard packet = absurd (omega arith)
-  by-count (suc zero) (suc zero) many heard packet = second packet
-  by-count (suc zero) (suc (suc m)) many heard packet = absurd (omega arith)
-  by-count (suc (suc n)) zero many heard packet = absurd (omega arith)
-  by-count (suc (suc n)) (suc zero) many heard packet = absurd (omega arith)
-  by-count (suc (suc n)) (suc (suc m)) many heard packet = third n m many packet
+  by-count n m many heard packet =
+      subst (λ (x : core.Taken). TakenAlike (Ok packet) s h x (model.taking_hello n packet taken))
+      ((λ i. core_by (sym left.rest.settings i) n packet) ∙ (counted n m packet heard ∙ core-is m packet))
+      (subst (TakenAlike (Ok packet) s h (core_by h.settings n packet)) (taking-is n packet taken)
+      (hello-alike (TakenAlike (Ok packet) s h) (λ name. Ok (done_with name, record s { end = Some (hearing e) })) (λ refusal. Err (refusal, s))
+      (λ peer. core.meeting peer (hearing e) s) (λ name. Ok (name, taken)) (λ refusal. Err (refusal, taken)) (λ peer. model.meeting peer taken)
+      h.settings n packet
+      (λ of name. greeted-agrees s h left homes e end none fresh (Ok packet) (no-answer of) name) (λ refusal. refused (Ok packet) refusal)
+      (λ k peer late of.
+      subst (λ (x : Packet). TakenAlike (Ok x) s h (core.meeting peer (hearing e) s) (model.meeting peer (with_outward (with_frame (Ok x)) h))) (sym of)
+      (meets peer (omega (arith, many, late))))))
+    where
+      taken : PrimaryHistory
+      taken = with_outward (with_frame (Ok packet)) h
+
+      no-answer : ((asked : Protocol) × (packet ≡ ProtocolFrame asked)) ⊎ ((blocks : ℕ) × (packet ≡ SizesFrame blocks)) → IsNoAnswer (Ok packet)
+      no-answer (inl first) = subst (λ (x : Packet). IsNoAnswer (Ok x)) (sym first.1)
+          (record { received = λ of. refl; written = λ of. refl; resynced = λ of. refl; applied = λ epoch. refl })
+      no-answer (inr second) = subst (λ (x : Packet). IsNoAnswer (Ok x)) (sym second.1)
+          (record { received = λ of. refl; written = λ of. refl; resynced = λ of. refl; applied = λ epoch. refl })
 
 -- A frame is taken by an end whose stream has not begun.
 pub hello-agrees : (settings : Settings) (bound : TakesWrites settings) (s : PrimaryState) (h : PrimaryHistory) (e : EndState) → Leaves s h → Ordered settings h

@@ -1,26 +1,23 @@
 -- A new primary, and a primary that opens its end.
-use Rattle.std.proofs.Common.{ℕ, zero, suc, ◌≡◌, Bool, true, false, not, ◌&&◌, ◌||◌, List, [], ◌∷◌, ◌++◌, length, map, Option, Some, None, slice_get, Ok, refl}
-use Rattle.std.proofs.Common.{sym, ◌∙◌, ap, subst, arith, nat_lt, nat_le}
+use Rattle.std.proofs.Common.{ℕ, zero, suc, ◌≡◌, Bool, true, false, not, ◌&&◌, List, [], ◌∷◌, ◌++◌, length, map, Option, Some, None, slice_get, Ok, refl}
+use Rattle.std.proofs.Common.{sym, ◌∙◌, ap, subst, arith, nat_lt}
 use Rattle.std.specs.Prelude.{replicate, if◌then◌else◌}
 use Rattle.std.proofs.lemmas.Bool.{both_ways}
 use Rattle.std.proofs.lemmas.List.{length-append}
 use Rattle.blocks.specs.Positions.{StreamPosition}
 use Rattle.blocks.specs.declared.tuple.Tuple.{Tuple}
-use Rattle.blocks.specs.declared.refusal.Refusal.TheVariants.{NoMemory, StreamFull, UsedIdentifier, NotDrained}
 use Rattle.blocks.specs.declared.outcome.What.TheVariants as what
 use Rattle.blocks.specs.declared.outcome.Reply.TheVariants as reply
-use Rattle.blocks.specs.Identifiers.{are_fresh}
 use Rattle.blocks.specs.Ranges.{below}
 use Rattle.model.specs.Stream.{WriteItem, epoch_of}
 use Rattle.model.specs.Refusals.{done_with}
 use Rattle.model.specs.Primary.{Accepted, Outward, PrimaryHistory, no_outward, outward, last_index, stands, items_sent, is_answered_by, is_answered, is_alone}
-use Rattle.model.specs.Primary.{is_confirmed, is_released, is_waiting, barrier_acknowledged, unreleased, open_writes, under_way}
+use Rattle.model.specs.Primary.{is_confirmed, is_released, barrier_acknowledged, unreleased, open_writes, under_way}
 use Rattle.model.specs.PrimarySteps as step
 use Rattle.laws.proofs.Rules.Completions.{completes-same}
 use Rattle.laws.proofs.Rules.EpochEnds.{down-on}
 use Rattle.laws.proofs.Lists.Elements.{get-left}
 use Rattle.laws.proofs.Lists.Last.{last-more}
-use Rattle.laws.proofs.Lists.Tests.{test-passed}
 use Rattle.laws.proofs.Lists.Picks.{pick-filtered}
 use Rattle.laws.proofs.Primary.Homes.{HasHomes}
 use Rattle.primary_steps.specs.Core.{PrimaryState}
@@ -31,6 +28,9 @@ use Rattle.primary_steps.proofs.Common.Filters.{filter-at, map-at}
 use Rattle.primary_steps.proofs.Common.Reached.{reached-ordered, tested-agrees, end-open}
 use Rattle.primary_steps.proofs.Common.Marks.{length-below}
 use Rattle.primary_steps.proofs.Common.NothingFollows.{still, down-rests}
+use Rattle.std.proofs.Common.{is_some}
+use Rattle.laws.proofs.Rules.Memory.{may-open, open-tests-by}
+use Rattle.laws.proofs.Rules.Releases.{released-same}
 
 -- a new primary
 pub fresh-is : FreshIsOpening
@@ -100,7 +100,7 @@ module _ (h : PrimaryHistory) (new : Outward) (homes : HasHomes h) where
 
   unreleased-more : unreleased (record h { connections = h.connections ++ new ∷ [] }) ≡ unreleased h
   unreleased-more = filter-at (λ a. not (is_released (record h { connections = h.connections ++ new ∷ [] }) a)) (λ a. not (is_released h a)) h.writes
-      (λ i a at. λ j. not (not (is_waiting a.outcome) && (confirmed-more i a at j || alone-more i a at j)))
+      (λ i a at. ap not (released-same h (record h { connections = h.connections ++ new ∷ [] }) a (confirmed-more i a at) (alone-more i a at)))
 
 -- The end opens.
 module _ (sync loss : ℕ) (s : PrimaryState) (h : PrimaryHistory) (left : Leaves s h) (homes : HasHomes h) (shut : (outward h).closed ≡ true) where
@@ -203,16 +203,9 @@ pub opens-agree : OpensAgree
 opens-agree sync loss starved s h reached left =
     tested-agrees plainly s h (transition.open_tests sync loss starved s) (step.open_tests h sync loss starved) (λ _. (Ok tt, transition.opened sync loss s))
     (λ _. step.succeeding what.Nothing (step.opened h sync loss))
-    (λ i. (end-open s.end (outward h) left.rest.end i, NotDrained) ∷ (not (are_fresh sync loss (known-tuples i)), UsedIdentifier) ∷
-    (nat_le 4294967295 (left.rest.connections i), StreamFull) ∷ (starved, NoMemory) ∷ []) left
-    (λ none. opened-agrees sync loss s h left (reached-ordered h reached).ordered.1.1.0.0
-    (not-false' (outward h).closed (test-passed (not (outward h).closed) NotDrained
-    ((not (are_fresh sync loss (step.known_tuples h)), UsedIdentifier) ∷ (nat_le 4294967295 (length h.connections), StreamFull) ∷ (starved, NoMemory) ∷ [])
-    none).0))
+    (open-tests-by h sync loss starved (is_some s.end) (transition.known_tuples s) s.connections (end-open s.end (outward h) left.rest.end) known-tuples
+    left.rest.connections) left
+    (λ none. opened-agrees sync loss s h left (reached-ordered h reached).ordered.1.1.0.0 (may-open h sync loss starved none).closed)
   where
     known-tuples : transition.known_tuples s ≡ step.known_tuples h
     known-tuples = λ i. elim (left.rest.peer i) as (λ _. List Tuple) [ None ↦ left.rest.tuple i ∷ [] | Some peer ↦ left.rest.tuple i ∷ peer ∷ [] ]
-
-    not-false' : (b : Bool) → not b ≡ false → b ≡ true
-    not-false' true is = refl
-    not-false' false is = absurd (cc)

@@ -54,12 +54,6 @@ module _ (settings : Settings) (bound : TakesWrites settings) (s : PrimaryState)
   outcome : LocalOutcome
   outcome = Failed (within (length the.accepted.write.contents) offsets)
 
-  g : Accepted → Accepted
-  g = set_outcome number (Failed (within (length the.accepted.write.contents) offsets))
-
-  later : PrimaryHistory
-  later = with_outcome number (Failed (within (length the.accepted.write.contents) offsets)) (record h { marks = marking the.accepted.write h.marks })
-
   from-one : AreNumberedFrom 1 h.writes
   from-one i a at = homes.numbered i a at ∙ omega arith
 

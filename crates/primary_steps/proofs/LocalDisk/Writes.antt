@@ -41,7 +41,8 @@ use Rattle.primary_steps.proofs.Common.Reached.{reached-ordered, from-follow, te
 use Rattle.primary_steps.proofs.Common.Marks.{unmarking-is}
 use Rattle.primary_steps.proofs.Common.Numbers.{any-some}
 use Rattle.primary_steps.proofs.Common.Reporting.{reports-of}
-use Rattle.primary_steps.proofs.Common.WriteStates.{waiting-seen, waiting-not-released}
+use Rattle.primary_steps.proofs.Common.WriteStates.{waiting-seen}
+use Rattle.laws.proofs.Rules.Releases.{held-waiting}
 
 -- What is known of the write that the disk has to do.
 pub record Waits (s : PrimaryState) (h : PrimaryHistory) (number : ℕ) : Type 0 where
@@ -72,7 +73,7 @@ module _ (s : PrimaryState) (h : PrimaryHistory) (number : ℕ) (left : Leaves s
   waits-so unfinished =
       let some = pick-any (λ accepted. (accepted.write.number == number) && is_waiting accepted.outcome) h.writes unfinished in
       let parts = and_parts (some.1.write.number == number) (is_waiting some.1.outcome) some.3 in
-      let held = filtered-pick (λ a. not (is_released h a)) h.writes some.0 some.1 some.2 (ap not (waiting-not-released h some.1 parts.1)) in
+      let held = filtered-pick (λ a. not (is_released h a)) h.writes some.0 some.1 some.2 (ap not (held-waiting h some.1 parts.1)) in
       record {
         index = some.0;
         accepted = some.1;
@@ -115,14 +116,8 @@ module _ (s : PrimaryState) (h : PrimaryHistory) (number : ℕ) (left : Leaves s
 
 module _ (settings : Settings) (bound : TakesWrites settings) (s : PrimaryState) (h : PrimaryHistory) (number : ℕ) (left : Leaves s h)
     (ordered : Ordered settings h) (unfinished : is_unfinished h number ≡ true) where
-  done : PrimaryHistory
-  done = with_outcome number OnDisk h
-
   after : OrderedAfter settings (with_outcome number OnDisk h)
   after = (in-order-kept settings bound).writes h number unfinished ordered
-
-  later : PrimaryHistory
-  later = releasing h (with_outcome number OnDisk h)
 
   after-releasing : OrderedAfter settings (releasing h (with_outcome number OnDisk h))
   after-releasing = ordered-release settings h (with_outcome number OnDisk h) (done-releases h number ordered.1.1.0.0) ordered after

@@ -1,6 +1,6 @@
 -- A node's calls are steps: it is new, it opens, accepts a write, pushes what is due, closes, and gives a receipt.
-use Rattle.std.proofs.Common.{ℕ, suc, ◌≡◌, Bool, true, false, not, ◌&&◌, List, [], ◌∷◌, ◌++◌, length, take, Option, Some, None, Result, Ok, Err, slice_get}
-use Rattle.std.proofs.Common.{refl, sym, ◌∙◌, ap, subst, arith, nat_le}
+use Rattle.std.proofs.Common.{ℕ, suc, ◌≡◌, Bool, true, false, ◌&&◌, List, [], ◌∷◌, ◌++◌, length, take, Option, Some, None, Result, Ok, Err, slice_get}
+use Rattle.std.proofs.Common.{refl, sym, ◌∙◌, ap, subst, arith}
 use Rattle.std.specs.Prelude.{is_some, unwrap_or}
 use Rattle.blocks.specs.SettingsRange.{IsInRange}
 use Rattle.blocks.specs.declared.tuple.Tuple.{Tuple}
@@ -16,13 +16,12 @@ use Rattle.model.specs.Refusals.{done_with}
 use Rattle.model.specs.Primary as model
 use Rattle.model.specs.Primary.{Waiting, Accepted, Outward, PrimaryHistory, last_index, no_outward, outward, frames_due, primary_opening}
 use Rattle.model.specs.PrimarySteps as step
-use Rattle.model.specs.Refusals.{Test, first_refusal}
+use Rattle.model.specs.Refusals.{first_refusal}
 use Rattle.model.specs.Stream.{WriteItem}
 use Rattle.model.specs.Marks.{marking}
 use Rattle.laws.proofs.Primary.Moves.{following-from}
 use Rattle.std.proofs.lemmas.List.{length-append}
-use Rattle.blocks.specs.declared.refusal.Refusal.TheVariants.{NoMemory, NotDrained, StreamFull, UsedIdentifier}
-use Rattle.blocks.specs.Identifiers.{are_fresh}
+use Rattle.blocks.specs.declared.refusal.Refusal.TheVariants.{NotDrained}
 use Rattle.laws.proofs.Lists.Tests.{test-passed}
 use Rattle.primary_steps.proofs.Common.Reached.{end-open, stands-same}
 use Rattle.model.specs.LocalRuns.{PrimaryEvent, Opens, Submits, Closes}
@@ -30,7 +29,7 @@ use Rattle.laws.proofs.Lists.Last.{last-more}
 use Rattle.bitmap.specs.Marks.{marked}
 use Rattle.bitmap.proofs.Lists.{same-marks}
 use Rattle.primary_steps.specs.Core.{PrimaryState, fresh, stands}
-use Rattle.primary_steps.specs.Transitions.{known_tuples, open_end, open_tests, opened, submit, whole_blocks, close_end}
+use Rattle.primary_steps.specs.Transitions.{open_end, open_tests, opened, submit, whole_blocks, close_end}
 use Rattle.primary_steps.specs.Leaves.{Leaves, marks_in}
 use Rattle.primary_steps.specs.Node.{NodeState, NodeHas, NodeIsHad, NodeSteps, primary_step}
 use Rattle.primary_steps.specs.Steps.{IsReached, Agrees, replied, plainly}
@@ -41,6 +40,7 @@ use Rattle.primary_steps.proofs.Node.Runs.{node-steps, node-refused, opens-to, s
 use Rattle.primary_steps.proofs.Connect.Opens.{fresh-is, opens-agree}
 use Rattle.primary_steps.proofs.Close.Closes.{closes-agree}
 use Rattle.primary_steps.proofs.Submit.Submits.{submits-agree}
+use Rattle.std.proofs.Common.{drop}
 
 -- A new node.
 
@@ -203,14 +203,14 @@ node-not-opened n sync loss starved e core is = node-refused (Opens sync loss st
 pub opened-core : (sync loss : ℕ) (s core : PrimaryState) → (Ok tt, core) ≡ open_end sync loss false s → (is_some s.end ≡ false) × (core ≡ opened sync loss s)
 opened-core sync loss s core is = go (first_refusal (open_tests sync loss false s)) refl is
   where
-    rest : List Test
-    rest = (not (are_fresh sync loss (known_tuples s)), UsedIdentifier) ∷ (nat_le 4294967295 s.connections, StreamFull) ∷ (false, NoMemory) ∷ []
-
     go : (v : Option Refusal) → first_refusal (open_tests sync loss false s) ≡ v
         → (Ok tt, core) ≡ elim v as (λ _. Result (Unit {0}) Refusal × PrimaryState) [ Some refusal ↦ (Err refusal, s) | None ↦ (Ok tt, opened sync loss s) ]
         → (is_some s.end ≡ false) × (core ≡ opened sync loss s)
     go (Some refusal) none is = let one : Ok tt ≡ Err refusal = ap (λ (p : Result (Unit {0}) Refusal × PrimaryState). p.0) is in absurd (cc)
-    go None none is = ((test-passed (is_some s.end) NotDrained rest none).0, ap (λ (p : Result (Unit {0}) Refusal × PrimaryState). p.1) is)
+    go None none is = (
+      (test-passed (is_some s.end) NotDrained (drop 1 (open_tests sync loss false s)) none).0,
+      ap (λ (p : Result (Unit {0}) Refusal × PrimaryState). p.1) is,
+    )
 
 -- an opening that is refused leaves the core
 pub not-opened-core : (sync loss : ℕ) (starved : Bool) (s core : PrimaryState) (e : Refusal) → (Err e, core) ≡ open_end sync loss starved s → core ≡ s

@@ -1,9 +1,9 @@
 -- What is refused of a frame is its own fault, or a rule of the protocol: never that there is none.
-use Rattle.std.proofs.Common.{ℕ, zero, suc, ◌≡◌, Bool, true, false, cond, ◌||◌, length, Some, Result, Ok, Err, refl, sym, ◌∙◌, ap}
-use Rattle.std.specs.Prelude.{is_some, if◌then◌else◌}
+use Rattle.std.proofs.Common.{subst, ℕ, ◌≡◌, Bool, true, false, cond, ◌||◌, length, Some, Result, Ok, Err, refl, sym, ◌∙◌, ap}
+use Rattle.std.specs.Prelude.{is_some}
 use Rattle.blocks.specs.declared.tuple.Tuple.{Tuple}
 use Rattle.blocks.specs.declared.refusal.Refusal.{Refusal}
-use Rattle.blocks.specs.declared.refusal.Refusal.TheVariants.{BadBarrierAck, NothingThere, OtherProtocol, OtherSize, UnknownAck, UsedIdentifier}
+use Rattle.blocks.specs.declared.refusal.Refusal.TheVariants.{BadBarrierAck, NothingThere, UnknownAck, UsedIdentifier}
 use Rattle.blocks.specs.declared.outcome.Decision.{Decision}
 use Rattle.blocks.specs.declared.outcome.Done.{Done}
 use Rattle.blocks.specs.declared.outcome.What.{What}
@@ -11,17 +11,19 @@ use Rattle.blocks.specs.declared.outcome.What.TheVariants as what
 use Rattle.blocks.specs.declared.outcome.Reply.{Reply}
 use Rattle.blocks.specs.declared.outcome.Reply.TheVariants as reply
 use Rattle.blocks.specs.Identifiers.{decision, stands_in}
-use Rattle.model.specs.Frames.{Packet, ProtocolFrame, SizesFrame, UuidsFrame, RecvAckFrame, WriteAckFrame, RsWriteAckFrame, BarrierAckFrame, Received}
+use Rattle.model.specs.Frames.{Packet, RecvAckFrame, WriteAckFrame, RsWriteAckFrame, BarrierAckFrame, Received}
 use Rattle.model.specs.Primary.{PrimaryHistory, outward, with_outward}
-use Rattle.model.specs.PrimarySteps as step
 use Rattle.model.specs.Acknowledgements as model
+use Rattle.laws.proofs.Rules.Hellos.{taking-is, hello-has}
 use Rattle.laws.proofs.Rules.Decisions.{decision-has}
-use Rattle.laws.proofs.Primary.Moves.{with_frame, refusing}
+use Rattle.laws.proofs.Primary.Moves.{with_frame}
 use Rattle.primary_steps.specs.Core.{PrimaryState}
 use Rattle.primary_steps.specs.Taking.{take_at}
 use Rattle.primary_steps.specs.Node.{NodeState, NodeIsHad}
 use Rattle.primary_steps.specs.Steps.{replied}
-use Rattle.primary_steps.proofs.Node.Takes.{node-takes, steps-frame, unshut-end}
+use Rattle.primary_steps.proofs.Node.Takes.{node-takes, unshut-end}
+use Rattle.laws.proofs.Rules.Memory.{ack-in-takes}
+use Rattle.laws.proofs.Rules.RefusedFrames.{frame-has}
 
 -- it says something else
 abbrev Told : model.Taken → Type 0
@@ -62,10 +64,9 @@ told-meeting peer h = go (stands_in (outward h).sync peer || stands_in (outward 
     go false (Ok decided) is = tt
 
 told-hello : (n : ℕ) (packet : Packet) (h : PrimaryHistory) → Told (model.taking_hello n packet h)
-told-hello zero (ProtocolFrame asked) h = told-if _ _ OtherProtocol _ _ (λ same. absurd (cc))
-told-hello (suc zero) (SizesFrame blocks) h = told-if _ _ OtherSize _ _ (λ same. absurd (cc))
-told-hello (suc (suc n)) (UuidsFrame peer) h = told-meeting peer h
-told-hello n packet h = λ same. absurd (cc)
+told-hello n packet h = subst Told (taking-is n packet h)
+    (hello-has Told (λ name. Ok (name, h)) (λ refusal. Err (refusal, h)) (λ peer. model.meeting peer h) h.settings n packet
+    (λ asked none of same. tt) (λ one of. tt) (λ m peer late of. told-meeting peer h) (λ same. absurd (cc)) (λ same. absurd (cc)) (λ same. absurd (cc)))
 
 told-frame : (frame : Received) (before h : PrimaryHistory) → (frame ≡ Err NothingThere → ⊥) → Told (model.taking frame before h)
 told-frame (Err fault) before h other = λ same. other (ap Err same)
@@ -78,14 +79,8 @@ told-frame (Ok packet) before h other = go (outward before).begun
 
 -- the step does not say that there was none
 told-step : (frame : Received) (h : PrimaryHistory) → (frame ≡ Err NothingThere → ⊥) → reply.Refused NothingThere ≡ (model.take_frame frame h).0 → ⊥
-told-step frame h other = go (model.taking frame h (with_outward (with_frame frame) h)) (told-frame frame h (with_outward (with_frame frame) h) other)
-  where
-    go : (v : model.Taken) → Told v → reply.Refused NothingThere ≡ (elim v as (λ _. Reply × PrimaryHistory) [
-      | Ok done ↦ step.succeeding done.0 done.1
-      | Err error ↦ (reply.Refused error.0, (step.follows (step.closing (with_outward refusing error.1))).history)
-    ]).0 → ⊥
-    go (Ok done) fine is = cc
-    go (Err error) fine is = fine (let same : error.0 ≡ NothingThere = cc in same)
+told-step frame h other = frame-has (λ r. reply.Refused NothingThere ≡ r.0 → ⊥) Told frame h (told-frame frame h (with_outward (with_frame frame) h) other)
+    (λ done fine is. cc) (λ error fine is. fine (let same : error.0 ≡ NothingThere = cc in same))
 
 -- A frame that is taken is not answered by that there is none.
 pub takes-told : (n : NodeState) (frame : Received) (result : Result Done Refusal) (core : PrimaryState) → is_some n.core.end ≡ true
@@ -94,4 +89,4 @@ takes-told n frame result core some is had other none =
     let h = had.history in
     told-step frame h other (ap (replied reply.Ok) (sym none)
     ∙ ((node-takes n frame result core some is).said h had.has
-    ∙ ap (λ (p : Reply × PrimaryHistory). p.0) (steps-frame frame h (unshut-end n frame result core some is h had.has))))
+    ∙ ap (λ (p : Reply × PrimaryHistory). p.0) (ack-in-takes frame h (unshut-end n frame result core some is h had.has))))

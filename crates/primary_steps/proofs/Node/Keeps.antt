@@ -1,12 +1,11 @@
 -- What the steps that push no frame keep: what was pushed, and the frames that were due; and what the local disk holds.
-use Rattle.std.proofs.Common.{ℕ, suc, ◌≡◌, ◌-◌, ◌≤◌, Bool, true, false, not, ◌&&◌, ◌||◌, List, [], ◌∷◌, ◌++◌, length, map, take, Option, Some, None}
-use Rattle.std.proofs.Common.{Result, Ok, Err, slice_get, refl, sym, ◌∙◌, ap, subst, nat_lt, nat_le, ◌==◌}
-use Rattle.std.specs.Prelude.{find, is_none, unwrap_or, if◌then◌else◌}
+use Rattle.std.proofs.Common.{ℕ, suc, ◌≡◌, ◌-◌, ◌≤◌, Bool, true, false, ◌&&◌, List, [], ◌∷◌, ◌++◌, length, map, take, Option, Some, None}
+use Rattle.std.proofs.Common.{slice_get, refl, sym, ◌∙◌, ap, subst}
+use Rattle.std.specs.Prelude.{unwrap_or, if◌then◌else◌}
 use Rattle.std.proofs.lemmas.Bool.{both_ways}
 use Rattle.std.proofs.lemmas.List.{map-append}
 use Rattle.blocks.specs.declared.settings.Settings.{Settings}
-use Rattle.blocks.specs.declared.refusal.Refusal.{Refusal}
-use Rattle.blocks.specs.declared.refusal.Refusal.TheVariants.{LocalFault, NoMemory, NotConnected, NothingToDo, StreamFull}
+use Rattle.blocks.specs.declared.refusal.Refusal.TheVariants.{NotConnected, NothingToDo}
 use Rattle.blocks.specs.declared.outcome.What.TheVariants as what
 use Rattle.blocks.specs.declared.outcome.Reply.{Reply}
 use Rattle.blocks.specs.declared.outcome.Reply.TheVariants as reply
@@ -14,10 +13,9 @@ use Rattle.model.specs.Contents.{BlockMap, overlay, block_under, is_between}
 use Rattle.model.specs.Stream.{Item, WriteItem, ResyncItem, BarrierItem, UuidsItem, IsBeginning, within, last_epoch}
 use Rattle.model.specs.Frames.{Received}
 use Rattle.model.specs.Marks.{marking, releasing}
-use Rattle.model.specs.Primary.{Waiting, OnDisk, Failed, Accepted, Completion, Outward, PrimaryHistory, free_block, last_index, outward, change_last, stands}
-use Rattle.model.specs.Primary.{frames_due, local_map, local_layer, resync_runs, under_way}
+use Rattle.model.specs.Primary.{Waiting, OnDisk, Failed, Accepted, Outward, PrimaryHistory, free_block, last_index, outward, change_last, stands}
+use Rattle.model.specs.Primary.{frames_due, local_map, local_layer}
 use Rattle.model.specs.PrimarySteps as step
-use Rattle.model.specs.Refusals.{Test, first_refusal}
 use Rattle.model.specs.PrimarySteps.{follows, appending, succeeding, submission}
 use Rattle.laws.proofs.Rules.FramesDue as rule
 use Rattle.laws.proofs.Rules.EpochEnds.{over-standing}
@@ -29,6 +27,8 @@ use Rattle.laws.proofs.Primary.Moves.{following-from, tested-keeps}
 use Rattle.laws.proofs.Primary.StaysClosed.{open-stands}
 use Rattle.laws.proofs.Rules.ResyncEnds.{over-stands}
 use Rattle.primary_steps.proofs.Common.Reached.{outward-of}
+use Rattle.laws.proofs.Rules.Memory.{may-copy-open}
+use Rattle.laws.proofs.Rules.Receipts.{receipt-has}
 
 -- What a step may change besides what is due: the frames taken, whether the stream has begun, and what the local disk holds.
 pub record Change : Type 0 where
@@ -232,13 +232,8 @@ fails-keeps number offsets h = keeps-following h (step.faulted number offsets h)
 -- a block is copied
 pub resyncs-keeps : (starved : Bool) (h : PrimaryHistory) → Keeps h (unchanged h) (step.resync_next starved h).1
 resyncs-keeps starved h = tested-keeps (Keeps h (unchanged h)) h (step.resync_tests h starved) (λ _. after (free_block h)) (keeps-self h)
-    (λ passed. go (free_block h) (test-passed (outward h).closed NotConnected others passed).0)
+    (λ passed. go (free_block h) (may-copy-open h starved passed).0)
   where
-    others : List Test
-    others =
-        (not (resync_runs (outward h)) || (nat_lt 0 (length (under_way (outward h))) || is_none (free_block h)), NothingToDo)
-        ∷ (nat_le 4294967288 (length (outward h).stream), StreamFull) ∷ (starved, NoMemory) ∷ []
-
     after : Option ℕ → Reply × PrimaryHistory
     after v = elim v as (λ _. Reply × PrimaryHistory) [
       | None ↦ (reply.Refused NothingToDo, h)
@@ -278,21 +273,7 @@ closes-keeps h = tested-keeps (Keeps h (unchanged h)) h (((outward h).closed, No
 
 -- a receipt is taken
 pub receipts-keeps : (number : ℕ) (h : PrimaryHistory) → Keeps h (unchanged h) (step.take_completed number h).1
-receipts-keeps number h = go (first_refusal (step.take_completed_tests h number)) (find (λ entry. entry.write.number == number) h.journal)
+receipts-keeps number h = receipt-has (λ r. Keeps h (unchanged h) r.1) number h (λ refusal. keeps-self h) given (λ entry. given)
   where
     given : Keeps h (unchanged h) (step.receipted number h)
     given = keeps-rest h h (step.receipted number h) (unchanged h) (unchanged h) (keeps-self h) refl refl refl refl refl (λ block. refl)
-
-    go : (v : Option Refusal) (entry : Option Completion) → Keeps h (unchanged h) (elim v as (λ _. Result Completion Refusal × PrimaryHistory) [
-      | Some refusal ↦ (Err refusal, h)
-      | None ↦ elim entry as (λ _. Result Completion Refusal × PrimaryHistory) [
-        | None ↦ (Err LocalFault, step.receipted number h)
-        | Some entry ↦ (
-          Ok entry,
-          step.receipted number h,
-        )
-      ]
-    ]).1
-    go (Some refusal) entry = keeps-self h
-    go None None = given
-    go None (Some entry) = given

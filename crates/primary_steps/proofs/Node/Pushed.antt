@@ -18,11 +18,12 @@ use Rattle.laws.proofs.Rules.FramesDue.{length-due}
 use Rattle.laws.proofs.Rules.EpochEnds.{over-standing, takes-writes}
 use Rattle.laws.proofs.Lists.Each.{Each, each-append, each-change, each-get}
 use Rattle.laws.proofs.Lists.Last.{change-twice, last-at}
-use Rattle.laws.proofs.Primary.Moves.{following-from, IsKeptByMoves, IsKeptByReleases, kept-by-releases, keeps-run, with_frame, refusing, pushing}
+use Rattle.laws.proofs.Primary.Moves.{following-from, IsKeptByMoves, IsKeptByReleases, kept-by-releases, keeps-run, with_frame, pushing}
 use Rattle.laws.proofs.Primary.Sendable.{HasFitEnds, IsFitEnd, primary_fit}
 use Rattle.laws.proofs.Rules.ResyncEnds.{over-stands}
 use Rattle.primary_steps.specs.Node.{NodeState, NodeHas}
 use Rattle.primary_steps.specs.Steps.{IsReached}
+use Rattle.laws.proofs.Rules.RefusedFrames.{refused_out, refused-last}
 
 -- A connection that has pushed no more than its hello and its stream, and whose stream is empty until it has begun.
 record IsPushed (c : Outward) : Type 0 where
@@ -138,9 +139,8 @@ pushed-kept = record {
   applies = λ h ack standing begun may all. takes h _ (with_frame _) refl refl refl refl all;
   clears = λ h ack standing begun may all. takes h _ (with_frame _) refl refl refl refl all;
   confirms = λ h number size standing begun turn all. takes h _ (with_frame _) refl refl refl refl all;
-  refuses = λ h frame peer standing all. takes h _ (λ c. record c { taken = c.taken ++ frame ∷ []; refused = true; closed = true })
-      (ap (change_last (λ (c : Outward). record c { closed = true })) (change-twice (with_frame frame) refusing h.connections)
-      ∙ change-twice (λ c. refusing (with_frame frame c)) (λ c. record c { closed = true }) h.connections) refl refl refl all;
+  refuses = λ h frame peer standing all. takes h _ (refused_out frame)
+      (refused-last frame peer h) refl refl refl all;
   resyncs = λ h block runs alone is all. appends h _ _ refl (and_parts (stands (outward h)) (in_resync (outward h).stream) runs).0 refl refl
       (longer-by (outward h).stream _) all;
   closes = λ h standing all. takes h _ (λ c. record c { closed = true }) refl refl refl refl all;

@@ -1,23 +1,19 @@
 -- A caller takes a receipt of a node.
-use Rattle.std.proofs.Common.{ℕ, suc, ◌≡◌, ◌<◌, Bool, length, Option, Some, None, Result, Ok, Err, refl, sym, ◌∙◌, ap, subst, ◌==◌}
-use Rattle.std.specs.Prelude.{find}
-use Rattle.std.specs.Option.{option_map}
+use Rattle.std.proofs.Common.{ℕ, ◌≡◌, Option, Result, Ok, Err, refl, sym, ◌∙◌, ap, subst}
 use Rattle.std.specs.Result.{result_map_both}
 use Rattle.blocks.specs.Positions.{StreamPosition}
 use Rattle.blocks.specs.declared.refusal.Refusal.{Refusal}
-use Rattle.blocks.specs.declared.refusal.Refusal.TheVariants.{LocalFault}
 use Rattle.blocks.specs.declared.outcome.What.TheVariants as what
 use Rattle.blocks.specs.declared.outcome.Reply.TheVariants as reply
-use Rattle.model.specs.Refusals.{first_refusal, done_with}
+use Rattle.model.specs.Refusals.{done_with}
 use Rattle.model.specs.Primary.{Kind, Completion, PrimaryHistory}
 use Rattle.model.specs.PrimarySteps as step
 use Rattle.model.specs.Settlement.{Receipt, receipt_of}
 use Rattle.model.specs.LocalRuns.{Receipts}
-use Rattle.laws.proofs.Lists.Picks.{pick-found}
 use Rattle.primary_steps.specs.Core.{Completed, Entry, PrimaryState}
 use Rattle.primary_steps.specs.Transitions.{take_completed}
 use Rattle.primary_steps.specs.Leaves.{Leaves, is_linked}
-use Rattle.primary_steps.specs.Node.{NodeState, NodeHas, NodeIsHad, NodeSteps, IsStep, take_receipt}
+use Rattle.primary_steps.specs.Node.{NodeState, NodeHas, NodeSteps, IsStep, take_receipt}
 use Rattle.primary_steps.specs.Steps.{SameAnswer, TellsReceipt}
 use Rattle.primary_steps.proofs.Node.Due.{kept-leaves}
 use Rattle.primary_steps.proofs.Node.Keeps.{unchanged, receipts-keeps}

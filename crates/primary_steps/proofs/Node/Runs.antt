@@ -1,8 +1,8 @@
 -- A node's calls as steps: one event more is reached, and some history is had after it.
-use Rattle.std.proofs.Common.{ℕ, suc, ◌≡◌, ◌&&◌, Bool, true, not, List, [], ◌∷◌, ◌++◌, length, Option, Some, None, refl, sym, ◌∙◌, ap, subst}
+use Rattle.std.proofs.Common.{ℕ, suc, ◌≡◌, Bool, not, List, [], ◌∷◌, ◌++◌, length, Option, Some, None, refl, sym, ◌∙◌, ap, subst}
 use Rattle.std.specs.Prelude.{unwrap_or}
 use Rattle.blocks.specs.declared.refusal.Refusal.{Refusal}
-use Rattle.blocks.specs.declared.refusal.Refusal.TheVariants.{NoMemory, NothingThere, NothingToDo, NotConnected, ReadFault, UnknownJob}
+use Rattle.blocks.specs.declared.refusal.Refusal.TheVariants.{NothingThere, NothingToDo, NotConnected, ReadFault, UnknownJob}
 use Rattle.blocks.specs.declared.outcome.Done.{Done}
 use Rattle.blocks.specs.declared.outcome.What.TheVariants as what
 use Rattle.blocks.specs.declared.outcome.Reply.{Reply}
@@ -18,6 +18,7 @@ use Rattle.model.specs.LocalRuns.{primary_after, primary_run}
 use Rattle.laws.proofs.Primary.Moves.{pushing}
 use Rattle.primary_steps.specs.Node.{NodeState, NodeLeaves, NodeHas, NodeIsHad, NodeSteps, primary_step}
 use Rattle.primary_steps.specs.Steps.{IsReached}
+use Rattle.model.specs.Acknowledgements.{ack_in_tests}
 
 -- the history after an event is that of its step
 after-step : (event : PrimaryEvent) (h : PrimaryHistory) → primary_after event h ≡ (primary_step event h).1
@@ -113,8 +114,7 @@ refused-same (Sends room starved) still h e is = did-not h (step.send_tests h ro
     (λ no. absurd (cc)) is
 refused-same (Takes (Some frame) starved) still h e is = absurd still
 refused-same (Takes None starved) still h e is =
-    did-not h (((outward h).closed, NotConnected) ∷ (not (outward h).begun && starved, NoMemory) ∷ (true, NothingThere) ∷ [])
-    (λ _. (reply.Refused NothingThere, h)) e (λ same. refl) is
+    did-not h (ack_in_tests h None starved) (λ _. (reply.Refused NothingThere, h)) e (λ same. refl) is
 refused-same (Resyncs starved) still h e is = did-not h (step.resync_tests h starved) (λ _. copies h (free_block h)) e (go (free_block h)) is
   where
     go : (v : Option ℕ) → reply.Refused e ≡ (copies h v).0 → (copies h v).1 ≡ h

@@ -19,7 +19,8 @@ use Rattle.primary_steps.proofs.Common.Filters.{filter-at, filter-map, filter-tw
 use Rattle.primary_steps.proofs.Common.Reached.{reached-ordered}
 use Rattle.primary_steps.proofs.Common.Marks.{length-marks, marked-in}
 use Rattle.primary_steps.proofs.Common.Releasing.{released-not-open}
-use Rattle.primary_steps.proofs.Common.WriteStates.{waiting-seen, open-seen, waiting-not-released}
+use Rattle.primary_steps.proofs.Common.WriteStates.{waiting-seen, open-seen}
+use Rattle.laws.proofs.Rules.Releases.{held-waiting}
 
 -- a search finds the same behind a filter that lets through what it looks for
 find-kept : {X : Type 0} (p q : X → Bool) (xs : List X) → ((x : X) → p x ≡ true → q x ≡ true) → find p (filter q xs) ≡ find p xs
@@ -40,7 +41,7 @@ says-next s h left =
     ∙ ap (option_map (λ (a : Accepted). a.write.number)) (find-at (λ (a : Accepted). log.is_waiting (logged_of h a)) (λ (a : Accepted). is_waiting a.outcome)
     (unreleased h) (λ i a at. waiting-seen h a)
     ∙ find-kept (λ (a : Accepted). is_waiting a.outcome) (λ (a : Accepted). not (is_released h a)) h.writes
-    (λ a waits. ap not (waiting-not-released h a waits)))))
+    (λ a waits. ap not (held-waiting h a waits)))))
   where
     twice : (v : Option Accepted) → option_map (λ (w : LogWrite). w.number) (option_map (logged_of h) v) ≡ option_map (λ (a : Accepted). a.write.number) v
     twice None = refl

@@ -15,7 +15,7 @@ use Rattle.model.specs.LocalRuns.{Sends}
 use Rattle.laws.proofs.Lists.Last.{length-change}
 use Rattle.laws.proofs.Primary.Moves.{pushing}
 use Rattle.primary_steps.specs.Core.{EndState, PrimaryState, stands, tested}
-use Rattle.primary_steps.specs.Transitions.{owed, due, called, sent_from, send}
+use Rattle.primary_steps.specs.Transitions.{owed, due, called, sent_from, sent_tests, send}
 use Rattle.primary_steps.specs.Node.{NodeState, NodeHas, NodeIsHad, NodeSteps}
 use Rattle.primary_steps.specs.Steps.{Agrees, replied}
 use Rattle.primary_steps.proofs.Common.Reached.{end-open, outward-of, stands-same}
@@ -50,7 +50,7 @@ due-refused s e is = go s.end is
 abbrev pub send_owed : Bool → Bool → PrimaryState → EndState → Option Packet → Result Done Refusal × PrimaryState
 send_owed room starved s e v = elim v as (λ _. Result Done Refusal × PrimaryState) [
   | None ↦ (Err NothingThere, s)
-  | Some packet ↦ tested s ((starved, NoMemory) ∷ (not room, LinkFull) ∷ []) (λ _. let after = sent_from e (called e s packet) s in (Ok after.0, after.1))
+  | Some packet ↦ tested s (sent_tests room starved) (λ _. let after = sent_from e (called e s packet) s in (Ok after.0, after.1))
 ]
 
 -- by the end, where one is open

@@ -1,5 +1,5 @@
 -- A node takes a frame.
-use Rattle.std.proofs.Common.{ℕ, zero, suc, ◌≡◌, ◌-◌, Bool, true, false, cond, not, ◌&&◌, ◌||◌, List, [], ◌∷◌, ◌++◌, length, Option, Some, None, Result, Ok}
+use Rattle.std.proofs.Common.{ℕ, zero, suc, ◌≡◌, ◌-◌, Bool, true, false, cond, not, ◌||◌, List, [], ◌∷◌, ◌++◌, length, Option, Some, None, Result, Ok}
 use Rattle.std.proofs.Common.{Err, refl, sym, ◌∙◌, ap, subst}
 use Rattle.std.specs.Prelude.{is_some, if◌then◌else◌}
 use Rattle.std.proofs.lemmas.Bool.{and_parts, not-true}
@@ -24,9 +24,9 @@ use Rattle.model.specs.PrimarySteps as step
 use Rattle.model.specs.Acknowledgements as model
 use Rattle.model.specs.LocalRuns.{Takes}
 use Rattle.laws.proofs.Primary.Homes.{HasHomes, open-at}
-use Rattle.laws.proofs.Primary.Moves.{with_frame, refusing}
+use Rattle.laws.proofs.Primary.Moves.{with_frame}
 use Rattle.primary_steps.specs.Core.{EndState, PrimaryState, stands, tested}
-use Rattle.primary_steps.specs.Taking.{Taken, hearing, taking, taking_hello, taking_ack, taken_by, take_at, ack_in}
+use Rattle.primary_steps.specs.Taking.{Taken, hearing, taking, taking_hello, taking_ack, taken_by, take_at, take_tests, ack_in}
 use Rattle.primary_steps.specs.Node.{NodeState, NodeHas, NodeIsHad, NodeSteps}
 use Rattle.primary_steps.specs.Steps.{Agrees, replied}
 use Rattle.primary_steps.proofs.Common.Reached.{end-open, outward-of, reached-ordered, stands-same}
@@ -34,6 +34,8 @@ use Rattle.primary_steps.proofs.Node.Due.{IsStill, is-still, kept-leaves}
 use Rattle.primary_steps.proofs.Node.Keeps.{Change, Keeps, unchanged, keeps-self, keeps-change, keeps-rest, keeps-following, closing-keeps}
 use Rattle.primary_steps.proofs.Node.Runs.{node-steps, node-refused}
 use Rattle.primary_steps.proofs.Acknowledge.Takes.{takes-agree}
+use Rattle.laws.proofs.Rules.Memory.{takes-there, ack-in-takes, starved-takes}
+use Rattle.laws.proofs.Rules.RefusedFrames.{refusing, frame-has}
 
 -- the frame is taken, and the stream has begun or not
 abbrev pub took : PrimaryHistory → Received → Bool → Change
@@ -149,14 +151,12 @@ module _ (h : PrimaryHistory) (frame : Received) (unshut : (outward h).closed �
 
   -- A frame that is taken stands last among those taken, and more may be due.
   pub takes-keep : HasHomes h → (begun : Bool) × Keeps h (took h frame begun) (model.take_frame frame h).1
-  takes-keep homes = go (model.taking frame h (with_outward (with_frame frame) h)) (comes homes)
+  takes-keep homes = frame-has (λ r. (begun : Bool) × Keeps h (took h frame begun) r.1) Comes frame h (comes homes)
+      (λ done so. (so.0, keeps-following h done.1 (took h frame so.0) so.1)) refused-keep
     where
-      go : (v : model.Taken) → Comes v → (begun : Bool) × Keeps h (took h frame begun) (elim v as (λ _. Reply × PrimaryHistory) [
-        | Ok done ↦ step.succeeding done.0 done.1
-        | Err error ↦ (reply.Refused error.0, (step.follows (step.closing (with_outward refusing error.1))).history)
-      ]).1
-      go (Ok done) so = (so.0, keeps-following h done.1 (took h frame so.0) so.1)
-      go (Err error) so =
+      refused-keep : (error : Refusal × PrimaryHistory) → Comes (Err error)
+          → (begun : Bool) × Keeps h (took h frame begun) (step.follows (step.closing (with_outward refusing error.1))).history
+      refused-keep error so =
           let g : PrimaryHistory = record (with_outward (with_frame frame) h) { peer = so.0 } in
           let shut : (outward (with_outward refusing g)).closed ≡ false =
           ap (λ (c : Outward). c.closed) (outward-of refusing g (with_outward refusing g) refl open-taken) ∙ open-taken in
@@ -172,30 +172,17 @@ module _ (h : PrimaryHistory) (frame : Received) (unshut : (outward h).closed �
 
 -- The step, where an end is open.
 
-and-false : (b : Bool) → (b && false) ≡ false
-and-false true = refl
-and-false false = refl
-
--- the step of the model takes the frame
-pub steps-frame : (frame : Received) (h : PrimaryHistory) → (outward h).closed ≡ false → model.ack_in (Some frame) false h ≡ model.take_frame frame h
-steps-frame frame h unshut = λ i. by (unshut i) (and-false (not (outward h).begun) i)
-  where
-    by : Bool → Bool → Reply × PrimaryHistory
-    by closed late = step.tested h ((closed, NotConnected) ∷ (late, NoMemory) ∷ (false, NothingThere) ∷ []) (λ _. model.take_frame frame h)
-
--- so does the transition
-takes-frame : (frame : Received) (s : PrimaryState) → is_some s.end ≡ true → ack_in (Some frame) false s ≡ take_at frame s
+-- the transition takes the frame
+pub takes-frame : (frame : Received) (s : PrimaryState) → is_some s.end ≡ true → ack_in (Some frame) false s ≡ take_at frame s
 takes-frame frame s some = go s.end some
   where
-    by : Option EndState → Bool → Result Done Refusal × PrimaryState
-    by v late = elim v as (λ _. Result Done Refusal × PrimaryState) [
+    go : (v : Option EndState) → is_some v ≡ true → (elim v as (λ _. Result Done Refusal × PrimaryState) [
       | None ↦ (Err NotConnected, s)
-      | Some e ↦ tested s ((late, NoMemory) ∷ (false, NothingThere) ∷ []) (λ _. take_at frame s)
-    ]
-
-    go : (v : Option EndState) → is_some v ≡ true → by v (not (stands s) && false) ≡ take_at frame s
+      | Some e ↦ tested s (take_tests (Some frame) false s) (λ _. take_at frame s)
+    ]) ≡ take_at frame s
     go None none = absurd (cc)
-    go (Some e) some = ap (by (Some e)) (and-false (not (stands s)))
+    go (Some e) some = ap (λ (v : Option Refusal). elim v as (λ _. Result Done Refusal × PrimaryState)
+        [ Some refusal ↦ (Err refusal, s) | None ↦ take_at frame s ]) (takes-there frame (stands s))
 
 module _ (n : NodeState) (frame : Received) (result : Result Done Refusal) (core : PrimaryState) (some : is_some n.core.end ≡ true)
     (is : (result, core) ≡ take_at frame n.core) where
@@ -206,7 +193,7 @@ module _ (n : NodeState) (frame : Received) (result : Result Done Refusal) (core
   kept : (h : PrimaryHistory) → NodeHas n h → (begun : Bool) × Keeps h (took h frame begun) (model.ack_in (Some frame) false h).1
   kept h has =
       let k = takes-keep h frame (unshut-end h has) (reached-ordered h has.reached).ordered.1.1.0.0 in
-      (k.0, subst (λ (p : Reply × PrimaryHistory). Keeps h (took h frame k.0) p.1) (sym (steps-frame frame h (unshut-end h has))) k.1)
+      (k.0, subst (λ (p : Reply × PrimaryHistory). Keeps h (took h frame k.0) p.1) (sym (ack-in-takes frame h (unshut-end h has))) k.1)
 
   -- the call is the step
   pub node-takes : NodeSteps (Takes (Some frame) false) n (replied reply.Ok result) (record n { core = core; taken = n.taken ++ frame ∷ [] })
@@ -250,7 +237,7 @@ not-open s none = go s.end none
   where
     go : (v : Option EndState) → is_some v ≡ false → (elim v as (λ _. Result Done Refusal × PrimaryState) [
       | None ↦ (Err NotConnected, s)
-      | Some e ↦ tested s ((not (stands s) && false, NoMemory) ∷ (true, NothingThere) ∷ []) (λ _. (Err NothingThere, s))
+      | Some e ↦ tested s (take_tests None false s) (λ _. (Err NothingThere, s))
     ]).0 ≡ Err NotConnected
     go None none = refl
     go (Some e) some = absurd (cc)
@@ -259,15 +246,13 @@ not-open s none = go s.end none
 pub not-ready : (s : PrimaryState) → is_some s.end ≡ true → stands s ≡ false → (ack_in None true s).0 ≡ Err NoMemory
 not-ready s some down = go s.end some
   where
-    by : Option EndState → Bool → Result Done Refusal × PrimaryState
-    by v standing = elim v as (λ _. Result Done Refusal × PrimaryState) [
+    go : (v : Option EndState) → is_some v ≡ true → (elim v as (λ _. Result Done Refusal × PrimaryState) [
       | None ↦ (Err NotConnected, s)
-      | Some e ↦ tested s ((not standing && true, NoMemory) ∷ (true, NothingThere) ∷ []) (λ _. (Err NothingThere, s))
-    ]
-
-    go : (v : Option EndState) → is_some v ≡ true → (by v (stands s)).0 ≡ Err NoMemory
+      | Some e ↦ tested s (take_tests None true s) (λ _. (Err NothingThere, s))
+    ]).0 ≡ Err NoMemory
     go None none = absurd (cc)
-    go (Some e) some = ap (λ b. (by (Some e) b).0) down
+    go (Some e) some = ap (λ (v : Option Refusal). (elim v as (λ _. Result Done Refusal × PrimaryState)
+        [ Some refusal ↦ (Err refusal, s) | None ↦ (Err NothingThere, s) ]).0) (starved-takes None (stands s) down)
 
 -- A frame that leaves the end open.
 

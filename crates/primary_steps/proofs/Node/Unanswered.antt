@@ -1,5 +1,5 @@
 -- How many writes of the standing stream were sent and are not answered, as a primary's log tells it.
-use Rattle.std.proofs.Common.{ℕ, zero, suc, ◌≡◌, ◌+◌, ◌<◌, ◌≤◌, inl, inr, Bool, true, false, cond, not, ◌&&◌, ◌||◌, List, [], ◌∷◌, length, map, filter, Option}
+use Rattle.std.proofs.Common.{ℕ, zero, suc, ◌≡◌, ◌+◌, ◌<◌, ◌≤◌, inl, inr, Bool, true, false, cond, not, ◌&&◌, List, [], ◌∷◌, length, map, filter, Option}
 use Rattle.std.proofs.Common.{Some, None, slice_get, refl, sym, ◌∙◌, ap, arith, nat_lt}
 use Rattle.std.specs.Prelude.{if◌then◌else◌, option_map}
 use Rattle.std.proofs.lemmas.Bool.{cases_Bool, both_ways, and_parts, and_from, not-true}
@@ -7,7 +7,7 @@ use Rattle.std.proofs.lemmas.List.{length-map}
 use Rattle.blocks.specs.Positions.{StreamPosition}
 use Rattle.model.specs.Contents.{Write}
 use Rattle.model.specs.Stream.{Item, WriteItem, ResyncItem, BarrierItem, SyncUuidItem, UuidsItem, is_write, number_of, placed, placed_from}
-use Rattle.model.specs.Primary.{Accepted, Outward, PrimaryHistory, is_alone, is_answered, is_answered_by, is_confirmed, is_released, is_waiting, items_sent}
+use Rattle.model.specs.Primary.{Accepted, Outward, PrimaryHistory, is_alone, is_answered, is_answered_by, is_released, items_sent}
 use Rattle.model.specs.Primary.{last_index, outward, stands, unreleased}
 use Rattle.model.specs.Status.{unanswered}
 use Rattle.transferlog.specs.Writes.{LogWrite, is_unanswered}
@@ -22,6 +22,7 @@ use Rattle.primary_steps.proofs.Common.Filters.{filter-at, filter-map, filter-no
 use Rattle.primary_steps.proofs.Common.Reached.{IsOrdered, reached-ordered}
 use Rattle.primary_steps.proofs.Common.Numbers.{AreNumberedFrom, numbered-first, numbered-rest, get-map}
 use Rattle.primary_steps.proofs.Common.Releasing.{confirmed-answered, not-alone}
+use Rattle.laws.proofs.Rules.Releases.{freed-linked, released-parts}
 
 -- Rising lists of numbers.
 
@@ -171,16 +172,11 @@ module _ (s : PrimaryState) (h : PrimaryHistory) (reached : IsReached h) (left :
       go true is = sym (elim (cases_Bool (is_alone h a)) [
         | inl alone ↦ ap (λ b. not b && (is_sent h a && not (is_answered h a))) alone
         | inr linked ↦
-            let parts = and_parts (not (is_waiting a.outcome)) (is_confirmed h a || is_alone h a) is in
-            let confirmed : is_confirmed h a ≡ true = or-left (is_confirmed h a) (is_alone h a) linked parts.1 in
+            let confirmed = freed-linked h a (released-parts h a is).freed linked in
             let answered = confirmed-answered h s.log homes known.ordered.1.0 left.rest.log.protocol left.stream.on i a at linked confirmed in
             ap (λ b. not (is_alone h a) && (is_sent h a && not b)) answered ∙ off (not (is_alone h a)) (is_sent h a)
       ])
         where
-          or-left : (a b : Bool) → b ≡ false → (a || b) ≡ true → a ≡ true
-          or-left true b none some = refl
-          or-left false b none some = absurd (both_ways b none some)
-
           off : (a b : Bool) → (a && (b && false)) ≡ false
           off true true = refl
           off true false = refl

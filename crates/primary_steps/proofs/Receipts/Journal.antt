@@ -1,14 +1,13 @@
 -- A receipt is told as the journal has it.
 use Rattle.std.proofs.Common.{ℕ, zero, suc, ◌≡◌, ◌+◌, inl, inr, Bool, true, false, not, ◌&&◌, ◌||◌, List, [], ◌∷◌, ◌++◌, length, Option, Some, None, slice_get}
-use Rattle.std.proofs.Common.{Result, Ok, Err, refl, sym, ◌∙◌, ap, subst, arith, ◌==◌}
+use Rattle.std.proofs.Common.{Result, Err, refl, sym, ◌∙◌, ap, subst, arith, ◌==◌}
 use Rattle.std.specs.Prelude.{find, is_some, is_none, option_map, if◌then◌else◌}
 use Rattle.std.specs.List.{list_any}
 use Rattle.std.proofs.lemmas.Bool.{both_ways, eqb-true, eq-eqb, or_right, false_from_ne_true}
 use Rattle.std.proofs.lemmas.List.Folds.{list_any-append}
 use Rattle.blocks.specs.declared.refusal.Refusal.{Refusal}
-use Rattle.blocks.specs.declared.refusal.Refusal.TheVariants.{LocalFault, NotCompleted, UnknownJob}
+use Rattle.blocks.specs.declared.refusal.Refusal.TheVariants.{UnknownJob}
 use Rattle.model.specs.Primary.{LocalOutcome, Waiting, OnDisk, Accepted, Completion, PrimaryHistory, is_failed, is_on_disk, is_open, is_completed}
-use Rattle.model.specs.Refusals.{Test, first_refusal}
 use Rattle.model.specs.PrimarySteps as model
 use Rattle.model.specs.PrimarySteps.{accepted_at, receipted}
 use Rattle.laws.proofs.Lists.Picks.{pick-found}
@@ -23,6 +22,7 @@ use Rattle.primary_steps.specs.Transitions as core
 use Rattle.primary_steps.proofs.Common.Numbers.{AreNumberedFrom, find-number, find-none, any-number, get-map, with-entry-map, any-some}
 use Rattle.primary_steps.specs.Leaves.{fate_in, fate_of, entry_of, LeavesEntries}
 use Rattle.primary_steps.specs.Steps.{SameAnswer}
+use Rattle.laws.proofs.Rules.Receipts.{receipt_by, receipt-by}
 
 -- The transition tells what the model's step tells, and leaves its entries.
 pub record TellsEntries (number : ℕ) (s : PrimaryState) (h : PrimaryHistory) : Type 0 where
@@ -113,20 +113,10 @@ module _ (h : PrimaryHistory) (known : IsNumbered h) (n : ℕ) (a : Accepted) (a
           or-none true = refl
           or-none false = refl
 
-  -- the tests of the model, by what the history has of the write
-  tests-are : (given done : Bool) → list_any (λ taken. taken == suc n) h.receipts ≡ given → is_open h a ≡ done
-      → model.take_completed_tests h (suc n) ≡ (given, UnknownJob) ∷ (done, NotCompleted) ∷ []
-  tests-are given done is_given_so is_open_so = λ i. (none i, UnknownJob) ∷ ((open-is ∙ is_open_so) i, NotCompleted) ∷ []
-    where
-      none : (is_none (accepted_at h (suc n)) || list_any (λ taken. taken == suc n) h.receipts) ≡ given
-      none = ap (λ (v : Option Accepted). is_none v || list_any (λ taken. taken == suc n) h.receipts) there-is ∙ is_given_so
-
-  -- what the model's step is then
-  abbrev model-by : List Test → Option Completion → Result Completion Refusal × PrimaryHistory
-  model-by tests found = elim (first_refusal tests) [
-    | Some refusal ↦ (Err refusal, h)
-    | None ↦ elim found [ None ↦ (Err LocalFault, receipted (suc n) h) | Some entry ↦ (Ok entry, receipted (suc n) h) ]
-  ]
+  -- the receipt was taken, where the write is there
+  gone : (given : Bool) → list_any (λ taken. taken == suc n) h.receipts ≡ given
+      → given ≡ (is_none (accepted_at h (suc n)) || list_any (λ taken. taken == suc n) h.receipts)
+  gone given is = sym (ap (λ (v : Option Accepted). is_none v || list_any (λ taken. taken == suc n) h.receipts) there-is ∙ is)
 
   -- what the transition is then
   abbrev core-by : Option Entry → Result Entry Refusal × PrimaryState
@@ -145,7 +135,7 @@ module _ (h : PrimaryHistory) (known : IsNumbered h) (n : ℕ) (a : Accepted) (a
         fate = elim failed as (λ _. Fate) [ true ↦ Failed | false ↦ fate_in found ];
         taken = given;
       })))
-      (model-by ((given, UnknownJob) ∷ (not (is_some found) && not failed, NotCompleted) ∷ []) found)
+      (receipt_by (suc n) h given (not (is_some found) && not failed) found)
   by-fate true failed is_given_so is_failed_so found is = (refl, left)
   by-fate false true is_given_so is_failed_so None is = (refl, receipted-left)
   by-fate false true is_given_so is_failed_so (Some c) is =
@@ -172,8 +162,7 @@ module _ (h : PrimaryHistory) (known : IsNumbered h) (n : ℕ) (a : Accepted) (a
       let got : core-by (Some (record { first = a.write.first; count = length a.write.contents; fate = fate_of h a; taken = given })) ≡ take_completed
       (suc n) s =
       ap core-by (sym (entry-is ∙ λ i. Some (record { first = a.write.first; count = length a.write.contents; fate = fate_of h a; taken = taken_is i }))) in
-      let step : model-by ((given, UnknownJob) ∷ (not (is_some found) && not (is_failed a.outcome), NotCompleted) ∷ []) found ≡ model.take_completed (suc n) h =
-      λ i. model-by (sym (tests-are given (not (is_some found) && not (is_failed a.outcome)) refl open_so) i) (numbers i) in
+      let step = receipt-by (suc n) h given (not (is_some found) && not (is_failed a.outcome)) found (gone given refl) (sym (open-is ∙ open_so)) numbers in
       let both = subst (λ x. Alike x (model.take_completed (suc n) h)) got
       (subst (Alike (core-by (Some (record { first = a.write.first; count = length a.write.contents; fate = fate_of h a; taken = given })))) step alike) in
       record { answer = both.0; leaves = both.1 }
@@ -182,18 +171,8 @@ module _ (h : PrimaryHistory) (known : IsNumbered h) (n : ℕ) (a : Accepted) (a
 tells-none : (h : PrimaryHistory) (number : ℕ) (s : PrimaryState) → LeavesEntries s h → accepted_at h number ≡ None → entry_at number s ≡ None
     → TellsEntries number s h
 tells-none h number s left none nothing =
-    let tests : model.take_completed_tests h number ≡ (true, UnknownJob) ∷ (
-      list_any (λ (x : Accepted). (x.write.number == number) && is_open h x) h.writes,
-      NotCompleted,
-    ) ∷ [] =
-    ap (λ (v : Option Accepted). (is_none v || list_any (λ taken. taken == number) h.receipts, UnknownJob) ∷
-    (list_any (λ (x : Accepted). (x.write.number == number) && is_open h x) h.writes, NotCompleted) ∷ []) none in
     let step : model.take_completed number h ≡ (Err UnknownJob, h) =
-    ap (λ (ts : List Test). elim (first_refusal ts) as (λ _. Result Completion Refusal × PrimaryHistory) [
-      | Some refusal ↦ (Err refusal, h)
-      | None ↦ elim (find (λ (entry : Completion). entry.write.number == number) h.journal)
-          [ None ↦ (Err LocalFault, receipted number h) | Some entry ↦ (Ok entry, receipted number h) ]
-    ]) tests in
+    sym (receipt-by number h true _ _ (sym (ap (λ (v : Option Accepted). is_none v || list_any (λ taken. taken == number) h.receipts) none)) refl refl) in
     let got : take_completed number s ≡ (Err UnknownJob, s) = ap (λ (v : Option Entry). (told v, if is_given (told v) then core.receipted number s else s))
     nothing in
     record {

@@ -30,7 +30,7 @@ use Rattle.laws.proofs.Releases.InOrderMoves.{Ordered, in-order-kept}
 use Rattle.laws.proofs.Streams.Lawful.{epoch-end, placed-append}
 use Rattle.primary_steps.specs.Core.{EndState, PrimaryState}
 use Rattle.primary_steps.specs.Leaves.{holding_item, holding_write, held_of, standing, marks_in, LeavesEnd, LeavesEpochs, LeavesStream, Leaves}
-use Rattle.primary_steps.proofs.Common.Connections.{SeesSame, seen-same, released-same}
+use Rattle.primary_steps.proofs.Common.Connections.{SeesSame, seen-same, released-alike}
 use Rattle.primary_steps.proofs.Common.Epochs.{barriers-more, size-more, epochs-resync}
 use Rattle.primary_steps.proofs.Common.Filters.{filter-at, any-map}
 use Rattle.primary_steps.proofs.Common.Following.{IsDue, runs-more}
@@ -177,7 +177,7 @@ module _ (settings : Settings) (bound : TakesWrites settings) (s : PrimaryState)
   unseen = record {
     logged = λ i a at. seen-same h (appending (ResyncItem block (unwrap_or (local_map h block) [])) h)
         (longer (ResyncItem block (unwrap_or (local_map h block) []))) refl refl same a;
-    released = λ i a at. released-same h (appending (ResyncItem block (unwrap_or (local_map h block) [])) h)
+    released = λ i a at. released-alike h (appending (ResyncItem block (unwrap_or (local_map h block) [])) h)
         (longer (ResyncItem block (unwrap_or (local_map h block) []))) refl refl same ordered.1.1.0.0 (ResyncItem block (unwrap_or (local_map h block) []) ∷ [])
         refl i a at;
   }

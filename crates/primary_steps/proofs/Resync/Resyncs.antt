@@ -1,10 +1,9 @@
 -- A resync reads its next block, or the local disk fails that.
 use Rattle.std.proofs.Common.{ℕ, ◌≡◌, Bool, true, false, not, ◌||◌, List, [], ◌∷◌, length, Option, Some, None, Result, Ok, Err, refl, sym, ◌∙◌, ap, subst}
-use Rattle.std.proofs.Common.{nat_lt, nat_le}
+use Rattle.std.proofs.Common.{nat_lt}
 use Rattle.std.specs.Prelude.{is_some, is_none, unwrap_or}
-use Rattle.std.proofs.lemmas.Bool.{or_parts, not-false}
 use Rattle.blocks.specs.declared.refusal.Refusal.{Refusal}
-use Rattle.blocks.specs.declared.refusal.Refusal.TheVariants.{NoMemory, NotConnected, NothingToDo, ReadFault, StreamFull}
+use Rattle.blocks.specs.declared.refusal.Refusal.TheVariants.{NotConnected, NothingToDo, ReadFault}
 use Rattle.blocks.specs.declared.outcome.Done.{Done}
 use Rattle.blocks.specs.declared.outcome.Reply.{Reply}
 use Rattle.blocks.specs.declared.outcome.Reply.TheVariants as reply
@@ -14,7 +13,6 @@ use Rattle.model.specs.Primary.{Outward, PrimaryHistory, outward, resync_runs, u
 use Rattle.model.specs.PrimarySteps as step
 use Rattle.model.specs.PrimarySteps.{appending}
 use Rattle.resync.specs.Next.{next_block}
-use Rattle.laws.proofs.Lists.Tests.{test-passed}
 use Rattle.primary_steps.specs.Core.{UnderWay, EndState, PrimaryState, tested}
 use Rattle.primary_steps.specs.Transitions as transition
 use Rattle.primary_steps.specs.Transitions.{copying}
@@ -24,6 +22,8 @@ use Rattle.primary_steps.proofs.Resync.NextBlock.{next-is, held-alone, copying-d
 use Rattle.primary_steps.proofs.Common.Following.{follow}
 use Rattle.primary_steps.proofs.Common.Reached.{reached-ordered, refused-agrees, tested-agrees, from-follow}
 use Rattle.primary_steps.proofs.Send.Due.{places-are}
+use Rattle.laws.proofs.Rules.Memory.{may-copy, copy-tests-by}
+use Rattle.std.proofs.Common.{drop}
 
 -- whether a block is under way
 way-same : (v : Option UnderWay) (c : Outward) → UnderWayLeft v c → is_some v ≡ nat_lt 0 (length (under_way c))
@@ -50,13 +50,9 @@ module _ (starved : Bool) (s : PrimaryState) (h : PrimaryHistory) (e : EndState)
       go false is = ap (λ v. is_some e.under_way || is_none v) (next-same is)
 
   -- the tests are the same
-  resync-tests-same : transition.resync_tests starved e s ≡
-      (not (resync_runs (outward h)) || (nat_lt 0 (length (under_way (outward h))) || is_none (free_block h)), NothingToDo) ∷
-      (nat_le 4294967288 (length (outward h).stream), StreamFull) ∷ (starved, NoMemory) ∷ []
-  resync-tests-same = λ i. (same_first i, NothingToDo) ∷ (
-    nat_le 4294967288 (places-are s h left (reached-ordered h reached).ordered.1.1.0.0 end.stands i),
-    StreamFull,
-  ) ∷ (starved, NoMemory) ∷ []
+  resync-tests-same : transition.resync_tests starved e s ≡ drop 1 (step.resync_tests h starved)
+  resync-tests-same = copy-tests-by h starved (not e.resync || (is_some e.under_way || is_none (next_block s.marks s.held))) s.log.epochs.places same_first
+      (places-are s h left (reached-ordered h reached).ordered.1.1.0.0 end.stands)
 
   -- The block is copied.
   copies : (block : ℕ) (contents : List ℕ) → contents ≡ unwrap_or (local_map h block) [] → resync_runs (outward h) ≡ true → under_way (outward h) ≡ []
@@ -84,25 +80,19 @@ module _ (starved : Bool) (s : PrimaryState) (h : PrimaryHistory) (e : EndState)
         | None ↦ (Err NothingToDo, s)
         | Some block ↦ let after = copying block (disk block) e s in (Ok after.0, after.1)
       ]))
-      (step.tested h ((not (resync_runs (outward h)) || (nat_lt 0 (length (under_way (outward h))) || is_none (free_block h)), NothingToDo) ∷
-      (nat_le 4294967288 (length (outward h).stream), StreamFull) ∷ (starved, NoMemory) ∷ []) (λ _. elim (free_block h) as (λ _. Reply × PrimaryHistory) [
+      (step.tested h (drop 1 (step.resync_tests h starved)) (λ _. elim (free_block h) as (λ _. Reply × PrimaryHistory) [
         | None ↦ (reply.Refused NothingToDo, h)
         | Some block ↦ step.succeeding (what.Block (record { 0 = block }) (length (outward h).stream))
             (appending (ResyncItem block (unwrap_or (local_map h block) [])) h)
       ]))
   resync-agrees disk holds =
-      tested-agrees reply.Ok s h (transition.resync_tests starved e s)
-      ((not (resync_runs (outward h)) || (nat_lt 0 (length (under_way (outward h))) || is_none (free_block h)), NothingToDo) ∷
-      (nat_le 4294967288 (length (outward h).stream), StreamFull) ∷ (starved, NoMemory) ∷ [])
+      tested-agrees reply.Ok s h (transition.resync_tests starved e s) (drop 1 (step.resync_tests h starved))
       (λ _. core-by (next_block s.marks s.held)) (λ _. model-by (free_block h)) resync-tests-same left
       (λ none.
-      let first = test-passed (not (resync_runs (outward h)) || (nat_lt 0 (length (under_way (outward h))) || is_none (free_block h))) NothingToDo
-      ((nat_le 4294967288 (length (outward h).stream), StreamFull) ∷ (starved, NoMemory) ∷ []) none in
-      let parts = or_parts (not (resync_runs (outward h))) (nat_lt 0 (length (under_way (outward h))) || is_none (free_block h)) first.0 in
-      let more = or_parts (nat_lt 0 (length (under_way (outward h)))) (is_none (free_block h)) parts.1 in
-      let alone = way-same e.under_way (outward h) end.under_way ∙ more.0 in
+      let may = may-copy h starved none in
+      let alone = way-same e.under_way (outward h) end.under_way ∙ may.alone in
       subst (λ (v : Option ℕ). Agrees reply.Ok (core-by v) (model-by (free_block h))) (sym (next-same alone))
-      (go (free_block h) refl (not-false (resync_runs (outward h)) parts.0) (none-way e.under_way (outward h) end.under_way alone)))
+      (go (free_block h) refl may.runs (none-way e.under_way (outward h) end.under_way alone)))
     where
       core-by : Option ℕ → Result Done Refusal × PrimaryState
       core-by v = elim v [ None ↦ (Err NothingToDo, s) | Some block ↦ let after = copying block (disk block) e s in (Ok after.0, after.1) ]
@@ -119,8 +109,7 @@ module _ (starved : Bool) (s : PrimaryState) (h : PrimaryHistory) (e : EndState)
       go (Some block) is runs none = copies block (disk block) (holds block) runs none is
 
   fault-agrees : Agrees reply.Ok (tested s (transition.resync_tests starved e s) (λ _. (Err ReadFault, s)))
-      (step.tested h ((not (resync_runs (outward h)) || (nat_lt 0 (length (under_way (outward h))) || is_none (free_block h)), NothingToDo) ∷
-      (nat_le 4294967288 (length (outward h).stream), StreamFull) ∷ (starved, NoMemory) ∷ []) (λ _. (reply.Refused ReadFault, h)))
+      (step.tested h (drop 1 (step.resync_tests h starved)) (λ _. (reply.Refused ReadFault, h)))
   fault-agrees = tested-agrees reply.Ok s h _ _ (λ _. (Err ReadFault, s)) (λ _. (reply.Refused ReadFault, h)) resync-tests-same left
       (λ none. record { reply = refl; leaves = left })
 
@@ -131,9 +120,7 @@ module _ (starved : Bool) (s : PrimaryState) (h : PrimaryHistory) (left : Leaves
   core-by v = elim v [ None ↦ (Err NotConnected, s) | Some e ↦ tested s (transition.resync_tests starved e s) (done e) ]
 
   abbrev model-by : Bool → Reply × PrimaryHistory
-  model-by closed = step.tested h
-      ((closed, NotConnected) ∷ (not (resync_runs (outward h)) || (nat_lt 0 (length (under_way (outward h))) || is_none (free_block h)), NothingToDo) ∷
-      (nat_le 4294967288 (length (outward h).stream), StreamFull) ∷ (starved, NoMemory) ∷ []) answer
+  model-by closed = step.tested h ((closed, NotConnected) ∷ drop 1 (step.resync_tests h starved)) answer
 
   by-end : ((e : EndState) → LeavesEnd e (outward h) → Agrees reply.Ok (core-by (Some e)) (model-by false)) → (v : Option EndState) → s.end ≡ v
       → EndLeft v (outward h) → Agrees reply.Ok (core-by s.end) (model-by (outward h).closed)

@@ -1,19 +1,18 @@
 -- What a primary owes, and a frame that is pushed and that no write sees.
-use Rattle.std.proofs.Common.{ℕ, zero, suc, ◌≡◌, ◌+◌, ◌-◌, ◌<◌, ◌≤◌, inl, inr, Bool, true, false, not, ◌&&◌, ◌||◌, List, [], ◌∷◌, ◌++◌, length, map, drop}
-use Rattle.std.proofs.Common.{Option, Some, None, slice_get, Ok, refl, sym, ◌∙◌, ap, subst, arith, nat_lt, nat_le}
+use Rattle.std.proofs.Common.{ℕ, zero, suc, ◌≡◌, ◌+◌, ◌-◌, ◌<◌, ◌≤◌, inl, inr, Bool, true, false, not, ◌&&◌, List, [], ◌∷◌, ◌++◌, length, map, drop}
+use Rattle.std.proofs.Common.{Some, None, slice_get, Ok, refl, sym, ◌∙◌, ap, subst, arith, nat_lt, nat_le}
 use Rattle.std.specs.Prelude.{min, option_map, if◌then◌else◌}
-use Rattle.std.proofs.lemmas.Bool.{cases_lt, ltb-true, lt-ltb, le-ltb, le-leb, lt-leb}
+use Rattle.std.proofs.lemmas.Bool.{cases_lt, lt-ltb, le-ltb, le-leb, lt-leb}
 use Rattle.std.proofs.lemmas.Option.{slice_get_within}
 use Rattle.blocks.specs.Positions.{StreamPosition}
 use Rattle.blocks.specs.declared.settings.Protocol.{Protocol}
-use Rattle.blocks.specs.declared.settings.Protocol.TheVariants as protocol
 use Rattle.blocks.specs.declared.outcome.What.{What}
 use Rattle.blocks.specs.declared.outcome.Reply.TheVariants as reply
-use Rattle.model.specs.Stream.{Item, epoch_of}
+use Rattle.model.specs.Stream.{Item}
 use Rattle.model.specs.Frames.{Packet, frame_of, hello_of}
 use Rattle.model.specs.Refusals.{done_with}
-use Rattle.model.specs.Primary.{Accepted, PrimaryHistory, no_outward, outward, last_index, change_last, with_outward, stands, items_sent, frames_due}
-use Rattle.model.specs.Primary.{is_answered_by, is_alone, is_confirmed, is_released, is_waiting, barrier_acknowledged, unreleased, open_writes, under_way}
+use Rattle.model.specs.Primary.{Accepted, PrimaryHistory, outward, last_index, with_outward, stands, items_sent, frames_due}
+use Rattle.model.specs.Primary.{is_answered_by, is_alone, is_confirmed, is_released, unreleased, open_writes, under_way}
 use Rattle.model.specs.Primary.{resync_runs}
 use Rattle.model.specs.PrimarySteps as step
 use Rattle.model.specs.PrimarySteps.{epoch_is_over, resync_is_over}
@@ -31,12 +30,16 @@ use Rattle.primary_steps.specs.Core.{EndState, PrimaryState}
 use Rattle.primary_steps.specs.Transitions.{owed, next_place}
 use Rattle.primary_steps.specs.Leaves.{logged_of, holding_item, holding_write, LeavesActivity, LeavesEpochs, LeavesEnd, Leaves}
 use Rattle.primary_steps.specs.Steps.{Agrees}
-use Rattle.primary_steps.proofs.Common.Connections.{look}
 use Rattle.primary_steps.proofs.Common.Epochs.{epochs-same}
 use Rattle.primary_steps.proofs.Common.Filters.{filter-at, map-at}
 use Rattle.primary_steps.proofs.Common.Reached.{outward-of}
 use Rattle.primary_steps.proofs.Common.NothingFollows.{still}
 use Rattle.primary_steps.proofs.Common.WriteStates.{completes-seen}
+use Rattle.laws.proofs.Rules.Releases.{released-same}
+use Rattle.laws.proofs.Lists.Beginnings.{begins-self}
+use Rattle.model.specs.Primary.{accepted_frames}
+use Rattle.laws.proofs.Rules.Answered.{answered-more}
+use Rattle.laws.proofs.Primary.Seen.{alone-seen, confirmed-seen}
 
 -- What is owed.
 
@@ -128,37 +131,14 @@ module _ (s : PrimaryState) (h : PrimaryHistory) (e f : EndState) (left : Leaves
 
   -- what a write sees of its connection
   confirmed-same : (a : Accepted) → is_confirmed (with_outward pushing h) a ≡ is_confirmed h a
-  confirmed-same a = go a.home
-    where
-      go : (v : Option StreamPosition) → elim v as (λ _. Bool) [
-        | None ↦ false
-        | Some home ↦ elim (slice_get (change_last pushing h.connections) home.index) as
-            (λ _. Bool) [ None ↦ false | Some c ↦ barrier_acknowledged c (epoch_of c.stream home.place) ]
-      ]
-          ≡ elim v as (λ _. Bool) [
-            | None ↦ false
-            | Some home ↦ elim (slice_get h.connections home.index) as
-                (λ _. Bool) [ None ↦ false | Some c ↦ barrier_acknowledged c (epoch_of c.stream home.place) ]
-          ]
-      go None = refl
-      go (Some home) = look (λ v. elim v as (λ _. Bool) [ None ↦ false | Some c ↦ barrier_acknowledged c (epoch_of c.stream home.place) ]) pushing
-          (no_outward h.tuple) h.connections home.index refl
+  confirmed-same = confirmed-seen h (with_outward pushing h) pushing refl (λ place. refl)
 
   alone-same : (a : Accepted) → is_alone (with_outward pushing h) a ≡ is_alone h a
-  alone-same a = go a.home
-    where
-      go : (v : Option StreamPosition) → elim v as (λ _. Bool) [
-        | None ↦ true
-        | Some home ↦ elim (slice_get (change_last pushing h.connections) home.index) as
-            (λ _. Bool) [ None ↦ true | Some c ↦ c.closed ]
-      ]
-          ≡ elim v as (λ _. Bool) [ None ↦ true | Some home ↦ elim (slice_get h.connections home.index) as (λ _. Bool) [ None ↦ true | Some c ↦ c.closed ] ]
-      go None = refl
-      go (Some home) = look (λ v. elim v as (λ _. Bool) [ None ↦ true | Some c ↦ c.closed ]) pushing (no_outward h.tuple) h.connections home.index refl
+  alone-same = alone-seen h (with_outward pushing h) pushing refl refl
 
   unreleased-same : unreleased (with_outward pushing h) ≡ unreleased h
   unreleased-same = filter-at (λ a. not (is_released (with_outward pushing h) a)) (λ a. not (is_released h a)) h.writes
-      (λ i a at. λ j. not (not (is_waiting a.outcome) && (confirmed-same a j || alone-same a j)))
+      (λ i a at. ap not (released-same h (with_outward pushing h) a (confirmed-same a) (alone-same a)))
 
   index-same : last_index (with_outward pushing h).connections ≡ last_index h.connections
   index-same = ap (λ m. m - 1) (length-change pushing h.connections)
@@ -209,9 +189,7 @@ module _ (s : PrimaryState) (h : PrimaryHistory) (e f : EndState) (left : Leaves
 
       grows : (asked : Protocol) (place : ℕ) (item : Item) → is_answered_by asked (outward h) place item ≡ true
           → is_answered_by asked (pushing (outward h)) place item ≡ true
-      grows protocol.A place item sent = let less = ltb-true place ((outward h).pushed - 3) sent in lt-ltb place (suc (outward h).pushed - 3) (omega arith)
-      grows protocol.B place item so = so
-      grows protocol.C place item so = so
+      grows asked place item so = answered-more asked (outward h) (pushing (outward h)) place item (omega arith) (begins-self (accepted_frames (outward h))) so
 
   pub pushed-agrees : (name : What) → Agrees reply.Ok (Ok (done_with name), record s { end = Some f }) (step.succeeding name (with_outward pushing h))
   pushed-agrees name =

@@ -1,10 +1,9 @@
 -- An item of the stream is pushed: what an end, and what a write, sees of it.
-use Rattle.std.proofs.Common.{ℕ, suc, ◌≡◌, ◌-◌, ◌<◌, ◌≤◌, inl, inr, Bool, true, false, not, length, drop, Option, Some, None, slice_get, refl, sym, ◌∙◌, ap}
+use Rattle.std.proofs.Common.{ℕ, suc, ◌≡◌, ◌-◌, ◌<◌, ◌≤◌, inl, inr, Bool, false, not, length, drop, Option, Some, None, slice_get, refl, sym, ◌∙◌, ap}
 use Rattle.std.proofs.Common.{subst, arith, nat_lt}
 use Rattle.std.proofs.lemmas.Bool.{cases_lt, lt-ltb, le-ltb}
 use Rattle.blocks.specs.Positions.{StreamPosition}
 use Rattle.blocks.specs.declared.settings.Protocol.{Protocol}
-use Rattle.blocks.specs.declared.settings.Protocol.TheVariants as protocol
 use Rattle.model.specs.Stream.{WriteItem}
 use Rattle.model.specs.Primary.{Accepted, Outward, PrimaryHistory, no_outward, outward, change_last, with_outward, items_sent, is_answered_by, is_answered}
 use Rattle.model.specs.Primary.{is_alone}
@@ -13,8 +12,9 @@ use Rattle.laws.proofs.Primary.Homes.{HasHomes}
 use Rattle.laws.proofs.Primary.Moves.{pushing}
 use Rattle.primary_steps.specs.Core.{UnderWay, EndState}
 use Rattle.primary_steps.specs.Leaves.{is_sent, logged_of, LeavesEnd, UnderWayLeft}
-use Rattle.primary_steps.proofs.Common.Connections.{look}
 use Rattle.primary_steps.proofs.Send.Due.{drop-more}
+use Rattle.laws.proofs.Rules.Answered.{answered-alike}
+use Rattle.laws.proofs.Primary.Seen.{alone-seen}
 
 -- Ends after a push.
 
@@ -75,16 +75,7 @@ pub logged-with : (h g : PrimaryHistory) (a : Accepted) → is_alone g a ≡ is_
 logged-with h g a alone sent answered sent_is answered_is = λ j. record (logged_of h a) { linked = not (alone j); sent = sent_is j; answered = answered_is j }
 
 pub alone-pushed : (h : PrimaryHistory) (a : Accepted) → is_alone (with_outward pushing h) a ≡ is_alone h a
-alone-pushed h a = go a.home
-  where
-    go : (v : Option StreamPosition) → elim v as (λ _. Bool) [
-      | None ↦ true
-      | Some home ↦ elim (slice_get (change_last pushing h.connections) home.index) as
-          (λ _. Bool) [ None ↦ true | Some c ↦ c.closed ]
-    ]
-        ≡ elim v as (λ _. Bool) [ None ↦ true | Some home ↦ elim (slice_get h.connections home.index) as (λ _. Bool) [ None ↦ true | Some c ↦ c.closed ] ]
-    go None = refl
-    go (Some home) = look (λ v. elim v as (λ _. Bool) [ None ↦ true | Some c ↦ c.closed ]) pushing (no_outward h.tuple) h.connections home.index refl
+alone-pushed h = alone-seen h (with_outward pushing h) pushing refl refl
 
 -- A write whose frame is not the one that is pushed sees nothing of it.
 pub unseen : (h : PrimaryHistory) → HasHomes h → (i : ℕ) (a : Accepted) → slice_get h.writes i ≡ Some a
@@ -114,9 +105,7 @@ unseen h homes i a at same = logged-with h (with_outward pushing h) a (alone-pus
 
     by-protocol : (asked : Protocol) (place : ℕ) → nat_lt place (items_sent (pushing (outward h))) ≡ nat_lt place (items_sent (outward h))
         → is_answered_by asked (pushing (outward h)) place (WriteItem a.write) ≡ is_answered_by asked (outward h) place (WriteItem a.write)
-    by-protocol protocol.A place so = so
-    by-protocol protocol.B place so = refl
-    by-protocol protocol.C place so = refl
+    by-protocol asked place so = answered-alike asked (outward h) (pushing (outward h)) place (WriteItem a.write) so refl refl
 
     answered : (v : Option StreamPosition) → a.home ≡ v
         → elim v as (λ _. Bool) [

@@ -1,27 +1,25 @@
 -- The primary sends the next frame that it owes.
 use Rattle.std.proofs.Common.{ℕ, suc, ◌≡◌, ◌-◌, ◌<◌, ◌≤◌, inl, inr, Bool, true, false, not, ◌&&◌, ◌||◌, List, [], ◌∷◌, length, map, filter, drop, Option, Some}
 use Rattle.std.proofs.Common.{None, slice_get, Result, Ok, Err, refl, sym, ◌∙◌, ap, subst, arith, nat_lt, nat_le, ◌==◌}
-use Rattle.std.proofs.Math.Bool.{or-false}
 use Rattle.std.specs.Prelude.{option_map, if◌then◌else◌}
-use Rattle.std.proofs.lemmas.Bool.{cases_lt, both_ways, and_parts, ltb-true, lt-ltb, le-ltb, eqb-true, eq-eqb}
+use Rattle.std.proofs.lemmas.Bool.{cases_lt, both_ways, and_parts, lt-ltb, le-ltb, eqb-true, eq-eqb}
 use Rattle.std.proofs.lemmas.Option.{slice_get_within}
 use Rattle.blocks.specs.Positions.{StreamPosition}
 use Rattle.blocks.specs.declared.settings.Settings.{Settings}
 use Rattle.blocks.specs.declared.settings.Protocol.{Protocol}
-use Rattle.blocks.specs.declared.settings.Protocol.TheVariants as protocol
 use Rattle.blocks.specs.declared.refusal.Refusal.{Refusal}
-use Rattle.blocks.specs.declared.refusal.Refusal.TheVariants.{NoMemory, LinkFull, NotConnected, NothingThere}
+use Rattle.blocks.specs.declared.refusal.Refusal.TheVariants.{NotConnected, NothingThere}
 use Rattle.blocks.specs.declared.outcome.Done.{Done}
 use Rattle.blocks.specs.declared.outcome.What.{What}
 use Rattle.blocks.specs.declared.outcome.What.TheVariants as what
 use Rattle.blocks.specs.declared.outcome.Reply.{Reply}
 use Rattle.blocks.specs.declared.outcome.Reply.TheVariants as reply
 use Rattle.model.specs.Contents.{Write}
-use Rattle.model.specs.Stream.{Item, WriteItem, ResyncItem, BarrierItem, SyncUuidItem, UuidsItem, is_write, epoch_of}
+use Rattle.model.specs.Stream.{Item, WriteItem, ResyncItem, BarrierItem, SyncUuidItem, UuidsItem, is_write}
 use Rattle.model.specs.Frames.{Packet, command_of, frame_of}
 use Rattle.model.specs.Refusals.{Test, done_with}
 use Rattle.model.specs.Primary.{Accepted, Outward, PrimaryHistory, no_outward, outward, last_index, change_last, with_outward, items_sent, frames_due}
-use Rattle.model.specs.Primary.{is_answered_by, is_answered, is_alone, is_confirmed, is_released, is_waiting, is_on_disk, barrier_acknowledged, completes}
+use Rattle.model.specs.Primary.{is_answered_by, is_answered, is_alone, is_confirmed, is_released, is_on_disk, completes}
 use Rattle.model.specs.PrimarySteps as step
 use Rattle.model.specs.PrimarySteps.{resync_is_over}
 use Rattle.transferlog.specs.Log as log
@@ -38,10 +36,9 @@ use Rattle.laws.proofs.Releases.InOrderMoves.{Ordered, OrderedAfter, in-order-ke
 use Rattle.laws.proofs.Primary.Moves.{pushing}
 use Rattle.primary_steps.specs.Core as core
 use Rattle.primary_steps.specs.Core.{EndState, PrimaryState}
-use Rattle.primary_steps.specs.Transitions.{owed, next_place, called, sent_from, pushed_item}
+use Rattle.primary_steps.specs.Transitions.{owed, next_place, called, sent_from, sent_tests, pushed_item}
 use Rattle.primary_steps.specs.Leaves.{is_sent, logged_of, LeavesEnd, EndLeft, Leaves}
 use Rattle.primary_steps.specs.Steps.{Agrees, SendsAgree}
-use Rattle.primary_steps.proofs.Common.Connections.{look}
 use Rattle.transferlog.specs.Writes.{released_of}
 use Rattle.transferlog.specs.declared.report.Released.{Released}
 use Rattle.primary_steps.proofs.Common.OneWriteLeaves.{change-due, entries-stay, held-stays}
@@ -53,6 +50,11 @@ use Rattle.primary_steps.proofs.Common.NothingFollows.{reached-rests}
 use Rattle.primary_steps.proofs.Common.WriteStates.{completes-seen, disk-seen}
 use Rattle.primary_steps.proofs.Send.Due.{get-drop, place-is, owed-is, owed-late, none-owed, some-owed, said-early, said-late, pushed-agrees}
 use Rattle.primary_steps.proofs.Send.Pushing.{hello-pushed, item-pushed, logged-with, alone-pushed, unseen, other-place}
+use Rattle.laws.proofs.Rules.Releases.{released-same}
+use Rattle.laws.proofs.Lists.Beginnings.{begins-self}
+use Rattle.model.specs.Primary.{accepted_frames}
+use Rattle.laws.proofs.Rules.Answered.{answered-more, answered-sent}
+use Rattle.laws.proofs.Primary.Seen.{confirmed-seen}
 
 -- A write's frame is pushed.
 module _ (settings : Settings) (bound : TakesWrites settings) (s : PrimaryState) (h : PrimaryHistory) (e : EndState) (left : Leaves s h)
@@ -134,14 +136,8 @@ module _ (settings : Settings) (bound : TakesWrites settings) (s : PrimaryState)
           by-protocol : (asked : Protocol)
               → is_answered_by asked (pushing (outward h)) (items_sent (outward h)) (WriteItem a.write) ≡
               (is_answered_by asked (outward h) (items_sent (outward h)) (WriteItem a.write) || answers_sent asked)
-          by-protocol protocol.A = lt-ltb (items_sent (outward h)) (items_sent (pushing (outward h))) (omega arith)
-              ∙ sym (or-true (nat_lt (items_sent (outward h)) (items_sent (outward h))))
-            where
-              or-true : (b : Bool) → (b || true) ≡ true
-              or-true true = refl
-              or-true false = refl
-          by-protocol protocol.B = sym (or-false (is_answered_by protocol.B (outward h) (items_sent (outward h)) (WriteItem a.write)))
-          by-protocol protocol.C = sym (or-false (is_answered_by protocol.C (outward h) (items_sent (outward h)) (WriteItem a.write)))
+          by-protocol asked = answered-sent answers_sent asked (outward h) (pushing (outward h)) (items_sent (outward h)) (WriteItem a.write) refl refl refl
+              (omega arith) refl
 
           answered_now : is_answered (with_outward pushing h) a ≡ (is_answered_by h.settings.protocol (outward h) (items_sent (outward h)) (WriteItem a.write)
               || answers_sent h.settings.protocol)
@@ -167,26 +163,10 @@ module _ (settings : Settings) (bound : TakesWrites settings) (s : PrimaryState)
   -- nothing that was answered is unanswered
   grows : (asked : Protocol) (place : ℕ) (item : Item) → is_answered_by asked (outward h) place item ≡ true
       → is_answered_by asked (pushing (outward h)) place item ≡ true
-  grows protocol.A place item sent = let less = ltb-true place ((outward h).pushed - 3) sent in lt-ltb place (suc (outward h).pushed - 3) (omega arith)
-  grows protocol.B place item so = so
-  grows protocol.C place item so = so
+  grows asked place item so = answered-more asked (outward h) (pushing (outward h)) place item (omega arith) (begins-self (accepted_frames (outward h))) so
 
   confirmed-pushed : (a : Accepted) → is_confirmed (with_outward pushing h) a ≡ is_confirmed h a
-  confirmed-pushed a = go a.home
-    where
-      go : (v : Option StreamPosition) → elim v as (λ _. Bool) [
-        | None ↦ false
-        | Some home ↦ elim (slice_get (change_last pushing h.connections) home.index) as
-            (λ _. Bool) [ None ↦ false | Some c ↦ barrier_acknowledged c (epoch_of c.stream home.place) ]
-      ]
-          ≡ elim v as (λ _. Bool) [
-            | None ↦ false
-            | Some home ↦ elim (slice_get h.connections home.index) as
-                (λ _. Bool) [ None ↦ false | Some c ↦ barrier_acknowledged c (epoch_of c.stream home.place) ]
-          ]
-      go None = refl
-      go (Some home) = look (λ v. elim v as (λ _. Bool) [ None ↦ false | Some c ↦ barrier_acknowledged c (epoch_of c.stream home.place) ]) pushing
-          (no_outward h.tuple) h.connections home.index refl
+  confirmed-pushed = confirmed-seen h (with_outward pushing h) pushing refl (λ place. refl)
 
   -- what completes does so still
   completes-still : (i : ℕ) (a : Accepted) → slice_get h.writes i ≡ Some a → completes h a ≡ true → completes (with_outward pushing h) a ≡ true
@@ -241,8 +221,8 @@ module _ (settings : Settings) (bound : TakesWrites settings) (s : PrimaryState)
       sent-change) at) in
       let stood = pick-filtered (λ a. not (is_released h a) && is_released (with_outward pushing h) a) h.writes n of.0 of.1 in
       let parts = and_parts (not (is_released h of.0)) (is_released (with_outward pushing h) of.0) stood.2 in
-      let same : is_released (with_outward pushing h) of.0 ≡ is_released h of.0 = λ j. not (is_waiting of.0.outcome)
-      && (confirmed-pushed of.0 j || alone-pushed h of.0 j) in
+      let same : is_released (with_outward pushing h) of.0 ≡ is_released h of.0 = released-same h (with_outward pushing h) of.0
+      (confirmed-pushed of.0) (alone-pushed h of.0) in
       absurd (both_ways (not (is_released h of.0)) (ap not (sym same ∙ parts.1)) parts.0)
 
   pub sent-due : s.end ≡ Some e → IsDue (record s { log = (log.sent write.number s.log).1; end = Some (record e { unsent = drop 1 e.unsent }) })
@@ -375,14 +355,14 @@ sends-agree room starved s h reached left = by-end s.end refl left.rest.end
     known = reached-ordered h reached
 
     rest : List Test
-    rest = (starved, NoMemory) ∷ (not room, LinkFull) ∷ []
+    rest = sent_tests room starved
 
     core-by : Option EndState → Result Done Refusal × PrimaryState
     core-by v = elim v [
       | None ↦ (Err NotConnected, s)
       | Some e ↦ elim (owed e s) [
         | None ↦ (Err NothingThere, s)
-        | Some packet ↦ core.tested s ((starved, NoMemory) ∷ (not room, LinkFull) ∷ [])
+        | Some packet ↦ core.tested s (sent_tests room starved)
             (λ _. let after = sent_from e (called e s packet) s in (Ok after.0, after.1))
       ]
     ]
@@ -403,7 +383,7 @@ sends-agree room starved s h reached left = by-end s.end refl left.rest.end
         owing : Option Packet → Result Done Refusal × PrimaryState
         owing v = elim v [
           | None ↦ (Err NothingThere, s)
-          | Some packet ↦ core.tested s ((starved, NoMemory) ∷ (not room, LinkFull) ∷ [])
+          | Some packet ↦ core.tested s (sent_tests room starved)
               (λ _. let after = sent_from e (called e s packet) s in (Ok after.0, after.1))
         ]
 

@@ -10,7 +10,6 @@ use Rattle.std.proofs.lemmas.Option.{slice_get_within}
 use Rattle.blocks.specs.Positions.{StreamPosition}
 use Rattle.blocks.specs.declared.settings.Settings.{Settings}
 use Rattle.blocks.specs.declared.settings.Protocol.{Protocol}
-use Rattle.blocks.specs.declared.settings.Protocol.TheVariants as protocol
 use Rattle.model.specs.Contents.{Write, extent_of}
 use Rattle.model.specs.Stream.{Item, WriteItem, BarrierItem, number_of, last_epoch, epoch_size, items_of_epoch}
 use Rattle.model.specs.Primary.{Accepted, Completion, Outward, PrimaryHistory, no_outward, outward, last_index, stands, items_sent, is_answered_by, is_answered}
@@ -45,13 +44,14 @@ use Rattle.primary_steps.specs.Leaves.{LeavesEnd, EndLeft, IsQuiet, Leaves}
 use Rattle.primary_steps.proofs.Submit.NewWrite.{blocks-whole, concat-whole, latest-more, holding-end, filter-one}
 use Rattle.primary_steps.proofs.Common.Appending.{end-more, under-way-more}
 use Rattle.primary_steps.proofs.Submit.Extents.{begins-activity}
-use Rattle.primary_steps.proofs.Common.Connections.{SeesSame, seen-same, released-same, alone-same, answers-same}
+use Rattle.primary_steps.proofs.Common.Connections.{SeesSame, seen-same, released-alike, alone-same, answers-same}
 use Rattle.primary_steps.proofs.Common.Epochs.{epochs-write, epochs-barrier, epochs-same}
 use Rattle.primary_steps.proofs.Common.Filters.{filter-at, map-at}
 use Rattle.primary_steps.proofs.Common.Following.{IsDue, parted, barrier_of, runs-more}
 use Rattle.primary_steps.proofs.Common.Marks.{unmarking-none}
 use Rattle.primary_steps.proofs.Common.NothingFollows.{quiet-none}
 use Rattle.primary_steps.proofs.Submit.Entries.{open-lower, numbers-early, HasRange, accepted_at, entries-more, done-more}
+use Rattle.laws.proofs.Rules.Answered.{unanswered}
 
 -- Over a stream that stands.
 module _ (settings : Settings) (bound : TakesWrites settings) (s : PrimaryState) (h : PrimaryHistory) (first : ℕ) (bytes : List ℕ) (left : Leaves s h)
@@ -105,7 +105,7 @@ module _ (settings : Settings) (bound : TakesWrites settings) (s : PrimaryState)
   seen = seen-same h later f refl refl same
 
   released-old : (i : ℕ) (a : Accepted) → slice_get h.writes i ≡ Some a → is_released later a ≡ is_released h a
-  released-old = released-same h later f refl refl same homes (item ∷ []) refl
+  released-old = released-alike h later f refl refl same homes (item ∷ []) refl
 
   -- the new one waits, and is in the log
   unreleased-is : unreleased later ≡ unreleased h ++ new ∷ []
@@ -151,9 +151,8 @@ module _ (settings : Settings) (bound : TakesWrites settings) (s : PrimaryState)
           ∙ le-ltb (length (outward h).stream) (items_sent (outward h)) end.pushed
 
       by-protocol : (asked : Protocol) → is_answered_by asked (f (outward h)) (length (outward h).stream) item ≡ false
-      by-protocol protocol.A = le-ltb (length (outward h).stream) (items_sent (outward h)) end.pushed
-      by-protocol protocol.B = (end.unasked (length (outward h).stream) item (omega arith)).0
-      by-protocol protocol.C = (end.unasked (length (outward h).stream) item (omega arith)).1
+      by-protocol asked = unanswered asked (f (outward h)) (length (outward h).stream) item end.pushed
+          (end.unasked (length (outward h).stream) item (omega arith)).0 (end.unasked (length (outward h).stream) item (omega arith)).1
 
       answered_is : is_answered later new ≡ false
       answered_is = ap (λ (v : Option Outward). elim v as

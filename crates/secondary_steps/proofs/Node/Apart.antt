@@ -1,43 +1,35 @@
 -- Of what a secondary took on a connection no two items of one epoch share a block.
-use Rattle.std.proofs.Common.{ℕ, ◌+◌, ◌-◌, ◌≡◌, ◌<◌, ◌⊎◌, inl, inr, Bool, true, false, ◌&&◌, List, [], ◌∷◌, ◌++◌, length, map, Option, Some, None, slice_get}
-use Rattle.std.proofs.Common.{Ok, Err, refl, sym, ◌∙◌, ap, subst, arith, ◌==◌, nat_lt, nat_le}
-use Rattle.std.specs.Prelude.{is_none}
-use Rattle.std.specs.List.{list_any}
-use Rattle.std.proofs.lemmas.Bool.{both_ways, eq-eqb, false_from_ne_true, ltb-true, not-true}
+use Rattle.std.proofs.Common.{ℕ, ◌-◌, ◌≡◌, ◌<◌, ◌⊎◌, inl, inr, Bool, true, false, List, [], ◌∷◌, ◌++◌, length, map, Option, Some, None, slice_get}
+use Rattle.std.proofs.Common.{Ok, Err, refl, sym, ◌∙◌, ap, subst, arith, nat_lt}
+use Rattle.std.proofs.lemmas.Bool.{both_ways, false_from_ne_true, ltb-true}
 use Rattle.std.proofs.lemmas.Option.{slice_get_within}
 use Rattle.blocks.specs.declared.refusal.Refusal.{Refusal}
-use Rattle.blocks.specs.declared.refusal.Refusal.TheVariants.{BadCommand, BadField, NotConnected, PendingFull, NoMemory, NothingThere}
 use Rattle.blocks.specs.declared.settings.Protocol.{Protocol}
-use Rattle.blocks.specs.declared.outcome.What.{What}
-use Rattle.blocks.specs.declared.outcome.What.TheVariants as what
 use Rattle.blocks.specs.declared.outcome.Reply.{Reply}
-use Rattle.blocks.specs.declared.outcome.Reply.TheVariants as reply
-use Rattle.model.specs.Contents.{is_range}
-use Rattle.model.specs.Stream.{Item, WriteItem, ResyncItem, BarrierItem, SyncUuidItem, UuidsItem, contents_of, items_meet, items_of_epoch, epoch_of, last_epoch}
-use Rattle.model.specs.Stream.{placed, below}
-use Rattle.model.specs.Frames.{Packet, DataFrame, RsDataReplyFrame, BarrierFrame, UuidsFrame, SyncUuidFrame, Received}
-use Rattle.model.specs.Refusals.{Test}
+use Rattle.model.specs.Stream.{Item, WriteItem, ResyncItem, BarrierItem, SyncUuidItem, UuidsItem, contents_of, items_meet, epoch_of, last_epoch}
+use Rattle.model.specs.Stream.{below}
+use Rattle.model.specs.Frames.{Packet, Received}
 use Rattle.model.specs.Primary.{last_of, change_last}
-use Rattle.model.specs.Secondary.{Inward, SecondaryHistory, secondary_opening, inward, no_inward, with_inward, items_taken, received_item, is_in_resync}
-use Rattle.model.specs.Secondary.{pending}
-use Rattle.model.specs.SecondarySteps.{Checked, has_place, is_above, is_apart, checked_if, checking, checking_hello, checking_item, adopting, take_item}
-use Rattle.model.specs.SecondarySteps.{receive, succeeding_secondary, opened_secondary, answering, barrier_answer, barriers_to_answer, applying, applied_answer}
+use Rattle.model.specs.Secondary.{Inward, SecondaryHistory, secondary_opening, inward, no_inward, with_inward, items_taken, received_item}
+use Rattle.model.specs.SecondarySteps.{Checked, checking, checking_hello, checking_item, adopting, take_item}
+use Rattle.model.specs.SecondarySteps.{receive, opened_secondary, answering, barrier_answer, barriers_to_answer, applying, applied_answer}
 use Rattle.model.specs.SecondarySteps.{offsets_at, failing}
 use Rattle.model.specs.LocalRuns.{SecondaryEvent, OpensToo, Receives, Applies, FailsToApply, Acknowledges, ClosesToo, secondary_after, secondary_run}
 use Rattle.laws.proofs.Lists.Elements.{get-more}
 use Rattle.laws.proofs.Lists.Last.{change-twice, last-change, last-more}
-use Rattle.laws.proofs.Lists.Picks.{any-filtered}
 use Rattle.laws.proofs.Lists.Each.{each-get}
-use Rattle.laws.proofs.Lists.Tests.{test-passed}
 use Rattle.laws.proofs.Secondary.Good.{IsGood, items-refusing}
-use Rattle.laws.proofs.Secondary.Moves.{framed, receipting, refused_end, pushed_one, closed_end, after-take, after-open, after-peer, after-fault, after-push}
+use Rattle.laws.proofs.Secondary.Moves.{framed, receipting, pushed_one, closed_end, after-take, after-open, after-peer, after-fault, after-push}
 use Rattle.laws.proofs.Secondary.Moves.{after-close}
-use Rattle.laws.proofs.Secondary.Runs.{IsKept, tested-keeps, kept-after, kept-opening}
+use Rattle.laws.proofs.Secondary.Runs.{IsKept, kept-after, kept-opening}
 use Rattle.laws.proofs.Secondary.Tuples.{taken-item, open-there}
 use Rattle.laws.proofs.Streams.Lawful.{epoch-end, meets-none}
-use Rattle.laws.proofs.Streams.Places.{epoch-grows, placed-at}
+use Rattle.laws.proofs.Streams.Places.{epoch-grows}
 use Rattle.secondary_steps.specs.Node.{IsReached}
 use Rattle.secondary_steps.proofs.Judged.{early-items}
+use Rattle.laws.proofs.Rules.Memory.{receive-has}
+use Rattle.laws.proofs.Rules.RefusedFrames.{refused_in, refused-last-too, item-refused, refused_by_too}
+use Rattle.laws.proofs.Rules.TakenItems.{item-checked}
 
 -- No two items of one epoch share a block.
 pub record AreApart (items : List Item) : Type 0 where
@@ -67,18 +59,6 @@ apart-append items item old new =
     go place later a b before same (inr last) (inl atb) = absurd (let n = slice_get_within items later b atb in let e = last.0 in omega arith)
     go place later a b before same (inr last) (inr end) = absurd (let n = end.0 in let e = last.0 in omega arith)
 
--- what is tested on taking
-tested-apart : (items : List Item) (item : Item) → is_apart item items ≡ true → (place : ℕ) (a : Item) → epoch_of items place ≡ last_epoch items
-    → slice_get items place ≡ Some a → items_meet a item ≡ false
-tested-apart items item tested place a epoch at =
-    let none : list_any (λ (entry : ℕ × Item). items_meet entry.1 item) (items_of_epoch items (last_epoch items)) ≡ false =
-    not-true (list_any (λ (entry : ℕ × Item). items_meet entry.1 item) (items_of_epoch items (last_epoch items))) tested in
-    let here : 0 + place ≡ place = omega arith in
-    false_from_ne_true (items_meet a item)
-    (λ met. both_ways (list_any (λ (entry : ℕ × Item). items_meet entry.1 item) (items_of_epoch items (last_epoch items))) none
-    (any-filtered (λ (entry : ℕ × Item). items_meet entry.1 item) (λ entry. epoch_of items entry.0 == last_epoch items) (placed items) place (place, a)
-    (placed-at 0 items place a at ∙ ap (λ (n : ℕ). Some (n, a)) here) (eq-eqb (epoch_of items place) (last_epoch items) epoch) met))
-
 -- A frame leaves the items apart, or is refused.
 fine-or-refused : (frame : Received) (c : Inward) (t : SecondaryHistory) → c.refused ≡ false → AreApart (items_taken c)
     → AreApart (items_taken (framed frame c)) ⊎ ((e : Refusal) × (checking frame c t ≡ Err e))
@@ -94,31 +74,17 @@ fine-or-refused (Ok packet) c t plain was = go (nat_lt (length c.taken) 3) refl
         → AreApart (items_taken (framed (Ok packet) c))
     with-item item late brings new = subst AreApart (sym (taken-item (Ok packet) item c plain late brings)) (apart-append (items_taken c) item was new)
 
-    by-test : (a b : Bool) (item : Item) (name : What) (h : SecondaryHistory) → nat_lt (length c.taken) 3 ≡ false → received_item (Ok packet) ≡ Some item
-        → (d : Bool) → is_apart item (items_taken c) ≡ d
-        → AreApart (items_taken (framed (Ok packet) c)) ⊎ ((e : Refusal) × (checked_if (a && (b && d)) name h ≡ Err e))
-    by-test a b item name h late brings true is = inl (with-item item late brings (tested-apart (items_taken c) item is))
-    by-test true true item name h late brings false is = inr (BadField, refl)
-    by-test true false item name h late brings false is = inr (BadField, refl)
-    by-test false b item name h late brings false is = inr (BadField, refl)
+    without : (item : Item) → nat_lt (length c.taken) 3 ≡ false → received_item (Ok packet) ≡ Some item → length (contents_of item) ≡ 0
+        → AreApart (items_taken (framed (Ok packet) c))
+    without item late brings none = with-item item late brings (λ place a epoch at. meets-none a item none)
 
-    by-item : (p : Packet) → packet ≡ p → nat_lt (length c.taken) 3 ≡ false
-        → AreApart (items_taken (framed (Ok packet) c)) ⊎ ((e : Refusal) × (checking_item p (length (items_taken c)) c t ≡ Err e))
-    by-item (DataFrame write at) is late =
-        by-test (((at == length (items_taken c)) && has_place (length (items_taken c))) && is_range t.settings write.first (length write.contents))
-        (is_above write.number (items_taken c)) (WriteItem write)
-        (what.Frame _ _) _ late (ap (λ (p : Packet). received_item (Ok p)) is) (is_apart (WriteItem write) (items_taken c)) refl
-    by-item (RsDataReplyFrame block contents at) is late =
-        by-test (((at == length (items_taken c)) && has_place (length (items_taken c))) && is_range t.settings block 1) (is_in_resync c)
-        (ResyncItem block contents)
-        (what.Frame _ _) _ late (ap (λ (p : Packet). received_item (Ok p)) is) (is_apart (ResyncItem block contents) (items_taken c)) refl
-    by-item (BarrierFrame number) is late =
-        inl (with-item (BarrierItem number) late (ap (λ (p : Packet). received_item (Ok p)) is) (λ place a epoch at. meets-none a (BarrierItem number) refl))
-    by-item (UuidsFrame tuple) is late =
-        inl (with-item (UuidsItem tuple) late (ap (λ (p : Packet). received_item (Ok p)) is) (λ place a epoch at. meets-none a (UuidsItem tuple) refl))
-    by-item (SyncUuidFrame word) is late =
-        inl (with-item (SyncUuidItem word) late (ap (λ (p : Packet). received_item (Ok p)) is) (λ place a epoch at. meets-none a (SyncUuidItem word) refl))
-    by-item p is late = inr (BadCommand, refl)
+    by-item : nat_lt (length c.taken) 3 ≡ false → Outcome (checking_item packet (length (items_taken c)) c t)
+    by-item late = item-checked Outcome packet (length (items_taken c)) c t
+        (λ write at is may. inl (with-item (WriteItem write) late (ap (λ (p : Packet). received_item (Ok p)) is) may.apart))
+        (λ block contents at is may. inl (with-item (ResyncItem block contents) late (ap (λ (p : Packet). received_item (Ok p)) is) may.apart))
+        (λ number is. inl (without (BarrierItem number) late (ap (λ (p : Packet). received_item (Ok p)) is) refl))
+        (λ word is. inl (without (SyncUuidItem word) late (ap (λ (p : Packet). received_item (Ok p)) is) refl))
+        (λ tuple is. inl (without (UuidsItem tuple) late (ap (λ (p : Packet). received_item (Ok p)) is) refl)) (λ refusal. inr (refusal, refl))
 
     go : (b : Bool) → nat_lt (length c.taken) 3 ≡ b
         → AreApart (items_taken (framed (Ok packet) c))
@@ -128,7 +94,7 @@ fine-or-refused (Ok packet) c t plain was = go (nat_lt (length c.taken) 3) refl
               (length (items_taken c)) c t
         ] ≡ Err e))
     go true early = inl (subst AreApart (sym (early-items (Ok packet) c plain (ltb-true (length c.taken) 3 early))) was)
-    go false late = by-item packet refl late
+    go false late = by-item late
 
 -- The last connection's items are apart.
 abbrev IsApart : SecondaryHistory → Type 0
@@ -177,14 +143,7 @@ apart-take frame h stands plain was = elim (fine-or-refused frame (inward h) tak
         (change-twice (framed frame) answering h.connections) (apart-answering (framed frame c) fine);
     refuses = refused;
   })
-  | inr shut ↦ subst (λ (v : Checked). IsApart
-      (elim v as (λ _. Reply × SecondaryHistory) [
-        | Ok done ↦ succeeding_secondary done.0 done.1
-        | Err refusal ↦ (
-          reply.Refused refusal,
-          with_inward refused_end taken,
-        )
-      ]).1) (sym shut.1) refused
+  | inr shut ↦ subst (λ (r : Reply × SecondaryHistory). IsApart r.1) (sym (item-refused frame h shut.0 shut.1)) refused
 ]
   where
     c : Inward
@@ -193,24 +152,14 @@ apart-take frame h stands plain was = elim (fine-or-refused frame (inward h) tak
     taken : SecondaryHistory
     taken = with_inward (framed frame) h
 
-    refused : IsApart (with_inward refused_end taken)
-    refused = changed (λ x. refused_end (framed frame x)) h (with_inward refused_end taken) (change-twice (framed frame) refused_end h.connections)
+    refused : IsApart (refused_by_too frame h)
+    refused = changed (λ x. refused_in frame x) h (refused_by_too frame h) (refused-last-too frame h)
         (subst AreApart (sym (items-refusing frame c plain)) was)
 
 apart-receive : (frame : Option Received) (starved : Bool) (h : SecondaryHistory) → IsKept h → IsApart h → IsApart (receive frame starved h).1
-apart-receive frame starved h kept was = tested-keeps IsApart h (((inward h).closed, NotConnected) ∷ rest)
-    (λ _. elim frame as (λ _. Reply × SecondaryHistory) [ None ↦ (reply.Refused NothingThere, h) | Some taken ↦ take_item taken h ])
-    was (λ passed. go frame (test-passed (inward h).closed NotConnected rest passed).0)
-  where
-    rest : List Test
-    rest = (nat_le h.settings.pending (length (pending (inward h))), PendingFull) ∷ (starved, NoMemory) ∷ (is_none frame, NothingThere) ∷ []
-
-    go : (v : Option Received) → (inward h).closed ≡ false
-        → IsApart (elim v as (λ _. Reply × SecondaryHistory) [ None ↦ (reply.Refused NothingThere, h) | Some taken ↦ take_item taken h ]).1
-    go None stands = was
-    go (Some taken) stands =
-        let good = each-get IsGood h.connections (length h.connections - 1) (inward h) kept.good (open-there h stands) in
-        apart-take taken h stands (false_from_ne_true (inward h).refused (λ refused. both_ways (inward h).closed stands (good.refused refused))) was
+apart-receive frame starved h kept was = receive-has (λ r. IsApart r.1) frame starved h (λ refusal other. was) (λ taken is stands.
+    let good = each-get IsGood h.connections (length h.connections - 1) (inward h) kept.good (open-there h stands) in
+    apart-take taken h stands (false_from_ne_true (inward h).refused (λ refused. both_ways (inward h).closed stands (good.refused refused))) was)
 
 -- Every step keeps them so.
 apart-after : (event : SecondaryEvent) (h : SecondaryHistory) → IsKept h → IsApart h → IsApart (secondary_after event h)

@@ -1,5 +1,5 @@
 -- A node's calls that leave the disk are steps: opening, closing, taking a frame, and pushing one.
-use Rattle.std.proofs.Common.{ℕ, zero, suc, ◌+◌, ◌≡◌, Bool, true, false, List, [], ◌∷◌, ◌++◌, length, take, Option, Some, None, Result, Ok, Err, slice_get}
+use Rattle.std.proofs.Common.{ℕ, zero, suc, ◌+◌, ◌≡◌, true, false, List, [], ◌∷◌, ◌++◌, length, take, Option, Some, None, Result, Ok, Err, slice_get}
 use Rattle.std.proofs.Common.{refl, sym, ◌∙◌, ap, subst, arith, nat_le}
 use Rattle.std.specs.Prelude.{is_none, is_some, ok_or}
 use Rattle.blocks.specs.SettingsRange.{IsInRange}
@@ -21,8 +21,9 @@ use Rattle.model.specs.LocalRuns.{OpensToo, Receives, Acknowledges, ClosesToo}
 use Rattle.laws.proofs.Lists.Elements.{append-one}
 use Rattle.laws.proofs.Lists.Last.{last-more}
 use Rattle.laws.proofs.Secondary.Moves.{pushed_one, closed_end}
-use Rattle.secondary_steps.specs.Core.{EndState, SecondaryState, fresh, open_end, close_end, receive, take_at, take_tests, may_take, ack_out, due, sent, tested}
-use Rattle.secondary_steps.specs.Core.{owed}
+use Rattle.secondary_steps.specs.Core.{EndState, SecondaryState, fresh, open_end, close_end, receive, receive_tests, take_at, take_tests, may_take}
+use Rattle.secondary_steps.specs.Core.{ack_out, due, sent, tested, owed}
+use Rattle.std.proofs.Common.{drop}
 use Rattle.secondary_steps.specs.Leaves.{Leaves, LeavesEnd, EndLeft, pending_in}
 use Rattle.secondary_steps.specs.Steps.{Agrees, replied, plainly}
 use Rattle.secondary_steps.specs.Node.{NodeState, NodeHas, NodeIsHad, NodeSteps}
@@ -33,6 +34,7 @@ use Rattle.secondary_steps.proofs.Steps.Opens.{fresh-is, opens-agree, closes-agr
 use Rattle.secondary_steps.proofs.Steps.Pushes.{pushes-agree, due-same}
 use Rattle.secondary_steps.proofs.Steps.Receives.{receives-agree}
 use Rattle.secondary_steps.proofs.Tested.{end-closed, end-there, inward-with, open-some, length-map, passed}
+use Rattle.laws.proofs.Rules.Memory.{refused-on}
 
 -- A new node has the opening over what its disk holds.
 pub opening-has : (settings : Settings) (disk : List (List ℕ)) (tuple : Tuple) → IsInRange settings → IsDisk settings.blocks (slice_get disk)
@@ -191,23 +193,16 @@ node-takes n frame result core may is = node-steps (Receives (Some frame) false)
 -- no frame is taken: the end may not take one, there is no memory, or there is none
 pub node-may-not : (n : NodeState) (e : Refusal) → may_take n.core ≡ Err e → NodeSteps (Receives None false) n (replied (λ (done : Done). done) (Err e)) n
 node-may-not n e is = node-refused (Receives None false) tt n e
-    (λ h left. sym (ap (replied (λ (done : Done). done)) (go n.core.end n.core.settings.pending (length n.core.pending) is))
-    ∙ (receives-agree None false n.core h left).reply)
+    (λ h left. sym (ap (replied (λ (done : Done). done)) here) ∙ (receives-agree None false n.core h left).reply)
   where
-    go : (v : Option EndState) (most size : ℕ)
-        → elim (first_refusal ((is_none v, NotConnected) ∷ (nat_le most size, PendingFull) ∷ [])) as
-        (λ _. Result (Unit {0}) Refusal) [ Some refusal ↦ Err refusal | None ↦ Ok tt ] ≡ Err e
-        → (tested {R = Done} n.core ((is_none v, NotConnected) ∷ (nat_le most size, PendingFull) ∷ (false, NoMemory) ∷ (true, NothingThere) ∷ [])
-        (λ _. (Err NothingThere, n.core))).0 ≡ Err e
-    go None most size is = cc
-    go (Some x) most size is = full (nat_le most size) is
-      where
-        full : (b : Bool) → elim (first_refusal ((false, NotConnected) ∷ (b, PendingFull) ∷ [])) as
-            (λ _. Result (Unit {0}) Refusal) [ Some refusal ↦ Err refusal | None ↦ Ok tt ] ≡ Err e
-            → (tested {R = Done} n.core ((false, NotConnected) ∷ (b, PendingFull) ∷ (false, NoMemory) ∷ (true, NothingThere) ∷ [])
-            (λ _. (Err NothingThere, n.core))).0 ≡ Err e
-        full true is = cc
-        full false is = absurd (cc)
+    told : (v : Option Refusal) → elim v as (λ _. Result (Unit {0}) Refusal) [ Some refusal ↦ Err refusal | None ↦ Ok tt ] ≡ Err e → v ≡ Some e
+    told None is = absurd (cc)
+    told (Some refusal) is = let same : refusal ≡ e = cc in ap Some same
+
+    here : (receive None false n.core).0 ≡ Err e
+    here = ap (λ (v : Option Refusal). (elim v as (λ _. Result Done Refusal × SecondaryState)
+        [ Some refusal ↦ (Err refusal, n.core) | None ↦ (Err NothingThere, n.core) ]).0)
+        (refused-on (take_tests n.core) (drop 2 (receive_tests None false n.core)) e (told (first_refusal (take_tests n.core)) is))
 
 pub node-starved : (n : NodeState) → may_take n.core ≡ Ok tt → NodeSteps (Receives None true) n (replied (λ (done : Done). done) (Err NoMemory)) n
 node-starved n may = let two = both n.core may in node-refused (Receives None true) tt n NoMemory (λ h left.

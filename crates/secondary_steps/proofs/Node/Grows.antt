@@ -14,8 +14,9 @@ use Rattle.model.specs.Secondary.{Inward, SecondaryHistory, inward, with_inward,
 use Rattle.model.specs.SecondarySteps.{answering, adopting, take_item, barrier_answer, barriers_to_answer}
 use Rattle.laws.proofs.Lists.Last.{change-twice}
 use Rattle.laws.proofs.Secondary.Good.{taking-more, items-refusing}
-use Rattle.laws.proofs.Secondary.Moves.{framed, receipting, refused_end, after-take}
+use Rattle.laws.proofs.Secondary.Moves.{framed, receipting, after-take}
 use Rattle.secondary_steps.proofs.Tested.{inward-of, open-some}
+use Rattle.laws.proofs.Rules.RefusedFrames.{refused_in, refused_by_too, refused-last-too}
 
 -- What is due stands before what becomes due, and what was pushed stays. At a closed end nothing becomes due.
 pub record Grows (c d : Inward) : Type 0 where
@@ -157,8 +158,8 @@ takes h frame stands plain named = after-take (Took h frame) h frame (record {
       took-from h later frame (answering (framed frame c)) refl
       (inward-of (λ x. answering (framed frame x)) h later (change-twice (framed frame) answering h.connections) some)
       (then-answering c (framed frame c) frame plainly);
-  refuses = took-from h shut frame (refused_end (framed frame c)) refl
-      (inward-of (λ x. refused_end (framed frame x)) h shut (change-twice (framed frame) refused_end h.connections) some) (record {
+  refuses = took-from h shut frame (refused_in frame c) refl
+      (inward-of (λ x. refused_in frame x) h shut (refused-last-too frame h) some) (record {
         grows = record { hello = refl; pushed = refl; more = []; due = sym (no-more c.due); none = λ was. refl; shut = λ was. refl };
         taken = refl;
         map = λ block. ap (λ (l : List Item). overlay c.base (layers_from 0 l c.applied) block) (items-refusing frame c plain);
@@ -172,7 +173,7 @@ takes h frame stands plain named = after-take (Took h frame) h frame (record {
     accepted = with_inward answering (with_inward (framed frame) h)
 
     shut : SecondaryHistory
-    shut = with_inward refused_end (with_inward (framed frame) h)
+    shut = refused_by_too frame h
 
     some : h.connections ≡ [] → ⊥
     some = open-some h stands

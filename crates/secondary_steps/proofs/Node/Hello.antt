@@ -1,11 +1,11 @@
 -- Whether the hello is done, as the state tells it and as the history does.
-use Rattle.std.proofs.Common.{ℕ, ◌≡◌, Bool, true, false, not, ◌&&◌, length, nat_le, Option, Some, None, refl, sym, ◌∙◌, ap, arith}
+use Rattle.std.proofs.Common.{ℕ, ◌≡◌, Bool, false, not, ◌&&◌, length, nat_le, Option, Some, None, sym, ◌∙◌, ap, arith}
 use Rattle.std.specs.Prelude.{min}
 use Rattle.std.proofs.lemmas.Bool.Decides.{nat_tests}
-use Rattle.model.specs.Secondary.{Inward, SecondaryHistory, inward}
+use Rattle.model.specs.Secondary.{Inward}
 use Rattle.model.specs.Status.{hello_is_done}
-use Rattle.secondary_steps.specs.Core.{EndState, SecondaryState}
-use Rattle.secondary_steps.specs.Leaves.{EndLeft, Leaves}
+use Rattle.secondary_steps.specs.Core.{EndState}
+use Rattle.secondary_steps.specs.Leaves.{EndLeft}
 
 -- three at least, or not
 three : (n : ℕ) → nat_le 3 (min n 3) ≡ nat_le 3 n

@@ -1,16 +1,17 @@
 -- A connection keeps its number until the next one opens.
-use Rattle.std.proofs.Common.{ℕ, zero, suc, ◌≡◌, Bool, true, false, [], ◌∷◌, Option, Some, None, Result, Ok, Err, refl, ◌∙◌, ap, nat_lt, ◌==◌}
+use Rattle.std.proofs.Common.{ℕ, ◌≡◌, Bool, true, false, [], ◌∷◌, Option, Some, None, Result, Ok, Err, refl, ◌∙◌, ap, subst, nat_lt}
 use Rattle.std.specs.Prelude.{is_none, if◌then◌else◌}
 use Rattle.blocks.specs.declared.refusal.Refusal.{Refusal}
-use Rattle.blocks.specs.declared.refusal.Refusal.TheVariants.{NotConnected, OtherProtocol, OtherSize}
+use Rattle.blocks.specs.declared.refusal.Refusal.TheVariants.{NotConnected}
 use Rattle.blocks.specs.declared.outcome.Done.{Done}
 use Rattle.blocks.specs.declared.outcome.What.{What}
 use Rattle.blocks.specs.declared.outcome.What.TheVariants as what
 use Rattle.blocks.specs.declared.command.Command.TheVariants as command
-use Rattle.model.specs.Frames.{Packet, DataFrame, RsDataReplyFrame, BarrierFrame, ProtocolFrame, UuidsFrame, SizesFrame, SyncUuidFrame, Received}
-use Rattle.model.specs.Acknowledgements.{same_protocol}
+use Rattle.model.specs.Frames.{Packet, DataFrame, RsDataReplyFrame, BarrierFrame, UuidsFrame, SyncUuidFrame, Received}
+use Rattle.laws.proofs.Rules.Hellos.{hello-has}
 use Rattle.secondary_steps.specs.Core.{EndState, SecondaryState, Judged, judged_if, judging_hello, judging_item, judging, hearing, taking, take_at, close_end}
 use Rattle.secondary_steps.specs.Core.{tested}
+use Rattle.secondary_steps.proofs.Judged.{judging-is}
 
 -- what is judged keeps the number
 abbrev Keeps : ℕ → Judged → Type 0
@@ -21,15 +22,10 @@ keeps-if : (n : ℕ) (good : Bool) (name : What) (s : SecondaryState) → s.numb
 keeps-if n true name s is = is
 keeps-if n false name s is = tt
 
-keeps-or : (good : Bool) (name : What) (s : SecondaryState) (refusal : Refusal) → Keeps s.number (if good then Ok (name, s) else Err refusal)
-keeps-or true name s refusal = refl
-keeps-or false name s refusal = tt
-
 keeps-hello : (heard : ℕ) (packet : Packet) (s : SecondaryState) → Keeps s.number (judging_hello heard packet s)
-keeps-hello zero (ProtocolFrame asked) s = keeps-or (same_protocol asked s.settings.protocol) (what.Frame command.Protocol None) s OtherProtocol
-keeps-hello (suc zero) (SizesFrame blocks) s = keeps-or (blocks == s.settings.blocks) (what.Frame command.Sizes None) s OtherSize
-keeps-hello (suc (suc n)) (UuidsFrame peer) s = refl
-keeps-hello n packet s = tt
+keeps-hello heard packet s = subst (Keeps s.number) (judging-is heard packet s)
+    (hello-has (Keeps s.number) (λ name. Ok (name, s)) (λ refusal. Err refusal) (λ peer. Ok (what.Frame command.Uuids None, s)) s.settings heard packet
+    (λ asked none of same. refl) (λ one of. refl) (λ m peer late of. refl) tt tt tt)
 
 keeps-item : (packet : Packet) (e : EndState) (s : SecondaryState) → Keeps s.number (judging_item packet e s)
 keeps-item (DataFrame write at) e s = keeps-if s.number _ _ _ refl

@@ -1,13 +1,13 @@
 -- A node's calls as steps: one event more is reached, and some history is had after it.
-use Rattle.std.proofs.Common.{ℕ, ◌≡◌, Bool, true, List, [], ◌∷◌, ◌++◌, length, Option, Some, None, refl, sym, ◌∙◌, ap, subst, nat_le}
+use Rattle.std.proofs.Common.{ℕ, ◌≡◌, Bool, List, [], ◌∷◌, ◌++◌, Option, Some, None, refl, sym, ◌∙◌, ap, subst}
 use Rattle.blocks.specs.declared.refusal.Refusal.{Refusal}
-use Rattle.blocks.specs.declared.refusal.Refusal.TheVariants.{NotConnected, PendingFull, NoMemory, NothingThere}
+use Rattle.blocks.specs.declared.refusal.Refusal.TheVariants.{NotConnected, NothingThere}
 use Rattle.blocks.specs.declared.outcome.Done.{Done}
 use Rattle.blocks.specs.declared.outcome.What.TheVariants as what
 use Rattle.blocks.specs.declared.outcome.Reply.{Reply}
 use Rattle.blocks.specs.declared.outcome.Reply.TheVariants as reply
 use Rattle.model.specs.Refusals.{Test, first_refusal, done_with}
-use Rattle.model.specs.Secondary.{SecondaryHistory, secondary_opening, inward, with_inward, pending}
+use Rattle.model.specs.Secondary.{SecondaryHistory, secondary_opening, inward, with_inward}
 use Rattle.model.specs.SecondarySteps.{tested_secondary}
 use Rattle.model.specs.SecondarySteps as step
 use Rattle.model.specs.LocalRuns.{SecondaryEvent, OpensToo, Receives, Applies, FailsToApply, Acknowledges, ClosesToo, secondary_after, secondary_run}
@@ -90,10 +90,7 @@ refused-same (OpensToo unseen) still h e is = did-not h (step.open_secondary_tes
     (λ _. step.succeeding_secondary what.Nothing (step.opened_secondary unseen h)) e (λ no. absurd (cc)) is
 refused-same (Receives (Some frame) starved) still h e is = absurd still
 refused-same (Receives None starved) still h e is =
-    did-not h (((inward h).closed, NotConnected) ∷ (nat_le h.settings.pending (length (pending (inward h))), PendingFull) ∷ (starved, NoMemory) ∷ (
-      true,
-      NothingThere,
-    ) ∷ []) (λ _. (reply.Refused NothingThere, h)) e (λ same. refl) is
+    did-not h (step.receive_tests h None starved) (λ _. (reply.Refused NothingThere, h)) e (λ same. refl) is
 refused-same (Applies place) still h e is =
     did-not h (step.peer_tests h place) (λ _. step.succeeding_secondary what.Nothing (with_inward (step.applying h.settings.protocol place) h)) e
     (λ no. absurd (cc)) is

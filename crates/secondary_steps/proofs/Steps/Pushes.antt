@@ -1,5 +1,5 @@
 -- Pushing the frames that are due.
-use Rattle.std.proofs.Common.{ℕ, zero, suc, ◌≡◌, ◌+◌, ◌-◌, ◌<◌, inl, inr, true, false, not, List, [], ◌∷◌, ◌++◌, length, drop, Option, Some, None, Result, Ok}
+use Rattle.std.proofs.Common.{ℕ, zero, suc, ◌≡◌, ◌+◌, ◌-◌, ◌<◌, inl, inr, true, false, List, [], ◌∷◌, ◌++◌, length, drop, Option, Some, None, Result, Ok}
 use Rattle.std.proofs.Common.{Err, slice_get, refl, sym, ◌∙◌, ap, subst, arith, nat_lt, nat_le}
 use Rattle.std.specs.Prelude.{is_none, ok_or, option_map, if◌then◌else◌}
 use Rattle.std.proofs.lemmas.Bool.{lt-ltb, le-ltb, le-leb, lt-leb, cases_lt}
@@ -7,7 +7,7 @@ use Rattle.std.proofs.lemmas.List.{length-append}
 use Rattle.std.proofs.lemmas.Option.{slice_get_within}
 use Rattle.blocks.specs.declared.settings.Settings.{Settings}
 use Rattle.blocks.specs.declared.refusal.Refusal.{Refusal}
-use Rattle.blocks.specs.declared.refusal.Refusal.TheVariants.{NotConnected, NothingThere, NoMemory, LinkFull}
+use Rattle.blocks.specs.declared.refusal.Refusal.TheVariants.{NotConnected, NothingThere}
 use Rattle.blocks.specs.declared.outcome.Reply.TheVariants as reply
 use Rattle.blocks.specs.declared.outcome.What.{What}
 use Rattle.blocks.specs.declared.outcome.What.TheVariants as what
@@ -17,7 +17,7 @@ use Rattle.model.specs.Refusals.{Test, done_with}
 use Rattle.model.specs.Secondary.{Inward, SecondaryHistory, inward, answers_due, with_inward}
 use Rattle.model.specs.SecondarySteps as step
 use Rattle.laws.proofs.Secondary.Moves.{pushed_one}
-use Rattle.secondary_steps.specs.Core.{EndState, SecondaryState, owed, due, sent, pushing, tested}
+use Rattle.secondary_steps.specs.Core.{EndState, SecondaryState, owed, due, sent, sent_tests, pushing, tested}
 use Rattle.secondary_steps.specs.Leaves.{Leaves, LeavesLast, LeavesEnd, EndLeft, FailedLeft}
 use Rattle.secondary_steps.specs.Steps.{PushesAgree, Agrees}
 use Rattle.secondary_steps.proofs.Ends.{pushing-goes-on, end-pushes}
@@ -107,14 +107,11 @@ pushes-agree room starved s h left = go s.end refl left.last.end
     d : Inward
     d = inward h
 
-    rest : List Test
-    rest = (starved, NoMemory) ∷ (not room, LinkFull) ∷ []
-
     -- the step where the frame that is due is this
     with : (e : EndState) → s.end ≡ Some e → LeavesEnd e (inward h) → (v : Option Packet) → slice_get (answers_due h.settings (inward h)) (inward h).pushed ≡ v
         → Agrees (λ done. done) (elim (ok_or v NothingThere) as (λ _. Result Done Refusal × SecondaryState) [
           | Err refusal ↦ (Err refusal, s)
-          | Ok packet ↦ tested s ((starved, NoMemory) ∷ (not room, LinkFull) ∷ []) (λ _. (Ok (done_with (what.Frame (command_of packet) None)), sent s))
+          | Ok packet ↦ tested s (sent_tests room starved) (λ _. (Ok (done_with (what.Frame (command_of packet) None)), sent s))
         ]) (step.ack_out room starved h)
     with e is there None none =
         let all : nat_le (length (answers_due h.settings (inward h))) (inward h).pushed ≡ true =
@@ -127,12 +124,12 @@ pushes-agree room starved s h left = go s.end refl left.last.end
         let size = length-append (hello_of h.settings (inward h).hello) (inward h).due in
         let name : step.answering_with h ≡ what.Frame (command_of packet) None =
         ap (λ (v : Option Packet). elim v as (λ _. What) [ None ↦ what.Nothing | Some p ↦ what.Frame (command_of p) None ]) some in
-        let same : step.ack_out_tests h room starved ≡ (false, NotConnected) ∷ (false, NothingThere) ∷ (starved, NoMemory) ∷ (not room, LinkFull) ∷ [] =
-        λ i. (there.stands i, NotConnected) ∷ (more i, NothingThere) ∷ (starved, NoMemory) ∷ (not room, LinkFull) ∷ [] in
+        let same : step.ack_out_tests h room starved ≡ (false, NotConnected) ∷ (false, NothingThere) ∷ sent_tests room starved =
+        λ i. (there.stands i, NotConnected) ∷ (more i, NothingThere) ∷ sent_tests room starved in
         subst (λ (ts : List Test). Agrees (λ done. done)
-        (tested s ((starved, NoMemory) ∷ (not room, LinkFull) ∷ []) (λ _. (Ok (done_with (what.Frame (command_of packet) None)), sent s)))
+        (tested s (sent_tests room starved) (λ _. (Ok (done_with (what.Frame (command_of packet) None)), sent s)))
         (step.tested_secondary h ts (λ _. (reply.Ok (done_with (step.answering_with h)), with_inward pushed_one h)))) (sym same)
-        (tested-agrees (λ done. done) s h ((starved, NoMemory) ∷ (not room, LinkFull) ∷ []) ((starved, NoMemory) ∷ (not room, LinkFull) ∷ [])
+        (tested-agrees (λ done. done) s h (sent_tests room starved) (sent_tests room starved)
         (λ _. (Ok (done_with (what.Frame (command_of packet) None)), sent s)) (λ _. (reply.Ok (done_with (step.answering_with h)), with_inward pushed_one h))
         refl left (λ pass. record {
           reply = ap (λ n. reply.Ok (done_with n)) (sym name);
@@ -157,7 +154,7 @@ pushes-agree room starved s h left = go s.end refl left.last.end
         → Agrees (λ done. done) (elim (elim v as (λ _. Result Packet Refusal) [ None ↦ Err NotConnected | Some e ↦ ok_or (owed s.settings e) NothingThere ]) as
         (λ _. Result Done Refusal × SecondaryState) [
           | Err refusal ↦ (Err refusal, s)
-          | Ok packet ↦ tested s ((starved, NoMemory) ∷ (not room, LinkFull) ∷ []) (λ _. (Ok (done_with (what.Frame (command_of packet) None)), sent s))
+          | Ok packet ↦ tested s (sent_tests room starved) (λ _. (Ok (done_with (what.Frame (command_of packet) None)), sent s))
         ]) (step.ack_out room starved h)
     go None is shut = rw shut (record { reply = refl; leaves = left })
     go (Some e) is there =
@@ -165,5 +162,5 @@ pushes-agree room starved s h left = go s.end refl left.last.end
         ∙ owed-same h.settings e (inward h) there in
         subst (λ (v : Option Packet). Agrees (λ done. done) (elim (ok_or v NothingThere) as (λ _. Result Done Refusal × SecondaryState) [
           | Err refusal ↦ (Err refusal, s)
-          | Ok packet ↦ tested s ((starved, NoMemory) ∷ (not room, LinkFull) ∷ []) (λ _. (Ok (done_with (what.Frame (command_of packet) None)), sent s))
+          | Ok packet ↦ tested s (sent_tests room starved) (λ _. (Ok (done_with (what.Frame (command_of packet) None)), sent s))
         ]) (step.ack_out room starved h)) (sym same) (with e is there (slice_get (answers_due h.settings (inward h)) (inward h).pushed) refl)

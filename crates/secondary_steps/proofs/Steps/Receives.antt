@@ -8,7 +8,7 @@ use Rattle.blocks.specs.declared.tuple.Tuple.{Tuple}
 use Rattle.blocks.specs.declared.settings.Settings.{Settings}
 use Rattle.blocks.specs.declared.settings.Protocol.{Protocol}
 use Rattle.blocks.specs.declared.refusal.Refusal.{Refusal}
-use Rattle.blocks.specs.declared.refusal.Refusal.TheVariants.{NotConnected, PendingFull, NoMemory, NothingThere}
+use Rattle.blocks.specs.declared.refusal.Refusal.TheVariants.{NotConnected, NothingThere}
 use Rattle.blocks.specs.declared.outcome.Done.{Done}
 use Rattle.blocks.specs.declared.outcome.Reply.{Reply}
 use Rattle.blocks.specs.declared.outcome.Reply.TheVariants as reply
@@ -21,25 +21,31 @@ use Rattle.model.specs.Frames.{WriteAckFrame, RsWriteAckFrame, BarrierAckFrame, 
 use Rattle.model.specs.Refusals.{done_with}
 use Rattle.model.specs.Primary.{last_of, change_last}
 use Rattle.model.specs.Secondary.{Inward, SecondaryHistory, no_inward, inward, items_taken, is_pending, pending, received_item, with_inward}
-use Rattle.model.specs.SecondarySteps.{Checked, has_place, is_above}
+use Rattle.model.specs.SecondarySteps.{Checked}
 use Rattle.model.specs.SecondarySteps as step
-use Rattle.laws.proofs.Lists.Last.{change-twice, last-change}
+use Rattle.laws.proofs.Lists.Last.{last-change}
 use Rattle.laws.proofs.Rules.BarrierAnswers.{AnswerNone, none-answer}
 use Rattle.laws.proofs.Secondary.Good.{items-refusing}
-use Rattle.laws.proofs.Secondary.Moves.{framed, refused_end}
+use Rattle.laws.proofs.Secondary.Moves.{framed}
 use Rattle.laws.proofs.Secondary.Tuples.{taken-item}
 use Rattle.peerdisk.specs.Pending.{Pending}
 use Rattle.secondary_steps.specs.Core.{Intake, EndState, SecondaryState, Judged, judging, judging_hello, judging_item, hearing, owing, receipt, and_item}
-use Rattle.secondary_steps.specs.Core.{waiting, is_apart, follows, answering, taking, take_frame, take_at}
+use Rattle.secondary_steps.specs.Core.{waiting, is_apart, follows, answering, taking, take_frame, take_at, receive_tests}
 use Rattle.secondary_steps.specs.Leaves.{Leaves, LeavesLast, LeavesEnd, EndLeft, FailedLeft, intake_of, pending_in}
 use Rattle.secondary_steps.specs.Steps.{ReceivesAgree, Agrees}
 use Rattle.secondary_steps.proofs.Answering.{answering-open, left-answering}
 use Rattle.secondary_steps.proofs.Counted.{same-count}
 use Rattle.secondary_steps.proofs.Ends.{end-takes, end-barrier, hello-goes-on}
-use Rattle.secondary_steps.proofs.Intakes.{apart-by-blocks, above-highest, intake-write, intake-resync, intake-barrier, intake-start, intake-end}
-use Rattle.secondary_steps.proofs.Items.{same-if, last-item, receipt-other, receiving-is, receiving-rest}
+use Rattle.secondary_steps.proofs.Intakes.{apart-by-blocks, intake-write, intake-resync, intake-barrier, intake-start, intake-end}
+use Rattle.secondary_steps.proofs.Items.{last-item, receipt-other, receiving-is, receiving-rest}
 use Rattle.secondary_steps.proofs.Judged.{SameJudged, hello-same, early-items, last-same}
 use Rattle.secondary_steps.proofs.Tested.{tested-agrees, passed, end-closed, end-there, inward-of, inward-with, open-some, open-whole, length-map}
+use Rattle.std.proofs.Common.{drop}
+use Rattle.laws.proofs.Rules.Memory.{receive-tests-by}
+use Rattle.blocks.specs.declared.outcome.What.{What}
+use Rattle.laws.proofs.Rules.RefusedFrames.{refused_in, refused_by_too, refused-last-too, item-has}
+use Rattle.secondary_steps.specs.Leaves.{highest_in}
+use Rattle.laws.proofs.Rules.TakenItems.{apart-is, checked-alike, placed_by, placed-alike, above-highest, write-may, barrier_by, start_by, start-first, end_by}
 
 -- What follows.
 
@@ -182,15 +188,9 @@ module _ (frame : Received) (s : SecondaryState) (h : SecondaryHistory) (e : End
     end-there-with packets plain other = end-takes e (inward h) frame (item ∷ []) packets (e.due ++ packets) ((inward h).due ++ packets) there item-there plain
         refl refl other
 
-  -- what is tested behind a test matters only where that holds
-  if-front : (front x y : Bool) → (front ≡ true → x ≡ y) → (front && x) ≡ (front && y)
-  if-front true x y same = same refl
-  if-front false x y same = refl
-
   -- a range lies inside the device
-  inside : (before : Bool) (first count : ℕ) → (before && is_range h.settings first count) ≡ true → first + count ≤ h.settings.blocks
-  inside before first count holds =
-      let range = (and_parts before (is_range h.settings first count) holds).1 in
+  inside : (first count : ℕ) → is_range h.settings first count ≡ true → first + count ≤ h.settings.blocks
+  inside first count range =
       let fits = (and_parts ((nat_lt 0 count && nat_le count 32) && nat_le (first + count) h.settings.blocks) (extent_of first == extent_of (first + count - 1))
       range).0 in
       leb-true (first + count) h.settings.blocks (and_parts (nat_lt 0 count && nat_le count 32) (nat_le (first + count) h.settings.blocks) fits).1
@@ -206,44 +206,36 @@ module _ (frame : Received) (s : SecondaryState) (h : SecondaryHistory) (e : End
       let asked : Protocol = h.settings.protocol in
       let i : Intake = intake_of h.settings.blocks all in
       let tests : Settings → Intake → Bool =
-      λ x j. ((((at == j.places) && has_place j.places) && is_range x write.first count)
-      && (((j.places == 0) || nat_lt j.highest write.number) && is_apart write.first count j)) in
+      λ x j. placed_by at j.places x write.first count ((j.places == 0) || nat_lt j.highest write.number) (is_apart write.first count j) in
       let one : tests s.settings s.intake ≡ tests h.settings i = λ k. tests (left.settings k) (left.last.intake k) in
-      let front : Bool = ((at == length all) && has_place (length all)) && is_range h.settings write.first count in
-      let two = ap (λ b. front && (b && is_apart write.first count i)) (sym (above-highest write.number all)) in
-      let three = if-front front _ _ (λ holds. ap (λ b. is_above write.number all && b)
-      (sym (apart-by-blocks h.settings.blocks all item (inside ((at == length all) && has_place (length all)) write.first count holds)))) in
-      same-if _ _ (one ∙ (two ∙ three)) _ _ (λ k. what.Frame command.Data (Some (left.last.intake k).places)) _ (step.receiving (length all) item taken)
-      (λ good.
-      let above = (and_parts (is_above write.number all) (step.is_apart item all)
-      (and_parts front (is_above write.number all && step.is_apart item all) good).1).0 in
-      let packets : List Packet = receipt asked (length all) item in
-      let rest = receiving-rest (length all) item taken in
-      let form : inward (step.receiving (length all) item taken) ≡ record (framed frame (inward h)) { due = (inward h).due ++ packets } =
-      receiving-is asked (length all) item taken refl (λ none. some (unchanged h.connections none))
-      ∙ ap (λ (c : Inward). record c { due = c.due ++ packets }) framed-is in
-      let end_is : Some (owing (receipt s.settings.protocol s.intake.places item) (hearing e)) ≡ Some (record (hearing e) { due = e.due ++ packets }) =
-      λ k. Some (record (hearing e) { due = e.due ++ receipt (left.settings k).protocol (left.last.intake k).places item }) in
-      item-left late item brings true _ (step.receiving (length all) item taken) ((inward h).due ++ packets) (record (hearing e) { due = e.due ++ packets })
-      rest.0 (blocks-of good) form
-      (end-there-with late item brings packets refl (receipt-other asked (length all) item)) (left.settings ∙ sym rest.0) (left.tuple
-      ∙ sym rest.1) (left.consistent ∙ sym rest.2) refl
-      (kept late item brings ∙ sym (intake-write h.settings.blocks all write above)) (waits-there late item brings) refl refl end_is)
+      let two = placed-alike at (length all) h.settings write.first count _ (is_apart write.first count i) _ _
+      (sym (above-highest highest_in refl (λ x items. refl) write.number all))
+      (λ range. sym (apart-is item all ∙ apart-by-blocks h.settings.blocks all item (inside write.first count range))) in
+      checked-alike SameJudged _ Err _ _ (one ∙ two) _ (step.receiving (length all) item taken) (λ good. (
+        λ k. what.Frame command.Data (Some (left.last.intake k).places),
+        let may = write-may h.settings write at (length all) all good in
+            let packets : List Packet = receipt asked (length all) item in
+            let rest = receiving-rest (length all) item taken in
+            let form : inward (step.receiving (length all) item taken) ≡ record (framed frame (inward h)) { due = (inward h).due ++ packets } =
+            receiving-is asked (length all) item taken refl (λ none. some (unchanged h.connections none))
+            ∙ ap (λ (c : Inward). record c { due = c.due ++ packets }) framed-is in
+            let end_is : Some (owing (receipt s.settings.protocol s.intake.places item) (hearing e)) ≡ Some (record (hearing e) { due = e.due ++ packets }) =
+            λ k. Some (record (hearing e) { due = e.due ++ receipt (left.settings k).protocol (left.last.intake k).places item }) in
+            item-left late item brings true _ (step.receiving (length all) item taken) ((inward h).due ++ packets)
+            (record (hearing e) { due = e.due ++ packets }) rest.0 (blocks-of may.here.range) form
+            (end-there-with late item brings packets refl (receipt-other asked (length all) item)) (left.settings ∙ sym rest.0) (left.tuple
+            ∙ sym rest.1) (left.consistent ∙ sym rest.2) refl
+            (kept late item brings ∙ sym (intake-write h.settings.blocks all write may.above)) (waits-there late item brings) refl refl end_is,
+      )) (λ refusal. refl)
     where
       unchanged : (l : List Inward) → change_last (framed frame) l ≡ [] → l ≡ []
       unchanged [] none = refl
       unchanged (x ∷ []) none = absurd (cc)
       unchanged (x ∷ y ∷ l) none = absurd (cc)
 
-      blocks-of : ((((at == length (items_taken (inward h))) && has_place (length (items_taken (inward h)))) && is_range h.settings write.first
-          (length write.contents))
-          && (is_above write.number (items_taken (inward h)) && step.is_apart (WriteItem write) (items_taken (inward h)))) ≡ true
-          → has_blocks (WriteItem write) ≡ true
-      blocks-of good =
+      blocks-of : is_range h.settings write.first (length write.contents) ≡ true → has_blocks (WriteItem write) ≡ true
+      blocks-of range =
           let n : ℕ = length write.contents in
-          let range = (and_parts ((at == length (items_taken (inward h))) && has_place (length (items_taken (inward h)))) (is_range h.settings write.first n)
-          (and_parts (((at == length (items_taken (inward h))) && has_place (length (items_taken (inward h)))) && is_range h.settings write.first n)
-          (is_above write.number (items_taken (inward h)) && step.is_apart (WriteItem write) (items_taken (inward h))) good).0).1 in
           (and_parts (nat_lt 0 n) (nat_le n 32)
           (and_parts (nat_lt 0 n && nat_le n 32) (nat_le (write.first + n) h.settings.blocks)
           (and_parts ((nat_lt 0 n && nat_le n 32) && nat_le (write.first + n) h.settings.blocks) (extent_of write.first == extent_of (write.first + n - 1))
@@ -275,14 +267,15 @@ module _ (frame : Received) (s : SecondaryState) (h : SecondaryHistory) (e : End
       let item : Item = ResyncItem block contents in
       let all : List Item = items_taken (inward h) in
       let i : Intake = intake_of h.settings.blocks all in
-      let tests : Settings → Intake → Bool = λ x j. ((((at == j.places) && has_place j.places) && is_range x block 1) && (j.resync && is_apart block 1 j)) in
+      let tests : Settings → Intake → Bool = λ x j. placed_by at j.places x block 1 j.resync (is_apart block 1 j) in
       let one : tests s.settings s.intake ≡ tests h.settings i = λ k. tests (left.settings k) (left.last.intake k) in
-      let front : Bool = ((at == length all) && has_place (length all)) && is_range h.settings block 1 in
-      let two = if-front front _ _ (λ holds. ap (λ b. i.resync && b)
-      (sym (apart-by-blocks h.settings.blocks all item (inside ((at == length all) && has_place (length all)) block 1 holds)))) in
-      same-if _ _ (one ∙ two) _ _ (λ k. what.Frame command.RsDataReply (Some (left.last.intake k).places)) _ taken (λ good.
-      plain-left item true _ taken late brings refl refl refl refl left.settings left.tuple left.consistent refl (kept late item brings
-      ∙ sym (intake-resync h.settings.blocks all block contents)) (waits-there late item brings) refl refl refl)
+      let two = placed-alike at (length all) h.settings block 1 i.resync (is_apart block 1 i) i.resync _ refl
+      (λ range. sym (apart-is item all ∙ apart-by-blocks h.settings.blocks all item (inside block 1 range))) in
+      checked-alike SameJudged _ Err _ _ (one ∙ two) _ taken (λ good. (
+        λ k. what.Frame command.RsDataReply (Some (left.last.intake k).places),
+        plain-left item true _ taken late brings refl refl refl refl left.settings left.tuple left.consistent refl (kept late item brings
+            ∙ sym (intake-resync h.settings.blocks all block contents)) (waits-there late item brings) refl refl refl,
+      )) (λ refusal. refl)
 
   -- The end of an epoch.
   barrier-same : (number : ℕ) → nat_lt (length (inward h).taken) 3 ≡ false → received_item frame ≡ Some (BarrierItem number)
@@ -292,15 +285,17 @@ module _ (frame : Received) (s : SecondaryState) (h : SecondaryHistory) (e : End
       let item : Item = BarrierItem number in
       let all : List Item = items_taken (inward h) in
       let i : Intake = intake_of h.settings.blocks all in
-      let tests : Intake → Bool = λ j. has_place j.places && (number == suc j.barriers) in
+      let tests : Intake → Bool = λ j. barrier_by number j.places (suc j.barriers) in
       let end : LeavesEnd (record (hearing e) { sizes = e.sizes ++ i.writes ∷ [] }) (framed frame (inward h)) = end-barrier e (inward h) frame number there
       (taken-item frame item (inward h) there.plain late brings) in
       let end_is : Some (record (hearing e) { sizes = e.sizes ++ s.intake.writes ∷ [] }) ≡ Some (record (hearing e) { sizes = e.sizes ++ i.writes ∷ [] }) =
       λ k. Some (record (hearing e) { sizes = e.sizes ++ (left.last.intake k).writes ∷ [] }) in
-      same-if _ _ (λ k. tests (left.last.intake k)) _ _ (λ k. what.Frame command.Barrier (Some (left.last.intake k).places)) _ taken (λ good.
-      item-left late item brings false _ taken (inward h).due (record (hearing e) { sizes = e.sizes ++ i.writes ∷ [] }) refl refl framed-is end left.settings
-      left.tuple left.consistent refl (kept late item brings ∙ sym (intake-barrier h.settings.blocks all number))
-      (sym (append-nil s.pending)) refl refl end_is)
+      checked-alike SameJudged _ Err _ _ (λ k. tests (left.last.intake k)) _ taken (λ good. (
+        λ k. what.Frame command.Barrier (Some (left.last.intake k).places),
+        item-left late item brings false _ taken (inward h).due (record (hearing e) { sizes = e.sizes ++ i.writes ∷ [] }) refl refl framed-is end left.settings
+            left.tuple left.consistent refl (kept late item brings ∙ sym (intake-barrier h.settings.blocks all number))
+            (sym (append-nil s.pending)) refl refl end_is,
+      )) (λ refusal. refl)
 
   -- A resync begins.
   start-same : (word : ℕ) → nat_lt (length (inward h).taken) 3 ≡ false → received_item frame ≡ Some (SyncUuidItem word)
@@ -310,13 +305,14 @@ module _ (frame : Received) (s : SecondaryState) (h : SecondaryHistory) (e : End
       let item : Item = SyncUuidItem word in
       let all : List Item = items_taken (inward h) in
       let i : Intake = intake_of h.settings.blocks all in
-      let tests : Intake → Bool = λ j. (has_place j.places && (j.places == 0)) && nat_lt 0 word in
-      same-if _ _ (λ k. tests (left.last.intake k)) _ _ (λ k. what.Frame command.SyncUuid (Some (left.last.intake k).places)) _
-      (step.adopting (record h.tuple { current = word }) false taken) (λ good.
-      let first = (and_parts (has_place (length all)) (length all == 0) (and_parts (has_place (length all) && (length all == 0)) (nat_lt 0 word) good).0).1 in
-      plain-left item false _ (step.adopting (record h.tuple { current = word }) false taken) late brings refl refl refl refl left.settings
-      (ap (λ (x : Tuple). record x { current = word }) left.tuple) refl refl
-      (kept late item brings ∙ sym (intake-start h.settings.blocks all word first)) (sym (append-nil s.pending)) refl refl refl)
+      let tests : Intake → Bool = λ j. start_by word j.places in
+      checked-alike SameJudged _ Err _ _ (λ k. tests (left.last.intake k)) _ (step.adopting (record h.tuple { current = word }) false taken) (λ good. (
+        λ k. what.Frame command.SyncUuid (Some (left.last.intake k).places),
+        let first = start-first word (length all) good in
+            plain-left item false _ (step.adopting (record h.tuple { current = word }) false taken) late brings refl refl refl refl left.settings
+            (ap (λ (x : Tuple). record x { current = word }) left.tuple) refl refl
+            (kept late item brings ∙ sym (intake-start h.settings.blocks all word first)) (sym (append-nil s.pending)) refl refl refl,
+      )) (λ refusal. refl)
 
   -- It ends.
   end-same-too : (tuple : Tuple) → nat_lt (length (inward h).taken) 3 ≡ false → received_item frame ≡ Some (UuidsItem tuple)
@@ -325,11 +321,12 @@ module _ (frame : Received) (s : SecondaryState) (h : SecondaryHistory) (e : End
   end-same-too tuple late brings =
       let item : Item = UuidsItem tuple in
       let all : List Item = items_taken (inward h) in
-      let tests : Intake → Bool = λ j. has_place j.places && j.resync in
-      same-if _ _ (λ k. tests (left.last.intake k)) _ _ (λ k. what.Frame command.Uuids (Some (left.last.intake k).places)) _ (step.adopting tuple true taken)
-      (λ good.
-      plain-left item false _ (step.adopting tuple true taken) late brings refl refl refl refl left.settings refl refl refl (kept late item brings
-      ∙ sym (intake-end h.settings.blocks all tuple)) (sym (append-nil s.pending)) refl refl refl)
+      let tests : Intake → Bool = λ j. end_by j.places j.resync in
+      checked-alike SameJudged _ Err _ _ (λ k. tests (left.last.intake k)) _ (step.adopting tuple true taken) (λ good. (
+        λ k. what.Frame command.Uuids (Some (left.last.intake k).places),
+        plain-left item false _ (step.adopting tuple true taken) late brings refl refl refl refl left.settings refl refl refl (kept late item brings
+            ∙ sym (intake-end h.settings.blocks all tuple)) (sym (append-nil s.pending)) refl refl refl,
+      )) (λ refusal. refl)
 
   -- The hello is over, and a packet is judged as an item; one that is none is refused.
   late-same : (packet : Packet) → frame ≡ Ok packet → nat_lt (length (inward h).taken) 3 ≡ false
@@ -381,12 +378,12 @@ module _ (frame : Received) (s : SecondaryState) (h : SecondaryHistory) (e : End
           (late-same packet is_frame late))
 
   -- a protocol error closes the end
-  refused-left : Leaves (record s { end = None }) (with_inward refused_end (with_inward (framed frame) h))
+  refused-left : Leaves (record s { end = None }) (refused_by_too frame h)
   refused-left =
-      let items : items_taken (refused_end (framed frame (inward h))) ≡ items_taken (inward h) = items-refusing frame (inward h) there.plain in
-      let form : inward (with_inward refused_end (with_inward (framed frame) h)) ≡ refused_end (framed frame (inward h)) =
-      inward-of (λ c. refused_end (framed frame c)) h (with_inward refused_end (with_inward (framed frame) h))
-      (change-twice (framed frame) refused_end h.connections) some in
+      let items : items_taken (refused_in frame (inward h)) ≡ items_taken (inward h) = items-refusing frame (inward h) there.plain in
+      let form : inward (refused_by_too frame h) ≡ refused_in frame (inward h) =
+      inward-of (refused_in frame) h (refused_by_too frame h)
+      (refused-last-too frame h) some in
       record {
         settings = left.settings;
         tuple = left.tuple;
@@ -396,8 +393,8 @@ module _ (frame : Received) (s : SecondaryState) (h : SecondaryHistory) (e : End
           intake = left.last.intake ∙ ap (intake_of h.settings.blocks) (sym items);
           named = λ place offset inside. subst (λ (l : List Item). place < length l) (sym items) (left.last.named place offset inside);
           pending = left.last.pending ∙ ap (λ (l : List Item). map (pending_in l) (filter (is_pending (inward h)) (placed l))) (sym items);
-          applied = left.last.applied ∙ sym (same-count (refused_end (framed frame (inward h))) (inward h) items refl refl);
-          failed = subst (λ (v : Option ℕ). FailedLeft v (refused_end (framed frame (inward h)))) (sym whole.0) whole.1;
+          applied = left.last.applied ∙ sym (same-count (refused_in frame (inward h)) (inward h) items refl refl);
+          failed = subst (λ (v : Option ℕ). FailedLeft v (refused_in frame (inward h))) (sym whole.0) whole.1;
           end = refl;
         });
       }
@@ -405,38 +402,29 @@ module _ (frame : Received) (s : SecondaryState) (h : SecondaryHistory) (e : End
 -- A frame is taken at an open end.
 take-agrees : (frame : Received) (s : SecondaryState) (h : SecondaryHistory) (e : EndState) → s.end ≡ Some e → Leaves s h → LeavesEnd e (inward h)
     → Agrees (λ done. done) (take_frame frame e s) (step.take_item frame h)
-take-agrees frame s h e is left there = go (judging frame e s) (step.checking frame (inward h) (with_inward (framed frame) h))
-    (judged-same frame s h e is left there frame refl)
+take-agrees frame s h e is left there = item-has (Agrees (λ done. done) (take_frame frame e s)) (SameJudged (judging frame e s)) frame h
+    (judged-same frame s h e is left there frame refl) (accepted (judging frame e s)) (refused (judging frame e s))
   where
-    go : (j : Judged) (c : Checked) → SameJudged j c
-        → Agrees (λ done. done) (taking j s) (elim c as (λ _. Reply × SecondaryHistory) [
-          | Ok done ↦ step.succeeding_secondary done.0 done.1
-          | Err refusal ↦ (reply.Refused refusal, with_inward refused_end (with_inward (framed frame) h))
-        ])
-    go (Ok (name, t)) (Ok (other, later)) same = record {
-      reply = ap (λ n. reply.Ok (done_with n)) same.0;
-      leaves = leaves-follows t later same.1;
-    }
-    go (Err refusal) (Err other) same = record { reply = ap reply.Refused same; leaves = refused-left frame s h e is left there }
-    go (Ok a) (Err q) same = absurd same
-    go (Err r) (Ok b) same = absurd same
+    accepted : (j : Judged) (done : What × SecondaryHistory) → SameJudged j (Ok done)
+        → Agrees (λ done. done) (taking j s) (step.succeeding_secondary done.0 done.1)
+    accepted (Ok judged) done same = record { reply = ap (λ n. reply.Ok (done_with n)) same.0; leaves = leaves-follows judged.1 done.1 same.1 }
+    accepted (Err refusal) done same = absurd same
+
+    refused : (j : Judged) (other : Refusal) → SameJudged j (Err other) → Agrees (λ done. done) (taking j s) (reply.Refused other, refused_by_too frame h)
+    refused (Ok judged) other same = absurd same
+    refused (Err refusal) other same = record { reply = ap reply.Refused same; leaves = refused-left frame s h e is left there }
 
 -- The next frame is taken, whatever it is.
 pub receives-agree : ReceivesAgree
 receives-agree frame starved s h left =
     tested-agrees (λ done. done) s h
-    ((is_none s.end, NotConnected) ∷ (nat_le s.settings.pending (length s.pending), PendingFull) ∷ (starved, NoMemory) ∷ (is_none frame, NothingThere) ∷ [])
-    (((inward h).closed, NotConnected) ∷ (nat_le h.settings.pending (length (pending (inward h))), PendingFull) ∷ (starved, NoMemory) ∷ (
-      is_none frame,
-      NothingThere,
-    ) ∷ [])
+    (receive_tests frame starved s) (step.receive_tests h frame starved)
     (λ _. elim frame as (λ _. Result Done Refusal × SecondaryState) [ None ↦ (Err NothingThere, s) | Some taken ↦ take_at taken s.end s ])
     (λ _. elim frame as (λ _. Reply × SecondaryHistory) [ None ↦ (reply.Refused NothingThere, h) | Some taken ↦ step.take_item taken h ])
-    (λ k. (end-closed s.end (inward h) left.last.end k, NotConnected) ∷ (nat_le (left.settings k).pending (count k), PendingFull) ∷ (starved, NoMemory) ∷
-    (is_none frame, NothingThere) ∷ [])
+    (receive-tests-by h frame starved (is_none s.end) s.settings.pending (length s.pending) (end-closed s.end (inward h) left.last.end)
+    (λ k. (left.settings k).pending) count)
     left (λ none.
-    let stands = (passed (inward h).closed NotConnected
-    ((nat_le h.settings.pending (length (pending (inward h))), PendingFull) ∷ (starved, NoMemory) ∷ (is_none frame, NothingThere) ∷ []) none).0 in
+    let stands = (passed (inward h).closed NotConnected (drop 1 (step.receive_tests h frame starved)) none).0 in
     go frame (end-there s.end (end-closed s.end (inward h) left.last.end ∙ stands)))
   where
     count : length s.pending ≡ length (pending (inward h))

@@ -1,4 +1,4 @@
-use Rattle.std.proofs.Common.{sym, ◌∙◌, arith, rules}
+use Rattle.std.proofs.Common.{sym, ◌∙◌, arith}
 use Rattle.primary_core.proofs.Unmarked.{cleared-next, cleared-not}
 use Rattle.primary_core.proofs.report.clear.Goals.{then-clears, else-clears}
 use Rattle.primary_core.proofs.report.clear.Goals as goal
@@ -14,6 +14,3 @@ loop-block-preserved c =
       | else-clears w ↦ rw w.marks-is (cleared-not c.args.write.now latest c.args.marks.now new block (sym c.clears.ensures
           ∙ w.if-clears.false) c.loop-block.invariant)
     ]
-
-pub loop-block-init : goal.loop-block-init
-loop-block-init c = search rules

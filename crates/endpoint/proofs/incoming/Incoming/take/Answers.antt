@@ -17,7 +17,7 @@ returns-clause-taken g c =
     let new : InEnd = g.I.FrameIn.state c.take.new.self in
     let frame : List ℕ = c.in_ok-frame.frame in
     let took : new ≡ with_taken frame new.is_ready old = c.in_ok-frame.ensures.next in
-    let expected : c.hello_after-hello.result ≡ hello_after (length old.taken) = c.hello_after-hello.ensures ∙ ap hello_after c.self.invariant
+    let expected : c.next-expected.result ≡ hello_after (length old.taken) = c.next-expected.ensures ∙ ap hello_after c.self.invariant
     ∙ hello_least (length old.taken) in
     let read : received c.read.result ≡ received_after (length old.taken) frame = ap received (c.read.ensures.is
     ∙ ap (λ h. in_hello h frame (frame_read frame)) expected) in

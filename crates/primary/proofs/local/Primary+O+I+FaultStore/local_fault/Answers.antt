@@ -61,8 +61,8 @@ invariant_of-self g c =
     let blocks : blocks_of 4096 c.deref.result.now ≡ c.in_ok-write.write.now.blocks = ap (blocks_of 4096) bytes ∙ c.contents.ensures.blocks in
     let after = armed-write c.self.inside.store c.arm.new.self c.write.new.self c.args.kept c.range-2.result.first.0
     (blocks_of 4096 c.deref.result.now) c.arm.ensures c.write.ensures.after in
-    kept-blocks-is v c.args.number c.in_ok-write.write.now c.in_ok-write.ensures.write _ c.local_failed.new.self.state c.write.new.self.disk
-    c.write.new.self.faults (is_steady c.write.new.self) c.self.invariant c.args.kept c.local_failed.ensures (ap (λ (s : FaultState). s.disk) after
+    kept-blocks-is v c.args.number c.in_ok-write.write.now c.in_ok-write.ensures.write _ c.failed.new.self.state c.write.new.self.disk
+    c.write.new.self.faults (is_steady c.write.new.self) c.self.invariant c.args.kept c.failed.ensures (ap (λ (s : FaultState). s.disk) after
     ∙ (λ i. overwritten c.self.inside.store.disk (c.range-2.ensures.first i) (take c.args.kept (blocks i))))
 
 pub returns-clause-step : goal.returns-clause-step
@@ -80,6 +80,6 @@ returns-clause-step g c =
     let after = armed-write c.self.inside.store c.arm.new.self c.write.new.self c.args.kept c.range-2.result.first.0
     (blocks_of 4096 c.deref.result.now) c.arm.ensures c.write.ensures.after in
     let few : c.args.kept ≤ c.in_ok-write.write.now.count = subst (λ n. c.args.kept ≤ n) c.range.ensures.count c.if-kept-range.false in
-    rw (← c.self.view_is) (kept-steps v c.args.number c.in_ok-write.write.now c.in_ok-write.ensures.write _ c.local_failed.new.self.state c.write.new.self.disk
-    c.write.new.self.faults (is_steady c.write.new.self) c.args.kept few c.local_failed.ensures (ap (λ (s : FaultState). s.disk) after
+    rw (← c.self.view_is) (kept-steps v c.args.number c.in_ok-write.write.now c.in_ok-write.ensures.write _ c.failed.new.self.state c.write.new.self.disk
+    c.write.new.self.faults (is_steady c.write.new.self) c.args.kept few c.failed.ensures (ap (λ (s : FaultState). s.disk) after
     ∙ (λ i. overwritten c.self.inside.store.disk (c.range-2.ensures.first i) (take c.args.kept (blocks i)))))

@@ -24,4 +24,4 @@ returns g c = λ h has.
     let many = pushed-many (node c.args.self.now) h has in
     let sent = says-sent (node c.args.self.now) h has in
     let exact : c.match-self.pushed ≡ length (pushed_of c.args.self.now.outgoing) = omega (arith, pushed, view, many.1) in
-    c.saturating_sub.ensures ∙ (ap (λ n. n - 3) exact ∙ sent)
+    c.saturating_sub.ensures ∙ (ap (λ k. c.match-self.pushed - k) c.from.ensures ∙ (ap (λ n. n - 3) exact ∙ sent))

@@ -44,8 +44,8 @@ invariant_of-self g c =
     } in
     let bytes : c.deref.result.now ≡ c.contents.result.now = search rules in
     let blocks : blocks_of 4096 c.deref.result.now ≡ c.in_ok-write.write.now.blocks = ap (blocks_of 4096) bytes ∙ c.contents.ensures.blocks in
-    wrote-is v c.args.number c.in_ok-write.write.now c.in_ok-write.ensures.write _ c.local_done.new.self.state (g.S.Store.contents c.write.new.self)
-    (g.S.Store.faults c.write.new.self) (g.S.Store.steady c.write.new.self) c.self.invariant c.local_done.ensures (c.in-Ok.ensures.written
+    wrote-is v c.args.number c.in_ok-write.write.now c.in_ok-write.ensures.write _ c.done.new.self.state (g.S.Store.contents c.write.new.self)
+    (g.S.Store.faults c.write.new.self) (g.S.Store.steady c.write.new.self) c.self.invariant c.done.ensures (c.in-Ok.ensures.written
     ∙ (λ i. overwritten (g.S.Store.contents c.self.inside.store) (c.range.ensures.first i) (blocks i)))
 
 pub invariant_of-self-in-Err : goal.invariant_of-self-in-Err
@@ -60,8 +60,8 @@ invariant_of-self-in-Err g c =
     } in
     let bytes : c.deref.result.now ≡ c.contents.result.now = search rules in
     let blocks : blocks_of 4096 c.deref.result.now ≡ c.in_ok-write.write.now.blocks = ap (blocks_of 4096) bytes ∙ c.contents.ensures.blocks in
-    failed-is v c.args.number c.in_ok-write.write.now c.in_ok-write.ensures.write _ c.local_failed.new.self.state (g.S.Store.contents c.write.new.self)
-    (g.S.Store.faults c.write.new.self) (g.S.Store.steady c.write.new.self) c.self.invariant c.local_failed.ensures
+    failed-is v c.args.number c.in_ok-write.write.now c.in_ok-write.ensures.write _ c.failed.new.self.state (g.S.Store.contents c.write.new.self)
+    (g.S.Store.faults c.write.new.self) (g.S.Store.steady c.write.new.self) c.self.invariant c.failed.ensures
     (subst (λ (n : ℕ). IsTorn v.disk n c.in_ok-write.write.now.blocks (g.S.Store.contents c.write.new.self)) c.range.ensures.first
     (subst (λ (l : List (List ℕ)). IsTorn v.disk c.range.result.first.0 l (g.S.Store.contents c.write.new.self)) blocks c.in-Err.ensures.torn))
 
@@ -77,8 +77,8 @@ returns-in-Ok-clause-step g c =
     } in
     let bytes : c.deref.result.now ≡ c.contents.result.now = search rules in
     let blocks : blocks_of 4096 c.deref.result.now ≡ c.in_ok-write.write.now.blocks = ap (blocks_of 4096) bytes ∙ c.contents.ensures.blocks in
-    rw (← c.self.view_is) (wrote-steps v c.args.number c.in_ok-write.write.now c.in_ok-write.ensures.write _ c.local_done.new.self.state
-    (g.S.Store.contents c.write.new.self) (g.S.Store.faults c.write.new.self) (g.S.Store.steady c.write.new.self) c.local_done.ensures
+    rw (← c.self.view_is) (wrote-steps v c.args.number c.in_ok-write.write.now c.in_ok-write.ensures.write _ c.done.new.self.state
+    (g.S.Store.contents c.write.new.self) (g.S.Store.faults c.write.new.self) (g.S.Store.steady c.write.new.self) c.done.ensures
     (c.in-Ok.ensures.written ∙ (λ i. overwritten (g.S.Store.contents c.self.inside.store) (c.range.ensures.first i) (blocks i))) c.in-Ok.ensures.uncounted)
 
 pub returns-in-Err-clause-step : goal.returns-in-Err-clause-step
@@ -93,8 +93,8 @@ returns-in-Err-clause-step g c =
     } in
     let bytes : c.deref.result.now ≡ c.contents.result.now = search rules in
     let blocks : blocks_of 4096 c.deref.result.now ≡ c.in_ok-write.write.now.blocks = ap (blocks_of 4096) bytes ∙ c.contents.ensures.blocks in
-    rw (← c.self.view_is) (failed-steps v c.args.number c.in_ok-write.write.now c.in_ok-write.ensures.write _ c.local_failed.new.self.state
-    (g.S.Store.contents c.write.new.self) (g.S.Store.faults c.write.new.self) (g.S.Store.steady c.write.new.self) c.local_failed.ensures
+    rw (← c.self.view_is) (failed-steps v c.args.number c.in_ok-write.write.now c.in_ok-write.ensures.write _ c.failed.new.self.state
+    (g.S.Store.contents c.write.new.self) (g.S.Store.faults c.write.new.self) (g.S.Store.steady c.write.new.self) c.failed.ensures
     (subst (λ (n : ℕ). IsTorn v.disk n c.in_ok-write.write.now.blocks (g.S.Store.contents c.write.new.self)) c.range.ensures.first
     (subst (λ (l : List (List ℕ)). IsTorn v.disk c.range.result.first.0 l (g.S.Store.contents c.write.new.self)) blocks c.in-Err.ensures.torn))
     c.in-Err.ensures.counted)

@@ -6,5 +6,5 @@ use Rattle.primary.specs.State.{PrimaryView}
 use Rattle.primary.proofs.state.Primary.next_local.Goals as goal
 
 pub returns : goal.returns
-returns g c = λ h has. c.next_local.ensures
+returns g c = λ h has. c.next.ensures
     ∙ (ap (λ (v : PrimaryView). option_map (λ (w : LogWrite). w.number) (find is_waiting v.core.log.writes)) c.self.view_is ∙ says-next _ h has.leaves.core)

@@ -29,7 +29,7 @@ invariant_of-self-2 g c =
       | in_default-incoming w ↦ ap (λ x. x.core) w.self-inside-is
           ∙ elim c.match-self.branch [ in-Some u ↦ ap (λ x. x.core) u.self-inside-is | in_default u ↦ ap (λ x. x.core) u.self-inside-is ]
     ] in
-    reopen-is _ c.self.invariant _ c.args.sync c.args.loss _ c.in_ok-open.was c.open.ensures c.connections-number.result _ c.connections-number.ensures
+    reopen-is _ c.self.invariant _ c.args.sync c.args.loss _ c.in_ok-open.was c.open.ensures c.connection-number.result _ c.connection-number.ensures
     (ap (λ x. x.state) same) (rw c.self.view_is (returns-clause-link g c))
 
 pub returns-clause-step : goal.returns-clause-step
@@ -40,5 +40,5 @@ returns-clause-step g c =
       | in_default-incoming w ↦ ap (λ x. x.core) w.self-inside-is
           ∙ elim c.match-self.branch [ in-Some u ↦ ap (λ x. x.core) u.self-inside-is | in_default u ↦ ap (λ x. x.core) u.self-inside-is ]
     ] in
-    reopen-steps _ c.self.invariant _ c.args.sync c.args.loss _ c.in_ok-open.was c.open.ensures _ c.connections-number.result _ c.self.view_is
-    (invariant_of-self-2 g c) c.connections-number.ensures (ap (λ x. x.state) same) (returns-clause-link g c)
+    reopen-steps _ c.self.invariant _ c.args.sync c.args.loss _ c.in_ok-open.was c.open.ensures _ c.connection-number.result _ c.self.view_is
+    (invariant_of-self-2 g c) c.connection-number.ensures (ap (λ x. x.state) same) (returns-clause-link g c)

@@ -2,7 +2,7 @@ use Rattle.std.proofs.Common.{ℕ, ◌≡◌, sym, ap, arith, None}
 use Rattle.transferlog.specs.Log.{LogState, drained}
 use Rattle.overlap.specs.Holdings.{without}
 use Rattle.primary_core.specs.Close.{without_stream}
-use Rattle.primary_core.specs.State.{core_of, held_at}
+use Rattle.primary_core.specs.State.{core_of, held_with, way_at}
 use Rattle.primary_core.proofs.Held.{without-block}
 use Rattle.primary_core.proofs.Logged.{seen-as}
 use Rattle.primary_core.proofs.SoundLog.{sound-draining}
@@ -31,6 +31,7 @@ pub returns : goal.returns
 returns c =
     let s = c.self.inside in
     let v = core_of s in
-    let held : s.held ≡ without 0 (held_at s.end s.held) = sym (without-block s.log.state.accepted s.end s.held c.self.invariant.writers) in
-    seen-as v c.args.self.now without_stream _ c.self.view_is
+    let held : s.held ≡ without 0 (held_with (way_at s.connection) s.held) =
+    sym (without-block s.log.state.accepted (way_at s.connection) s.held c.self.invariant.writers) in
+    seen-as v.state c.args.self.now.state without_stream _ (ap (λ x. x.state) c.self.view_is)
     (rw (← held) (ap (λ (p : ℕ × LogState). (p.0, record v.state { held = s.held; log = p.1; end = None })) c.drain-completed.ensures))

@@ -1,28 +1,18 @@
-use Rattle.std.proofs.Common.{sym, ◌∙◌, ap, rules}
-use Rattle.std.specs.Prelude.{option_map}
-use Rattle.std.proofs.lemmas.Bool.{le-ltb}
+use Rattle.std.proofs.Common.{refl, sym, ◌∙◌}
+use Rattle.model.specs.Frames.{frame_of}
+use Rattle.primary_steps.specs.Transitions.{due}
 use Rattle.primary_core.specs.State.{end_of}
-use Rattle.primary_core.proofs.Sending.{blocks-owed}
+use Rattle.primary_core.proofs.Ends.{end-at}
+use Rattle.primary_core.proofs.Sending.{all-said, due-told, item-is-due}
 use Rattle.primary_core.proofs.state.PrimaryCore.due.Goals as goal
 
-pub returns-then-end-ge-HELLO_FRAMES-clause-due : goal.returns-then-end-ge-HELLO_FRAMES-clause-due
-returns-then-end-ge-HELLO_FRAMES-clause-due c =
-    let items = c.self.inside.unsent.items in
-    let is = ap (λ v. v.state.end) (sym c.self.view_is) ∙ ap (option_map (end_of items)) c.in-Some.is in
-    c.due_item.ensures.due (end_of items c.in-Some.end) is (le-ltb c.in-Some.end.said 3 c.if-end-ge-HELLO_FRAMES.true)
-
-pub returns-then-end-ge-HELLO_FRAMES-clause-inline : goal.returns-then-end-ge-HELLO_FRAMES-clause-inline
-returns-then-end-ge-HELLO_FRAMES-clause-inline c =
-    let items = c.self.inside.unsent.items in
-    let is = ap (λ v. v.state.end) (sym c.self.view_is) ∙ ap (option_map (end_of items)) c.in-Some.is in
-    blocks-owed c.args.self.now.state c.due_item.result
-    (c.due_item.ensures.due (end_of items c.in-Some.end) is (le-ltb c.in-Some.end.said 3 c.if-end-ge-HELLO_FRAMES.true))
-
-pub returns-then-end-ge-HELLO_FRAMES-clause-memory : goal.returns-then-end-ge-HELLO_FRAMES-clause-memory
-returns-then-end-ge-HELLO_FRAMES-clause-memory c =
-    let items = c.self.inside.unsent.items in
-    let is = ap (λ v. v.state.end) (sym c.self.view_is) ∙ ap (option_map (end_of items)) c.in-Some.is in
-    c.due_item.ensures.memory (end_of items c.in-Some.end) is (le-ltb c.in-Some.end.said 3 c.if-end-ge-HELLO_FRAMES.true)
-
-pub returns-clause-due : goal.returns-clause-due
-returns-clause-due c = search rules
+pub returns-in-Some-next-clause-due : goal.returns-in-Some-next-clause-due
+returns-in-Some-next-clause-due c =
+    let s = c.args.self.now in
+    let x = c.in-Some.connection in
+    let item = c.in-Some-next.item.now in
+    let is = end-at c.self.inside s x c.self.view_is c.in-Some.is in
+    let over = all-said x.handshake.said c.self.inside.settings x.handshake.own (sym c.due.ensures ∙ c.in_default-due.is) in
+    let owed = item-is-due s.state (end_of x) item c.next_place.result is over c.in-Some-next.ensures.lookup (c.in-Some-next.ensures.variant.0 refl)
+    (c.next_place.ensures (end_of x) is) in
+    due-told c.packet.result (due s.state) (frame_of c.next_place.result item) owed c.packet.ensures.packet c.packet.ensures.refused

@@ -4,7 +4,7 @@ use Rattle.bitmap.proofs.Lists.{length-marking}
 use Rattle.blocks.specs.Ranges.{is_between}
 use Rattle.overlap.specs.Holdings.{without}
 use Rattle.primary_steps.specs.Core.{Entry}
-use Rattle.primary_core.specs.State.{held_at}
+use Rattle.primary_core.specs.State.{held_with, way_at}
 use Rattle.primary_core.proofs.Held.{without-held, writers-without}
 use Rattle.primary_core.proofs.state.PrimaryCore.give_up.Goals as goal
 
@@ -35,6 +35,7 @@ returns-clause-state c =
     let s = c.self.inside in
     let entries = whole s.entries.len s.entries.items c.set_fate.new.entries (omega (arith, c.set_fate.auto.entries, c.deref_mut.ensures.len))
     ∙ c.set_fate.ensures in
-    let held : held_at s.end c.release.new.self ≡ without c.args.number (held_at s.end s.held) =
-    ap (held_at s.end) c.release.ensures ∙ sym (without-held c.args.number s.end s.held c.requires.numbered) in
+    let way = way_at s.connection in
+    let held : held_with way c.release.new.self ≡ without c.args.number (held_with way s.held) =
+    ap (held_with way) c.release.ensures ∙ sym (without-held c.args.number way s.held c.requires.numbered) in
     rw (← c.self.view_is) (rw (entries, c.deref_mut.ensures.value, held, c.mark.ensures) refl)

@@ -13,10 +13,10 @@ returns c e is =
     let s = c.args.self.now.state in
     let peer = c.args.peer in
     let v = core_of c.self.inside in
-    let items = c.self.inside.unsent.items in
-    let here = ap (λ x. x.state.end) c.self.view_is ∙ is in
-    let ends = sym (ap (option_map (end_of items)) c.in-Some.is) ∙ here in
-    let same : end_of items c.in-Some.end ≡ e = cc in
+    let x = c.in-Some.connection in
+    let here = ap (λ y. y.state.end) c.self.view_is ∙ is in
+    let ends = sym (ap (option_map end_of) c.in-Some.is) ∙ here in
+    let same : end_of x ≡ e = cc in
     let sync : stands_in e.sync peer ≡ false = ap (λ (x : EndState). stands_in x.sync peer) (sym same) ∙ (sym c.stands_in.ensures ∙ c.if-stands_in.false) in
     let loss : stands_in e.loss peer ≡ false = ap (λ (x : EndState). stands_in x.loss peer) (sym same)
     ∙ (sym c.stands_in-else-stands_in.ensures ∙ c.if-stands_in-2.false) in

@@ -11,6 +11,3 @@ returns-in_err-may_open c =
     let same : c.from_residual.result ≡ Err c.in_err-may_open.field-0.0 = search rules in
     subst (λ (r : Result (Unit {0}) Refusal). (r, c.args.self.now.state) ≡ open_end c.args.sync c.args.loss (is_starved r) c.args.self.now.state) (sym same)
     (open-refused c.args.sync c.args.loss c.args.self.now.state c.in_err-may_open.field-0.0 (sym refused ∙ c.may_open.ensures))
-
-pub invariant_of-self-2 : goal.invariant_of-self-2
-invariant_of-self-2 c = search rules

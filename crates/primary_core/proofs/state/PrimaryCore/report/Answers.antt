@@ -3,7 +3,7 @@ use Rattle.std.proofs.Math.Seq.{take-append_seam}
 use Rattle.transferlog.specs.declared.report.Completed.{Completed}
 use Rattle.transferlog.specs.declared.report.Released.{Released}
 use Rattle.primary_steps.specs.Core.{Entry, entering, freeing, leaving}
-use Rattle.primary_core.specs.State.{state_of, held_at}
+use Rattle.primary_core.specs.State.{state_of, held_with, way_at}
 use Rattle.primary_core.proofs.Held.{freeing-held, writers-freeing}
 use Rattle.primary_core.proofs.Reports.{sound-reporting}
 use Rattle.primary_core.proofs.state.PrimaryCore.report.Goals as goal
@@ -40,8 +40,9 @@ returns-clause-state c =
     let entries = whole s.entries.len s.entries.items c.enter.new.entries (omega (arith, c.enter.auto.entries, c.deref_mut.ensures.len))
     ∙ (c.enter.ensures ∙ (ap (λ (l : List Completed). entering l c.deref_mut.result.now) c.completed.ensures
     ∙ ap (entering completed) c.deref_mut.ensures.value)) in
-    let held : held_at s.end c.free.new.held ≡ freeing completed (held_at s.end s.held) =
-    ap (held_at s.end) (c.free.ensures ∙ ap (λ (l : List Completed). freeing l s.held) c.completed-2.ensures)
-    ∙ sym (freeing-held completed s.end s.held c.self.invariant.sound.log.completed) in
+    let way = way_at s.connection in
+    let held : held_with way c.free.new.held ≡ freeing completed (held_with way s.held) =
+    ap (held_with way) (c.free.ensures ∙ ap (λ (l : List Completed). freeing l s.held) c.completed-2.ensures)
+    ∙ sym (freeing-held completed way s.held c.self.invariant.sound.log.completed) in
     let activity = c.leave.ensures ∙ ap (λ (l : List Released). leaving l s.activity) c.released.ensures in
     rw (← c.self.view_is) (rw (entries, held, activity, c.unmark.ensures) refl)

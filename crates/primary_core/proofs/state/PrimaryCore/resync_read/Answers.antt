@@ -1,55 +1,61 @@
-use Rattle.std.proofs.Common.{ℕ, suc, ◌≡◌, List, [], ◌∷◌, ◌++◌, add-one, Some, None, sym, ◌∙◌, ap, arith, false}
+use Rattle.std.proofs.Common.{ℕ, suc, false, ◌≡◌, ◌∷◌, ◌++◌, [], List, None, Some, refl, sym, ◌∙◌, ap, arith, add-one}
 use Rattle.std.specs.Prelude.{option_map}
+use Rattle.blocks.specs.declared.outcome.Done.{Done}
 use Rattle.blocks.specs.declared.outcome.What.TheVariants as what
-use Rattle.model.specs.Stream.{Item, ResyncItem}
+use Rattle.model.specs.Stream.{ResyncItem}
 use Rattle.overlap.specs.Holdings.{Holding, holding, holding_too}
+use Rattle.resync.specs.UnderWay.{ResyncState}
 use Rattle.transferlog.specs.Log.{LogState, resync_placed}
-use Rattle.primary_steps.specs.Core.{EndState, PrimaryState, following}
+use Rattle.primary_steps.specs.Core.{EndState, PrimaryState, appending, following}
 use Rattle.primary_steps.specs.Transitions.{copying}
 use Rattle.primary_core.specs.Resyncing.{resync_choice}
-use Rattle.primary_core.specs.State.{core_of, end_of}
-use Rattle.primary_core.proofs.Copying.{chosen, held-free, holding-zero}
+use Rattle.primary_core.specs.State.{end_of, state_of}
+use Rattle.primary_core.proofs.Copying.{chosen, chosen-inside, held-free, holding-zero}
+use Rattle.primary_core.proofs.Ends.{end-at, opened-as}
+use Rattle.primary_core.proofs.state.PrimaryCore.resync_read.Goals.{in-Some, in_default-connection}
 use Rattle.primary_core.proofs.state.PrimaryCore.resync_read.Goals as goal
 
-pub invariant_of-push_back_reserved : goal.invariant_of-push_back_reserved
-invariant_of-push_back_reserved c =
-    let s = c.self.inside in
-    let v = core_of s in
-    let here = ap (option_map (end_of s.unsent.items)) c.in-Some-Ok.is-0 in
-    let is = chosen v.state (end_of s.unsent.items c.in-Some-Ok.end) c.args.block.0 here (ap (λ x. resync_choice false x.state) c.self.view_is
-    ∙ c.requires.chosen) in
-    (omega (arith, is.inside, c.self.invariant.sound.marks, c.self.invariant.sound.in_range.blocks.1), c.requires.whole)
+pub append-requires-clause-sent : goal.append-requires-clause-sent
+append-requires-clause-sent c =
+    let s = state_of c.self.inside in
+    let is = c.self.invariant.sound in
+    let inside = chosen-inside s c.args.block.0 (ap (λ y. resync_choice false y.state) c.self.view_is ∙ c.requires.chosen) in
+    (omega (arith, inside, is.marks, is.in_range.blocks.1), c.requires.whole)
 
 pub returns : goal.returns
 returns c e at =
     let s = c.self.inside in
-    let v = core_of s in
     let block = c.args.block.0 in
+    let place = c.in-Ok.place in
     let item = ResyncItem block c.args.contents in
-    let x = end_of s.unsent.items c.in-Some-Ok.end in
-    let here = ap (option_map (end_of s.unsent.items)) c.in-Some-Ok.is-0 in
-    let is = chosen v.state x block here (ap (λ y. resync_choice false y.state) c.self.view_is ∙ c.requires.chosen) in
-    let ends = sym here ∙ (ap (λ y. y.state.end) c.self.view_is ∙ at) in
-    let same : x ≡ e = cc in
-    let free = held-free s.end c.in-Some-Ok.end s.held c.in-Some-Ok.is-0 is.free in
-    let held : holding 0 block 1 ∷ s.held ≡ holding_too (holding 0 block 1) v.state.held =
-    sym (holding-zero s.log.state.accepted block s.held c.self.invariant.writers) ∙ ap (holding_too (holding 0 block 1)) (sym free) in
-    let left : ℕ × LogState → List Holding → EndState → List Item → ℕ → PrimaryState = λ p h y items k. record v.state {
-      log = p.1;
-      held = h;
-      end = Some (record y { unsent = items; under_way = Some (record { block = block; place = p.0; epoch = k }) });
-    } in
-    let name = λ (p : ℕ × LogState). what.Block (record { 0 = block }) p.0 in
-    let placed = c.in-Some-Ok.ensures.placed in
-    let p = resync_placed v.state.log in
-    let h = holding_too (holding 0 block 1) v.state.held in
-    let more = s.unsent.items ++ item ∷ [] in
-    let epoch : c.epoch-epoch.result ≡ suc v.state.log.epochs.ended = c.epoch-epoch.ensures ∙ add-one v.state.log.epochs.ended in
-    let first = c.push_back_reserved.new.self.items in
-    c.follow.ensures
-    ∙ (ap (λ (q : ℕ × LogState). following (name q) None (left q (holding 0 block 1 ∷ s.held) x first c.epoch-epoch.result)) placed
-    ∙ (ap (λ (l : List Holding). following (name p) None (left p l x first c.epoch-epoch.result)) held
-    ∙ (ap (λ (items : List Item). following (name p) None (left p h x items c.epoch-epoch.result)) c.push_back_reserved.ensures.items
-    ∙ (ap (λ (k : ℕ). following (name p) None (left p h x more k)) epoch
-    ∙ (ap (λ (y : EndState). following (name p) None (left p h y (y.unsent ++ item ∷ []) (suc v.state.log.epochs.ended))) same
-    ∙ ap (λ y. copying block c.args.contents e y.state) c.self.view_is)))))
+    elim c.match-self.branch [
+      | in-Some w ↦
+          let x = w.in-Some.connection in
+          let t = state_of (record s { connection = Some x }) in
+          let seen = opened-as s c.args.self.now x c.self.view_is w.in-Some.is in
+          let ends = sym (end-at s c.args.self.now x c.self.view_is w.in-Some.is) ∙ at in
+          let same : end_of x ≡ e = cc in
+          let is = chosen t (end_of x) block refl (ap (resync_choice false) seen ∙ c.requires.chosen) in
+          let held : holding 0 block 1 ∷ s.held ≡ holding_too (holding 0 block 1) t.held =
+          sym (holding-zero s.log.state.accepted block s.held c.self.invariant.writers)
+          ∙ ap (holding_too (holding 0 block 1)) (sym (held-free x.resync.under_way s.held is.free)) in
+          let left : ℕ → ℕ × LogState → List Holding → Done × PrimaryState = λ k p h. following (what.Block (record { 0 = block }) p.0) None (record t {
+            log = p.1;
+            held = h;
+            end = Some (record (end_of x) {
+              unsent = x.outbox.items ++ item ∷ [];
+              under_way = Some (record { block = block; place = p.0; epoch = k });
+            });
+          }) in
+          let epoch : c.epoch-epoch.result ≡ suc s.log.state.epochs.ended = c.epoch-epoch.ensures ∙ add-one s.log.state.epochs.ended in
+          c.follow.ensures ∙ (ap (following (what.Block c.args.block place) None) (c.append.ensures.state
+          ∙ (ap (λ i. appending (item ∷ []) (state_of i)) w.self-inside-is
+          ∙ ap (λ (r : ResyncState). appending (item ∷ []) (state_of (record s { log = c.place_resync.new.self; connection = Some (record x { resync = r }) })))
+          w.copy.ensures))
+          ∙ (ap (λ (k : ℕ). left k (place, c.place_resync.new.self.state) (holding 0 block 1 ∷ s.held)) epoch
+          ∙ (ap (λ (p : ℕ × LogState). left (suc s.log.state.epochs.ended) p (holding 0 block 1 ∷ s.held)) c.in-Ok.ensures.placed
+          ∙ (ap (left (suc s.log.state.epochs.ended) (resync_placed s.log.state)) held
+          ∙ (ap (λ (y : EndState). copying block c.args.contents y t) same ∙ ap (copying block c.args.contents e) seen)))))
+      | in_default-connection w ↦ absurd
+          (let none : None ≡ Some e = sym (ap (option_map end_of) w.in_default-connection.is) ∙ (ap (λ v. v.state.end) c.self.view_is ∙ at) in cc)
+    ]

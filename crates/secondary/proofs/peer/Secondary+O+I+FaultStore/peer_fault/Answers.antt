@@ -28,13 +28,13 @@ pub invariant_of-self : goal.invariant_of-self
 invariant_of-self g c =
     let few : c.args.kept ≤ length (contents_of c.in_ok-failing.failing.now) = grind (arith, nat_tests, c.range.ensures.count, c.if-kept-range.false) in
     kept-is _ _ _ _ c.range-2.result.first.0 _ c.self.invariant c.in_ok-failing.ensures.started c.in_ok-failing.ensures.inside c.range-2.ensures.first
-    (ap (blocks_of 4096) c.as_slice.ensures ∙ c.contents.ensures.blocks) few _ _ _ _ c.failed.ensures
+    (ap (blocks_of 4096) c.as_slice.ensures ∙ c.contents.ensures.blocks) few _ _ _ _ c.failed.ensures.state
     (ap (λ s. s.disk) c.write.ensures.after ∙ ap (λ s. (written c.range-2.result.first.0 (blocks_of 4096 c.as_slice.result.now) s).disk) c.arm.ensures)
 
 pub returns-clause-step : goal.returns-clause-step
 returns-clause-step g c =
     let few : c.args.kept ≤ length (contents_of c.in_ok-failing.failing.now) = grind (arith, nat_tests, c.range.ensures.count, c.if-kept-range.false) in
     rw (← c.self.view_is) (kept-one _ _ _ _ c.range-2.result.first.0 _ c.self.invariant c.in_ok-failing.ensures.started c.in_ok-failing.ensures.inside
-    c.range-2.ensures.first (ap (blocks_of 4096) c.as_slice.ensures ∙ c.contents.ensures.blocks) few _ _ _ c.failed.ensures
+    c.range-2.ensures.first (ap (blocks_of 4096) c.as_slice.ensures ∙ c.contents.ensures.blocks) few _ _ _ c.failed.ensures.state
     (ap (λ s. s.disk) c.write.ensures.after ∙ ap (λ s. (written c.range-2.result.first.0 (blocks_of 4096 c.as_slice.result.now) s).disk) c.arm.ensures)
-    c.about.ensures)
+    c.failed.ensures.done)

@@ -1,7 +1,7 @@
-use Rattle.std.proofs.Common.{◌≡◌, ◌∙◌, Err, rules, sym, ap, subst, true}
+use Rattle.std.proofs.Common.{◌≡◌, Err, rules, ap, true}
 use Rattle.std.specs.Prelude.{is_some}
 use Rattle.secondary_steps.proofs.Node.Calls.{due-open}
-use Rattle.secondary.proofs.Sends.{nothing-due-steps, not-sent-steps, not-starved, part-is, sends-none, sends-part, sent-is, sent-steps}
+use Rattle.secondary.proofs.Sends.{nothing-due-steps, not-sent-steps, not-starved, sends-none, sends-part, sent-is, sent-steps}
 use Rattle.secondary.proofs.state.Secondary.ack_out.Goals as goal
 
 pub returns-in_err-packet-clause-step : goal.returns-in_err-packet-clause-step
@@ -37,13 +37,13 @@ returns-in_err-push-clause-memory g c =
 
 pub invariant_of-self-2 : goal.invariant_of-self-2
 invariant_of-self-2 g c =
-    sent-is _ _ c.in-Some.outgoing _ _ c.self.invariant c.in-Some.is c.in_ok-packet.ensures.due c.sent.ensures
+    sent-is _ _ c.in-Some.outgoing _ _ _ c.self.invariant c.in-Some.is c.in_ok-packet.ensures.due c.sent.ensures
     (ap (λ o. o.pushed) c.in_ok-push.ensures.pushed) (ap (λ o. o.partly) c.in_ok-push.ensures.pushed) (ap (λ o. o.number) c.in_ok-push.ensures.pushed)
 
 pub returns-clause-step : goal.returns-clause-step
 returns-clause-step g c =
-    rw (← c.self.view_is) (sent-steps _ c.sent.new.self.state c.in-Some.outgoing c.push.new.self _ _ _ c.self.invariant c.in-Some.is c.in_ok-packet.ensures.due
-    c.sent.ensures (ap (λ o. o.pushed) c.in_ok-push.ensures.pushed) c.command-command.ensures c.about.ensures)
+    rw (← c.self.view_is) (sent-steps _ c.sent.new.self.state c.in-Some.outgoing c.push.new.self _ _ c.self.invariant c.in-Some.is
+    c.in_ok-packet.ensures.due c.sent.ensures (ap (λ o. o.pushed) c.in_ok-push.ensures.pushed))
 
 -- an open end has its side of the link
 pub returns-in_default-clause-step : goal.returns-in_default-clause-step

@@ -18,21 +18,21 @@ write-requires-clause-inside g c =
 pub invariant_of-self : goal.invariant_of-self
 invariant_of-self g c =
     done-is _ _ _ _ _ c.self.invariant c.in_ok-item.ensures.started c.in_ok-item.ensures.inside c.range.ensures.first (ap (blocks_of 4096) c.as_slice.ensures
-    ∙ c.contents.ensures.blocks) _ _ _ _ c.done.ensures c.in-Ok.ensures.written
+    ∙ c.contents.ensures.blocks) _ _ _ _ c.done.ensures.state c.in-Ok.ensures.written
 
 pub invariant_of-self-in-Err : goal.invariant_of-self-in-Err
 invariant_of-self-in-Err g c =
     failed-is _ _ _ _ _ c.self.invariant c.in_ok-item.ensures.started c.in_ok-item.ensures.inside c.range.ensures.first (ap (blocks_of 4096) c.as_slice.ensures
-    ∙ c.contents.ensures.blocks) _ _ _ _ c.failed.ensures c.in-Err.ensures.torn
+    ∙ c.contents.ensures.blocks) _ _ _ _ c.failed.ensures.state c.in-Err.ensures.torn
 
 pub returns-in-Err-clause-step : goal.returns-in-Err-clause-step
 returns-in-Err-clause-step g c =
     rw (← c.self.view_is) (failed-one _ _ _ _ _ c.self.invariant c.in_ok-item.ensures.started c.in_ok-item.ensures.inside c.range.ensures.first
-    (ap (blocks_of 4096) c.as_slice.ensures ∙ c.contents.ensures.blocks) _ _ _ (g.S.Store.steady c.write.new.self) _ c.failed.ensures c.in-Err.ensures.torn
-    c.in-Err.ensures.counted c.about.ensures)
+    (ap (blocks_of 4096) c.as_slice.ensures ∙ c.contents.ensures.blocks) _ _ _ (g.S.Store.steady c.write.new.self) _ c.failed.ensures.state c.in-Err.ensures.torn
+    c.in-Err.ensures.counted c.failed.ensures.done)
 
-pub returns-clause-step : goal.returns-clause-step
-returns-clause-step g c =
+pub returns-in-Ok-clause-step : goal.returns-in-Ok-clause-step
+returns-in-Ok-clause-step g c =
     rw (← c.self.view_is) (done-one _ _ _ _ _ c.self.invariant c.in_ok-item.ensures.started c.in_ok-item.ensures.inside c.range.ensures.first
-    (ap (blocks_of 4096) c.as_slice.ensures ∙ c.contents.ensures.blocks) _ _ _ (g.S.Store.steady c.write.new.self) _ c.done.ensures c.in-Ok.ensures.written
-    c.in-Ok.ensures.uncounted c.about-2.ensures)
+    (ap (blocks_of 4096) c.as_slice.ensures ∙ c.contents.ensures.blocks) _ _ _ (g.S.Store.steady c.write.new.self) _ c.done.ensures.state c.in-Ok.ensures.written
+    c.in-Ok.ensures.uncounted c.done.ensures.done)

@@ -1,31 +1,41 @@
-use Rattle.std.proofs.Common.{suc, ◌≡◌, ◌∙◌, refl, ap, arith, true, ◌==◌}
-use Rattle.std.specs.Prelude.{is_some}
+use Rattle.std.proofs.Common.{suc, ◌≡◌, ◌∙◌, ◌∷◌, [], ap, sym, arith, length, true, false, ◌==◌}
 use Rattle.std.proofs.lemmas.Bool.Decides.{nat_tests}
-use Rattle.model.specs.SecondarySteps.{has_place}
-use Rattle.secondary_core.specs.State.{HasRoom}
-use Rattle.secondary_core.proofs.Checks.{open-is}
-use Rattle.secondary_core.proofs.Kept.{ended}
+use Rattle.std.proofs.lemmas.List.{append-nil, length-append}
+use Rattle.peerdisk.proofs.Stamps.{length-flags}
+use Rattle.secondary_core.proofs.Kept.{taken}
 use Rattle.secondary_core.proofs.state.SecondaryCore.barrier.Goals as goal
 
-pub invariant_of-self : goal.invariant_of-self
-invariant_of-self c =
+pub invariant_of-self-2 : goal.invariant_of-self-2
+invariant_of-self-2 c =
     let s = c.self.inside in
-    let r : HasRoom s = c.self.invariant.ready (ap (λ s. s.is_ready) c.self.view_is ∙ c.requires.ready) in
-    ended s c.args.number c.barrier-writes.result c.barrier-writes.new.self c.ended.new.self c.self.invariant r (c.barrier-writes.ensures.next c.args.number)
-    c.ended.ensures
+    let was = c.self.invariant in
+    let next = c.barrier.ensures.next c.args.number in
+    let served = rw c.in-Some.is at was.served in
+    let longer = ap (λ o. length o.sizes) c.ended.ensures ∙ length-append c.in-Some.field-0.outbox.sizes (c.barrier.result ∷ []) in
+    record {
+      in_range = was.in_range;
+      pending = taken s.settings s.inbox c.barrier.new.self s.disk s.items_applied was.pending (ap (λ t. t.places) next)
+          (omega (arith, ap (λ t. t.barriers) next)) (ap (λ t. length t.blocks) next ∙ length-flags (length s.inbox.blocks) (λ block. false));
+      served = c.acknowledge.ensures.served c.barrier.new.self.barriers
+          (omega (arith, served.ended, longer, ap (λ o. o.answered) c.ended.ensures, ap (λ t. t.barriers) next));
+      place = λ is. absurd (cc);
+      room = λ is. absurd (cc);
+    }
 
 pub returns : goal.returns
 returns c =
     let s = c.self.inside in
-    let is_open : s.is_open ≡ true = open-is s.is_open s.end.state (ap (λ s. is_some s.state.end) c.self.view_is ∙ c.requires.is_open) in
-    let place : has_place s.taken.places ≡ true = grind (arith, c.has_place.ensures, c.if-not-has_place.false) in
-    let next : (c.args.number == suc s.taken.barriers) ≡ true = grind (arith, nat_tests, c.if-number-epoch.false, c.epoch.ensures) in
-    rw (← c.self.view_is) (rw (
-      is_open,
-      c.barrier-writes.ensures.next c.args.number,
-      c.ended.ensures,
-      c.barrier-writes.ensures.writes,
-      c.places-place.ensures,
+    let place = sym c.has_place.ensures ∙ (let there : c.has_place.result ≡ true = grind (arith, c.if-not-has_place.false) in there) in
+    let next : (c.args.number == suc s.inbox.barriers) ≡ true = grind (arith, nat_tests, c.if-number-epoch.false, c.epoch.ensures) in
+    rw (
+      ← c.self.view_is,
+      c.in-Some.is,
       place,
       next,
-    ) refl)
+      c.barrier.ensures.next c.args.number,
+      c.acknowledge.ensures.due,
+      c.ended.ensures,
+      c.barrier.ensures.writes,
+      c.places-place.ensures,
+      append-nil c.in-Some.field-0.outbox.due,
+    )

@@ -6,18 +6,16 @@ use Rattle.secondary_core.proofs.state.SecondaryCore.new.Goals as goal
 pub invariant_of-result : goal.invariant_of-result
 invariant_of-result c =
     let none = ap (λ d. length d.pending) c.in_ok-new-2.ensures.empty in
-    let due = ap (λ e. length e.due) c.new-3.ensures in
-    let sizes = ap (λ e. length e.sizes) c.new-3.ensures in
-    let answered = ap (λ e. e.answered) c.new-3.ensures in
-    let barriers = ap (λ t. t.barriers) c.in_ok-new.ensures.nothing in
     record {
       in_range = c.in_ok-check.ensures.accepted.0 refl;
-      limit = ap (λ d. d.limit) c.in_ok-new-2.ensures.empty;
-      size = ap (λ t. length t.blocks) c.in_ok-new.ensures.nothing ∙ length-flags c.args.settings.blocks (λ block. false);
-      few = omega (arith, none);
-      pending = of-none _ _ none;
-      counted = omega (arith, none);
-      ended = omega (arith, answered, sizes, barriers);
-      room = omega (arith, due, sizes, none);
-      ready = λ is. absurd (cc);
+      pending = record {
+        limit = ap (λ d. d.limit) c.in_ok-new-2.ensures.empty;
+        size = ap (λ t. length t.blocks) c.in_ok-new.ensures.nothing ∙ length-flags c.args.settings.blocks (λ block. false);
+        few = omega (arith, none);
+        pending = of-none _ _ none;
+        counted = omega (arith, none);
+      };
+      served = tt;
+      place = λ is. absurd (cc);
+      room = λ is. tt;
     }

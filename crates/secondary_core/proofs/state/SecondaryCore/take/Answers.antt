@@ -2,11 +2,7 @@ use Rattle.std.proofs.Common.{◌∙◌, ap, Err, None}
 use Rattle.secondary_steps.specs.Core.{SecondaryState}
 use Rattle.endpoint.specs.Meaning.{received}
 use Rattle.secondary_core.proofs.Checks.{closed, may-open}
-use Rattle.secondary_core.proofs.Kept.{answered}
 use Rattle.secondary_core.proofs.state.SecondaryCore.take.Goals as goal
-
-pub invariant_of-self : goal.invariant_of-self
-invariant_of-self c = answered c.self.inside c.answer.new.self c.self.invariant c.answer.ensures
 
 pub returns-in-Err : goal.returns-in-Err
 returns-in-Err c =

@@ -1,0 +1,118 @@
+//! Both hellos of a connection, at one of its nodes.
+ghost use Rattle.std.specs.Prelude.{◌≡◌, nat_le, slice_get};
+ghost use Rattle.model.specs.Acknowledgements.{same_protocol};
+ghost use Rattle.handshakes.specs.Handshake.{begun, judged, said};
+ghost use Rattle.handshakes.specs.Hello.{advanced};
+
+use crate::Hello;
+use blocks::{Command, Protocol, Refusal, Settings, Tuple};
+use packets::Packet;
+use std::marker::Model;
+
+/// The handshake of a connection, as one of its nodes sees it: the generation identifiers that its own hello
+/// names, how far that hello has come, and how far the peer's has. No call takes memory.
+#[derive(Drop)]
+pub struct Handshake {
+    own: Tuple,
+    said: Hello,
+    heard: Hello,
+}
+
+impl Model for Handshake {
+    ghost use Rattle.handshakes.specs.Handshake.{HandshakeState};
+
+    ghost Value = { HandshakeState };
+
+    ghost view = { λ h. record { own = h.own; said = h.said; heard = h.heard } };
+}
+
+impl Handshake {
+    /// Nothing was said, and nothing heard. The own hello names these identifiers.
+    pub fn new(own: Tuple) -> Handshake
+        ensures { result ≡ begun own }
+    {
+        Handshake {
+            own,
+            said: Hello::new(),
+            heard: Hello::new(),
+        }
+    }
+
+    /// The next frame of the own hello: PROTOCOL, SIZES, UUIDS, and none after these.
+    pub fn due(&self, settings: &Settings) -> Option<Packet>
+        ensures { result ≡ said self.now.said settings.now self.now.own }
+    {
+        Some(match self.said.next()? {
+            Command::Protocol => Packet::Protocol(settings.protocol),
+            Command::Sizes => Packet::Sizes {
+                blocks: u64::from(settings.blocks),
+            },
+            _ => Packet::Uuids(self.own),
+        })
+    }
+
+    /// The next frame of the own hello is said.
+    pub fn say(&mut self)
+        ensures { self.new ≡ record self.old { said = advanced self.old.said } }
+    {
+        self.said.advance();
+    }
+
+    /// Whether the own hello is said.
+    pub fn is_said(&self) -> bool
+        ensures { result ≡ nat_le 3 self.now.said }
+    {
+        self.said.is_done()
+    }
+
+    /// Whether the peer's hello is heard.
+    pub fn is_heard(&self) -> bool
+        ensures { result ≡ nat_le 3 self.now.heard }
+    {
+        self.heard.is_done()
+    }
+
+    /// Whether a packet is the next frame of the peer's hello, and its command then. It says nothing about
+    /// the identifiers of UUIDS.
+    ///
+    /// `OtherProtocol` (34) for another protocol than the own one, `OtherSize` (35) for another number of
+    /// blocks; `BadCommand` (21) for every other packet.
+    pub fn judge(&self, packet: &Packet, settings: &Settings) -> Result<Command, Refusal>
+        ensures { result ≡ judged self.now.heard packet.now settings.now }
+    {
+        match (self.heard.frames(), packet) {
+            (0, Packet::Protocol(asked)) => {
+                if !is_same(*asked, settings.protocol) {
+                    return Err(Refusal::OtherProtocol);
+                }
+                Ok(Command::Protocol)
+            }
+            (1, Packet::Sizes { blocks }) => {
+                if *blocks != u64::from(settings.blocks) {
+                    return Err(Refusal::OtherSize);
+                }
+                Ok(Command::Sizes)
+            }
+            (2.., Packet::Uuids(_)) => Ok(Command::Uuids),
+            _ => Err(Refusal::BadCommand),
+        }
+    }
+
+    /// The next frame of the peer's hello is heard.
+    pub fn hear(&mut self)
+        ensures { self.new ≡ record self.old { heard = advanced self.old.heard } }
+    {
+        self.heard.advance();
+    }
+}
+
+// Whether both are the same protocol.
+fn is_same(asked: Protocol, own: Protocol) -> bool
+    ensures { result ≡ same_protocol asked own }
+{
+    match (asked, own) {
+        (Protocol::A, Protocol::A) | (Protocol::B, Protocol::B) | (Protocol::C, Protocol::C) =>
+            true,
+        _ => false,
+    }
+}

@@ -1,0 +1,60 @@
+//! Steps of the primary.
+ghost use Rattle.mirror.specs.Runs.{LocalRuns};
+
+use crate::working::went;
+use blocks::{Refusal, Store};
+use link::{FrameIn, FrameOut};
+use primary::Primary;
+
+/// Does what the primary can do once: its disk does a write, it sends a frame, it takes one, it copies a block. Returns
+/// whether it did anything.
+pub(crate) fn local_turn<O: FrameOut + Drop, I: FrameIn + Drop, S: Store + Drop>(
+    local: &mut Primary<O, I, S>,
+) -> Result<bool, Refusal>
+    ensures { LocalRuns local.old local.new }
+{
+    let written = write(local)?;
+    let sent = send(local)?;
+    let taken = take(local)?;
+    let copied = copy(local)?;
+    Ok(written || sent || taken || copied)
+}
+
+// The disk does the next write.
+fn write<O: FrameOut + Drop, I: FrameIn + Drop, S: Store + Drop>(
+    local: &mut Primary<O, I, S>,
+) -> Result<bool, Refusal>
+    ensures { LocalRuns local.old local.new }
+{
+    match local.next_local() {
+        Some(number) => went(local.local(number)),
+        None => Ok(false),
+    }
+}
+
+// The next frame is sent.
+fn send<O: FrameOut + Drop, I: FrameIn + Drop, S: Store + Drop>(
+    local: &mut Primary<O, I, S>,
+) -> Result<bool, Refusal>
+    ensures { LocalRuns local.old local.new }
+{
+    went(local.send())
+}
+
+// The next frame is taken.
+fn take<O: FrameOut + Drop, I: FrameIn + Drop, S: Store + Drop>(
+    local: &mut Primary<O, I, S>,
+) -> Result<bool, Refusal>
+    ensures { LocalRuns local.old local.new }
+{
+    went(local.ack_in())
+}
+
+// The next block of a resync is copied.
+fn copy<O: FrameOut + Drop, I: FrameIn + Drop, S: Store + Drop>(
+    local: &mut Primary<O, I, S>,
+) -> Result<bool, Refusal>
+    ensures { LocalRuns local.old local.new }
+{
+    went(local.resync_next())
+}

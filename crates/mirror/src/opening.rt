@@ -1,0 +1,55 @@
+//! Opening both nodes over a new link.
+ghost use Rattle.std.specs.Prelude.{◌≡◌, ◌⊎◌, Some, OnOk, OnErr, IfErr};
+ghost use Rattle.blocks.specs.declared.refusal.Refusal.TheVariants.{NoMemory};
+ghost use Rattle.endpoint.specs.Calls.{IsNewIn, IsNewOut};
+ghost use Rattle.model.specs.Primary.{PrimaryHistory};
+ghost use Rattle.model.specs.Refusals.{first_refusal};
+ghost use Rattle.model.specs.Secondary.{SecondaryHistory};
+ghost use Rattle.primary.specs.State as local_state;
+ghost use Rattle.primary_steps.specs.Node as local_node;
+ghost use Rattle.secondary.specs.State as peer_state;
+ghost use Rattle.secondary_steps.specs.Node as peer_node;
+ghost use Rattle.mirror.specs.Opened.{BothOpen, connect_tests};
+
+use blocks::{Refusal, Store};
+use link::{FrameIn, FrameOut};
+use primary::Primary;
+use secondary::Secondary;
+
+/// Opens both nodes over a new link: the primary sends `there` and takes from `back`, the secondary the other
+/// way round. The two words are fresh generation identifiers, one that a resync would begin, and one that the loss
+/// of the connection begins. Both nodes open, or none: the secondary is asked first.
+///
+/// `NotDrained` (36) if an end is open, and where the secondary has items pending; `StreamFull` (6) if
+/// 4,294,967,295 connections were opened; `UsedIdentifier` (33) and `NoMemory` (7) as `Primary::open` has them.
+/// A refused call changes neither node.
+pub fn connect<O, I, P, J, S, T>(
+    local: &mut Primary<O, I, S>,
+    peer: &mut Secondary<P, J, T>,
+    there: (O, J),
+    back: (P, I),
+    words: (u64, u64),
+) -> Result<(), Refusal>
+where
+    O: FrameOut + Drop,
+    I: FrameIn + Drop,
+    P: FrameOut + Drop,
+    J: FrameIn + Drop,
+    S: Store + Drop,
+    T: Store + Drop,
+    requires there { IsNewOut (O.state there.0) × IsNewIn (J.state there.1) }
+    requires back { IsNewOut (P.state back.0) × IsNewIn (I.state back.1) }
+    ensures opened { OnOk result (BothOpen words.0 words.1 local.old local.new peer.old peer.new) }
+    ensures unchanged { (h : PrimaryHistory) (g : SecondaryHistory) → local_node.NodeHas (local_state.node local.old) h → peer_node.NodeHas (peer_state.node peer.old) g
+        → OnErr result ((local.new ≡ local.old) × (peer.new ≡ peer.old)) }
+    ensures refused { (h : PrimaryHistory) (g : SecondaryHistory) → local_node.NodeHas (local_state.node local.old) h → peer_node.NodeHas (peer_state.node peer.old) g
+        → IfErr result (λ e. (e ≡ NoMemory) ⊎ (first_refusal (connect_tests words.0 words.1 h g) ≡ Some e)) }
+{
+    peer.may_open()?;
+    if peer.number() == u32::MAX {
+        return Err(Refusal::StreamFull);
+    }
+    local.may_open(words.0, words.1)?;
+    local.open(there.0, back.1, words.0, words.1)?;
+    peer.open(back.0, there.1)
+}

@@ -1,0 +1,50 @@
+//! Steps of the secondary.
+ghost use Rattle.mirror.specs.Runs.{PeerRuns};
+
+use crate::working::went;
+use blocks::{Refusal, Store};
+use link::{FrameIn, FrameOut};
+use secondary::Secondary;
+
+/// Does what the secondary can do once: it takes a frame, its disk does an item, it sends an acknowledgement. Returns
+/// whether it did anything.
+pub(crate) fn peer_turn<O: FrameOut + Drop, I: FrameIn + Drop, S: Store + Drop>(
+    peer: &mut Secondary<O, I, S>,
+) -> Result<bool, Refusal>
+    ensures { PeerRuns peer.old peer.new }
+{
+    let taken = take(peer)?;
+    let applied = apply(peer)?;
+    let sent = send(peer)?;
+    Ok(taken || applied || sent)
+}
+
+// The next frame is taken.
+fn take<O: FrameOut + Drop, I: FrameIn + Drop, S: Store + Drop>(
+    peer: &mut Secondary<O, I, S>,
+) -> Result<bool, Refusal>
+    ensures { PeerRuns peer.old peer.new }
+{
+    went(peer.receive())
+}
+
+// The disk does the next item.
+fn apply<O: FrameOut + Drop, I: FrameIn + Drop, S: Store + Drop>(
+    peer: &mut Secondary<O, I, S>,
+) -> Result<bool, Refusal>
+    ensures { PeerRuns peer.old peer.new }
+{
+    match peer.next() {
+        Ok(place) => went(peer.peer(place)),
+        Err(_) => Ok(false),
+    }
+}
+
+// The next acknowledgement is sent.
+fn send<O: FrameOut + Drop, I: FrameIn + Drop, S: Store + Drop>(
+    peer: &mut Secondary<O, I, S>,
+) -> Result<bool, Refusal>
+    ensures { PeerRuns peer.old peer.new }
+{
+    went(peer.ack_out())
+}

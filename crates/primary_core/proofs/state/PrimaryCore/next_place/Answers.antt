@@ -1,5 +1,0 @@
-use Rattle.std.proofs.Common.{rules}
-use Rattle.primary_core.proofs.state.PrimaryCore.next_place.Goals as goal
-
-pub returns : goal.returns
-returns c = search rules

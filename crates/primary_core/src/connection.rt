@@ -1,0 +1,14 @@
+//! The state of a connection.
+use crate::outbox::Outbox;
+use handshakes::Handshake;
+use resync::Resync;
+
+/// An open connection: its two words, its handshake, the items of its stream that are due, its resync.
+#[derive(Drop)]
+pub(crate) struct Connection {
+    pub(crate) sync: u64,
+    pub(crate) loss: u64,
+    pub(crate) handshake: Handshake,
+    pub(crate) outbox: Outbox,
+    pub(crate) resync: Resync,
+}

@@ -1,0 +1,62 @@
+//! What the disk does with pending items.
+ghost use Rattle.std.specs.Prelude.{◌≡◌, ◌+◌, ◌≤◌, length, ok_or, Ok, Err, IsOk, IfOk, MatchResult};
+ghost use Rattle.blocks.specs.declared.outcome.What.TheVariants as what;
+ghost use Rattle.blocks.specs.declared.refusal.Refusal.TheVariants.{NothingThere};
+ghost use Rattle.peerdisk.specs.Pending.{next};
+ghost use Rattle.model.specs.Refusals.{done_with};
+ghost use Rattle.model.specs.Stream.{contents_of, first_of};
+ghost use Rattle.secondary_steps.specs.Core.{applied, failing, start};
+
+use crate::item::Item;
+use crate::send::acknowledge;
+use crate::state::SecondaryCore;
+use blocks::{Done, Refusal, What};
+
+impl SecondaryCore {
+    /// The lowest pending place, if an item is pending.
+    pub fn next(&self) -> Option<u32>
+        ensures { ok_or result NothingThere ≡ next self.now.state.pending }
+    {
+        self.disk.next().ok()
+    }
+
+    /// The item of a place, which the disk may do now; the device has its blocks. `UnknownJob` (16) comes
+    /// where the place is not pending, `EpochOpen` (17) if an item of an earlier epoch is.
+    pub fn start(&self, place: u32) -> Result<&Item, Refusal>
+        ensures started { MatchResult result (λ item. start place self.now.state ≡ Ok item.now) (λ e. start place self.now.state ≡ Err e) }
+        ensures inside { IfOk result (λ item. first_of item.now + length (contents_of item.now) ≤ self.now.state.settings.blocks) }
+    {
+        self.disk.start(place)
+    }
+
+    /// The disk has the item of a place that may start: it is pending no more, and what the protocol asks to
+    /// acknowledge then is due at an open end, with each epoch that is wholly applied by it. It takes no
+    /// memory.
+    #[tactic(auto, using(crate::proofs::Places::may_start, crate::proofs::Places::one_less, crate::proofs::Kept::one_most))]
+    pub fn done(&mut self, place: u32) -> Done
+        requires { IsOk (start place self.old.state) }
+        ensures state { self.new.state ≡ applied place self.old.state }
+        ensures done { result ≡ done_with what.Nothing }
+    {
+        // No more are applied than were taken, so the count fits.
+        let _taken = self.inbox.places();
+        let item = self.disk.done(place);
+        self.items_applied += 1;
+        let answer = item.answer(self.settings.protocol, place);
+        acknowledge(&mut self.connection, answer, &self.disk);
+        Done::about(What::Nothing)
+    }
+
+    /// The disk failed the item of a place that may start: the end closes, and the item and those of later
+    /// epochs are dropped. It takes no memory.
+    #[tactic(auto, using(crate::proofs::Places::may_start))]
+    pub fn failed(&mut self, place: u32) -> Done
+        requires { IsOk (start place self.old.state) }
+        ensures state { self.new.state ≡ failing place self.old.state }
+        ensures done { result ≡ done_with what.Nothing }
+    {
+        self.failed = Some(self.disk.fault(place));
+        self.connection = None;
+        Done::about(What::Nothing)
+    }
+}

@@ -1,0 +1,73 @@
+//! What is sent: the hello, and the acknowledgements.
+ghost use Rattle.std.specs.Prelude.{ℕ, ◌≡◌, ◌≢◌, ◌+◌, ◌≤◌, false, true, length, option_map, option_to_list, Ok, Err, IsOk, IfOk, IfErr, IfSome, MatchResult};
+ghost use Rattle.blocks.specs.declared.refusal.Refusal.TheVariants.{NoMemory};
+ghost use Rattle.packets.specs.Spelling.{IsSpellable};
+ghost use Rattle.packets.specs.Table.{has_blocks};
+ghost use Rattle.endpoint.specs.Meaning.{meaning};
+ghost use Rattle.secondary_steps.specs.Core.{ack_out, due};
+ghost use Rattle.secondary_core.specs.Connections.{IsServed, acknowledged};
+
+use crate::answer::Answer;
+use crate::connection::Connection;
+use crate::item::Item;
+use crate::state::SecondaryCore;
+use blocks::{Done, Refusal, What};
+use packets::Packet;
+use peerdisk::PeerDisk;
+
+impl SecondaryCore {
+    /// The next frame that the end owes: of its hello, and then of the acknowledgements that are due. It has
+    /// a spelling, and no blocks. `NotConnected` (12) if the end is closed, else `NothingThere` (13) if nothing
+    /// is due. It takes no memory.
+    pub fn due(&self) -> Result<Packet, Refusal>
+        ensures due { MatchResult result (λ packet. due self.now.state ≡ Ok (meaning packet)) (λ e. due self.now.state ≡ Err e) }
+        ensures spellable { IfOk result IsSpellable }
+        ensures inline { IfOk result (λ packet. has_blocks packet ≡ false) }
+        ensures memory { IfErr result (λ e. e ≢ NoMemory) }
+    {
+        let Some(connection) = &self.connection else {
+            return Err(Refusal::NotConnected);
+        };
+        match connection.handshake.due(&self.settings) {
+            Some(packet) => Ok(packet),
+            None => connection.outbox.next().ok_or(Refusal::NothingThere),
+        }
+    }
+
+    /// What was due is pushed. It takes no memory.
+    pub fn sent(&mut self) -> Done
+        requires { IsOk (due self.old.state) }
+        ensures { (Ok result, self.new.state) ≡ ack_out true false self.old.state }
+    {
+        let Ok(packet) = self.due() else {
+            unreachable!()
+        };
+        let done = Done::about(What::Frame(packet.command(), None));
+        if let Some(Connection { handshake, outbox }) = &mut self.connection {
+            if handshake.is_said() {
+                outbox.pop();
+            } else {
+                handshake.say();
+            }
+        }
+        done
+    }
+}
+
+/// Every acknowledgement of an open connection comes due here: this answer, if there is one, and then each
+/// epoch up to whose end all items are applied.
+pub(crate) fn acknowledge(
+    connection: &mut Option<Connection>,
+    answer: Option<Answer>,
+    disk: &PeerDisk<Item>,
+)
+    requires { IfSome connection.old (λ c. length c.outbox.due + length (option_to_list answer) + length c.outbox.sizes + length disk.now.pending ≤ c.outbox.answers) }
+    ensures due { connection.new ≡ option_map (acknowledged (option_to_list answer) disk.now.pending) connection.old }
+    ensures served { (barriers : ℕ) → IfSome connection.old (λ c. c.outbox.answered + length c.outbox.sizes ≡ barriers)
+        → IfSome connection.new (λ c. IsServed disk.now.pending barriers c.outbox) }
+{
+    if let Some(connection) = connection {
+        connection.outbox.push(answer);
+        connection.outbox.answer(disk);
+    }
+}
