@@ -1,4 +1,4 @@
-//! What is due to be sent.
+//! Sending the next frame.
 ghost use Rattle.std.specs.Prelude.{◌≡◌, ◌⊎◌, ◌+◌, ◌-◌, ◌<◌, ◌≤◌, ◌∷◌, [], true, drop, length, slice_get, Ok, Err, Some, IsOk, IfOk, IfErr, OnOk, MatchResult};
 ghost use Rattle.blocks.specs.declared.refusal.Refusal.TheVariants.{NoMemory};
 ghost use Rattle.endpoint.specs.Meaning.{meaning};

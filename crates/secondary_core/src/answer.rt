@@ -17,7 +17,7 @@ pub(crate) enum Told {
     Written(Acknowledgement),
     /// A block of a resync is on the disk: RS_WRITE_ACK.
     Resynced(Acknowledgement),
-    /// All items up to the end of an epoch, which has so many writes, are on the disk: BARRIER_ACK.
+    /// All items up to the end of an epoch are on the disk: BARRIER_ACK, with the number of its writes.
     Whole { epoch: u32, writes: u32 },
 }
 

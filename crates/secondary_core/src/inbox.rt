@@ -1,4 +1,4 @@
-//! What is kept of the stream that was taken.
+//! Receive-side state of the last connection's stream.
 ghost use Rattle.std.specs.Prelude.{ℕ, suc, ◌≡◌, ◌+◌, ◌<◌, ◌≤◌, ◌==◌, ◌||◌, nat_lt, length, IfOk, IfErr};
 ghost use Rattle.model.specs.Stream.{BarrierItem, contents_of, first_of};
 ghost use Rattle.model.specs.SecondarySteps.{has_place};
@@ -11,9 +11,9 @@ use peerdisk::LastEpoch;
 use std::alloc::Global;
 use std::marker::Model;
 
-/// What is kept of the last connection's stream that was taken: how many items, the highest number of a
-/// write, the barriers, of the last epoch how many writes it has and which blocks its items have; and whether
-/// a resync goes on. Each item has one place, so no count is above that of the places.
+/// Receive-side state of the last connection's stream: the number of items and of barriers, the highest write
+/// number, the last epoch's writes and blocks, and whether a resync goes on. Each item has one place, so no
+/// count is above that of the places.
 ///
 /// It outlives its connection: items of a closed one may still be pending, and it says how many were taken.
 #[derive(Drop)]
@@ -39,7 +39,7 @@ impl Model for Inbox {
 }
 
 impl Inbox {
-    /// Nothing, for a device of so many blocks. `NoMemory` (7) if there is no memory; nothing takes
+    /// Nothing, for a device of `blocks` blocks. `NoMemory` (7) if there is no memory; nothing takes
     /// memory later.
     pub(crate) fn new(alloc: Global, blocks: u32) -> Result<Inbox, Refusal>
         ensures nothing { IfOk result (λ t. t ≡ nothing_taken blocks) }

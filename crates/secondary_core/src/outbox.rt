@@ -77,7 +77,7 @@ impl Outbox {
         }
     }
 
-    /// A barrier ended an epoch of so many writes.
+    /// A barrier ended an epoch, which has `writes` writes.
     pub(crate) fn ended(&mut self, writes: u32)
         requires room { length self.old.sizes < self.old.epochs }
         requires fits { self.old.answered + length self.old.sizes < 4294967295 }
