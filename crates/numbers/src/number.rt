@@ -1,3 +1,4 @@
+//! Numbers that a script spells.
 ghost use Rattle.std.specs.Prelude.{◌≡◌, ◌<◌, ◌^◌, ℕ, IfSome, IfNone};
 ghost use Rattle.numbers.specs.Numbers.{decimal_digit, hexadecimal_digit, hexadecimal_byte, IsDecimal};
 

@@ -3,7 +3,7 @@ use Rattle.std.specs.Prelude.{ℕ, ◌≡◌, ◌≢◌, ◌+◌, ◌<◌, ◌�
 use Rattle.std.specs.List.{AllByRecursion}
 use Rattle.atomic_table.specs.Seated.{TableId}
 use Rattle.link.specs.Ends.{InEnd}
-use Rattle.link.specs.Past.{Past, Went}
+use Rattle.link.specs.Past.{Past, Went, ended}
 use Rattle.ruled_link.specs.Carried.{BeginsNoCut, IsCarried, IsRising, past_on, whole_length}
 use Rattle.ruled_link.specs.Pieces.{EndState, PieceState, bytes_if, bytes_on}
 
@@ -81,6 +81,28 @@ not_before number (Some piece) = if nat_lt piece.number number then None else So
 abbrev pub later_of : ℕ → Option PieceState → List PieceState
 later_of number None = []
 later_of number (Some piece) = if nat_lt number piece.number then piece ∷ [] else []
+
+-- an end on a first connection of a row, through which nothing came
+abbrev pub unused_in : TableId → InwardState
+unused_in row = record { row = row; pieces = []; taken = []; number = 1; past = []; is_ready = true; front = []; rest = None }
+
+-- an end that took this frame; what it popped for it, what is in hand then, and whether there is room for the longest frame are those of the other
+abbrev pub with_taken : List ℕ → InwardState → InwardState → InwardState
+with_taken frame now s = record s { pieces = now.pieces; taken = s.taken ++ frame ∷ []; is_ready = now.is_ready; front = now.front; rest = now.rest }
+
+-- an end that took none; what it popped and what is in hand then are those of the other
+abbrev pub with_popped : InwardState → InwardState → InwardState
+with_popped now s = record s { pieces = now.pieces; front = now.front; rest = now.rest }
+
+-- an end on the next connection, which has this number
+abbrev pub taking_anew : ℕ → InwardState → InwardState
+taking_anew number s = record s {
+  taken = [];
+  number = number;
+  past = ended s.number s.taken s.past;
+  front = [];
+  rest = not_before number s.rest;
+}
 
 -- What was popped: on the present connection the frames taken and then what is in hand, on each other one the frames
 -- taken and then what was dropped. Of a later connection than the present one is at most the last piece, and it is in

@@ -4,7 +4,7 @@ use Rattle.std.specs.List.{AllByRecursion}
 use Rattle.atomic_table.specs.Seated.{TableId}
 use Rattle.packets.specs.Cutting.{IsCut}
 use Rattle.link.specs.Ends.{OutEnd}
-use Rattle.link.specs.Past.{Past, Went}
+use Rattle.link.specs.Past.{Past, Went, ended}
 use Rattle.ruled_link.specs.Carried.{BeginsNoCut, IsCarried, IsRising, past_on}
 use Rattle.ruled_link.specs.Pieces.{EndState, PieceState, bytes_on}
 
@@ -44,6 +44,22 @@ sending s = record {
   waiting = None;
   room = None;
 }
+
+-- an end on a first connection of a row, through which nothing went
+abbrev pub unused_out : TableId → OutwardState
+unused_out row = record { row = row; pieces = []; sent = []; number = 1; past = []; partly = None }
+
+-- an end that sent this frame; the pieces pushed are those of the other
+abbrev pub with_sent : List ℕ → OutwardState → OutwardState → OutwardState
+with_sent frame now s = record s { pieces = now.pieces; sent = s.sent ++ frame ∷ []; partly = None }
+
+-- an end that was offered this frame, and pushed a part of it at most
+abbrev pub with_part : List ℕ → OutwardState → OutwardState → OutwardState
+with_part frame now s = record s { pieces = now.pieces; partly = Some frame }
+
+-- an end on the next connection, which has this number
+abbrev pub sending_anew : ℕ → OutwardState → OutwardState
+sending_anew number s = record s { sent = []; number = number; past = ended s.number s.sent s.past; partly = None }
 
 -- the bytes that were pushed of the frame that was offered in part
 abbrev pub pushed_of : Option (List ℕ) → ℕ → List ℕ

@@ -1,7 +1,9 @@
 //! A link between two nodes in threads of their own.
-ghost use Rattle.std.specs.Prelude.{◌≡◌, ◌<◌, ◌*◌, [], true, None, IfOk, IfErr};
+ghost use Rattle.std.specs.Prelude.{◌≡◌, ◌<◌, ◌*◌, [], IfOk, IfErr};
 ghost use Rattle.blocks.specs.declared.refusal.Refusal.TheVariants.{NoMemory};
+ghost use Rattle.ruled_link.specs.Inward.{unused_in};
 ghost use Rattle.ruled_link.specs.Joined.{IsJoined};
+ghost use Rattle.ruled_link.specs.Outward.{unused_out};
 
 use crate::pieces::{join_pieces, watched_row};
 use crate::{Moment, RuledIn, RuledOut, Unwatched};
@@ -20,24 +22,8 @@ pub fn ruled<R: Wait + Copy>(
     link: u32,
 ) -> Result<(RuledOut<R>, RuledIn<R>), Refusal>
     requires { 0 < link }
-    ensures outward { IfOk result (λ ends. ends.0 ≡ record {
-      row = ends.0.row;
-      pieces = [];
-      sent = [];
-      number = 1;
-      past = [];
-      partly = None;
-    }) }
-    ensures inward { IfOk result (λ ends. ends.1 ≡ record {
-      row = ends.0.row;
-      pieces = [];
-      taken = [];
-      number = 1;
-      past = [];
-      is_ready = true;
-      front = [];
-      rest = None;
-    }) }
+    ensures outward { IfOk result (λ ends. ends.0 ≡ unused_out ends.0.row) }
+    ensures inward { IfOk result (λ ends. ends.1 ≡ unused_in ends.0.row) }
     ensures room { IfOk result (λ ends. ends.0.row.slots ≡ 94 * link) }
     ensures refused { IfErr result (λ e. e ≡ NoMemory) }
 {
@@ -52,24 +38,8 @@ pub fn watched<R: Wait + Copy, M: Moment>(
 ) -> Result<(RuledOut<R, M>, RuledIn<R, M>), Refusal>
     requires some { 0 < link }
     requires first { M.holds [] [] }
-    ensures outward { IfOk result (λ ends. ends.0 ≡ record {
-      row = ends.0.row;
-      pieces = [];
-      sent = [];
-      number = 1;
-      past = [];
-      partly = None;
-    }) }
-    ensures inward { IfOk result (λ ends. ends.1 ≡ record {
-      row = ends.0.row;
-      pieces = [];
-      taken = [];
-      number = 1;
-      past = [];
-      is_ready = true;
-      front = [];
-      rest = None;
-    }) }
+    ensures outward { IfOk result (λ ends. ends.0 ≡ unused_out ends.0.row) }
+    ensures inward { IfOk result (λ ends. ends.1 ≡ unused_in ends.0.row) }
     ensures room { IfOk result (λ ends. ends.0.row.slots ≡ 94 * link) }
     ensures refused { IfErr result (λ e. e ≡ NoMemory) }
 {

@@ -1,11 +1,10 @@
 //! The taking end of a link between threads.
 ghost use Rattle.std.specs.Prelude.{◌≡◌, ◌<◌, ◌≤◌, [], ◌∷◌, ◌++◌, length, take, true, false, None, IfOk, OnOk, OnErr, IfErr, IfNone, IfSome, MatchOption, Some};
-ghost use Rattle.link.specs.Past.{ended};
 ghost use Rattle.packets.specs.Cutting.{IsCut};
 ghost use Rattle.ruled_link.specs.Carried.{BeginsNoCut};
 ghost use Rattle.ruled_link.specs.Moments.{WasEmpty};
 ghost use Rattle.ruled_link.specs.Pieces.{bytes_if};
-ghost use Rattle.ruled_link.specs.Inward.{in_hand, is_later, later_of, not_before, rest_on, taking};
+ghost use Rattle.ruled_link.specs.Inward.{in_hand, is_later, later_of, not_before, rest_on, taking, taking_anew, unused_in, with_popped, with_taken};
 ghost use Rattle.blocks.specs.declared.refusal.Refusal.TheVariants.{NoMemory, NothingThere};
 
 use crate::gathered::Gathered;
@@ -48,16 +47,7 @@ impl<R: Wait, M: Moment> RuledIn<R, M> {
     where
         R: Drop,
         requires { pieces.pieces ≡ [] }
-        ensures unused { IfOk result (λ end. end ≡ record {
-          row = pieces.row;
-          pieces = [];
-          taken = [];
-          number = 1;
-          past = [];
-          is_ready = true;
-          front = [];
-          rest = None;
-        }) }
+        ensures unused { IfOk result (λ end. end ≡ unused_in pieces.row) }
         ensures refused { IfErr result (λ e. e ≡ NoMemory) }
     {
         Ok(RuledIn {
@@ -103,11 +93,7 @@ impl<R: Wait, M: Moment> RuledIn<R, M> {
           front = [];
           rest = self.new.rest;
         }) × IsCut frame × (length frame ≤ 40 → self.new.is_ready ≡ true))) }
-        ensures none { IfOk result (λ found. IfNone found (self.new ≡ record self.old {
-          pieces = self.new.pieces;
-          front = self.new.front;
-          rest = self.new.rest;
-        })) }
+        ensures none { IfOk result (λ found. IfNone found (self.new ≡ with_popped self.new self.old)) }
         // Where no frame is whole, there is more in hand than before, and none of it lies behind the frame's end.
         ensures more { IfOk result (λ found. IfNone found (length (in_hand self.old) < length (in_hand self.new))) }
         ensures part { IfOk result (λ found. IfNone found (BeginsNoCut (in_hand self.new))) }
@@ -162,13 +148,7 @@ impl<R: Wait, M: Moment> FrameIn for RuledIn<R, M> {
 
     fn take(&mut self) -> Result<Frame, Refusal>
         requires { self.old.is_ready ≡ true }
-        ensures next { IfOk result (λ frame. self.new ≡ record self.old {
-          pieces = self.new.pieces;
-          taken = self.old.taken ++ frame ∷ [];
-          is_ready = self.new.is_ready;
-          front = self.new.front;
-          rest = self.new.rest;
-        }) }
+        ensures next { IfOk result (λ frame. self.new ≡ with_taken frame self.new self.old) }
         ensures cut { IfOk result (λ frame. IsCut frame) }
         ensures still_ready { IfOk result (λ frame. length frame ≤ 40 → self.new.is_ready ≡ true) }
         ensures refused { IfErr result (λ e. e ≡ NothingThere) }
@@ -176,11 +156,7 @@ impl<R: Wait, M: Moment> FrameIn for RuledIn<R, M> {
         ensures nothing { OnErr result (BeginsNoCut (in_hand self.new)) }
         // The row was empty at a moment, but where a piece of a later connection is in hand.
         ensures empty { OnErr result (is_later self.new.number self.new.rest ≡ false → WasEmpty M.holds self.new.pieces) }
-        ensures unchanged { OnErr result (self.new ≡ record self.old {
-          pieces = self.new.pieces;
-          front = self.new.front;
-          rest = self.new.rest;
-        }) }
+        ensures unchanged { OnErr result (self.new ≡ with_popped self.new self.old) }
     {
         if let Some(frame) = self.next_in_hand() {
             return Ok(frame);
@@ -197,13 +173,7 @@ impl<R: Wait, M: Moment> FrameIn for RuledIn<R, M> {
 
     fn restart(&mut self, number: u32)
         requires { self.old.number < number }
-        ensures { self.new ≡ record self.old {
-          taken = [];
-          number = number;
-          past = ended self.old.number self.old.taken self.old.past;
-          front = [];
-          rest = not_before number self.old.rest;
-        } }
+        ensures { self.new ≡ taking_anew number self.old }
     {
         self.taken = self.taken.over(&self.number);
         self.number = number;

@@ -1,10 +1,9 @@
 //! A taking end that has a name.
-ghost use Rattle.std.specs.Prelude.{◌≡◌, ◌<◌, ◌≤◌, [], ◌∷◌, ◌++◌, length, true, false, IfOk, OnOk, OnErr, IfErr};
-ghost use Rattle.link.specs.Past.{ended};
+ghost use Rattle.std.specs.Prelude.{◌≡◌, ◌<◌, ◌≤◌, length, true, false, IfOk, OnOk, OnErr, IfErr};
 ghost use Rattle.packets.specs.Cutting.{IsCut};
 ghost use Rattle.ruled_link.specs.Carried.{BeginsNoCut};
 ghost use Rattle.ruled_link.specs.Moments.{WasEmpty};
-ghost use Rattle.ruled_link.specs.Inward.{in_hand, is_later, not_before, taking};
+ghost use Rattle.ruled_link.specs.Inward.{in_hand, is_later, taking, taking_anew, with_popped, with_taken};
 ghost use Rattle.ruled_link.specs.Names.{row_of};
 ghost use Rattle.blocks.specs.declared.refusal.Refusal.TheVariants.{NoMemory, NothingThere};
 
@@ -70,13 +69,7 @@ impl<R: Wait, N: Named, M: Moment> FrameIn for NamedIn<R, N, M> {
 
     fn take(&mut self) -> Result<Frame, Refusal>
         requires { self.old.is_ready ≡ true }
-        ensures next { IfOk result (λ frame. self.new ≡ record self.old {
-          pieces = self.new.pieces;
-          taken = self.old.taken ++ frame ∷ [];
-          is_ready = self.new.is_ready;
-          front = self.new.front;
-          rest = self.new.rest;
-        }) }
+        ensures next { IfOk result (λ frame. self.new ≡ with_taken frame self.new self.old) }
         ensures cut { IfOk result (λ frame. IsCut frame) }
         ensures still_ready { IfOk result (λ frame. length frame ≤ 40 → self.new.is_ready ≡ true) }
         ensures refused { IfErr result (λ e. e ≡ NothingThere) }
@@ -84,24 +77,14 @@ impl<R: Wait, N: Named, M: Moment> FrameIn for NamedIn<R, N, M> {
         ensures nothing { OnErr result (BeginsNoCut (in_hand self.new)) }
         // The row was empty at a moment, but where a piece of a later connection is in hand.
         ensures empty { OnErr result (is_later self.new.number self.new.rest ≡ false → WasEmpty M.holds self.new.pieces) }
-        ensures unchanged { OnErr result (self.new ≡ record self.old {
-          pieces = self.new.pieces;
-          front = self.new.front;
-          rest = self.new.rest;
-        }) }
+        ensures unchanged { OnErr result (self.new ≡ with_popped self.new self.old) }
     {
         self.end.take()
     }
 
     fn restart(&mut self, number: u32)
         requires { self.old.number < number }
-        ensures { self.new ≡ record self.old {
-          taken = [];
-          number = number;
-          past = ended self.old.number self.old.taken self.old.past;
-          front = [];
-          rest = not_before number self.old.rest;
-        } }
+        ensures { self.new ≡ taking_anew number self.old }
     {
         self.end.restart(number);
     }

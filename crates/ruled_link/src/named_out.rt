@@ -1,10 +1,9 @@
 //! A sending end that has a name.
-ghost use Rattle.std.specs.Prelude.{◌≡◌, ◌<◌, [], ◌∷◌, ◌++◌, None, Some, OnOk, OnErr, IfErr, IfSome};
-ghost use Rattle.link.specs.Past.{ended};
+ghost use Rattle.std.specs.Prelude.{◌≡◌, ◌<◌, OnOk, OnErr, IfErr, IfSome};
 ghost use Rattle.packets.specs.Cutting.{IsCut};
 ghost use Rattle.ruled_link.specs.Moments.{WasFull};
 ghost use Rattle.ruled_link.specs.Names.{row_of};
-ghost use Rattle.ruled_link.specs.Outward.{sending};
+ghost use Rattle.ruled_link.specs.Outward.{sending, sending_anew, with_part, with_sent};
 
 use crate::{Moment, Named, RuledOut, Unwatched};
 use link::{FrameOut, Offered};
@@ -60,16 +59,9 @@ impl<R: Wait, N: Named, M: Moment> FrameOut for NamedOut<R, N, M> {
     fn offer(&mut self, frame: Frame) -> Result<(), Offered>
         requires whole { IsCut frame }
         requires again { IfSome self.old.partly (λ begun. begun ≡ frame) }
-        ensures accepted { OnOk result (self.new ≡ record self.old {
-          pieces = self.new.pieces;
-          sent = self.old.sent ++ frame ∷ [];
-          partly = None;
-        }) }
+        ensures accepted { OnOk result (self.new ≡ with_sent frame self.new self.old) }
         ensures handed_back { IfErr result (λ offered. offered.frame ≡ frame) }
-        ensures in_part { OnErr result (self.new ≡ record self.old {
-          pieces = self.new.pieces;
-          partly = Some frame;
-        }) }
+        ensures in_part { OnErr result (self.new ≡ with_part frame self.new self.old) }
         ensures full { OnErr result (WasFull M.holds self.new.row self.new.pieces) }
     {
         self.end.offer(frame)
@@ -77,12 +69,7 @@ impl<R: Wait, N: Named, M: Moment> FrameOut for NamedOut<R, N, M> {
 
     fn restart(&mut self, number: u32)
         requires { self.old.number < number }
-        ensures { self.new ≡ record self.old {
-          sent = [];
-          number = number;
-          past = ended self.old.number self.old.sent self.old.past;
-          partly = None;
-        } }
+        ensures { self.new ≡ sending_anew number self.old }
     {
         self.end.restart(number);
     }

@@ -1,9 +1,8 @@
 //! The sending end of a link between threads.
-ghost use Rattle.std.specs.Prelude.{◌≡◌, ◌<◌, ◌≤◌, [], ◌∷◌, ◌++◌, length, None, Some, OnOk, OnErr, IfErr, IfSome};
-ghost use Rattle.link.specs.Past.{ended};
+ghost use Rattle.std.specs.Prelude.{◌≡◌, ◌<◌, ◌≤◌, [], length, OnOk, OnErr, IfErr, IfSome};
 ghost use Rattle.packets.specs.Cutting.{IsCut};
 ghost use Rattle.ruled_link.specs.Moments.{WasFull};
-ghost use Rattle.ruled_link.specs.Outward.{IsPushed, sending};
+ghost use Rattle.ruled_link.specs.Outward.{IsPushed, sending, sending_anew, unused_out, with_part, with_sent};
 
 use crate::{Moment, PIECE_BYTES, PieceOut, Unwatched};
 use link::{FrameOut, Offered, Trail};
@@ -37,14 +36,7 @@ impl<R: Wait, M: Moment> RuledOut<R, M> {
     /// An end that pushes its pieces here, on a first connection.
     pub fn new(pieces: PieceOut<R, M>) -> RuledOut<R, M>
         requires { pieces.pieces ≡ [] }
-        ensures { result ≡ record {
-          row = pieces.row;
-          pieces = [];
-          sent = [];
-          number = 1;
-          past = [];
-          partly = None;
-        } }
+        ensures { result ≡ unused_out pieces.row }
     {
         RuledOut {
             pieces,
@@ -62,16 +54,9 @@ impl<R: Wait, M: Moment> FrameOut for RuledOut<R, M> {
     fn offer(&mut self, frame: Frame) -> Result<(), Offered>
         requires whole { IsCut frame }
         requires again { IfSome self.old.partly (λ begun. begun ≡ frame) }
-        ensures accepted { OnOk result (self.new ≡ record self.old {
-          pieces = self.new.pieces;
-          sent = self.old.sent ++ frame ∷ [];
-          partly = None;
-        }) }
+        ensures accepted { OnOk result (self.new ≡ with_sent frame self.new self.old) }
         ensures handed_back { IfErr result (λ offered. offered.frame ≡ frame) }
-        ensures in_part { OnErr result (self.new ≡ record self.old {
-          pieces = self.new.pieces;
-          partly = Some frame;
-        }) }
+        ensures in_part { OnErr result (self.new ≡ with_part frame self.new self.old) }
         ensures full { OnErr result (WasFull M.holds self.new.row self.new.pieces) }
     {
         let whole = frame.as_slice();
@@ -89,12 +74,7 @@ impl<R: Wait, M: Moment> FrameOut for RuledOut<R, M> {
 
     fn restart(&mut self, number: u32)
         requires { self.old.number < number }
-        ensures { self.new ≡ record self.old {
-          sent = [];
-          number = number;
-          past = ended self.old.number self.old.sent self.old.past;
-          partly = None;
-        } }
+        ensures { self.new ≡ sending_anew number self.old }
     {
         self.sent = self.sent.over(&self.number);
         self.number = number;

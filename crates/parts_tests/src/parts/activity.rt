@@ -1,3 +1,4 @@
+//! Tests of the activity log.
 use activitylog::ActivityLog;
 use blocks::{Extent, Refusal};
 use std::test::Fail;

@@ -1,3 +1,4 @@
+//! Tests of the bitmap at full size, of the blocks that are held, and of the block that a resync copies.
 use bitmap::Bitmap;
 use blocks::{Block, Extent, Range};
 use overlap::Held;

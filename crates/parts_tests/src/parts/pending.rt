@@ -1,3 +1,4 @@
+//! Tests of the items that a disk has pending.
 use blocks::Refusal;
 use peerdisk::PeerDisk;
 use std::test::Fail;
