@@ -1,10 +1,10 @@
 -- Receipts are held against the journal by their numbers.
-use Rattle.std.proofs.Common.{ℕ, zero, suc, ◌≡◌, ◌+◌, ◌-◌, ◌<◌, ◌≤◌, inl, inr, Bool, true, false, not, ◌&&◌, ◌||◌, List, [], ◌∷◌, length, drop, replicate}
+use Rattle.std.proofs.Common.{ℕ, zero, suc, ◌≡◌, ◌+◌, ◌-◌, ◌<◌, ◌≤◌, inl, inr, Bool, true, false, not, ◌&&◌, ◌||◌, List, [], ◌∷◌, length, get_or, drop, replicate}
 use Rattle.std.proofs.Common.{Option, Some, None, slice_get, slice_set, refl, sym, ◌∙◌, ap, subst, arith, ◌==◌}
 use Rattle.std.specs.Prelude.{find, is_some, option_map, unwrap_or}
 use Rattle.std.specs.List.{list_any, AllByRecursion}
 use Rattle.std.proofs.lemmas.Bool.{both_ways, and_parts, eqb-true, eq-eqb, false_from_ne_true, cases_lt}
-use Rattle.std.proofs.lemmas.List.{length-set}
+use Rattle.std.proofs.lemmas.List.{drop_more, length-set}
 use Rattle.std.proofs.Math.ListN.{drop_of_length-le}
 use Rattle.std.proofs.lemmas.Option.{slice_get_within, slice_get_past}
 use Rattle.blocks.specs.Positions.{StreamPosition}
@@ -24,6 +24,7 @@ use Rattle.primary_steps.proofs.Common.Numbers.{any-some, get-map}
 use Rattle.primary_steps.proofs.Receipts.Journal.{IsNumbered, failed-open, entry-is, write-is}
 use Rattle.primary_core.specs.Entries.{is_unconfirmed}
 use Rattle.primary.specs.Receipts.{is_entry_of, is_found, kind_of}
+use Rattle.primary.proofs.Telling.{kind-back}
 
 -- two truth values that follow from each other are the same
 same-truth : (a b : Bool) → (a ≡ true → b ≡ true) → (b ≡ true → a ≡ true) → a ≡ b
@@ -42,10 +43,6 @@ number-of a b same =
     let parts = and_parts ((a.number == b.number) && (a.first == b.first)) ((a.count == b.count) && (same_kind a.kind b.kind && same_home a.home b.home))
     same in
     eqb-true a.number b.number (and_parts (a.number == b.number) (a.first == b.first) parts.0).0
-
-kind-back : (k : Kind) → kind_of (is_linked k) ≡ k
-kind-back Linked = refl
-kind-back Alone = refl
 
 -- an entry that has the number, by its parts
 shuffled : (n f c x : Bool) → n ≡ true → ((n && f) && (c && x)) ≡ ((f && c) && x)
@@ -310,31 +307,30 @@ given-numbers s r (e ∷ earlier) found all = λ i. same-truth (same_receipt r e
     || given-numbers s r earlier found all.1 i
 
 module _ (s : PrimaryState) (receipts : List Receipt) (i : ℕ) (flags : List Bool) (was : IsConfirming s receipts i flags) (r : Receipt)
-    (next : drop i receipts ≡ r ∷ drop (i + 1) receipts) where
+    (within : i < length receipts) (item : r ≡ get_or receipts i r) where
   -- whether it is strange, by what the calls said of it
   strange-by : (h : PrimaryHistory) → ((r : Receipt) → list_any (λ (entry : Completion). same_receipt (receipt_of entry) r) h.journal ≡ is_found r s)
       → has_strange h.journal [] receipts ≡ ((not (is_found r s) || list_any (same_receipt r) was.earlier) || has_strange h.journal (r ∷ was.earlier)
       (drop (i + 1) receipts))
   strange-by h same = was.strange h same
-      ∙ (ap (has_strange h.journal was.earlier) next
+      ∙ (ap (has_strange h.journal was.earlier) (drop_more receipts i r within ∙ ap (λ x. x ∷ drop (i + 1) receipts) (sym item))
       ∙ λ k. (not (same r k) || list_any (same_receipt r) was.earlier) || has_strange h.journal (r ∷ was.earlier) (drop (i + 1) receipts))
 
   given-flag : is_found r s ≡ true → is_unconfirmed r.number flags ≡ not (list_any (same_receipt r) was.earlier)
   given-flag found = was.flagged r.number ∙ λ k. entry-there s r found k && not (sym (given-numbers s r was.earlier found was.each) k)
 
   -- it is not found
-  pub strange-missing : (h : PrimaryHistory) → ((r : Receipt) → list_any (λ (entry : Completion). same_receipt (receipt_of entry) r) h.journal ≡ is_found r s)
-      → is_found r s ≡ false → has_strange h.journal [] receipts ≡ true
-  strange-missing h same missing = strange-by h same
-      ∙ ap (λ b. (not b || list_any (same_receipt r) was.earlier) || has_strange h.journal (r ∷ was.earlier) (drop (i + 1) receipts)) missing
+  pub strange-missing : (h : PrimaryHistory) → IsReached h → Leaves s h → is_found r s ≡ false → false ≡ not (has_strange h.journal [] receipts)
+  strange-missing h reached left missing = sym (ap not (strange-by h (journal-has s h reached left)
+      ∙ ap (λ b. (not b || list_any (same_receipt r) was.earlier) || has_strange h.journal (r ∷ was.earlier) (drop (i + 1) receipts)) missing))
 
   -- it was given before
-  pub strange-given : (h : PrimaryHistory) → ((r : Receipt) → list_any (λ (entry : Completion). same_receipt (receipt_of entry) r) h.journal ≡ is_found r s)
-      → is_found r s ≡ true → is_unconfirmed r.number flags ≡ false → has_strange h.journal [] receipts ≡ true
-  strange-given h same found given = strange-by h same
+  pub strange-given : (h : PrimaryHistory) → IsReached h → Leaves s h → is_found r s ≡ true → is_unconfirmed r.number flags ≡ false
+      → false ≡ not (has_strange h.journal [] receipts)
+  strange-given h reached left found given = sym (ap not (strange-by h (journal-has s h reached left)
       ∙ (ap (λ b. (not b || list_any (same_receipt r) was.earlier) || has_strange h.journal (r ∷ was.earlier) (drop (i + 1) receipts)) found
       ∙ ap (λ b. b || has_strange h.journal (r ∷ was.earlier) (drop (i + 1) receipts)) (turned (list_any (same_receipt r) was.earlier) (sym (given-flag found)
-      ∙ given)))
+      ∙ given)))))
     where
       turned : (b : Bool) → not b ≡ false → b ≡ true
       turned true is = refl
@@ -364,8 +360,8 @@ module _ (s : PrimaryState) (receipts : List Receipt) (i : ℕ) (flags : List Bo
       move true false false = refl
       move false any hit = refl
 
-      within : (m : ℕ) → is_unconfirmed (suc m) flags ≡ true → m < length flags
-      within m some = elim (cases_lt m (length flags)) [
+      short : (m : ℕ) → is_unconfirmed (suc m) flags ≡ true → m < length flags
+      short m some = elim (cases_lt m (length flags)) [
         | inl less ↦ less
         | inr past ↦ let wrong : false ≡ true = sym (ap (λ (v : Option Bool). not (unwrap_or v true)) (slice_get_past flags m past)) ∙ some in absurd (cc)
       ]
@@ -377,7 +373,7 @@ module _ (s : PrimaryState) (receipts : List Receipt) (i : ℕ) (flags : List Bo
       set n (suc m) is some =
           let index : r.number - 1 ≡ m = omega (arith, is) in
           ap (λ (k : ℕ). is_unconfirmed n (slice_set flags k true)) index
-          ∙ (unconfirmed-set n m flags (within m some)
+          ∙ (unconfirmed-set n m flags (short m some)
           ∙ (ap (λ b. b && not (suc m == n)) (was.flagged n)
           ∙ (move (is_unconfirmed n (replicate (length s.entries) false)) (list_any (λ (e : Receipt). e.number == n) was.earlier) (suc m == n)
           ∙ ap (λ (k : ℕ). is_unconfirmed n (replicate (length s.entries) false) && not ((k == n) || list_any (λ (e : Receipt). e.number == n) was.earlier))

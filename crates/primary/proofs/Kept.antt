@@ -7,15 +7,16 @@ use Rattle.std.proofs.lemmas.Bool.Decides.{nat_tests}
 use Rattle.blocks.specs.declared.tuple.Tuple.{Tuple}
 use Rattle.blocks.specs.declared.settings.Settings.{Settings}
 use Rattle.blocks.specs.declared.outcome.Reply.{Reply}
-use Rattle.model.specs.Primary.{primary_opening}
+use Rattle.model.specs.Primary.{PrimaryHistory, primary_opening}
 use Rattle.model.specs.LocalRuns.{PrimaryEvent}
 use Rattle.model.specs.Frames.{Packet, Received}
 use Rattle.endpoint.specs.Outgoing.{OutgoingState}
 use Rattle.endpoint.specs.Incoming.{IncomingState}
 use Rattle.primary_steps.specs.Core.{PrimaryState, fresh, stands}
 use Rattle.primary_steps.specs.Transitions.{due}
-use Rattle.primary_steps.specs.Node.{NodeHas, NodeIsHad, NodeSteps}
+use Rattle.primary_steps.specs.Node.{IsStep, NodeHas, NodeSteps}
 use Rattle.primary_steps.proofs.Node.Calls.{IsPlain, plain-still, opening-has}
+use Rattle.primary_steps.proofs.Node.Disks.{KeepsNode}
 use Rattle.primary_steps.proofs.Node.Due.{IsStill}
 use Rattle.primary_steps.proofs.Node.Runs.{node-had}
 use Rattle.primary_core.specs.State.{CanBegin}
@@ -37,24 +38,29 @@ numbered-kept None i s t same was = tt
 numbered-kept (Some o) None s t same was = tt
 
 -- A call that leaves both sides of the link, opens no end and begins no stream.
-pub kept-is : (v : PrimaryView) (core : PrimaryState) (disk : List (List ℕ)) (faults : ℕ) (steady : Bool) → IsNode v
-    → NodeIsHad (node (record v { core = core; disk = disk })) → IsStill v.core core → (stands core ≡ true → stands v.core ≡ true)
-    → IsNode (record v { core = core; disk = disk; faults = faults; steady = steady })
-kept-is v core disk faults steady was had still standing = record {
-  had = had;
-  out_there = λ some. was.out_there (still.opened some);
-  in_there = λ some. was.in_there (still.opened some);
-  begun = begun-kept v.outgoing v.core core still was.begun;
-  numbered = numbered-kept v.outgoing v.incoming v.core core still.connections was.numbered;
-  ready = λ begun. was.ready (standing begun);
+pub kept-is : (v : PrimaryView) (core : PrimaryState) (disk : List (List ℕ)) → IsNode v → KeepsNode (node v) (node (record v { core = core; disk = disk }))
+    → (faults : ℕ) (steady : Bool) → IsNode (record v { core = core; disk = disk; faults = faults; steady = steady })
+kept-is v core disk was k faults steady = record {
+  had = k.had;
+  out_there = λ some. was.out_there (k.still.opened some);
+  in_there = λ some. was.in_there (k.still.opened some);
+  begun = begun-kept v.outgoing v.core core k.still was.begun;
+  numbered = numbered-kept v.outgoing v.incoming v.core core k.still.connections was.numbered;
+  ready = λ begun. was.ready (k.stood begun);
 }
+
+-- Such a call is this step, and leaves a node.
+pub record StepsTo (step : PrimaryHistory → Reply × PrimaryHistory) (v : PrimaryView) (said : Reply) (core : PrimaryState) (disk : List (List ℕ)) : Type 0 where
+  pub steps : IsStep step (node v) said (record (node v) { core = core; disk = disk })
+  pub is : (faults : ℕ) (steady : Bool) → IsNode (record v { core = core; disk = disk; faults = faults; steady = steady })
 
 -- A call that takes no frame, pushes none and leaves the disk.
 pub plain-is : (event : PrimaryEvent) (v : PrimaryView) (core : PrimaryState) (reply : Reply) → IsPlain event → IsNode v
     → NodeSteps event (node v) reply (node (record v { core = core })) → IsNode (record v { core = core })
 plain-is event v core reply plain was steps =
     let still = plain-still event (node v) (node (record v { core = core })) reply plain was.had steps in
-    kept-is v core v.disk v.faults v.steady was (node-had event (node v) reply (node (record v { core = core })) was.had steps) still.0 still.1
+    let had = node-had event (node v) reply (node (record v { core = core })) was.had steps in
+    kept-is v core v.disk was (record { had = had; still = still.0; stood = still.1 }) v.faults v.steady
 
 -- A new node.
 pub new-has : (settings : Settings) (disk : List (List ℕ)) (tuple : Tuple) (given marks : List Bool) (s : PrimaryState)

@@ -1,6 +1,6 @@
 -- A connection begins at a node, or a write is accepted there.
 use Rattle.std.proofs.Common.{ℕ, suc, ◌≡◌, ◌+◌, ◌≤◌, Bool, true, false, List, [], Option, Some, None, Result, Ok, Err, refl, sym, ◌∙◌, ap, subst, arith}
-use Rattle.std.specs.Prelude.{is_some, IfSome}
+use Rattle.std.specs.Option.{option_map}
 use Rattle.std.proofs.lemmas.Bool.{both_ways}
 use Rattle.blocks.specs.declared.refusal.Refusal.{Refusal}
 use Rattle.blocks.specs.declared.outcome.Done.{Done}
@@ -8,10 +8,12 @@ use Rattle.blocks.specs.declared.outcome.What.TheVariants as what
 use Rattle.blocks.specs.declared.outcome.Reply.{Reply}
 use Rattle.blocks.specs.declared.outcome.Reply.TheVariants as reply
 use Rattle.model.specs.LocalRuns.{Opens, Submits}
-use Rattle.model.specs.Frames.{Packet, Received}
-use Rattle.endpoint.specs.Calls.{is_starved}
-use Rattle.endpoint.specs.Outgoing.{OutgoingState, pushing_anew}
-use Rattle.endpoint.specs.Incoming.{IncomingState, taking_anew}
+use Rattle.link.specs.Ends.{InEnd, OutEnd}
+use Rattle.model.specs.Frames.{Packet}
+use Rattle.endpoint.specs.Calls.{IsNewIn, IsNewOut, is_starved}
+use Rattle.endpoint.specs.Meaning.{meant, meant_in}
+use Rattle.endpoint.specs.Outgoing.{OutgoingState, outgoing, pushing_anew}
+use Rattle.endpoint.specs.Incoming.{IncomingState, incoming, received_from, taking_anew}
 use Rattle.primary_core.specs.Starved as inner
 use Rattle.primary_steps.specs.Core.{PrimaryState, stands}
 use Rattle.primary_steps.specs.Transitions.{open_end, submit, whole_blocks}
@@ -19,7 +21,7 @@ use Rattle.primary_steps.specs.Node.{NodeState, NodeSteps}
 use Rattle.primary_steps.specs.Steps.{replied, plainly}
 use Rattle.primary_steps.proofs.Node.Calls.{node-opened, node-not-opened, opened-core, not-opened-core, shut-stands, node-submits, submit-number}
 use Rattle.primary_steps.proofs.Node.Runs.{node-had}
-use Rattle.primary.specs.State.{PrimaryView, IsNode, IsDue, IsRestarted, node}
+use Rattle.primary.specs.State.{PrimaryView, IsNode, IsDue, node}
 use Rattle.primary_steps.proofs.Node.Keeps.{submits-keeps}
 use Rattle.primary.proofs.Kept.{plain-is}
 use Rattle.primary.proofs.Refused.{same-starved}
@@ -98,67 +100,67 @@ open-refused {R} tell v before core sync loss result said e was told is =
     (node-not-opened (node v) sync loss (inner.is_starved {R = Unit {0}} (Err e)) e core here)))
 
 -- both sides of a link through which nothing has gone on this connection
-pub record IsFresh (core : PrimaryState) (out : OutgoingState) (inn : IncomingState) : Type 0 where
-  pub pushed : out.pushed ≡ []
-  pub whole : out.partly ≡ None
-  pub taken : inn.taken ≡ []
-  pub out_number : out.number ≤ core.connections
-  pub in_number : inn.number ≤ core.connections
+record IsFresh (core : PrimaryState) (out : OutgoingState) (inn : IncomingState) : Type 0 where
+  pushed : out.pushed ≡ []
+  whole : out.partly ≡ None
+  taken : inn.taken ≡ []
+  out_number : out.number ≤ core.connections
+  in_number : inn.number ≤ core.connections
 
-module _ (v : PrimaryView) (before : IsNode v) (core : PrimaryState) (sync loss : ℕ) (result : Result (Unit {0}) Refusal) (was : result ≡ Ok tt)
-    (is : (result, core) ≡ open_end sync loss (inner.is_starved result) v.core) where
+-- The end opens over these sides, and it is a node with them.
+pub record OpensOver (sync loss : ℕ) (v : PrimaryView) (core : PrimaryState) (out : OutgoingState) (inn : IncomingState) : Type 0 where
+  pub steps : NodeSteps (Opens sync loss false) (node v) (plainly tt) (node (record v { core = core; outgoing = Some out; incoming = Some inn }))
+  pub is : IsNode (record v { core = core; outgoing = Some out; incoming = Some inn })
+
+module _ (v : PrimaryView) (before : IsNode v) (core : PrimaryState) (sync loss : ℕ) (result : Result (Unit {0}) Refusal) (out : OutgoingState)
+    (inn : IncomingState) (was : result ≡ Ok tt) (is : (result, core) ≡ open_end sync loss (inner.is_starved result) v.core) where
   here : (Ok tt, core) ≡ open_end sync loss false v.core
   here = subst (λ (r : Result (Unit {0}) Refusal). (r, core) ≡ open_end sync loss (inner.is_starved r) v.core) was is
 
-  -- one connection more
-  pub open-connections : core.connections ≡ suc v.core.connections
-  open-connections = ap (λ (x : PrimaryState). x.connections) (opened-core sync loss v.core core here).1
-
-  -- the end opens
-  pub open-steps : (out : OutgoingState) (inn : IncomingState) → IsFresh core out inn
-      → NodeSteps (Opens sync loss false) (node v) (plainly tt) (node (record v { core = core; outgoing = Some out; incoming = Some inn }))
-  open-steps out inn fresh =
-      subst (λ (l : List Packet). NodeSteps (Opens sync loss false) (node v) (plainly tt)
-      (record { core = core; disk = v.disk; pushed = l; taken = inn.taken })) (sym fresh.pushed)
-      (subst (λ (l : List Received). NodeSteps (Opens sync loss false) (node v) (plainly tt) (record { core = core; disk = v.disk; pushed = []; taken = l }))
-      (sym fresh.taken) (node-opened (node v) sync loss core here))
-
-  -- a node it is with these sides
-  pub open-is : (out : OutgoingState) (inn : IncomingState) → IsFresh core out inn → IsNode (record v { core = core; outgoing = Some out; incoming = Some inn })
-  open-is out inn fresh = record {
-    had = node-had (Opens sync loss false) (node v) (plainly tt) (node (record v { core = core; outgoing = Some out; incoming = Some inn })) before.had
-        (open-steps out inn fresh);
-    out_there = λ some. refl;
-    in_there = λ some. refl;
-    begun = subst (λ (x : Option (List Packet)). IsDue x core) (sym fresh.whole) tt;
-    numbered = (fresh.out_number, fresh.in_number);
-    ready = λ standing. absurd (both_ways (stands core) (ap stands (opened-core sync loss v.core core here).1
-        ∙ shut-stands (node v) before.had (opened-core sync loss v.core core here).0) standing);
-  }
-
-  -- The end opens anew, over both sides that it has.
-  fresh-there : (number : ℕ) (x : PrimaryView) → number ≡ core.connections → (r : IsRestarted number v x)
-      → IsFresh core (record (pushing_anew number r.before) { room = r.room; waiting = r.waiting })
-      (record (taking_anew number r.had) { queued = r.queued; capacity = r.capacity })
-  fresh-there number x numbered r = record { pushed = refl; whole = refl; taken = refl; out_number = omega arith; in_number = omega arith }
-
-  there : (number : ℕ) (x : PrimaryView) → x.core ≡ core → (r : IsRestarted number v x)
-      → x ≡ record v {
-        core = core;
-        outgoing = Some (record (pushing_anew number r.before) { room = r.room; waiting = r.waiting });
-        incoming = Some (record (taking_anew number r.had) { queued = r.queued; capacity = r.capacity });
+  opens-over : IsFresh core out inn → OpensOver sync loss v core out inn
+  opens-over fresh =
+      let steps : NodeSteps (Opens sync loss false) (node v) (plainly tt) (node (record v { core = core; outgoing = Some out; incoming = Some inn })) =
+      subst (NodeSteps (Opens sync loss false) (node v) (plainly tt))
+      (λ i. record { core = core; disk = v.disk; pushed = sym fresh.pushed i; taken = sym fresh.taken i }) (node-opened (node v) sync loss core here) in
+      record {
+        steps = steps;
+        is = record {
+          had = node-had (Opens sync loss false) (node v) (plainly tt) (node (record v { core = core; outgoing = Some out; incoming = Some inn }))
+              before.had steps;
+          out_there = λ some. refl;
+          in_there = λ some. refl;
+          begun = subst (λ (x : Option (List Packet)). IsDue x core) (sym fresh.whole) tt;
+          numbered = (fresh.out_number, fresh.in_number);
+          ready = λ standing. absurd (both_ways (stands core) (ap stands (opened-core sync loss v.core core here).1
+              ∙ shut-stands (node v) before.had (opened-core sync loss v.core core here).0) standing);
+        };
       }
-  there number x same r = r.rest ∙ λ i. record v { core = same i; outgoing = r.out i; incoming = r.inn i }
 
-  -- that is the step of an opening
-  pub reopen-steps : (now : PrimaryView) (number : ℕ) (x : PrimaryView) → v ≡ now → IsNode x → number ≡ core.connections → x.core ≡ core
-      → IsRestarted number now x → NodeSteps (Opens sync loss false) (node now) (plainly tt) (node x)
-  reopen-steps now number x is after numbered same restarted =
-      let r : IsRestarted number v x = subst (λ (w : PrimaryView). IsRestarted number w x) (sym is) restarted in
-      subst (λ (w : PrimaryView). NodeSteps (Opens sync loss false) (node w) (plainly tt) (node x)) is
-      (subst (λ (y : PrimaryView). NodeSteps (Opens sync loss false) (node v) (plainly tt) (node y)) (sym (there number x same r))
-      (open-steps _ _ (fresh-there number x numbered r)))
+  -- new sides
+  pub opens-new : (s : OutEnd) (t : InEnd) → IsNewOut s → IsNewIn t → out ≡ outgoing s → inn ≡ incoming t → OpensOver sync loss v core out inn
+  opens-new s t new_out new_in out_is in_is =
+      let more : core.connections ≡ suc v.core.connections = ap (λ (x : PrimaryState). x.connections) (opened-core sync loss v.core core here).1 in
+      let first : out.number ≡ 1 = ap (λ (o : OutgoingState). o.number) out_is ∙ new_out.number in
+      let first_too : inn.number ≡ 1 = ap (λ (i : IncomingState). i.number) in_is ∙ new_in.number in
+      opens-over (record {
+        pushed = ap (λ (o : OutgoingState). o.pushed) out_is ∙ ap meant_in new_out.sent;
+        whole = ap (λ (o : OutgoingState). o.partly) out_is ∙ ap (option_map meant) new_out.whole;
+        taken = ap (λ (i : IncomingState). i.taken) in_is ∙ ap (received_from 0) new_in.taken;
+        out_number = omega arith;
+        in_number = omega arith;
+      })
 
-  -- a node it is with the sides that it has
-  pub reopen-is : (number : ℕ) (x : PrimaryView) → number ≡ core.connections → x.core ≡ core → IsRestarted number v x → IsNode x
-  reopen-is number x numbered same r = subst IsNode (sym (there number x same r)) (open-is _ _ (fresh-there number x numbered r))
+  -- those of the connections before, begun anew
+  pub opens-anew : (number : ℕ) (o : OutgoingState) (i : IncomingState) → number ≡ core.connections
+      → out ≡ record (pushing_anew number o) { room = out.room; waiting = out.waiting }
+      → inn ≡ record (taking_anew number i) { queued = inn.queued; capacity = inn.capacity } → OpensOver sync loss v core out inn
+  opens-anew number o i counted out_is in_is =
+      let same : out.number ≡ number = ap (λ (x : OutgoingState). x.number) out_is in
+      let same_too : inn.number ≡ number = ap (λ (x : IncomingState). x.number) in_is in
+      opens-over (record {
+        pushed = ap (λ (x : OutgoingState). x.pushed) out_is;
+        whole = ap (λ (x : OutgoingState). x.partly) out_is;
+        taken = ap (λ (x : IncomingState). x.taken) in_is;
+        out_number = omega arith;
+        in_number = omega arith;
+      })

@@ -1,6 +1,8 @@
 -- Which ranges of its disk a node reads.
-use Rattle.std.proofs.Common.{ℕ, ◌≡◌, ◌+◌, ◌-◌, ◌*◌, ◌/◌, ◌<◌, ◌≤◌, inl, inr, Bool, true, false, List, [], ◌∷◌, ◌++◌, length, take, drop, Some, slice_get, refl}
+use Rattle.std.proofs.Common.{ℕ, ◌≡◌, ◌+◌, ◌-◌, ◌*◌, ◌/◌, ◌<◌, ◌≤◌, inl, inr, Bool, true, false, List, [], ◌∷◌, ◌++◌, length, take, drop, Some, Result, Ok, Err, slice_get, refl}
 use Rattle.std.proofs.Common.{sym, ◌∙◌, ap, subst, arith, length-append, length-drop, append_assoc, drop-drop}
+use Rattle.std.specs.Prelude.{OnErr, OnOk}
+use Rattle.std.specs.Result.{is_err}
 use Rattle.std.proofs.Math.Seq.{take-append_seam, take-length}
 use Rattle.std.proofs.lemmas.List.{length-take}
 use Rattle.std.proofs.lemmas.Bool.{cases_lt, false_from_ne_true}
@@ -105,3 +107,12 @@ read-more items held buffer n offset count first disk same long many less size r
 pub part-size : (offset count : ℕ) (held : List ℕ) → length held ≡ 4096 * count → offset < count
     → length (take (offset * 4096 + 4096 - offset * 4096) (drop (offset * 4096) held)) ≡ 4096
 part-size offset count held long less = simp (length-take, length-drop) (omega arith)
+
+-- A clause of a call that failed, or of one that did not.
+pub on-err : {T E P : Type 0} (r : Result T E) (b : Bool) → b ≡ is_err r → b ≡ true → OnErr r P → P
+on-err (Ok x) b value so p = absurd (let wrong : true ≡ false = sym so ∙ value in cc)
+on-err (Err e) b value so p = p
+
+pub on-ok : {T E P : Type 0} (r : Result T E) (b : Bool) → b ≡ is_err r → b ≡ false → OnOk r P → P
+on-ok (Ok x) b value so p = p
+on-ok (Err e) b value so p = absurd (let wrong : false ≡ true = sym so ∙ value in cc)

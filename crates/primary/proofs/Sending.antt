@@ -25,13 +25,12 @@ use Rattle.primary.specs.State.{PrimaryView, IsNode, IsDue, IsNumbered, node, pu
 
 -- A frame that is not pushed.
 
--- the step as the refusal tells what the link and the memory said
-as-told : (n : NodeState) (e : Refusal) (room starved : Bool) → has_room {R = Done} (Err e) ≡ room → is_starved {R = Done} (Err e) ≡ starved
-    → NodeSteps (Sends room starved) n (reply.Refused e) n
-    → NodeSteps (Sends (has_room {R = Done} (Err e)) (is_starved {R = Done} (Err e))) n (reply.Refused e) n
-as-told n e room starved is so steps =
-    subst (λ (b : Bool). NodeSteps (Sends b (is_starved {R = Done} (Err e))) n (reply.Refused e) n) (sym is)
-    (subst (λ (b : Bool). NodeSteps (Sends room b) n (reply.Refused e) n) (sym so) steps)
+-- the step of a push that was refused so
+refused-step : (n : NodeState) (said : Result Done Refusal) (e x : Refusal) → said ≡ Err e → e ≡ x
+    → NodeSteps (Sends (has_room {R = Done} (Err x)) (is_starved {R = Done} (Err x))) n (reply.Refused x) n
+    → NodeSteps (Sends (has_room said) (is_starved said)) n (replied reply.Ok said) n
+refused-step n said e x told is steps =
+    subst (λ (r : Result Done Refusal). NodeSteps (Sends (has_room r) (is_starved r)) n (replied reply.Ok r) n) (sym (told ∙ ap Err is)) steps
 
 ok-is : {X : Type 0} (r : Result X Refusal) → IsOk r → (x : X) × (r ≡ Ok x)
 ok-is (Ok x) is = (x, refl)
@@ -41,19 +40,17 @@ ok-is (Err e) is = absurd (cc)
 pub not-due-steps : (v : PrimaryView) → IsNode v → (e : Refusal) (said : Result Done Refusal) → said ≡ Err e
     → (due v.core ≡ Err e) ⊎ ((e ≡ NoMemory) × IsOk (due v.core))
     → NodeSteps (Sends (has_room said) (is_starved said)) (node v) (replied reply.Ok said) (node v)
-not-due-steps v before e said told why =
-    subst (λ (r : Result Done Refusal). NodeSteps (Sends (has_room r) (is_starved r)) (node v) (replied reply.Ok r) (node v)) (sym told) (elim why [
-      | inl none ↦ elim (due-refused v.core e none) [
-        | inl shut ↦ as-told (node v) e true false (ap (λ x. has_room {R = Done} (Err x)) shut) (ap (λ x. is_starved {R = Done} (Err x)) shut)
-            (node-not-pushed (node v) true false e (send-not-due true false v.core e none))
-        | inr nothing ↦ as-told (node v) e true false (ap (λ x. has_room {R = Done} (Err x)) nothing) (ap (λ x. is_starved {R = Done} (Err x)) nothing)
-            (node-not-pushed (node v) true false e (send-not-due true false v.core e none))
-      ]
-      | inr starved ↦
-          let packet = ok-is (due v.core) starved.1 in
-          as-told (node v) e true true (ap (λ x. has_room {R = Done} (Err x)) starved.0) (ap (λ x. is_starved {R = Done} (Err x)) starved.0)
-          (node-not-pushed (node v) true true e (send-starved v.core packet.0 packet.1 ∙ ap Err (sym starved.0)))
-    ])
+not-due-steps v before e said told why = elim why [
+  | inl none ↦ elim (due-refused v.core e none) [
+    | inl shut ↦ refused-step (node v) said e NotConnected told shut
+        (node-not-pushed (node v) true false NotConnected (send-not-due true false v.core NotConnected (none ∙ ap Err shut)))
+    | inr nothing ↦ refused-step (node v) said e NothingThere told nothing
+        (node-not-pushed (node v) true false NothingThere (send-not-due true false v.core NothingThere (none ∙ ap Err nothing)))
+  ]
+  | inr starved ↦
+      let packet = ok-is (due v.core) starved.1 in
+      refused-step (node v) said e NoMemory told starved.0 (node-not-pushed (node v) true true NoMemory (send-starved v.core packet.0 packet.1))
+]
 
 -- the link had no room, or there was no memory for its frame
 full-or-not : (e : Refusal) → (e ≡ LinkFull) ⊎ ((e ≡ LinkFull) → ⊥)
@@ -77,16 +74,10 @@ pub not-pushed-steps : (v : PrimaryView) → IsNode v → (o p : OutgoingState) 
     → NodeSteps (Sends (has_room said) (is_starved said)) (node v) (replied reply.Ok said) (node (record v { outgoing = Some p }))
 not-pushed-steps v before o p packet e said there is told memory pushed =
     let same : node v ≡ node (record v { outgoing = Some p }) = λ i. record (node v) { pushed = (ap (λ x. pushed_of x) there ∙ sym pushed) i } in
-    subst (λ (n : NodeState). NodeSteps (Sends (has_room said) (is_starved said)) (node v) (replied reply.Ok said) n) same
-    (subst (λ (r : Result Done Refusal). NodeSteps (Sends (has_room r) (is_starved r)) (node v) (replied reply.Ok r) (node v)) (sym told)
-    (elim (full-or-not e) [
-      | inl full ↦ as-told (node v) e false false (ap (λ x. has_room {R = Done} (Err x)) full) (ap (λ x. is_starved {R = Done} (Err x)) full)
-          (node-not-pushed (node v) false false e (send-full v.core packet is ∙ ap Err (sym full)))
-      | inr other ↦
-          let short = memory other in
-          as-told (node v) e true true (ap (λ x. has_room {R = Done} (Err x)) short) (ap (λ x. is_starved {R = Done} (Err x)) short)
-          (node-not-pushed (node v) true true e (send-starved v.core packet is ∙ ap Err (sym short)))
-    ]))
+    subst (NodeSteps (Sends (has_room said) (is_starved said)) (node v) (replied reply.Ok said)) same (elim (full-or-not e) [
+      | inl full ↦ refused-step (node v) said e LinkFull told full (node-not-pushed (node v) false false LinkFull (send-full v.core packet is))
+      | inr other ↦ refused-step (node v) said e NoMemory told (memory other) (node-not-pushed (node v) true true NoMemory (send-starved v.core packet is))
+    ])
 
 -- what the side of the link says of it
 pub nothing-sent : (o : Option OutgoingState) (e : Refusal) (said : Result Done Refusal) → said ≡ Err e → (e ≡ LinkFull → ⊥) → link.Sends said o o

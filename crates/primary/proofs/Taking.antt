@@ -65,11 +65,6 @@ takes-none v now before new e result is told ready empty refused =
 
 -- A frame was taken.
 
--- a fault of a frame is not that there was none
-pub fault-there : (read : Result packets.Packet Refusal) → IfErr read (λ e. e ≡ NothingThere → ⊥) → received read ≡ Err NothingThere → ⊥
-fault-there (Ok p) other is = cc
-fault-there (Err fault) other is = other (let same : fault ≡ NothingThere = cc in same)
-
 -- a packet without blocks
 short-packet : (p : packets.Packet) → IsShort (meaning p) → has_blocks p ≡ false
 short-packet (packet.Protocol protocol) is = refl

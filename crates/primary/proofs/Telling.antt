@@ -11,7 +11,7 @@ use Rattle.model.specs.Refusals.{done_with}
 use Rattle.model.specs.Primary.{Kind, Linked, Alone}
 use Rattle.model.specs.Settlement.{Receipt}
 use Rattle.model.specs.LocalRuns.{Receipts}
-use Rattle.primary_steps.specs.Core.{Fate, Open, Failed, Completed, Entry, PrimaryState}
+use Rattle.primary_steps.specs.Core.{Fate, Completed, Entry, PrimaryState}
 use Rattle.primary_steps.specs.Leaves.{is_linked}
 use Rattle.primary_steps.specs.Node.{IsStep, take_receipt}
 use Rattle.primary_steps.specs.Transitions.{take_completed}
@@ -21,27 +21,16 @@ use Rattle.primary.specs.Receipts.{kind_of, receipt_in}
 use Rattle.primary.specs.State.{PrimaryView, IsNode, node}
 use Rattle.primary.proofs.Kept.{plain-is}
 
+pub kind-back : (k : Kind) → kind_of (is_linked k) ≡ k
+kind-back Linked = refl
+kind-back Alone = refl
+
 -- the receipt of a completed write
 receipt-as : (number : ℕ) (entry : Entry) (kind : Kind) (home : Option StreamPosition) → entry.fate ≡ Completed (is_linked kind) home
     → receipt_in number entry ≡ Some (receipt_with number entry kind home)
-receipt-as number entry kind home is = ap of is ∙ ap (λ k. Some (record (receipt_with number entry kind home) { kind = k })) (as-kind kind)
-  where
-    of : Fate → Option Receipt
-    of fate = elim fate [
-      | Open ↦ None
-      | Failed ↦ None
-      | Completed linked home ↦ Some (record {
-        number = number;
-        first = entry.first;
-        count = entry.count;
-        kind = kind_of linked;
-        home = home;
-      })
-    ]
-
-    as-kind : (k : Kind) → kind_of (is_linked k) ≡ k
-    as-kind Linked = refl
-    as-kind Alone = refl
+receipt-as number entry kind home is =
+    ap (λ (fate : Fate). receipt_in number (record entry { fate = fate })) is
+    ∙ ap (λ k. Some (record (receipt_with number entry kind home) { kind = k })) (kind-back kind)
 
 module _ (v : PrimaryView) (before : IsNode v) (number : ℕ) (got : Result Entry Refusal) (core : PrimaryState) (is : (got, core) ≡ take_completed number v.core)
   where

@@ -62,12 +62,14 @@ impl<O: FrameOut + Drop, I: FrameIn + Drop, S: Store + Drop> Primary<O, I, S> {
     {
         self.core.open(sync, loss)?;
         let number = self.core.connection();
-        if let Some(outgoing) = &mut self.outgoing {
-            outgoing.restart(number);
-        }
-        if let Some(incoming) = &mut self.incoming {
-            incoming.restart(number);
-        }
+        let Some(outgoing) = &mut self.outgoing else {
+            return Err(Refusal::NotConnected);
+        };
+        outgoing.restart(number);
+        let Some(incoming) = &mut self.incoming else {
+            return Err(Refusal::NotConnected);
+        };
+        incoming.restart(number);
         Ok(number)
     }
 }

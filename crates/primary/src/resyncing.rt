@@ -33,11 +33,13 @@ impl<O: FrameOut + Drop, I: FrameIn + Drop, S: Store + Drop> Primary<O, I, S> {
     {
         let block = self.core.resync_block()?;
         let mut bytes = Vec::from_elem(self.alloc, 0u8, BLOCK_BYTES)?;
-        if self.store.read(block, &mut bytes).is_err() {
-            return Err(Refusal::ReadFault);
+        match self.store.read(block, &mut bytes) {
+            Ok(()) => {
+                let contents = Bytes::from_vec(bytes)?;
+                Ok(self.core.resync_read(block, contents))
+            }
+            Err(_) => Err(Refusal::ReadFault),
         }
-        let contents = Bytes::from_vec(bytes)?;
-        Ok(self.core.resync_read(block, contents))
     }
 }
 

@@ -1,142 +1,106 @@
 -- A node whose disk does an item, or fails it.
-use Rattle.std.proofs.Common.{ℕ, ◌≡◌, ◌+◌, ◌<◌, ◌≤◌, inl, inr, Bool, true, false, List, length, Option, Some, None, Result, Ok, Err, refl, sym, ◌∙◌, ap, subst}
-use Rattle.std.proofs.Common.{arith}
+use Rattle.std.proofs.Common.{ℕ, ◌≡◌, ◌+◌, ◌≤◌, Bool, true, List, length, take, Option, Some, None, Result, Ok, Err, refl, sym, ◌∙◌, ap, subst, subst₂, arith}
 use Rattle.std.specs.Prelude.{is_some}
-use Rattle.blocks.specs.Contents.{overwritten, IsTorn}
+use Rattle.blocks.specs.Contents.{blocks_of, overwritten, IsTorn}
+use Rattle.blocks.specs.Faults.{FaultState, written}
 use Rattle.blocks.specs.declared.refusal.Refusal.{Refusal}
 use Rattle.blocks.specs.declared.outcome.Done.{Done}
+use Rattle.blocks.specs.declared.outcome.Reply.{Reply}
 use Rattle.blocks.specs.declared.outcome.Reply.TheVariants as reply
 use Rattle.blocks.specs.declared.outcome.What.TheVariants as what
 use Rattle.model.specs.Frames.{Packet}
-use Rattle.model.specs.Stream.{Item, contents_of, first_of, below}
+use Rattle.model.specs.Pair.{peer_fault_kept}
+use Rattle.model.specs.Secondary.{SecondaryHistory}
+use Rattle.model.specs.Stream.{Item, contents_of, first_of, below, within}
 use Rattle.model.specs.Refusals.{done_with}
 use Rattle.model.specs.LocalRuns.{Applies, FailsToApply}
 use Rattle.endpoint.specs.Outgoing.{OutgoingState}
-use Rattle.secondary_steps.specs.Core.{EndState, SecondaryState, applied, due, failing, start}
-use Rattle.secondary_steps.specs.Node.{NodeSteps}
+use Rattle.secondary_steps.specs.Core.{EndState, SecondaryState, applied, failing, start}
+use Rattle.secondary_steps.specs.Node.{IsStep, NodeState, NodeSteps, secondary_step}
 use Rattle.secondary_steps.specs.Steps.{replied}
-use Rattle.secondary_steps.proofs.Node.Applies.{applies-due, node-applies, node-fails, node-not-started}
-use Rattle.secondary_steps.proofs.Node.Laid.{LaidAt, torn-laid, torn_offsets, whole-laid}
+use Rattle.secondary_steps.proofs.Node.Applies.{applies-due, node-applies, node-fails}
+use Rattle.secondary_steps.proofs.Node.Faults.{node-fails-kept}
+use Rattle.secondary_steps.proofs.Node.Laid.{LaidAt, kept-laid, torn-laid, torn_offsets, whole-laid}
 use Rattle.secondary_steps.proofs.Node.Runs.{node-had}
 use Rattle.secondary_steps.proofs.Node.Sized.{disk-long}
-use Rattle.secondary.specs.Calls.{AppliesOne}
 use Rattle.secondary.specs.State.{SecondaryView, node, IsBegun, IsDue, IsNode}
-use Rattle.secondary.proofs.Kept.{absent, begun-shut, numbered-same}
+use Rattle.secondary.proofs.Kept.{StepsTo, numbered-same, shuts}
 
 -- Blocks of the device are blocks of the disk.
 pub on-disk : (v : SecondaryView) (item : Item) → IsNode v → first_of item + length (contents_of item) ≤ v.core.settings.blocks
     → first_of item + length (contents_of item) ≤ length v.disk
 on-disk v item is inside = let long = disk-long (node v) is.had in omega arith
 
--- The place may not start.
-pub not-started-one : (v : SecondaryView) (place : ℕ) (e : Refusal) (result : Result Done Refusal) → IsNode v → start place v.core ≡ Err e → result ≡ Err e
-    → AppliesOne place result v v
-not-started-one v place e result is starts refused =
-    inl (
-      refl,
-      subst (λ (r : Result Done Refusal). NodeSteps (Applies place) (node v) (replied (λ done. done) r) (node v)) (sym refused)
-          (node-not-started (node v) place e starts),
-    )
+-- the step of a call that was refused
+pub refused-step : (step : SecondaryHistory → Reply × SecondaryHistory) (n : NodeState) (result : Result Done Refusal) (e : Refusal) → result ≡ Err e
+    → IsStep step n (reply.Refused e) n → IsStep step n (replied (λ done. done) result) n
+refused-step step n result e is steps = subst (λ (r : Result Done Refusal). IsStep step n (replied (λ done. done) r) n) (sym is) steps
 
--- what a write wrote is the item
-written-item : (device new : List (List ℕ)) (item : Item) (first : ℕ) (blocks : List (List ℕ)) → first ≡ first_of item → blocks ≡ contents_of item
-    → new ≡ overwritten device first blocks → new ≡ overwritten device (first_of item) (contents_of item)
-written-item device new item first blocks at is new_is = new_is ∙ (λ i. overwritten device (at i) (is i))
+-- The disk does the item, of which these are the bytes, or fails it.
+module _ (v : SecondaryView) (place : ℕ) (item : Item) (first : ℕ) (bytes contents : List ℕ) (core : SecondaryState) (disk : List (List ℕ)) (said : Done)
+    (was : IsNode v) (starts : start place v.core ≡ Ok item) (inside : first_of item + length (contents_of item) ≤ v.core.settings.blocks)
+    (at : first ≡ first_of item) (shown : bytes ≡ contents) (whole : blocks_of 4096 contents ≡ contents_of item) (plain : said ≡ done_with what.Nothing) where
+  blocks : blocks_of 4096 bytes ≡ contents_of item
+  blocks = ap (blocks_of 4096) shown ∙ whole
 
--- The disk did it.
-module _ (v : SecondaryView) (place : ℕ) (item : Item) (first : ℕ) (blocks : List (List ℕ)) (is : IsNode v) (starts : start place v.core ≡ Ok item)
-    (inside : first_of item + length (contents_of item) ≤ v.core.settings.blocks)
-    (at : first ≡ first_of item) (blocks_is : blocks ≡ contents_of item) where
-  done-steps : (core : SecondaryState) (disk : List (List ℕ)) → core ≡ applied place v.core → disk ≡ overwritten v.disk first blocks
-      → NodeSteps (Applies place) (node v) (reply.Ok (done_with what.Nothing)) (record (node v) { core = core; disk = disk })
-  done-steps core disk does disk_is =
-      subst (λ (x : SecondaryState). NodeSteps (Applies place) (node v) (reply.Ok (done_with what.Nothing)) (record (node v) { core = x; disk = disk }))
-      (sym does)
-      (node-applies (node v) place item starts disk (λ block. subst (λ (d : List (List ℕ)). LaidAt item (below (length (contents_of item))) v.disk d block)
-      (sym (written-item v.disk disk item first blocks at blocks_is disk_is))
-      (whole-laid item v.disk (on-disk v item is inside) block)))
+  fits : first_of item + length (contents_of item) ≤ length v.disk
+  fits = on-disk v item was inside
 
-  -- it is a node still
-  pub done-is : (core : SecondaryState) (disk : List (List ℕ)) (faults : ℕ) (steady : Bool) → core ≡ applied place v.core
-      → disk ≡ overwritten v.disk first blocks → IsNode (record v { core = core; disk = disk; faults = faults; steady = steady })
-  done-is core disk faults steady does disk_is = record {
-    had = node-had (Applies place) (node v) (reply.Ok (done_with what.Nothing)) (node (record v { core = core; disk = disk })) is.had
-        (done-steps core disk does disk_is);
-    out_there = λ stands. is.out_there (stays stands);
-    in_there = λ stands. is.in_there (stays stands);
-    begun = go v.outgoing is.begun;
-    numbered = numbered-same v.outgoing v.incoming v.core core (ap (λ (s : SecondaryState). s.number) does) is.numbered;
-  }
+  -- it does all of it
+  pub done : core ≡ applied place v.core → disk ≡ overwritten v.disk first (blocks_of 4096 bytes)
+      → StepsTo (secondary_step (Applies place)) v (reply.Ok said) core disk
+  done does written =
+      subst₂ (λ (d : Done) (x : SecondaryState). StepsTo (secondary_step (Applies place)) v (reply.Ok d) x disk) (sym plain) (sym does) (record {
+        steps = steps;
+        is = λ faults steady. record {
+          had = node-had (Applies place) (node v) (reply.Ok (done_with what.Nothing)) (record (node v) { core = applied place v.core; disk = disk }) was.had steps;
+          out_there = λ stands. was.out_there (stays v.core.end stands);
+          in_there = λ stands. was.in_there (stays v.core.end stands);
+          begun = begun v.outgoing was.begun;
+          numbered = numbered-same v.outgoing v.incoming v.core (applied place v.core) refl was.numbered;
+        };
+      })
     where
-      stays : is_some core.end ≡ true → is_some v.core.end ≡ true
-      stays stands = ended v.core.end (ap (λ (s : SecondaryState). is_some s.end) (sym does) ∙ stands)
-        where
-          ended : (x : Option EndState) → is_some (applied place (record v.core { end = x })).end ≡ true → is_some x ≡ true
-          ended None stands = stands
-          ended (Some e) stands = refl
+      steps : NodeSteps (Applies place) (node v) (reply.Ok (done_with what.Nothing)) (record (node v) { core = applied place v.core; disk = disk })
+      steps = node-applies (node v) place item starts disk (λ block. subst (λ (d : List (List ℕ)). LaidAt item (below (length (contents_of item))) v.disk d block)
+          (sym (written ∙ (λ i. overwritten v.disk (at i) (blocks i)))) (whole-laid item v.disk fits block))
 
-      part : (x : Option (List Packet)) → IsDue x v.core → IsDue x core
-      part None was = tt
-      part (Some begun) was = λ stands.
-          let old = was (stays stands) in (
-            old.0,
-            subst (λ (s : SecondaryState). due s ≡ Ok old.0) (sym does)
-                (applies-due (node v) place item starts old.0 is.had old.1 (ap (λ (s : SecondaryState). is_some s.end) (sym does) ∙ stands)),
-            old.2,
-          )
+      stays : (x : Option EndState) → is_some (applied place (record v.core { end = x })).end ≡ true → is_some x ≡ true
+      stays None stands = stands
+      stays (Some e) stands = refl
 
-      go : (x : Option OutgoingState) → IsBegun x v.core → IsBegun x core
-      go None was = tt
-      go (Some x) was = part x.partly was
+      due : (x : Option (List Packet)) → IsDue x v.core → IsDue x (applied place v.core)
+      due None old = tt
+      due (Some begun) old = λ stands.
+          let one = old (stays v.core.end stands) in (one.0, applies-due (node v) place item starts one.0 was.had one.1 stands, one.2)
 
-  -- and the call is as it says
-  pub done-one : (core : SecondaryState) (disk : List (List ℕ)) (faults : ℕ) (steady : Bool) (result : Done) → core ≡ applied place v.core
-      → disk ≡ overwritten v.disk first blocks → faults ≡ v.faults → result ≡ done_with what.Nothing
-      → AppliesOne place (Ok result) v (record v { core = core; disk = disk; faults = faults; steady = steady })
-  done-one core disk faults steady result does disk_is same said =
-      inl (
-        same,
-        subst (λ (d : Done). NodeSteps (Applies place) (node v) (reply.Ok d) (record (node v) { core = core; disk = disk })) (sym said)
-            (done-steps core disk does disk_is),
+      begun : (x : Option OutgoingState) → IsBegun x v.core → IsBegun x (applied place v.core)
+      begun None old = tt
+      begun (Some x) old = due x.partly old
+
+  -- it fails, and leaves any of its blocks new
+  pub failed : core ≡ failing place v.core → IsTorn v.disk first (blocks_of 4096 bytes) disk
+      → (offsets : List ℕ) × StepsTo (secondary_step (FailsToApply place offsets)) v (reply.Ok said) core disk
+  failed does torn =
+      let is_torn : IsTorn v.disk (first_of item) (contents_of item) disk = subst₂ (λ (n : ℕ) (l : List (List ℕ)). IsTorn v.disk n l disk) at blocks torn in
+      let offsets : List ℕ = torn_offsets item v.disk fits disk is_torn in (
+        offsets,
+        subst₂ (λ (d : Done) (x : SecondaryState). StepsTo (secondary_step (FailsToApply place offsets)) v (reply.Ok d) x disk) (sym plain) (sym does)
+            (shuts (secondary_step (FailsToApply place offsets)) v (reply.Ok (done_with what.Nothing)) (failing place v.core) disk was
+            (node-fails (node v) place item starts offsets disk (torn-laid item v.disk fits disk is_torn)) refl refl),
       )
 
-  -- It failed.
-  failed-steps : (core : SecondaryState) (disk : List (List ℕ)) → core ≡ failing place v.core → IsTorn v.disk first blocks disk
-      → (offsets : List ℕ) × NodeSteps (FailsToApply place offsets) (node v) (reply.Ok (done_with what.Nothing)) (record (node v) { core = core; disk = disk })
-  failed-steps core disk does torn =
-      let is_torn : IsTorn v.disk (first_of item) (contents_of item) disk = subst (λ (n : ℕ). IsTorn v.disk n (contents_of item) disk) at
-      (subst (λ (l : List (List ℕ)). IsTorn v.disk first l disk) blocks_is torn) in (
-        torn_offsets item v.disk (on-disk v item is inside) disk is_torn,
-        subst (λ (x : SecondaryState). NodeSteps (FailsToApply place (torn_offsets item v.disk (on-disk v item is inside) disk is_torn)) (node v)
-            (reply.Ok (done_with what.Nothing)) (record (node v) { core = x; disk = disk })) (sym does)
-            (node-fails (node v) place item starts (torn_offsets item v.disk (on-disk v item is inside) disk is_torn) disk
-            (torn-laid item v.disk (on-disk v item is inside) disk is_torn)),
-      )
+  -- it fails after its first blocks
+  pub failed-after : (kept : ℕ) → kept ≤ length (contents_of item) → core ≡ failing place v.core
+      → disk ≡ overwritten v.disk first (take kept (blocks_of 4096 bytes)) → StepsTo (peer_fault_kept place kept) v (reply.Ok said) core disk
+  failed-after kept few does written =
+      subst₂ (λ (d : Done) (x : SecondaryState). StepsTo (peer_fault_kept place kept) v (reply.Ok d) x disk) (sym plain) (sym does)
+      (shuts (peer_fault_kept place kept) v (reply.Ok (done_with what.Nothing)) (failing place v.core) disk was
+      (node-fails-kept (node v) place kept item starts few disk (λ block.
+      subst (λ (d : List (List ℕ)). LaidAt item (within (length (contents_of item)) (below kept)) v.disk d block)
+      (sym (written ∙ (λ i. overwritten v.disk (at i) (take kept (blocks i))))) (kept-laid item v.disk fits kept few block))) refl refl)
 
-  -- it is a node still
-  pub failed-is : (core : SecondaryState) (disk : List (List ℕ)) (faults : ℕ) (steady : Bool) → core ≡ failing place v.core → IsTorn v.disk first blocks disk
-      → IsNode (record v { core = core; disk = disk; faults = faults; steady = steady })
-  failed-is core disk faults steady does torn =
-      let steps = failed-steps core disk does torn in
-      let shut : is_some core.end ≡ false = ap (λ (s : SecondaryState). is_some s.end) does in record {
-        had = node-had (FailsToApply place steps.0) (node v) (reply.Ok (done_with what.Nothing)) (node (record v { core = core; disk = disk })) is.had steps.1;
-        out_there = absent core (is_some v.outgoing) shut;
-        in_there = absent core (is_some v.incoming) shut;
-        begun = begun-shut v.outgoing core shut;
-        numbered = numbered-same v.outgoing v.incoming v.core core (ap (λ (s : SecondaryState). s.number) does) is.numbered;
-      }
-
-  -- and the call is as it says
-  pub failed-one : (core : SecondaryState) (disk : List (List ℕ)) (faults : ℕ) (steady : Bool) (result : Done) → core ≡ failing place v.core
-      → IsTorn v.disk first blocks disk → v.faults < faults → result ≡ done_with what.Nothing
-      → AppliesOne place (Ok result) v (record v { core = core; disk = disk; faults = faults; steady = steady })
-  failed-one core disk faults steady result does torn more said =
-      let steps = failed-steps core disk does torn in
-      inr (
-        more,
-        (
-          steps.0,
-          subst (λ (d : Done). NodeSteps (FailsToApply place steps.0) (node v) (reply.Ok d) (record (node v) { core = core; disk = disk }))
-              (sym said) steps.1,
-        ),
-      )
+-- the disk after an armed write
+pub armed-write : (s t u : FaultState) (kept first : ℕ) (blocks : List (List ℕ)) → t ≡ record s { write_arming = Some (record { passes = 0; kept = kept }) }
+    → u ≡ written first blocks t → u.disk ≡ overwritten s.disk first (take kept blocks)
+armed-write s t u kept first blocks armed after = ap (λ (x : FaultState). x.disk) (after ∙ ap (written first blocks) armed)

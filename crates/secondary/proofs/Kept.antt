@@ -1,4 +1,4 @@
--- What each call keeps of a node: a new one, one that closes, and what is read off.
+-- What a call keeps of a node, a node that closes, a new one, and what is read off.
 use Rattle.std.proofs.Common.{ℕ, zero, suc, ◌≡◌, Bool, true, false, List, [], ◌∷◌, length, Option, Some, None, Result, slice_get, sym, ◌∙◌, ap, subst, arith}
 use Rattle.std.proofs.Common.{nat_lt}
 use Rattle.std.specs.Prelude.{is_some}
@@ -8,6 +8,7 @@ use Rattle.blocks.specs.SettingsRange.{IsInRange}
 use Rattle.blocks.specs.declared.tuple.Tuple.{Tuple}
 use Rattle.blocks.specs.declared.settings.Settings.{Settings}
 use Rattle.blocks.specs.declared.refusal.Refusal.{Refusal}
+use Rattle.blocks.specs.declared.outcome.Reply.{Reply}
 use Rattle.model.specs.Frames.{Packet}
 use Rattle.model.specs.Settlement.{applied_items}
 use Rattle.model.specs.Secondary.{SecondaryHistory, secondary_opening, inward, items_taken, pending}
@@ -15,12 +16,11 @@ use Rattle.model.specs.LocalRuns.{ClosesToo}
 use Rattle.endpoint.specs.Outgoing.{OutgoingState}
 use Rattle.endpoint.specs.Incoming.{IncomingState}
 use Rattle.secondary_steps.specs.Core.{SecondaryState, fresh, close_end, whole}
-use Rattle.secondary_steps.specs.Node.{NodeHas}
+use Rattle.secondary_steps.specs.Node.{IsStep, NodeHas, secondary_step}
 use Rattle.secondary_steps.specs.Steps.{Says, plainly, replied}
 use Rattle.secondary_steps.proofs.Node.Calls.{opening-has, node-closes}
 use Rattle.secondary_steps.proofs.Node.Due.{closes-end}
 use Rattle.secondary_steps.proofs.Node.Numbers.{closes-number}
-use Rattle.secondary_steps.proofs.Node.Runs.{node-had}
 use Rattle.secondary_steps.proofs.Says.{states-say}
 use Rattle.secondary_steps.specs.Leaves.{pending_in}
 use Rattle.secondary_steps.proofs.Tested.{length-map}
@@ -51,48 +51,58 @@ numbered-same (Some o) (Some i) s t same was = let out = was.0 in let inn = was.
 pub absent : (s : SecondaryState) (sides : Bool) → is_some s.end ≡ false → is_some s.end ≡ true → sides ≡ true
 absent s sides shut stands = absurd (both_ways (is_some s.end) shut stands)
 
--- A new node.
-
-some-get : {X : Type 0} (xs : List X) (n : ℕ) → is_some (slice_get xs n) ≡ nat_lt n (length xs)
-some-get [] n = grind (arith, nat_tests)
-some-get (x ∷ xs) zero = grind (arith, nat_tests)
-some-get (x ∷ xs) (suc n) = some-get xs n ∙ grind (arith, nat_tests)
-
--- It has the opening over what its disk holds.
-pub new-has : (settings : Settings) (tuple : Tuple) (v : SecondaryView) → v.core ≡ fresh settings tuple → v.outgoing ≡ None → v.incoming ≡ None
-    → IsInRange settings → length v.disk ≡ settings.blocks
-    → NodeHas (node v) (secondary_opening settings (slice_get v.disk) tuple)
-new-has settings tuple v is no_out no_in in_range size =
-    subst (λ (x : SecondaryState). NodeHas (node (record v { core = x })) h) (sym is)
-    (subst (λ (o : Option OutgoingState). NodeHas (node (record v { core = fresh settings tuple; outgoing = o })) h) (sym no_out)
-    (subst (λ (i : Option IncomingState). NodeHas (node (record v { core = fresh settings tuple; outgoing = None; incoming = i })) h) (sym no_in)
-    (opening-has settings v.disk tuple in_range (λ block. some-get v.disk block ∙ ap (nat_lt block) size))))
+-- A call that neither pushes nor takes is this step, and leaves a node.
+pub record StepsTo (step : SecondaryHistory → Reply × SecondaryHistory) (v : SecondaryView) (said : Reply) (core : SecondaryState) (disk : List (List ℕ)) : Type 0
   where
-    h : SecondaryHistory
-    h = secondary_opening settings (slice_get v.disk) tuple
+    pub steps : IsStep step (node v) said (record (node v) { core = core; disk = disk })
+    pub is : (faults : ℕ) (steady : Bool) → IsNode (record v { core = core; disk = disk; faults = faults; steady = steady })
 
--- It is a node.
-pub new-is : (settings : Settings) (tuple : Tuple) (v : SecondaryView) → v.core ≡ fresh settings tuple → v.outgoing ≡ None → v.incoming ≡ None
-    → IsInRange settings → length v.disk ≡ settings.blocks → IsNode v
-new-is settings tuple v is no_out no_in in_range size =
-    let shut : is_some v.core.end ≡ false = ap (λ (x : SecondaryState). is_some x.end) is in record {
-      had = record { history = secondary_opening settings (slice_get v.disk) tuple; has = new-has settings tuple v is no_out no_in in_range size };
-      out_there = absent v.core (is_some v.outgoing) shut;
-      in_there = absent v.core (is_some v.incoming) shut;
-      begun = begun-shut v.outgoing v.core shut;
-      numbered = subst (λ (o : Option OutgoingState). IsNumbered o v.incoming v.core) (sym no_out) tt;
-    }
+-- One that shuts the end, and keeps the connection's number.
+pub shuts : (step : SecondaryHistory → Reply × SecondaryHistory) (v : SecondaryView) (said : Reply) (core : SecondaryState) (disk : List (List ℕ)) → IsNode v
+    → IsStep step (node v) said (record (node v) { core = core; disk = disk }) → is_some core.end ≡ false → core.number ≡ v.core.number
+    → StepsTo step v said core disk
+shuts step v said core disk was steps shut same = record {
+  steps = steps;
+  is = λ faults steady. record {
+    had = record { history = (step was.had.history).1; has = steps.after was.had.history was.had.has };
+    out_there = absent core (is_some v.outgoing) shut;
+    in_there = absent core (is_some v.incoming) shut;
+    begun = begun-shut v.outgoing core shut;
+    numbered = numbered-same v.outgoing v.incoming v.core core same was.numbered;
+  };
+}
 
 -- A node that closes.
 pub closes-is : (v : SecondaryView) (t : SecondaryState) (result : Result (Unit {0}) Refusal) → IsNode v → (result, t) ≡ close_end v.core
     → IsNode (record v { core = t })
 closes-is v t result is closes =
-    let shut = closes-end v.core result t closes in record {
-      had = node-had ClosesToo (node v) (replied plainly result) (node (record v { core = t })) is.had (node-closes (node v) result t closes);
-      out_there = absent t (is_some v.outgoing) shut;
-      in_there = absent t (is_some v.incoming) shut;
-      begun = begun-shut v.outgoing t shut;
-      numbered = numbered-same v.outgoing v.incoming v.core t (closes-number v.core result t closes) is.numbered;
+    (shuts (secondary_step ClosesToo) v (replied plainly result) t v.disk is (node-closes (node v) result t closes) (closes-end v.core result t closes)
+    (closes-number v.core result t closes)).is v.faults v.steady
+
+-- A new node has the opening over what its disk holds.
+pub new-has : (settings : Settings) (tuple : Tuple) (disk : List (List ℕ)) (s : SecondaryState) → s ≡ fresh settings tuple → IsInRange settings
+    → length disk ≡ settings.blocks
+    → NodeHas (record { core = s; disk = disk; pushed = []; taken = [] }) (secondary_opening settings (slice_get disk) tuple)
+new-has settings tuple disk s is in_range size =
+    subst (λ (x : SecondaryState). NodeHas (record { core = x; disk = disk; pushed = []; taken = [] }) (secondary_opening settings (slice_get disk) tuple)) (sym is)
+    (opening-has settings disk tuple in_range (λ block. some-get disk block ∙ ap (nat_lt block) size))
+  where
+    some-get : {X : Type 0} (xs : List X) (n : ℕ) → is_some (slice_get xs n) ≡ nat_lt n (length xs)
+    some-get [] n = grind (arith, nat_tests)
+    some-get (x ∷ xs) zero = grind (arith, nat_tests)
+    some-get (x ∷ xs) (suc n) = some-get xs n ∙ grind (arith, nat_tests)
+
+-- so some history is had
+pub new-is : (settings : Settings) (tuple : Tuple) (disk : List (List ℕ)) (s : SecondaryState) (faults : ℕ) (steady : Bool) → s ≡ fresh settings tuple
+    → IsInRange settings → length disk ≡ settings.blocks
+    → IsNode (record { core = s; disk = disk; outgoing = None; incoming = None; faults = faults; steady = steady })
+new-is settings tuple disk s faults steady is in_range size =
+    let shut : is_some s.end ≡ false = ap (λ (x : SecondaryState). is_some x.end) is in record {
+      had = record { history = secondary_opening settings (slice_get disk) tuple; has = new-has settings tuple disk s is in_range size };
+      out_there = absent s false shut;
+      in_there = absent s false shut;
+      begun = tt;
+      numbered = tt;
     }
 
 -- What is read off.

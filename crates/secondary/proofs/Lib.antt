@@ -1,6 +1,5 @@
 pub mod Applies
 pub mod Buffers
-pub mod Faults
 pub mod Kept
 pub mod Opens
 pub mod Sends

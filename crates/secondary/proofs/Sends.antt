@@ -70,29 +70,6 @@ sent-is v t o p packet done is there owes same pushed whole number = record {
           omega (arith, kept),
         )
 
--- A packet that went in part leaves the node, and is the one that is due.
-pub part-is : (v : SecondaryView) (o p : OutgoingState) (packet : packets.Packet) → IsNode v → v.outgoing ≡ Some o → due v.core ≡ Ok (meaning packet)
-    → p ≡ record o { partly = p.partly }
-    → IfSome p.partly (λ begun. begun ≡ meaning packet ∷ []) → IsNode (record v { outgoing = Some p })
-part-is v o p packet is there owes same begun = record {
-  had = subst (λ (n : NodeState). NodeIsHad n) (λ k. record { core = v.core; disk = v.disk; pushed = unchanged k; taken = taken_of v.incoming }) is.had;
-  out_there = λ stands. refl;
-  in_there = is.in_there;
-  begun = go p.partly begun;
-  numbered = both v.incoming (subst (λ (x : Option OutgoingState). IsNumbered x v.incoming v.core) there is.numbered);
-}
-  where
-    unchanged : pushed_of v.outgoing ≡ p.pushed
-    unchanged = ap pushed_of there ∙ sym (ap (λ (x : OutgoingState). x.pushed) same)
-
-    go : (x : Option (List Packet)) → IfSome x (λ begun. begun ≡ meaning packet ∷ []) → IsDue x v.core
-    go None was = tt
-    go (Some x) was = λ stands. (meaning packet, owes, was)
-
-    both : (x : Option IncomingState) → IsNumbered (Some o) x v.core → IsNumbered (Some p) x v.core
-    both None was = tt
-    both (Some i) was = let number = ap (λ (x : OutgoingState). x.number) same in let out = was.0 in (omega (arith, number), was.1)
-
 -- whether the link had no room
 full-or-not : (e : Refusal) → (e ≡ LinkFull) ⊎ ((e ≡ LinkFull) → ⊥)
 full-or-not LinkFull = inl refl
@@ -127,52 +104,41 @@ sends-part old o p e result there same refused full = subst (λ (r : Result Done
 })
 
 -- Nothing is due.
-pub nothing-due-steps : (n : NodeState) (e : Refusal) (result : Result Done Refusal) → due n.core ≡ Err e → result ≡ Err e
-    → NodeSteps (Acknowledges (has_room result) (is_starved result)) n (replied (λ done. done) result) n
-nothing-due-steps n e result is refused =
-    subst (λ (r : Result Done Refusal). NodeSteps (Acknowledges (has_room r) (is_starved r)) n (replied (λ done. done) r) n) (sym refused) (go n.core.end is)
+due-refused : (s : SecondaryState) (e : Refusal) → due s ≡ Err e → (e ≡ NotConnected) ⊎ (e ≡ NothingThere)
+due-refused s e is = go s.end is
   where
-    here : NodeSteps (Acknowledges true false) n (replied (λ (done : Done). done) (Err e)) n
-    here = node-not-due n e is
-
-    told : (x : Refusal) → x ≡ e → has_room {R = Done} (Err x) ≡ true → is_starved {R = Done} (Err x) ≡ false
-        → NodeSteps (Acknowledges (has_room {R = Done} (Err e)) (is_starved {R = Done} (Err e))) n (replied (λ (done : Done). done) (Err e)) n
-    told x same room fed =
-        let a : has_room {R = Done} (Err e) ≡ true = ap (λ (y : Refusal). has_room {R = Done} (Err y)) (sym same) ∙ room in
-        let b : is_starved {R = Done} (Err e) ≡ false = ap (λ (y : Refusal). is_starved {R = Done} (Err y)) (sym same) ∙ fed in
-        subst (λ (v : Bool). NodeSteps (Acknowledges v (is_starved {R = Done} (Err e))) n (replied (λ (done : Done). done) (Err e)) n) (sym a)
-        (subst (λ (v : Bool). NodeSteps (Acknowledges true v) n (replied (λ (done : Done). done) (Err e)) n) (sym b) here)
-
-    owes : (x : Option Packet) → ok_or x NothingThere ≡ Err e → NothingThere ≡ e
+    owes : (x : Option Packet) → ok_or x NothingThere ≡ Err e → e ≡ NothingThere
     owes None is = cc
     owes (Some p) is = absurd (cc)
 
-    go : (v : Option EndState) → elim v as (λ _. Result Packet Refusal) [ None ↦ Err NotConnected | Some x ↦ ok_or (owed n.core.settings x) NothingThere ] ≡ Err
-        e
-        → NodeSteps (Acknowledges (has_room {R = Done} (Err e)) (is_starved {R = Done} (Err e))) n (replied (λ (done : Done). done) (Err e)) n
-    go None is = told NotConnected (let same : NotConnected ≡ e = cc in same) refl refl
-    go (Some x) is = told NothingThere (owes (owed n.core.settings x) is) refl refl
+    go : (v : Option EndState) → elim v as (λ _. Result Packet Refusal) [ None ↦ Err NotConnected | Some x ↦ ok_or (owed s.settings x) NothingThere ] ≡ Err e
+        → (e ≡ NotConnected) ⊎ (e ≡ NothingThere)
+    go None is = inl (cc)
+    go (Some x) is = inr (owes (owed s.settings x) is)
 
--- What is refused as nothing being due is not the link's.
-pub not-full : (s : SecondaryState) (e : Refusal) → due s ≡ Err e → e ≡ LinkFull → ⊥
-not-full s e is full = go s.end (is ∙ ap Err full)
+-- that is its step
+pub nothing-due-steps : (n : NodeState) (e : Refusal) (result : Result Done Refusal) → due n.core ≡ Err e → result ≡ Err e
+    → NodeSteps (Acknowledges (has_room result) (is_starved result)) n (replied (λ done. done) result) n
+nothing-due-steps n e result is refused = elim (due-refused n.core e is) [
+  | inl shut ↦ told NotConnected shut (node-not-due n NotConnected (is ∙ ap Err shut))
+  | inr none ↦ told NothingThere none (node-not-due n NothingThere (is ∙ ap Err none))
+]
   where
-    owes : (x : Option Packet) → ok_or x NothingThere ≡ Err LinkFull → ⊥
-    owes None is = absurd (cc)
-    owes (Some p) is = absurd (cc)
+    told : (x : Refusal) → e ≡ x → NodeSteps (Acknowledges (has_room {R = Done} (Err x)) (is_starved {R = Done} (Err x))) n (reply.Refused x) n
+        → NodeSteps (Acknowledges (has_room result) (is_starved result)) n (replied (λ done. done) result) n
+    told x same steps = subst (λ (r : Result Done Refusal). NodeSteps (Acknowledges (has_room r) (is_starved r)) n (replied (λ done. done) r) n)
+        (sym (refused ∙ ap Err same)) steps
 
-    go : (v : Option EndState) → elim v as (λ _. Result Packet Refusal) [ None ↦ Err NotConnected | Some x ↦ ok_or (owed s.settings x) NothingThere ] ≡ Err
-        LinkFull → ⊥
-    go None is = absurd (cc)
-    go (Some x) is = owes (owed s.settings x) is
-
--- Then the link is left alone.
+-- and the link is left alone
 pub sends-none : (s : SecondaryState) (o : Option OutgoingState) (e : Refusal) (result : Result Done Refusal) → due s ≡ Err e → result ≡ Err e
     → Sends result o o
 sends-none s o e result is refused = subst (λ (r : Result Done Refusal). Sends r o o) (sym refused) (record {
   pushed = tt;
   kept = go o;
-  full = λ full. absurd (not-full s e is (let one : e ≡ LinkFull = cc in one));
+  full = λ full. elim (due-refused s e is) [
+    | inl shut ↦ let no : NotConnected ≡ LinkFull = sym shut ∙ (let one : e ≡ LinkFull = cc in one) in absurd (cc)
+    | inr none ↦ let no : NothingThere ≡ LinkFull = sym none ∙ (let one : e ≡ LinkFull = cc in one) in absurd (cc)
+  ];
 })
   where
     go : (x : Option OutgoingState) → (partly : Option (List Packet)) × (x ≡ option_map (λ (y : OutgoingState). record y { partly = partly }) x)

@@ -165,11 +165,6 @@ some-queued : (v : Option (List (List ℕ))) → IfSome v (λ frames. (false ≡
 some-queued None exact = tt
 some-queued (Some frames) exact = λ is. absurd (both_ways false refl (exact.1 is))
 
--- what was read is received as no more than its fault
-pub not-none : (read : Result packets.Packet Refusal) → (read ≡ Err NothingThere → ⊥) → received read ≡ Err NothingThere → ⊥
-not-none (Ok p) some is = absurd (cc)
-not-none (Err e) some is = some (let one : e ≡ NothingThere = cc in ap Err one)
-
 -- A frame was taken, the next of the link.
 pub takes-one : (v : SecondaryView) (r t : SecondaryState) (i k j : IncomingState) (frame : Received) (result : Result Done Refusal) → IsNode v
     → v.incoming ≡ Some i → may_take v.core ≡ Ok tt → r ≡ v.core

@@ -1,8 +1,7 @@
 use Rattle.std.proofs.Common.{rules, ℕ, ◌+◌, List, length, slice_get, ◌≡◌, inl, inr, ◌<◌, ◌∙◌, ap, sym, subst, true, false, Err, refl}
 use Rattle.blocks.specs.declared.refusal.Refusal.TheVariants.{NoMemory}
 use Rattle.primary.specs.State.{PrimaryView}
-use Rattle.primary.proofs.Copying.{on-err, on-ok}
-use Rattle.primary.proofs.Reading.{not-range, one-range, part-size, read-more}
+use Rattle.primary.proofs.Reading.{not-range, on-err, on-ok, one-range, part-size, read-more}
 use Rattle.primary.proofs.state.Primary.read.Goals as goal
 
 pub returns-in_err-range-clause-refused : goal.returns-in_err-range-clause-refused
