@@ -12,18 +12,16 @@ use Rattle.blocks.specs.declared.tuple.Tuple.{Tuple}
 use Rattle.handover.specs.Left.{left_by}
 use Rattle.handover.specs.Next.{IsLeft, opening_of}
 use Rattle.handover.proofs.Leaving.{leaves_an_opening}
-use Rattle.laws.proofs.Joining.Openings.{kept-opening-primary, kept-opening-secondary}
 use Rattle.model.specs.Contents.{IsDisk}
-use Rattle.model.specs.Headline.{IsJoined, IsGrounded, Cover, opening_marked, is_marked}
-use Rattle.model.specs.LocalRuns.{primary_run}
-use Rattle.model.specs.Pair.{same_block}
+use Rattle.model.specs.Headline.{IsJoined, IsGrounded, Cover, is_marked}
 use Rattle.model.specs.Primary.{PrimaryHistory, outward, next_local, local_map}
 use Rattle.model.specs.Secondary.{SecondaryHistory, inward, is_drained, secondary_map}
 use Rattle.model.specs.Settlement.{is_at_rest}
-use Rattle.model.specs.Theorems.{Opening, IsSoundOpening, primary_at, marks_at}
+use Rattle.model.specs.Theorems.{IsSoundOpening, marks_at}
 use Rattle.primary_steps.proofs.Common.Marks.{length-marks, marked-in}
 use Rattle.primary_steps.specs.Steps as primary
 use Rattle.secondary_steps.specs.Node as secondary
+use Rattle.settle.proofs.Settling.{reached_from, of-runs, sound-opening}
 use Rattle.settle.specs.Settled.{WereHonest}
 use Rattle.volume.specs.declared.session.Parts.{Parts}
 
@@ -44,34 +42,8 @@ LeaveSound p s = IsJoined p s → IsGrounded p s → is_at_rest p s ≡ true →
 
 -- Histories that nodes have do, where the identifiers of both openings were honest.
 pub reached-leave : (p : PrimaryHistory) (s : SecondaryHistory) → primary.IsReached p → secondary.IsReached s → WereHonest p s → LeaveSound p s
-reached-leave p s rp rs honest = subst (λ (q : PrimaryHistory). LeaveSound q s) rp.is
-    (subst (λ (t : SecondaryHistory). LeaveSound (primary_run rp.events (primary_at o)) t) (sym rs.reached) (leaves_an_opening o rp.events rs.events sound))
-  where
-    o : Opening
-    o = record { settings = rp.settings; peer_settings = rs.settings; local = rp.disk; peer = rs.disk; own = rp.tuple; peer_tuple = rs.tuple; marks = rp.marks }
-
-    sound : IsSoundOpening o
-    sound =
-        let here = subst (λ (q : PrimaryHistory). (q.settings ≡ o.settings) × (q.opening_map ≡ o.local) × (q.opening_marks ≡ o.marks)
-        × (q.opening_tuple ≡ o.own)) rp.is
-        (let k = kept-opening-primary o rp.events in (k.settings, k.disk, k.marks, k.tuple)) in
-        let there = subst (λ (t : SecondaryHistory). (t.opening_map ≡ o.peer) × (t.opening_tuple ≡ o.peer_tuple)) (sym rs.reached)
-        (let k = kept-opening-secondary o rs.events in (k.disk, k.tuple)) in
-        let marked : (block : ℕ) → opening_marked p block ≡ marks_at o block
-        = λ block. (λ i. nat_lt block (here.0 i).blocks && (here.2 i) block) in
-        let covers : Cover (opening_marked p) p.opening_map s.opening_map → Cover (marks_at o) o.local o.peer
-        = λ cover block differs. sym (marked block) ∙ cover block ((λ i. same_block (here.1 i block) (there.0 i block)) ∙ differs) in
-        record {
-          ranges = record { here = rp.ranges; there = rs.in_range };
-          local = rp.sized;
-          peer = rs.sized;
-          identifiers = record {
-            own_data = subst (λ (t : Tuple). 0 < t.current) here.3 honest.own_data;
-            same_current = λ same. covers (honest.same_current (ap (λ (t : Tuple). t.current) there.1 ∙ same ∙ sym (ap (λ (t : Tuple). t.current) here.3)));
-            from_bitmap = λ some same. covers (honest.from_bitmap (subst (λ (t : Tuple). 0 < t.bitmap) (sym here.3) some) (ap (λ (t : Tuple). t.current) there.1
-                ∙ same ∙ sym (ap (λ (t : Tuple). t.bitmap) here.3)));
-          };
-        }
+reached-leave p s rp rs honest =
+    of-runs LeaveSound p s rp rs (leaves_an_opening (reached_from p s rp rs) rp.events rs.events (sound-opening p s rp rs honest))
 
 -- the marks of one block more
 pub one-more : (p : PrimaryHistory) (n block : ℕ) (old new : List Bool) (marked : Bool) → old ≡ map (is_marked p) (below n) → new ≡ old ++ marked ∷ []

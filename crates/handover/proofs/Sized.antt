@@ -1,11 +1,8 @@
 -- Both disks keep the blocks of their device, and get none past its end: what a secondary takes lies in the device.
-use Rattle.std.proofs.Common.{ℕ, suc, ◌≡◌, ◌+◌, ◌-◌, ◌≤◌, ◌<◌, inl, inr, Bool, true, false, ◌&&◌, List, [], ◌∷◌, ◌++◌, length, take, drop, map, Option, Some}
+use Rattle.std.proofs.Common.{ℕ, suc, ◌≡◌, ◌+◌, ◌-◌, ◌≤◌, ◌<◌, inl, inr, Bool, true, false, ◌&&◌, List, [], ◌∷◌, ◌++◌, length, map, Option, Some}
 use Rattle.std.proofs.Common.{None, slice_get, Ok, Err, refl, sym, ◌∙◌, ap, subst, arith, ◌==◌, nat_lt, nat_le}
-use Rattle.std.specs.Prelude.{filter_map, if◌then◌else◌, is_some}
-use Rattle.std.specs.List.{cons_option}
-use Rattle.std.proofs.lemmas.Bool.{cases_Bool, cases_lt, both_ways, and_parts, lt-ltb, ltb-true, ltb-false, leb-true}
-use Rattle.std.proofs.lemmas.List.{append-nil, drop-append-le}
-use Rattle.std.proofs.lemmas.List.Elements.{filter_map-append}
+use Rattle.std.specs.Prelude.{is_some}
+use Rattle.std.proofs.lemmas.Bool.{cases_Bool, cases_lt, both_ways, and_parts, lt-ltb, ltb-true, leb-true}
 use Rattle.blocks.specs.declared.settings.Settings.{Settings}
 use Rattle.blocks.specs.declared.settings.Protocol.{Protocol}
 use Rattle.blocks.specs.declared.outcome.What.{What}
@@ -30,6 +27,7 @@ use Rattle.laws.proofs.Lists.Each.{Each, each-get, each-append, each-change}
 use Rattle.laws.proofs.Lists.Elements.{get-more}
 use Rattle.laws.proofs.Lists.Last.{last-at}
 use Rattle.laws.proofs.Secondary.Good.{items-refusing}
+use Rattle.laws.proofs.Secondary.Tuples.{taken-item}
 use Rattle.laws.proofs.Secondary.Moves.{framed, receipting, pushed_one, closed_end, after-take, after-open, after-peer, after-fault, after-push}
 use Rattle.laws.proofs.Secondary.Moves.{after-close}
 use Rattle.laws.proofs.Tracked.{IsTracked}
@@ -37,6 +35,7 @@ use Rattle.laws.proofs.Tracked.Moves.{beyond-the-end}
 use Rattle.laws.proofs.Rules.Memory.{receive-has}
 use Rattle.laws.proofs.Rules.RefusedFrames.{refused_in, refused_by_too, refused-last-too, item-refused}
 use Rattle.laws.proofs.Rules.TakenItems.{item-checked}
+use Rattle.secondary_steps.proofs.Judged.{early-items}
 
 -- The primary's disk.
 
@@ -147,7 +146,8 @@ inside-refusing blocks frame d standing i =
 
 -- What a frame behind the hello has to bring to be accepted: an item in the device.
 abbrev BringsInside : ℕ → ℕ → Received → Type 0
-BringsInside blocks taken frame = nat_lt taken 3 ≡ false → (item : Item) → received_item frame ≡ Some item → first_of item + length (contents_of item) ≤ blocks
+BringsInside blocks taken frame =
+    nat_lt taken 3 ≡ false → (item : Item) × (received_item frame ≡ Some item) × (first_of item + length (contents_of item) ≤ blocks)
 
 inside-taking : (blocks : ℕ) (frame : Received) (d : Inward) → d.closed ≡ false → BringsInside blocks (length d.taken) frame → IsInside blocks d
     → IsInside blocks (framed frame d)
@@ -156,32 +156,14 @@ inside-taking blocks frame d standing brings i = record { base = i.base; items =
     accepted : d.refused ≡ false
     accepted = plain blocks d i standing
 
-    old : items_taken d ≡ filter_map received_item (drop 3 d.taken)
-    old = ap (λ b. filter_map received_item (drop 3 (if b then take (length d.taken - 1) d.taken else d.taken))) accepted
-
-    new : items_taken (framed frame d) ≡ filter_map received_item (drop 3 (d.taken ++ frame ∷ []))
-    new = ap (λ b. filter_map received_item (drop 3 (if b then take (length (d.taken ++ frame ∷ []) - 1) (d.taken ++ frame ∷ []) else (d.taken ++ frame ∷ []))))
-        accepted
-
-    few : (taken : List Received) → length taken < 3 → filter_map received_item (drop 3 (taken ++ frame ∷ [])) ≡ filter_map received_item (drop 3 taken)
-    few [] less = refl
-    few (a ∷ []) less = refl
-    few (a ∷ b ∷ []) less = refl
-    few (a ∷ b ∷ c ∷ taken) less = absurd (omega arith)
-
-    behind : (v : Option Item) → received_item frame ≡ v → nat_lt (length d.taken) 3 ≡ false → AreInside blocks (items_taken d ++ cons_option v [])
-    behind None is late = subst (AreInside blocks) (sym (append-nil (items_taken d))) i.items
-    behind (Some item) is late = λ n x at. elim (get-more (items_taken d) item n x at)
-        [ inl before ↦ i.items n x before | inr last ↦ subst (λ (y : Item). first_of y + length (contents_of y) ≤ blocks) (sym last.1) (brings late item is) ]
-
     items : (early : Bool) → nat_lt (length d.taken) 3 ≡ early → AreInside blocks (items_taken (framed frame d))
-    items true is = subst (AreInside blocks) (sym (new ∙ few d.taken (ltb-true (length d.taken) 3 is) ∙ sym old)) i.items
+    items true is = subst (AreInside blocks) (sym (early-items frame d accepted (ltb-true (length d.taken) 3 is))) i.items
     items false is =
-        let all : items_taken (framed frame d) ≡ items_taken d ++ cons_option (received_item frame) [] =
-        new ∙ ap (filter_map received_item) (drop-append-le 3 d.taken (frame ∷ []) (ltb-false (length d.taken) 3 is))
-        ∙ filter_map-append received_item (drop 3 d.taken) (frame ∷ [])
-        ∙ ap (λ (l : List Item). l ++ cons_option (received_item frame) []) (sym old) in
-        subst (AreInside blocks) (sym all) (behind (received_item frame) refl is)
+        let (item, brought, inside) = brings is in
+        subst (AreInside blocks) (sym (taken-item frame item d accepted is brought)) (λ n x at. elim (get-more (items_taken d) item n x at) [
+          | inl before ↦ i.items n x before
+          | inr last ↦ subst (λ (y : Item). first_of y + length (contents_of y) ≤ blocks) (sym last.1) inside
+        ])
 
 -- What is checked of a frame.
 
@@ -191,31 +173,28 @@ range-inside s first count range =
     leb-true (first + count) s.blocks (and_parts (nat_lt 0 count && nat_le count 32) (nat_le (first + count) s.blocks) all.0).1
 
 -- an item that is accepted lies in the device
-item-inside : (packet : Packet) (place : ℕ) (c : Inward) (h : SecondaryHistory) (done : What × SecondaryHistory) (item : Item)
-    → checking_item packet place c h ≡ Ok done → received_item (Ok packet) ≡ Some item
-    → first_of item + length (contents_of item) ≤ h.settings.blocks
-item-inside packet place c h done item is brings =
-    item-checked (λ v. v ≡ Ok done → first_of item + length (contents_of item) ≤ h.settings.blocks) packet place c h
-    (λ write at of may taken. brought (WriteItem write) (ap (λ (p : Packet). received_item (Ok p)) of)
-    (range-inside h.settings write.first (length write.contents) may.here.range))
-    (λ block contents at of may taken. brought (ResyncItem block contents) (ap (λ (p : Packet). received_item (Ok p)) of)
-    (range-inside h.settings block 1 may.here.range))
-    (λ number of taken. brought (BarrierItem number) (ap (λ (p : Packet). received_item (Ok p)) of) (omega arith))
-    (λ word of taken. brought (SyncUuidItem word) (ap (λ (p : Packet). received_item (Ok p)) of) (omega arith))
-    (λ tuple of taken. brought (UuidsItem tuple) (ap (λ (p : Packet). received_item (Ok p)) of) (omega arith)) (λ refusal taken. absurd (cc)) is
+item-inside : (packet : Packet) (place : ℕ) (c : Inward) (h : SecondaryHistory) (done : What × SecondaryHistory)
+    → checking_item packet place c h ≡ Ok done
+    → (item : Item) × (received_item (Ok packet) ≡ Some item) × (first_of item + length (contents_of item) ≤ h.settings.blocks)
+item-inside packet place c h done =
+    item-checked
+    (λ v. v ≡ Ok done → (item : Item) × (received_item (Ok packet) ≡ Some item) × (first_of item + length (contents_of item) ≤ h.settings.blocks)) packet place c h
+    (λ write at of may taken. (WriteItem write, brings of, range-inside h.settings write.first (length write.contents) may.here.range))
+    (λ block contents at of may taken. (ResyncItem block contents, brings of, range-inside h.settings block 1 may.here.range))
+    (λ number of taken. (BarrierItem number, brings of, omega arith)) (λ word of taken. (SyncUuidItem word, brings of, omega arith))
+    (λ tuple of taken. (UuidsItem tuple, brings of, omega arith)) (λ refusal taken. absurd (cc))
   where
-    brought : (x : Item) → received_item (Ok packet) ≡ Some x → first_of x + length (contents_of x) ≤ h.settings.blocks
-        → first_of item + length (contents_of item) ≤ h.settings.blocks
-    brought x of within = let same : x ≡ item = cc in subst (λ (y : Item). first_of y + length (contents_of y) ≤ h.settings.blocks) same within
+    brings : {other : Packet} → packet ≡ other → received_item (Ok packet) ≡ received_item (Ok other)
+    brings of = ap (λ (p : Packet). received_item (Ok p)) of
 
 checked-inside : (frame : Received) (c : Inward) (h : SecondaryHistory) (done : What × SecondaryHistory) → checking frame c h ≡ Ok done
     → BringsInside h.settings.blocks (length c.taken) frame
-checked-inside (Err fault) c h done is late item brings = absurd (cc)
-checked-inside (Ok packet) c h done is late item brings =
+checked-inside (Err fault) c h done is late = absurd (cc)
+checked-inside (Ok packet) c h done is late =
     let late_is : checking_item packet (length (items_taken c)) c h ≡ Ok done =
     sym (ap (λ b. elim b as (λ _. Checked) [ true ↦ checking_hello (length c.taken) packet h | false ↦ checking_item packet (length (items_taken c)) c h ])
     late) ∙ is in
-    item-inside packet (length (items_taken c)) c h done item late_is brings
+    item-inside packet (length (items_taken c)) c h done late_is
 
 -- Steps.
 

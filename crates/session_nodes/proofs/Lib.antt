@@ -1,3 +1,4 @@
 pub mod Connections
+pub mod Ends
 pub mod Primaries
 pub mod Secondaries

@@ -1,10 +1,9 @@
 -- A primary's calls keep all its connections over one link.
-use Rattle.std.proofs.Common.{ℕ, zero, suc, ◌≡◌, ◌<◌, ◌≤◌, ◌-◌, ◌⊎◌, inl, inr, Bool, true, false, not, List, [], ◌∷◌, ◌++◌, length, map, take, Option}
-use Rattle.std.proofs.Common.{Some, None, slice_get, Ok, refl, sym, ◌∙◌, ap, subst, arith, ◌==◌}
-use Rattle.std.specs.Prelude.{if◌then◌else◌, unwrap_or, Result, Err, IfOk, OnOk, OnErr, option_map, is_some}
-use Rattle.std.specs.List.{AllByRecursion}
+use Rattle.std.proofs.Common.{ℕ, zero, suc, ◌≡◌, ◌<◌, ◌≤◌, ◌-◌, inl, inr, Bool, true, false, not, List, [], ◌∷◌, ◌++◌, length, take, Option}
+use Rattle.std.proofs.Common.{Some, None, slice_get, Ok, refl, sym, ◌∙◌, ap, subst, arith}
+use Rattle.std.specs.Prelude.{unwrap_or, Result, Err, IfOk, OnErr, is_some}
 use Rattle.std.proofs.lemmas.List.{length-append}
-use Rattle.std.proofs.lemmas.Bool.{cases_Bool, both_ways, eqb-true, eq-eqb, cases_lt}
+use Rattle.std.proofs.lemmas.Bool.{cases_lt}
 use Rattle.std.proofs.lemmas.Option.{slice_get_within}
 use Rattle.blocks.specs.declared.refusal.Refusal.{Refusal}
 use Rattle.blocks.specs.declared.refusal.Refusal.TheVariants.{UnknownJob}
@@ -22,13 +21,9 @@ use Rattle.model.specs.LocalRuns.{PrimaryEvent, Opens, Submits, WritesLocally, F
 use Rattle.model.specs.LocalRuns.{primary_after, primary_run}
 use Rattle.model.specs.Headline.{StaysClosed}
 use Rattle.link.specs.Ends.{InEnd, OutEnd}
-use Rattle.link.specs.Past.{Past}
-use Rattle.endpoint.specs.Meaning.{meant_in}
-use Rattle.endpoint.specs.Calls as link
-use Rattle.endpoint.specs.Calls.{IsNewIn, IsNewOut, is_starved, pushed_of, taken_of}
-use Rattle.endpoint.specs.Incoming.{IncomingState, TakenBefore, with_received, taking_anew, incoming, received_from, taken_before}
-use Rattle.endpoint.specs.Outgoing.{OutgoingState, PushedBefore, with_pushed, pushing_anew, outgoing, pushed_before}
-use Rattle.endpoint.specs.Joined.{pushed_at, pushed_past, taken_at, taken_past}
+use Rattle.endpoint.specs.Calls.{IsNewIn, IsNewOut, is_starved}
+use Rattle.endpoint.specs.Incoming.{incoming}
+use Rattle.endpoint.specs.Outgoing.{outgoing}
 use Rattle.laws.proofs.Lists.Elements.{get-there, same-at}
 use Rattle.laws.proofs.Lists.Last.{last-at, length-change}
 use Rattle.laws.proofs.Primary.Moves.{pushing, tested-keeps}
@@ -42,7 +37,7 @@ use Rattle.primary_steps.proofs.Node.Keeps.{closes-keeps, receipts-keeps}
 use Rattle.primary_steps.proofs.Node.Runs.{opens-to, refused-same}
 use Rattle.primary_steps.proofs.Node.Takes.{takes-keep}
 use Rattle.primary.specs.State.{IsRestarted, PrimaryView, node}
-use Rattle.session_nodes.proofs.Connections.{all-more, came-more, earlier-pushed, earlier-taken, past-more}
+use Rattle.session_nodes.proofs.Ends.{KnowTraffic, NextTraffic, SameEnds, traffic-begins, traffic-first, traffic-stays}
 use Rattle.session_nodes.specs.Primaries.{PrimaryOver, PrimaryHas, PrimaryIsHad, IsPrimaryStep, PrimarySteps, PrimaryRuns}
 use Rattle.laws.proofs.Rules.Memory.{may-open, ack-in-has}
 
@@ -94,11 +89,17 @@ stays-after (Receipts number) none h reached = stays-keeps h _ _ (receipts-keeps
 
 -- What went past on a connection that has ended.
 
+-- what was pushed and what was taken on the connection of a number
+abbrev sent : PrimaryHistory → ℕ → List Packet
+sent h number = take (outward_at h number).pushed (frames_due h.settings (outward_at h number))
+
+abbrev came : PrimaryHistory → ℕ → List Received
+came h number = (outward_at h number).taken
+
 -- the traffic of a number is the same in both
 record SameTraffic (h later : PrimaryHistory) (number : ℕ) : Type 0 where
-  pushed : take (outward_at later number).pushed (frames_due later.settings (outward_at later number)) ≡ take (outward_at h number).pushed
-      (frames_due h.settings (outward_at h number))
-  taken : (outward_at later number).taken ≡ (outward_at h number).taken
+  pushed : sent later number ≡ sent h number
+  taken : came later number ≡ came h number
 
 -- Between two histories at most one connection more was opened, and all but the last one of the later history had ended.
 record GoesOn (h later : PrimaryHistory) : Type 0 where
@@ -156,35 +157,41 @@ last-outward h some = elim (last-at (no_outward h.tuple) h.connections) [
       sym (ap (outward_at h) next) ∙ outward-there h (length h.connections - 1) (outward h) last
 ]
 
--- What both ends know once the node went on to a later history.
-record NextEnds (v w : PrimaryView) (h later : PrimaryHistory) (over : PrimaryOver v h) : Type 0 where
-  out : OutgoingState
-  inn : IncomingState
-  out_there : w.outgoing ≡ Some out
-  in_there : w.incoming ≡ Some inn
-  out_number : out.number ≡ length later.connections
-  in_number : inn.number ≡ length later.connections
-  out_past : AllByRecursion (λ before. before.number < length later.connections) out.past
-  in_past : AllByRecursion (λ before. before.number < length later.connections) inn.past
-  pushed : (number : ℕ) → (number ≡ length later.connections → ⊥) → pushed_past number out.past ≡ pushed_at number over.out
-  taken : (number : ℕ) → (number ≡ length later.connections → ⊥) → taken_past number inn.past ≡ taken_at number over.inn
+-- what both ends know of the connections of the history
+abbrev KnowEnds : PrimaryView → PrimaryHistory → Type 0
+KnowEnds v h = KnowTraffic v.outgoing v.incoming (length h.connections) (sent h) (came h)
 
-has-next : (v w : PrimaryView) (h later : PrimaryHistory) (was : PrimaryHas v h) → NodeHas (node w) later → GoesOn h later → 0 < length later.connections
-    → NextEnds v w h later was.over → PrimaryHas w later
-has-next v w h later was has on some ends = record {
+know-ends : (v : PrimaryView) (h : PrimaryHistory) → PrimaryOver v h → KnowEnds v h
+know-ends v h over = record {
+  out = over.out;
+  inn = over.inn;
+  out_is = over.out_there;
+  in_is = over.in_there;
+  out_number = over.out_number;
+  in_number = over.in_number;
+  out_past = over.out_past;
+  in_past = over.in_past;
+  pushed = over.pushed;
+  taken = over.taken;
+}
+
+-- The node goes on to a later history, of which both ends know the traffic, where they know what is new of it.
+has-next : (w : PrimaryView) (h later : PrimaryHistory) → NodeHas (node w) later → GoesOn h later → 0 < length later.connections
+    → (NextTraffic w.outgoing w.incoming (length later.connections) (sent h) (sent later) (came h) (came later) → KnowEnds w later) → PrimaryHas w later
+has-next w h later has on some know = record {
   has = has;
   over = record {
     out = ends.out;
     inn = ends.inn;
-    out_there = ends.out_there;
-    in_there = ends.in_there;
+    out_there = ends.out_is;
+    in_there = ends.in_is;
     opened = some;
     out_number = ends.out_number;
     in_number = ends.in_number;
     out_past = ends.out_past;
     in_past = ends.in_past;
-    pushed = λ number. pushed number (cases_Bool (ends.out.number == number));
-    taken = λ number. taken number (cases_Bool (ends.inn.number == number));
+    pushed = ends.pushed;
+    taken = ends.taken;
     ended = ended;
   };
 }
@@ -192,33 +199,13 @@ has-next v w h later was has on some ends = record {
     last : outward_at later (length later.connections) ≡ outward later
     last = last-outward later some
 
-    sent : Outward → List Packet
-    sent c = take c.pushed (frames_due later.settings c)
-
-    pushed : (number : ℕ) → (ends.out.number == number ≡ true) ⊎ (ends.out.number == number ≡ false)
-        → pushed_at number ends.out ≡ take (outward_at later number).pushed (frames_due later.settings (outward_at later number))
-    pushed number (inl same) =
-        let is : length later.connections ≡ number = sym ends.out_number ∙ eqb-true ends.out.number number same in
-        let now : ends.out.pushed ≡ sent (outward later) = ap pushed_of (sym ends.out_there) ∙ has.leaves.pushed in
-        ap (λ b. if b then ends.out.pushed else pushed_past number ends.out.past) same
-        ∙ (now ∙ ap sent (sym last ∙ ap (outward_at later) is))
-    pushed number (inr other) =
-        let differs : number ≡ length later.connections
-        → ⊥ = λ is. both_ways (ends.out.number == number) other (eq-eqb ends.out.number number (ends.out_number ∙ sym is)) in
-        ap (λ b. if b then ends.out.pushed else pushed_past number ends.out.past) other
-        ∙ (ends.pushed number differs ∙ (was.over.pushed number ∙ sym (same-traffic h later on number differs).pushed))
-
-    taken : (number : ℕ) → (ends.inn.number == number ≡ true) ⊎ (ends.inn.number == number ≡ false) → taken_at number ends.inn ≡ (outward_at later number).taken
-    taken number (inl same) =
-        let is : length later.connections ≡ number = sym ends.in_number ∙ eqb-true ends.inn.number number same in
-        let now : ends.inn.taken ≡ (outward later).taken = ap taken_of (sym ends.in_there) ∙ has.leaves.taken in
-        ap (λ b. if b then ends.inn.taken else taken_past number ends.inn.past) same
-        ∙ (now ∙ ap (λ (c : Outward). c.taken) (sym last ∙ ap (outward_at later) is))
-    taken number (inr other) =
-        let differs : number ≡ length later.connections
-        → ⊥ = λ is. both_ways (ends.inn.number == number) other (eq-eqb ends.inn.number number (ends.in_number ∙ sym is)) in
-        ap (λ b. if b then ends.inn.taken else taken_past number ends.inn.past) other
-        ∙ (ends.taken number differs ∙ (was.over.taken number ∙ sym (same-traffic h later on number differs).taken))
+    ends : KnowEnds w later
+    ends = know (record {
+      pushed_last = has.leaves.pushed ∙ ap (λ (c : Outward). take c.pushed (frames_due later.settings c)) (sym last);
+      taken_last = has.leaves.taken ∙ ap (λ (c : Outward). c.taken) (sym last);
+      pushed = λ number other. (same-traffic h later on number other).pushed;
+      taken = λ number other. (same-traffic h later on number other).taken;
+    })
 
     ended : (k : ℕ) (c : Outward) → suc k < length later.connections → slice_get later.connections k ≡ Some c → c.closed ≡ true
     ended k c early at =
@@ -228,22 +215,16 @@ has-next v w h later was has on some ends = record {
         let closed = on.shut k found.0 early found.1 in
         ap (λ (x : Outward). x.closed) (same-at later.connections k c found.0 at (on.stays.same k found.0 found.1 closed)) ∙ closed
 
--- Both ends go on with the same connection.
-pub record SameEnds (v w : PrimaryView) : Type 0 where
-  pub out : (o : OutgoingState) → v.outgoing ≡ Some o → (p : OutgoingState) × (w.outgoing ≡ Some p) × (p.number ≡ o.number) × (p.past ≡ o.past)
-  pub inn : (i : IncomingState) → v.incoming ≡ Some i → (q : IncomingState) × (w.incoming ≡ Some q) × (q.number ≡ i.number) × (q.past ≡ i.past)
-
 -- A step that opens no end.
-has-step : (event : PrimaryEvent) → IsNoOpening event → (v w : PrimaryView) (h : PrimaryHistory) → PrimaryHas v h → SameEnds v w
+has-step : (event : PrimaryEvent) → IsNoOpening event → (v w : PrimaryView) (h : PrimaryHistory) → PrimaryHas v h
+    → SameEnds v.outgoing w.outgoing v.incoming w.incoming
     → NodeHas (node w) (primary_after event h) → PrimaryHas w (primary_after event h)
 has-step event none v w h was same has =
     let stays = stays-after event none h was.has.reached in
     let over = was.over in
-    let out = same.out over.out over.out_there in
-    let inn = same.inn over.inn over.in_there in
     let count : length (primary_after event h).connections ≡ length h.connections = stays.connections in
     let opened = over.opened in
-    has-next v w h (primary_after event h) was has
+    has-next w h (primary_after event h) has
     (record {
       settings = stays.settings;
       stays = primary_stays_closed (event ∷ []) h;
@@ -251,26 +232,13 @@ has-step event none v w h was same has =
       most = omega arith;
       shut = λ k c early at. over.ended k c (omega arith) at;
     })
-    (omega arith)
-    (record {
-      out = out.0;
-      inn = inn.0;
-      out_there = out.1;
-      in_there = inn.1;
-      out_number = out.2 ∙ (over.out_number ∙ sym count);
-      in_number = inn.2 ∙ (over.in_number ∙ sym count);
-      out_past = subst (λ n. AllByRecursion (λ (b : PushedBefore). b.number < n) out.0.past) (sym count)
-          (subst (λ (l : List PushedBefore). AllByRecursion (λ (b : PushedBefore). b.number < length h.connections) l) (sym out.3) over.out_past);
-      in_past = subst (λ n. AllByRecursion (λ (b : TakenBefore). b.number < n) inn.0.past) (sym count)
-          (subst (λ (l : List TakenBefore). AllByRecursion (λ (b : TakenBefore). b.number < length h.connections) l) (sym inn.3) over.in_past);
-      pushed = λ number other. ap (pushed_past number) out.3 ∙ earlier-pushed number over.out (λ is. other (sym is ∙ (over.out_number ∙ sym count)));
-      taken = λ number other. ap (taken_past number) inn.3 ∙ earlier-taken number over.inn (λ is. other (sym is ∙ (over.in_number ∙ sym count)));
-    })
+    (omega arith) (traffic-stays (know-ends v h over) same count)
 
 -- So the node's step is a step over the link, and the node is one over it then.
 pub steps-over : {Told : Type 0} (event : PrimaryEvent) → IsNoOpening event → (step : PrimaryHistory → Told × PrimaryHistory)
     → ((h : PrimaryHistory) → (step h).1 ≡ primary_after event h)
-    → (v w : PrimaryView) (told : Told) → SameEnds v w → ((h : PrimaryHistory) → NodeHas (node v) h → told ≡ (step h).0)
+    → (v w : PrimaryView) (told : Told) → SameEnds v.outgoing w.outgoing v.incoming w.incoming
+    → ((h : PrimaryHistory) → NodeHas (node v) h → told ≡ (step h).0)
     → ((h : PrimaryHistory) → NodeHas (node v) h → NodeHas (node w) (step h).1) → IsPrimaryStep step v told w
 steps-over event none step is v w told same said after = record {
   said = λ h was. said h was.has;
@@ -280,73 +248,6 @@ steps-over event none step is v w told same said after = record {
 pub had-over : {Told : Type 0} (step : PrimaryHistory → Told × PrimaryHistory) (v w : PrimaryView) (told : Told) → PrimaryIsHad v → IsPrimaryStep step v told w
     → PrimaryIsHad w
 had-over step v w told had steps = record { history = (step had.history).1; has = steps.after had.history had.has }
-
--- What the calls of a node leave of its ends.
-
-pub ends-of : (v w : PrimaryView) → w.outgoing ≡ v.outgoing → w.incoming ≡ v.incoming → SameEnds v w
-ends-of v w out inn = record { out = λ o at. (o, out ∙ at, refl, refl); inn = λ i at. (i, inn ∙ at, refl, refl) }
-
--- a push
-pub ends-sent : {R : Type 0} (v w : PrimaryView) (result : Result R Refusal) → link.Sends result v.outgoing w.outgoing → w.incoming ≡ v.incoming → SameEnds v w
-ends-sent {R} v w result sends inn = go result sends.pushed sends.kept
-  where
-    same-inn : (i : IncomingState) → v.incoming ≡ Some i → (q : IncomingState) × (w.incoming ≡ Some q) × (q.number ≡ i.number) × (q.past ≡ i.past)
-    same-inn i at = (i, inn ∙ at, refl, refl)
-
-    the : (o : OutgoingState) (b : OutgoingState) → v.outgoing ≡ Some b → v.outgoing ≡ Some o → b ≡ o
-    the o b one two = let both : Some b ≡ Some o = sym one ∙ two in cc
-
-    go : (r : Result R Refusal) → OnOk r (link.PushedOne v.outgoing w.outgoing)
-        → OnErr r ((partly : Option (List Packet)) × (w.outgoing ≡ option_map (λ (o : OutgoingState). record o { partly = partly }) v.outgoing)) → SameEnds v w
-    go (Ok done) pushed kept = record {
-      out = λ o at. let same = the o pushed.before pushed.there at in (
-        with_pushed pushed.packet pushed.frame pushed.before,
-        pushed.after,
-        ap (λ (x : OutgoingState). x.number) same,
-        ap (λ (x : OutgoingState). x.past) same,
-      );
-      inn = same-inn;
-    }
-    go (Err e) pushed kept = record {
-      out = λ o at. (record o { partly = kept.0 }, kept.1 ∙ ap (option_map (λ (x : OutgoingState). record x { partly = kept.0 })) at, refl, refl);
-      inn = same-inn;
-    }
-
--- a frame taken, or none
-pub ends-took : {R : Type 0} (v w : PrimaryView) (result : Result R Refusal) (frame : Option Received) → link.Takes frame result v.incoming w.incoming
-    → w.outgoing ≡ v.outgoing → SameEnds v w
-ends-took v w result frame takes out = go frame refl
-  where
-    same-out : (o : OutgoingState) → v.outgoing ≡ Some o → (p : OutgoingState) × (w.outgoing ≡ Some p) × (p.number ≡ o.number) × (p.past ≡ o.past)
-    same-out o at = (o, out ∙ at, refl, refl)
-
-    the : (i : IncomingState) (b : IncomingState) → v.incoming ≡ Some b → v.incoming ≡ Some i → b ≡ i
-    the i b one two = let both : Some b ≡ Some i = sym one ∙ two in cc
-
-    go : (f : Option Received) → frame ≡ f → SameEnds v w
-    go None is =
-        let kept = takes.kept is in
-        record {
-          out = same-out;
-          inn = λ i at. (
-            record i { is_ready = kept.0 },
-            kept.1
-                ∙ ap (option_map (λ (x : IncomingState). record x { is_ready = kept.0 })) at,
-            refl,
-            refl,
-          );
-        }
-    go (Some one) is =
-        let took = takes.took one is in
-        record {
-          out = same-out;
-          inn = λ i at. let same = the i took.before took.there at in (
-            with_received one took.frames took.ready took.before,
-            took.after,
-            ap (λ (x : IncomingState). x.number) same,
-            ap (λ (x : IncomingState). x.past) same,
-          );
-        }
 
 -- A step is a run of one event, and runs go on.
 pub runs-step : (event : PrimaryEvent) (v w : PrimaryView) (told : Reply) → ((h : PrimaryHistory) → (primary_step event h).1 ≡ primary_after event h)
@@ -393,67 +294,45 @@ opened-more sync loss h is =
     let size : length (step.opened h sync loss).connections ≡ suc (length h.connections) = length-append h.connections _ ∙ omega arith in
     (ap (λ (g : PrimaryHistory). length g.connections) to ∙ (k.connections ∙ size), ap (λ (g : PrimaryHistory). g.settings) to ∙ k.settings)
 
+-- so the history goes on where all but the last end had been closed
+opens-on : (sync loss : ℕ) (h : PrimaryHistory) → plainly tt ≡ (step.open_primary sync loss false h).0
+    → ((k : ℕ) (c : Outward) → suc k < length h.connections → slice_get h.connections k ≡ Some c → c.closed ≡ true)
+    → GoesOn h (primary_after (Opens sync loss false) h)
+opens-on sync loss h said ended = record {
+  settings = more.1;
+  stays = primary_stays_closed (Opens sync loss false ∷ []) h;
+  least = omega (arith, more.0);
+  most = omega (arith, more.0);
+  shut = shut;
+}
+  where
+    more : (length (step.open_primary sync loss false h).1.connections ≡ suc (length h.connections))
+        × ((step.open_primary sync loss false h).1.settings ≡ h.settings)
+    more = opened-more sync loss h said
+
+    shut : (k : ℕ) (c : Outward) → suc k < length (step.open_primary sync loss false h).1.connections → slice_get h.connections k ≡ Some c → c.closed ≡ true
+    shut k c early at = elim (cases_lt (suc k) (length h.connections)) [
+      | inl before ↦ ended k c before at
+      | inr end ↦
+          let inside = slice_get_within h.connections k c at in
+          elim (last-at (no_outward h.tuple) h.connections) [
+            | inl none ↦ absurd (let size : length h.connections ≡ 0 = ap length none in omega arith)
+            | inr last ↦
+                let size = more.0 in
+                let index : length h.connections - 1 ≡ k = omega arith in
+                let one : c ≡ outward h = same-at h.connections k c (outward h) at (subst (λ n. slice_get h.connections n ≡ Some (outward h)) index last) in
+                ap (λ (x : Outward). x.closed) one ∙ opened-shut sync loss h said
+          ]
+    ]
+
 has-opened : (sync loss number : ℕ) (v w : PrimaryView) (h : PrimaryHistory) → PrimaryHas v h → plainly tt ≡ (step.open_primary sync loss false h).0
     → NodeHas (node w) (primary_after (Opens sync loss false) h)
     → number ≡ w.core.connections → IsRestarted number v w → PrimaryHas w (primary_after (Opens sync loss false) h)
-has-opened sync loss number v w h was said has counted r =
-    has-next v w h later was has
-    (record {
-      settings = more.1;
-      stays = primary_stays_closed (Opens sync loss false ∷ []) h;
-      least = omega (arith, more.0);
-      most = omega (arith, more.0);
-      shut = shut;
-    })
-    (omega (arith, more.0))
-    (record {
-      out = record (pushing_anew number over.out) { room = r.room; waiting = r.waiting };
-      inn = record (taking_anew number over.inn) { queued = r.queued; capacity = r.capacity };
-      out_there = r.out ∙ ap (λ (o : OutgoingState). Some (record (pushing_anew number o) { room = r.room; waiting = r.waiting })) same-out;
-      in_there = r.inn ∙ ap (λ (i : IncomingState). Some (record (taking_anew number i) { queued = r.queued; capacity = r.capacity })) same-inn;
-      out_number = is;
-      in_number = is;
-      out_past = all-more (λ (b : PushedBefore). b.number) (length h.connections) (length later.connections) over.out.past _ over.out_past
-          (let size = more.0 in omega arith) (let size = more.0 in let here = over.out_number in omega arith);
-      in_past = all-more (λ (b : TakenBefore). b.number) (length h.connections) (length later.connections) over.inn.past _ over.in_past
-          (let size = more.0 in omega arith) (let size = more.0 in let here = over.in_number in omega arith);
-      pushed = λ m other. past-more m (record { number = over.out.number; pushed = over.out.pushed; frames = over.out.frames }) over.out.past
-          (subst (λ n. AllByRecursion (λ (b : PushedBefore). b.number < n) over.out.past) (sym over.out_number) over.out_past);
-      taken = λ m other. came-more m (record { number = over.inn.number; taken = over.inn.taken; frames = over.inn.frames }) over.inn.past
-          (subst (λ n. AllByRecursion (λ (b : TakenBefore). b.number < n) over.inn.past) (sym over.in_number) over.in_past);
-    })
-  where
-    later : PrimaryHistory
-    later = primary_after (Opens sync loss false) h
-
-    over : PrimaryOver v h
-    over = was.over
-
-    more : (length later.connections ≡ suc (length h.connections)) × (later.settings ≡ h.settings)
-    more = opened-more sync loss h said
-
-    is : number ≡ length later.connections
-    is = counted ∙ has.leaves.core.rest.connections
-
-    same-out : r.before ≡ over.out
-    same-out = let both : Some r.before ≡ Some over.out = sym r.out_there ∙ over.out_there in cc
-
-    same-inn : r.had ≡ over.inn
-    same-inn = let both : Some r.had ≡ Some over.inn = sym r.in_there ∙ over.in_there in cc
-
-    shut : (k : ℕ) (c : Outward) → suc k < length later.connections → slice_get h.connections k ≡ Some c → c.closed ≡ true
-    shut k c early at = elim (cases_lt (suc k) (length h.connections)) [
-      | inl before ↦ over.ended k c before at
-      | inr end ↦ elim (last-at (no_outward h.tuple) h.connections) [
-        | inl none ↦ absurd (let size : length h.connections ≡ 0 = ap length none in let some = over.opened in omega arith)
-        | inr last ↦
-            let size = more.0 in
-            let inside = slice_get_within h.connections k c at in
-            let index : length h.connections - 1 ≡ k = omega arith in
-            let one : c ≡ outward h = same-at h.connections k c (outward h) at (subst (λ n. slice_get h.connections n ≡ Some (outward h)) index last) in
-            ap (λ (x : Outward). x.closed) one ∙ opened-shut sync loss h said
-      ]
-    ]
+has-opened sync loss number v w h was said has counted restarted =
+    let size = (opened-more sync loss h said).0 in
+    let r = subst (λ (n : ℕ). IsRestarted n v w) (counted ∙ has.leaves.core.rest.connections) restarted in
+    has-next w h (primary_after (Opens sync loss false) h) has (opens-on sync loss h said was.over.ended) (omega arith)
+    (traffic-begins (know-ends v h was.over) (omega arith) r.before r.room r.waiting r.out_there r.out r.had r.queued r.capacity r.in_there r.inn)
 
 -- So an end that opens anew goes on over its link, and one that is refused stays as it is.
 pub reopens-over : (sync loss : ℕ) (v w : PrimaryView) (result : Result ℕ Refusal)
@@ -482,76 +361,20 @@ pub first-over : (sync loss : ℕ) (v w : PrimaryView) (h : PrimaryHistory) (o :
     → NodeSteps (Opens sync loss false) (node v) (plainly tt) (node w) → w.outgoing ≡ Some (outgoing o) → w.incoming ≡ Some (incoming i) → PrimaryIsHad w
 first-over sync loss v w h o i out inn none has steps out_there in_there = record {
   history = later;
-  has = record {
-    has = held;
-    over = record {
-      out = outgoing o;
-      inn = incoming i;
-      out_there = out_there;
-      in_there = in_there;
-      opened = let size = one in omega arith;
-      out_number = out.number ∙ sym one;
-      in_number = inn.number ∙ sym one;
-      out_past = subst (λ (l : List Past). AllByRecursion (λ (b : PushedBefore). b.number < length later.connections) (map pushed_before l)) (sym out.past) tt;
-      in_past = subst (λ (l : List Past). AllByRecursion (λ (b : TakenBefore). b.number < length later.connections) (map taken_before l)) (sym inn.past) tt;
-      pushed = pushed;
-      taken = taken;
-      ended = λ k c early at. absurd (omega (arith, one));
-    };
-  };
+  has = has-next w h later (steps.after h has) (opens-on sync loss h said (λ k c early at. absurd (omega (arith, ap length none)))) (omega (arith, one))
+      (traffic-first o i out inn out_there in_there one
+      (λ number. ap (λ (c : Outward). take c.pushed (frames_due h.settings c)) (never-open number)) (λ number. ap (λ (c : Outward). c.taken) (never-open number)));
 }
   where
     later : PrimaryHistory
     later = primary_after (Opens sync loss false) h
 
-    held : NodeHas (node w) later
-    held = steps.after h has
+    said : plainly tt ≡ (step.open_primary sync loss false h).0
+    said = steps.said h has
 
-    more : (length later.connections ≡ suc (length h.connections)) × (later.settings ≡ h.settings)
-    more = opened-more sync loss h (steps.said h has)
+    one : length (primary_after (Opens sync loss false) h).connections ≡ 1
+    one = (opened-more sync loss h said).0 ∙ ap (λ (l : List Outward). suc (length l)) none
 
-    one : length later.connections ≡ 1
-    one = more.0 ∙ ap (λ (l : List Outward). suc (length l)) none
-
-    sent : ℕ → List Packet
-    sent number = take (outward_at later number).pushed (frames_due later.settings (outward_at later number))
-
-    -- of no other number is there a connection
-    other-never : (number : ℕ) → (number ≡ 1 → ⊥) → outward_at later number ≡ no_outward later.tuple
-    other-never zero differs = refl
-    other-never (suc k) differs = go (slice_get later.connections k) refl
-      where
-        go : (x : Option Outward) → slice_get later.connections k ≡ x → outward_at later (suc k) ≡ no_outward later.tuple
-        go None is = ap (λ (x : Option Outward). unwrap_or x (no_outward later.tuple)) is
-        go (Some c) is = let inside = slice_get_within later.connections k c is in absurd (differs (omega (arith, one)))
-
-    last : outward_at later 1 ≡ outward later
-    last = sym (ap (outward_at later) one) ∙ last-outward later (omega (arith, one))
-
-    pushed-at : (number : ℕ) (b : Bool) → (o.number == number) ≡ b
-        → (if b then meant_in o.sent else pushed_past number (map pushed_before o.past)) ≡ sent number
-    pushed-at number true is =
-        let number_is : number ≡ 1 = sym (eqb-true o.number number is) ∙ out.number in
-        let now : meant_in o.sent ≡ take (outward later).pushed (frames_due later.settings (outward later)) = ap pushed_of (sym out_there)
-        ∙ held.leaves.pushed in
-        now ∙ ap (λ (c : Outward). take c.pushed (frames_due later.settings c)) (sym last ∙ ap (outward_at later) (sym number_is))
-    pushed-at number false is =
-        let differs : number ≡ 1 → ⊥ = λ same. both_ways (o.number == number) is (eq-eqb o.number number (out.number ∙ sym same)) in
-        ap (λ (l : List Past). pushed_past number (map pushed_before l)) out.past
-        ∙ sym (ap (λ (c : Outward). take c.pushed (frames_due later.settings c)) (other-never number differs))
-
-    taken-at : (number : ℕ) (b : Bool) → (i.number == number) ≡ b
-        → (if b then received_from 0 i.taken else taken_past number (map taken_before i.past)) ≡ (outward_at later number).taken
-    taken-at number true is =
-        let number_is : number ≡ 1 = sym (eqb-true i.number number is) ∙ inn.number in
-        let now : received_from 0 i.taken ≡ (outward later).taken = ap taken_of (sym in_there) ∙ held.leaves.taken in
-        now ∙ ap (λ (c : Outward). c.taken) (sym last ∙ ap (outward_at later) (sym number_is))
-    taken-at number false is =
-        let differs : number ≡ 1 → ⊥ = λ same. both_ways (i.number == number) is (eq-eqb i.number number (inn.number ∙ sym same)) in
-        ap (λ (l : List Past). taken_past number (map taken_before l)) inn.past ∙ sym (ap (λ (c : Outward). c.taken) (other-never number differs))
-
-    pushed : (number : ℕ) → pushed_at number (outgoing o) ≡ sent number
-    pushed number = pushed-at number (o.number == number) refl
-
-    taken : (number : ℕ) → taken_at number (incoming i) ≡ (outward_at later number).taken
-    taken number = taken-at number (i.number == number) refl
+    never-open : (number : ℕ) → outward_at h number ≡ no_outward h.tuple
+    never-open zero = refl
+    never-open (suc k) = ap (λ (l : List Outward). unwrap_or (slice_get l k) (no_outward h.tuple)) none

@@ -132,55 +132,57 @@ kept-settles p s receipts faulty r most =
       })
     ]) (kept-at s (length p.connections) r most)
 
+-- the opening from which two histories were reached
+abbrev pub reached_from : (p : PrimaryHistory) (s : SecondaryHistory) → primary.IsReached p → secondary.IsReached s → Opening
+reached_from p s rp rs =
+    record { settings = rp.settings; peer_settings = rs.settings; local = rp.disk; peer = rs.disk; own = rp.tuple; peer_tuple = rs.tuple; marks = rp.marks }
+
+-- what holds of the runs from it holds of the two
+pub of-runs : (Q : PrimaryHistory → SecondaryHistory → Type 0) (p : PrimaryHistory) (s : SecondaryHistory) (rp : primary.IsReached p)
+    (rs : secondary.IsReached s)
+    → Q (primary_run rp.events (primary_at (reached_from p s rp rs))) (secondary_run rs.events (secondary_at (reached_from p s rp rs))) → Q p s
+of-runs Q p s rp rs holds = subst (λ (q : PrimaryHistory). Q q s) rp.is
+    (subst (Q (primary_run rp.events (primary_at (reached_from p s rp rs)))) (sym rs.reached) holds)
+
+-- it is sound where the identifiers of both openings were honest
+pub sound-opening : (p : PrimaryHistory) (s : SecondaryHistory) (rp : primary.IsReached p) (rs : secondary.IsReached s) → WereHonest p s
+    → IsSoundOpening (reached_from p s rp rs)
+sound-opening p s rp rs honest =
+    let here = subst (λ (q : PrimaryHistory). (q.settings ≡ o.settings) × (q.opening_map ≡ o.local) × (q.opening_marks ≡ o.marks)
+    × (q.opening_tuple ≡ o.own)) rp.is
+    (let k = kept-opening-primary o rp.events in (k.settings, k.disk, k.marks, k.tuple)) in
+    let there = subst (λ (t : SecondaryHistory). (t.opening_map ≡ o.peer) × (t.opening_tuple ≡ o.peer_tuple)) (sym rs.reached)
+    (let k = kept-opening-secondary o rs.events in (k.disk, k.tuple)) in
+    let marked : (block : ℕ) → opening_marked p block ≡ marks_at o block
+    = λ block. (λ i. nat_lt block (here.0 i).blocks && (here.2 i) block) in
+    let covers : Cover (opening_marked p) p.opening_map s.opening_map → Cover (marks_at o) o.local o.peer
+    = λ cover block differs. sym (marked block) ∙ cover block ((λ i. same_block (here.1 i block) (there.0 i block)) ∙ differs) in
+    record {
+      ranges = record { here = rp.ranges; there = rs.in_range };
+      local = rp.sized;
+      peer = rs.sized;
+      identifiers = record {
+        own_data = subst (λ (t : Tuple). 0 < t.current) here.3 honest.own_data;
+        same_current = λ same. covers (honest.same_current (ap (λ (t : Tuple). t.current) there.1 ∙ same ∙ sym (ap (λ (t : Tuple). t.current) here.3)));
+        from_bitmap = λ some same. covers (honest.from_bitmap (subst (λ (t : Tuple). 0 < t.bitmap) (sym here.3) some) (ap (λ (t : Tuple). t.current) there.1
+            ∙ same ∙ sym (ap (λ (t : Tuple). t.bitmap) here.3)));
+      };
+    }
+  where
+    o : Opening
+    o = reached_from p s rp rs
+
 -- What a settlement says of nodes that are joined, where the identifiers of both openings were honest.
 pub settled-says : (p : PrimaryHistory) (s : SecondaryHistory) → primary.IsReached p → secondary.IsReached s → WereHonest p s → IsJoined p s
     → (receipts : List Receipt) (numbers : Settlement) → settle p s receipts false ≡ Ok numbers → Settles p s receipts numbers
 settled-says p s rp rs honest joined receipts numbers is =
-    subst (λ (q : PrimaryHistory). Settles q s receipts numbers) rp.is
-    (subst (λ (t : SecondaryHistory). Settles (primary_run rp.events (primary_at o)) t receipts numbers) (sym rs.reached)
-    (joined_settles o rp.events rs.events sound
-    (subst (λ (q : PrimaryHistory). IsJoined q (secondary_run rs.events (secondary_at o))) (sym rp.is) (subst (IsJoined p) rs.reached joined))
-    receipts false numbers
-    (subst (λ (q : PrimaryHistory). settle q (secondary_run rs.events (secondary_at o)) receipts false ≡ Ok numbers) (sym rp.is)
-    (subst (λ (t : SecondaryHistory). settle p t receipts false ≡ Ok numbers) rs.reached is))))
-  where
-    o : Opening
-    o = record { settings = rp.settings; peer_settings = rs.settings; local = rp.disk; peer = rs.disk; own = rp.tuple; peer_tuple = rs.tuple; marks = rp.marks }
-
-    sound : IsSoundOpening o
-    sound =
-        let here = subst (λ (q : PrimaryHistory). (q.settings ≡ o.settings) × (q.opening_map ≡ o.local) × (q.opening_marks ≡ o.marks)
-        × (q.opening_tuple ≡ o.own)) rp.is
-        (let k = kept-opening-primary o rp.events in (k.settings, k.disk, k.marks, k.tuple)) in
-        let there = subst (λ (t : SecondaryHistory). (t.opening_map ≡ o.peer) × (t.opening_tuple ≡ o.peer_tuple)) (sym rs.reached)
-        (let k = kept-opening-secondary o rs.events in (k.disk, k.tuple)) in
-        let marked : (block : ℕ) → opening_marked p block ≡ marks_at o block
-        = λ block. (λ i. nat_lt block (here.0 i).blocks && (here.2 i) block) in
-        let covers : Cover (opening_marked p) p.opening_map s.opening_map → Cover (marks_at o) o.local o.peer
-        = λ cover block differs. sym (marked block) ∙ cover block ((λ i. same_block (here.1 i block) (there.0 i block)) ∙ differs) in
-        record {
-          ranges = record { here = rp.ranges; there = rs.in_range };
-          local = rp.sized;
-          peer = rs.sized;
-          identifiers = record {
-            own_data = subst (λ (t : Tuple). 0 < t.current) here.3 honest.own_data;
-            same_current = λ same. covers (honest.same_current (ap (λ (t : Tuple). t.current) there.1 ∙ same ∙ sym (ap (λ (t : Tuple). t.current) here.3)));
-            from_bitmap = λ some same. covers (honest.from_bitmap (subst (λ (t : Tuple). 0 < t.bitmap) (sym here.3) some) (ap (λ (t : Tuple). t.current) there.1
-                ∙ same ∙ sym (ap (λ (t : Tuple). t.bitmap) here.3)));
-          };
-        }
+    of-runs (λ q t. IsJoined q t → settle q t receipts false ≡ Ok numbers → Settles q t receipts numbers) p s rp rs
+    (λ both settled. joined_settles (reached_from p s rp rs) rp.events rs.events (sound-opening p s rp rs honest) both receipts false numbers settled) joined is
 
 -- The same whatever the identifiers say.
 pub settled-says-anyhow : (p : PrimaryHistory) (s : SecondaryHistory) → primary.IsReached p → secondary.IsReached s → IsJoined p s
     → (receipts : List Receipt) (numbers : Settlement) → settle p s receipts false ≡ Ok numbers → SettlesAnyhow p s receipts numbers
 settled-says-anyhow p s rp rs joined receipts numbers is =
-    subst (λ (q : PrimaryHistory). SettlesAnyhow q s receipts numbers) rp.is
-    (subst (λ (t : SecondaryHistory). SettlesAnyhow (primary_run rp.events (primary_at o)) t receipts numbers) (sym rs.reached)
-    (joined_settles_anyhow o rp.events rs.events (record { here = rp.ranges; there = rs.in_range })
-    (subst (λ (q : PrimaryHistory). IsJoined q (secondary_run rs.events (secondary_at o))) (sym rp.is) (subst (IsJoined p) rs.reached joined))
-    receipts false numbers
-    (subst (λ (q : PrimaryHistory). settle q (secondary_run rs.events (secondary_at o)) receipts false ≡ Ok numbers) (sym rp.is)
-    (subst (λ (t : SecondaryHistory). settle p t receipts false ≡ Ok numbers) rs.reached is))))
-  where
-    o : Opening
-    o = record { settings = rp.settings; peer_settings = rs.settings; local = rp.disk; peer = rs.disk; own = rp.tuple; peer_tuple = rs.tuple; marks = rp.marks }
+    of-runs (λ q t. IsJoined q t → settle q t receipts false ≡ Ok numbers → SettlesAnyhow q t receipts numbers) p s rp rs
+    (λ both settled. joined_settles_anyhow (reached_from p s rp rs) rp.events rs.events (record { here = rp.ranges; there = rs.in_range }) both receipts false
+    numbers settled) joined is

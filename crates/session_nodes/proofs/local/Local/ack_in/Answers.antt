@@ -6,7 +6,8 @@ use Rattle.primary.specs.State.{PrimaryView}
 use Rattle.primary_steps.specs.Node.{primary_step}
 use Rattle.primary_steps.specs.Steps.{replied}
 use Rattle.session_nodes.specs.Primaries.{PrimaryTakes}
-use Rattle.session_nodes.proofs.Primaries.{ends-took, runs-step, steps-over, had-over}
+use Rattle.session_nodes.proofs.Ends.{ends-took}
+use Rattle.session_nodes.proofs.Primaries.{runs-step, steps-over, had-over}
 use Rattle.session_nodes.proofs.local.Local.ack_in.Goals as goal
 
 abbrev takes-over : (g : _) (c : goal.After-ack_in g) → PrimaryTakes c.ack_in.result c.self.inside.node c.ack_in.new.self
@@ -16,7 +17,7 @@ takes-over g c =
     record {
       frame = took.frame;
       step = steps-over event tt (primary_step event) (λ h. refl) c.self.inside.node c.ack_in.new.self (replied reply.Ok c.ack_in.result)
-          (ends-took c.self.inside.node c.ack_in.new.self c.ack_in.result took.frame took.link (ap (λ (v : PrimaryView). v.outgoing) c.ack_in.ensures.rest))
+          (ends-took c.ack_in.result took.frame took.link (ap (λ (v : PrimaryView). v.outgoing) c.ack_in.ensures.rest))
           took.step.said took.step.after;
     }
 

@@ -1,6 +1,7 @@
 use Rattle.std.proofs.Common.{refl, ap}
 use Rattle.primary.specs.State.{PrimaryView}
-use Rattle.session_nodes.proofs.Primaries.{ends-of, steps-over, had-over}
+use Rattle.session_nodes.proofs.Ends.{ends-of}
+use Rattle.session_nodes.proofs.Primaries.{steps-over, had-over}
 use Rattle.blocks.specs.declared.outcome.Reply.TheVariants as reply
 use Rattle.model.specs.LocalRuns.{Closes}
 use Rattle.primary_steps.specs.Node.{primary_step}
@@ -11,7 +12,7 @@ use Rattle.session_nodes.proofs.local.Local.close.Goals as goal
 abbrev step-over : (g : _) (c : goal.After-close g) → PrimarySteps Closes c.self.inside.node (replied reply.Closed c.close.result) c.close.new.self
 step-over g c =
     steps-over Closes tt (primary_step Closes) (λ h. refl) c.self.inside.node c.close.new.self (replied reply.Closed c.close.result)
-    (ends-of c.self.inside.node c.close.new.self (ap (λ (v : PrimaryView). v.outgoing) c.close.ensures.rest)
+    (ends-of (ap (λ (v : PrimaryView). v.outgoing) c.close.ensures.rest)
     (ap (λ (v : PrimaryView). v.incoming) c.close.ensures.rest)) c.close.ensures.step.said c.close.ensures.step.after
 
 pub invariant_of-self : goal.invariant_of-self

@@ -6,11 +6,12 @@ use Rattle.primary.specs.State.{PrimaryView}
 use Rattle.primary_steps.specs.Node.{primary_step}
 use Rattle.primary_steps.specs.Steps.{replied}
 use Rattle.session_nodes.specs.Primaries.{PrimaryRuns}
-use Rattle.session_nodes.proofs.Primaries.{SameEnds, ends-of, steps-over, runs-step, had-runs}
+use Rattle.session_nodes.proofs.Ends.{SameEnds, ends-of}
+use Rattle.session_nodes.proofs.Primaries.{steps-over, runs-step, had-runs}
 use Rattle.session_nodes.proofs.local.Local.resync_next.Goals as goal
 
-abbrev same : (g : _) (c : goal.After-resync_next g) → SameEnds c.self.inside.node c.resync_next.new.self
-same g c = ends-of c.self.inside.node c.resync_next.new.self (ap (λ (x : PrimaryView). x.outgoing) c.resync_next.ensures.rest)
+abbrev same : (g : _) (c : goal.After-resync_next g) → SameEnds c.self.inside.node.outgoing c.resync_next.new.self.outgoing c.self.inside.node.incoming c.resync_next.new.self.incoming
+same g c = ends-of (ap (λ (x : PrimaryView). x.outgoing) c.resync_next.ensures.rest)
     (ap (λ (x : PrimaryView). x.incoming) c.resync_next.ensures.rest)
 
 abbrev ran : (g : _) (c : goal.After-resync_next g) → PrimaryRuns c.self.inside.node c.resync_next.new.self

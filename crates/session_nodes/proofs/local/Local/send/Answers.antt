@@ -6,7 +6,8 @@ use Rattle.primary.specs.State.{PrimaryView}
 use Rattle.primary_steps.specs.Node.{primary_step}
 use Rattle.primary_steps.specs.Steps.{replied}
 use Rattle.session_nodes.specs.Primaries.{PrimarySteps}
-use Rattle.session_nodes.proofs.Primaries.{ends-sent, runs-step, steps-over, had-over}
+use Rattle.session_nodes.proofs.Ends.{ends-sent}
+use Rattle.session_nodes.proofs.Primaries.{runs-step, steps-over, had-over}
 use Rattle.session_nodes.proofs.local.Local.send.Goals as goal
 
 abbrev step-over : (g : _) (c : goal.After-send g)
@@ -14,7 +15,7 @@ abbrev step-over : (g : _) (c : goal.After-send g)
 step-over g c =
     let event = Sends (has_room c.send.result) (is_starved c.send.result) in
     steps-over event tt (primary_step event) (λ h. refl) c.self.inside.node c.send.new.self (replied reply.Ok c.send.result)
-    (ends-sent c.self.inside.node c.send.new.self c.send.result c.send.ensures.link (ap (λ (v : PrimaryView). v.incoming) c.send.ensures.rest))
+    (ends-sent c.send.result c.send.ensures.link (ap (λ (v : PrimaryView). v.incoming) c.send.ensures.rest))
     c.send.ensures.step.said c.send.ensures.step.after
 
 -- src/local.rt

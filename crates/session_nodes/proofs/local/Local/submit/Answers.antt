@@ -1,6 +1,7 @@
 use Rattle.std.proofs.Common.{refl, ap}
 use Rattle.primary.specs.State.{PrimaryView}
-use Rattle.session_nodes.proofs.Primaries.{ends-of, steps-over, had-over}
+use Rattle.session_nodes.proofs.Ends.{ends-of}
+use Rattle.session_nodes.proofs.Primaries.{steps-over, had-over}
 use Rattle.blocks.specs.declared.outcome.Reply.TheVariants as reply
 use Rattle.endpoint.specs.Calls.{is_starved}
 use Rattle.model.specs.LocalRuns.{Submits}
@@ -17,7 +18,7 @@ step-over g c =
     steps-over (Submits c.args.first (whole_blocks c.args.bytes.now) (is_starved c.submit.result)) tt
     (primary_step (Submits c.args.first (whole_blocks c.args.bytes.now) (is_starved c.submit.result))) (λ h. refl) c.self.inside.node c.submit.new.self
     (replied (λ told. reply.Ok told.1) c.submit.result)
-    (ends-of c.self.inside.node c.submit.new.self (ap (λ (v : PrimaryView). v.outgoing) c.submit.ensures.rest)
+    (ends-of (ap (λ (v : PrimaryView). v.outgoing) c.submit.ensures.rest)
     (ap (λ (v : PrimaryView). v.incoming) c.submit.ensures.rest)) c.submit.ensures.step.said c.submit.ensures.step.after
 
 pub invariant_of-self : goal.invariant_of-self

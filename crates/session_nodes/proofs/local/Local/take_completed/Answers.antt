@@ -1,6 +1,7 @@
 use Rattle.std.proofs.Common.{refl, ap}
 use Rattle.primary.specs.State.{PrimaryView}
-use Rattle.session_nodes.proofs.Primaries.{ends-of, steps-over, had-over}
+use Rattle.session_nodes.proofs.Ends.{ends-of}
+use Rattle.session_nodes.proofs.Primaries.{steps-over, had-over}
 use Rattle.model.specs.LocalRuns.{Receipts}
 use Rattle.primary_steps.specs.Node.{take_receipt}
 use Rattle.session_nodes.specs.Primaries.{IsPrimaryStep}
@@ -10,7 +11,7 @@ abbrev step-over : (g : _) (c : goal.After-take_completed g)
     → IsPrimaryStep (take_receipt c.args.number) c.self.inside.node c.take_completed.result c.take_completed.new.self
 step-over g c =
     steps-over (Receipts c.args.number) tt (take_receipt c.args.number) (λ h. refl) c.self.inside.node c.take_completed.new.self c.take_completed.result
-    (ends-of c.self.inside.node c.take_completed.new.self (ap (λ (v : PrimaryView). v.outgoing) c.take_completed.ensures.rest)
+    (ends-of (ap (λ (v : PrimaryView). v.outgoing) c.take_completed.ensures.rest)
     (ap (λ (v : PrimaryView). v.incoming) c.take_completed.ensures.rest)) c.take_completed.ensures.step.said c.take_completed.ensures.step.after
 
 pub invariant_of-self : goal.invariant_of-self

@@ -5,11 +5,12 @@ use Rattle.primary.specs.State.{PrimaryView}
 use Rattle.primary_steps.specs.Node.{primary_step}
 use Rattle.primary_steps.specs.Steps.{replied}
 use Rattle.session_nodes.specs.Primaries.{PrimaryRuns}
-use Rattle.session_nodes.proofs.Primaries.{SameEnds, ends-of, steps-over, runs-step, had-runs}
+use Rattle.session_nodes.proofs.Ends.{SameEnds, ends-of}
+use Rattle.session_nodes.proofs.Primaries.{steps-over, runs-step, had-runs}
 use Rattle.session_nodes.proofs.local.Local.write_at.Goals as goal
 
-abbrev same : (g : _) (c : goal.After-local g) → SameEnds c.self.inside.node c.local.new.self
-same g c = ends-of c.self.inside.node c.local.new.self (ap (λ (x : PrimaryView). x.outgoing) c.local.ensures.rest)
+abbrev same : (g : _) (c : goal.After-local g) → SameEnds c.self.inside.node.outgoing c.local.new.self.outgoing c.self.inside.node.incoming c.local.new.self.incoming
+same g c = ends-of (ap (λ (x : PrimaryView). x.outgoing) c.local.ensures.rest)
     (ap (λ (x : PrimaryView). x.incoming) c.local.ensures.rest)
 
 abbrev ran : (g : _) (c : goal.After-local g) → PrimaryRuns c.self.inside.node c.local.new.self

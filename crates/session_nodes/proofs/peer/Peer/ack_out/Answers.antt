@@ -4,7 +4,8 @@ use Rattle.model.specs.LocalRuns.{Acknowledges}
 use Rattle.secondary.specs.State.{SecondaryView}
 use Rattle.secondary_steps.specs.Steps.{replied}
 use Rattle.session_nodes.specs.Secondaries.{SecondarySteps}
-use Rattle.session_nodes.proofs.Secondaries.{ends-sent, runs-step, steps-over, had-over}
+use Rattle.session_nodes.proofs.Ends.{ends-sent}
+use Rattle.session_nodes.proofs.Secondaries.{runs-step, steps-over, had-over}
 use Rattle.session_nodes.proofs.peer.Peer.ack_out.Goals as goal
 
 abbrev step-over : (g : _) (c : goal.After-ack_out g)
@@ -13,7 +14,7 @@ abbrev step-over : (g : _) (c : goal.After-ack_out g)
 step-over g c =
     steps-over (Acknowledges (has_room c.ack_out.result) (is_starved c.ack_out.result)) tt (λ h. refl) c.self.inside.node c.ack_out.new.self
     (replied (λ done. done) c.ack_out.result)
-    (ends-sent c.self.inside.node c.ack_out.new.self c.ack_out.result c.ack_out.ensures.link (ap (λ (v : SecondaryView). v.incoming) c.ack_out.ensures.rest))
+    (ends-sent c.ack_out.result c.ack_out.ensures.link (ap (λ (v : SecondaryView). v.incoming) c.ack_out.ensures.rest))
     c.ack_out.ensures.step
 
 pub invariant_of-self : goal.invariant_of-self

@@ -3,11 +3,12 @@ use Rattle.model.specs.LocalRuns.{Applies, FailsToApply}
 use Rattle.secondary.specs.State.{SecondaryView}
 use Rattle.secondary_steps.specs.Steps.{replied}
 use Rattle.session_nodes.specs.Secondaries.{SecondaryRuns}
-use Rattle.session_nodes.proofs.Secondaries.{SameEnds, ends-of, steps-over, runs-step, had-runs}
+use Rattle.session_nodes.proofs.Ends.{SameEnds, ends-of}
+use Rattle.session_nodes.proofs.Secondaries.{steps-over, runs-step, had-runs}
 use Rattle.session_nodes.proofs.peer.Peer.apply_at.Goals as goal
 
-abbrev same : (g : _) (c : goal.After-peer g) → SameEnds c.self.inside.node c.peer.new.self
-same g c = ends-of c.self.inside.node c.peer.new.self (ap (λ (x : SecondaryView). x.outgoing) c.peer.ensures.rest)
+abbrev same : (g : _) (c : goal.After-peer g) → SameEnds c.self.inside.node.outgoing c.peer.new.self.outgoing c.self.inside.node.incoming c.peer.new.self.incoming
+same g c = ends-of (ap (λ (x : SecondaryView). x.outgoing) c.peer.ensures.rest)
     (ap (λ (x : SecondaryView). x.incoming) c.peer.ensures.rest)
 
 abbrev ran : (g : _) (c : goal.After-peer g) → SecondaryRuns c.self.inside.node c.peer.new.self

@@ -3,13 +3,14 @@ use Rattle.model.specs.LocalRuns.{ClosesToo}
 use Rattle.secondary.specs.State.{SecondaryView}
 use Rattle.secondary_steps.specs.Steps.{plainly, replied}
 use Rattle.session_nodes.specs.Secondaries.{SecondarySteps}
-use Rattle.session_nodes.proofs.Secondaries.{ends-of, steps-over, had-over}
+use Rattle.session_nodes.proofs.Ends.{ends-of}
+use Rattle.session_nodes.proofs.Secondaries.{steps-over, had-over}
 use Rattle.session_nodes.proofs.peer.Peer.close.Goals as goal
 
 abbrev step-over : (g : _) (c : goal.After-close g) → SecondarySteps ClosesToo c.self.inside.node (replied plainly c.close.result) c.close.new.self
 step-over g c =
     steps-over ClosesToo tt (λ h. refl) c.self.inside.node c.close.new.self (replied plainly c.close.result)
-    (ends-of c.self.inside.node c.close.new.self (ap (λ (v : SecondaryView). v.outgoing) c.close.ensures.rest)
+    (ends-of (ap (λ (v : SecondaryView). v.outgoing) c.close.ensures.rest)
     (ap (λ (v : SecondaryView). v.incoming) c.close.ensures.rest)) c.close.ensures.step
 
 pub invariant_of-self : goal.invariant_of-self

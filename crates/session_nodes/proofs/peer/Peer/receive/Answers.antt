@@ -3,7 +3,8 @@ use Rattle.endpoint.specs.Calls.{is_starved}
 use Rattle.model.specs.LocalRuns.{Receives}
 use Rattle.secondary_steps.specs.Steps.{replied}
 use Rattle.session_nodes.specs.Secondaries.{SecondaryReceives}
-use Rattle.session_nodes.proofs.Secondaries.{ends-took, outgoing-stays, runs-step, steps-over, had-over}
+use Rattle.session_nodes.proofs.Ends.{ends-took}
+use Rattle.session_nodes.proofs.Secondaries.{outgoing-stays, runs-step, steps-over, had-over}
 use Rattle.session_nodes.proofs.peer.Peer.receive.Goals as goal
 
 abbrev takes-over : (g : _) (c : goal.After-receive g) → SecondaryReceives c.receive.result c.self.inside.node c.receive.new.self
@@ -13,7 +14,7 @@ takes-over g c =
       frame = took.frame;
       step = steps-over (Receives took.frame (is_none took.frame && is_starved c.receive.result)) tt (λ h. refl) c.self.inside.node c.receive.new.self
           (replied (λ done. done) c.receive.result)
-          (ends-took c.self.inside.node c.receive.new.self c.receive.result took.frame took.link
+          (ends-took c.receive.result took.frame took.link
           (outgoing-stays c.self.inside.node c.receive.new.self c.receive.ensures.rest)) took.step;
     }
 
