@@ -64,21 +64,29 @@ fn rate(bytes: usize, time: Duration) -> u128 {
     }
 }
 
+/// How long it takes to copy a stream. A first copy makes the buffer's memory present.
+fn time_copy(rt: &HostRuntime, stream: &[u8]) -> anyhow::Result<Duration> {
+    let mut buffer = Vec::with_capacity(rt.alloc(), stream.len())?;
+    copy_pieces(&mut buffer, stream)?;
+    let start = Instant::now(rt)?;
+    copy_pieces(&mut buffer, stream)?;
+    Ok(start.elapsed(rt)?)
+}
+
+/// How many packets are decoded from a stream, and how long that takes.
+fn time_decoder(rt: &HostRuntime, stream: &[u8]) -> anyhow::Result<(u64, Duration)> {
+    let start = Instant::now(rt)?;
+    let count = decode_pieces(rt.alloc(), stream)?;
+    Ok((count, start.elapsed(rt)?))
+}
+
 fn measure(rt: &HostRuntime, blocks: usize) -> anyhow::Result<()>
     requires some { 0 < blocks }
     requires few { blocks ≤ 32 }
 {
-    let alloc = rt.alloc();
-    let stream = stream_of(alloc, blocks)?;
-    // The first copy makes the buffer's memory present.
-    let mut buffer = Vec::with_capacity(alloc, stream.len())?;
-    copy_pieces(&mut buffer, &stream)?;
-    let start = Instant::now(rt)?;
-    copy_pieces(&mut buffer, &stream)?;
-    let copied = start.elapsed(rt)?;
-    let start = Instant::now(rt)?;
-    let count = decode_pieces(alloc, &stream)?;
-    let decoded = start.elapsed(rt)?;
+    let stream = stream_of(rt.alloc(), blocks)?;
+    let copied = time_copy(rt, &stream)?;
+    let (count, decoded) = time_decoder(rt, &stream)?;
     println!(rt; "blocks in a frame: {blocks}, packets: {count}")?;
     eprintln!(rt;
         "blocks in a frame: {blocks}, decoded {} MB/s, copied {} MB/s",

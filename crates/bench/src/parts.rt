@@ -39,6 +39,47 @@ fn each(time: Duration, count: u32) -> u128 {
     }
 }
 
+/// Copies `count` blocks. Answers the sum of a byte of each, and how long that took.
+fn copied(rt: &HostRuntime, source: &[u8], count: u32) -> anyhow::Result<(u64, Duration)>
+    requires { length source.now ≡ 65536 * 4096 }
+{
+    let mut block = Vec::from_elem(rt.alloc(), 0u8, BLOCK_BYTES)?;
+    let start = Instant::now(rt)?;
+    let sum = copy_blocks(source, &mut block, count);
+    Ok((sum, start.elapsed(rt)?))
+}
+
+/// Takes `writes` writes through the parts. Answers how long that took.
+fn written(rt: &HostRuntime, way: &mut Way, writes: u32) -> anyhow::Result<Duration> {
+    let start = Instant::now(rt)?;
+    for _ in 0..writes {
+        way.write()?;
+    }
+    Ok(start.elapsed(rt)?)
+}
+
+/// Takes writes through the parts, and prints what that cost beside these copies of as many blocks.
+fn compare(
+    rt: &HostRuntime,
+    way: &mut Way,
+    writes: u32,
+    (in_flight, blocks): (u32, u32),
+    (sum, copied): (u64, Duration),
+) -> anyhow::Result<()> {
+    let written = written(rt, way, writes)?;
+    let counts = way.counts();
+    println!(rt;
+        "in flight: {in_flight}, blocks: {blocks}, completed: {}, epochs: {}, released: {}, cleared: {}, sum: {sum}",
+        counts.completed, counts.epochs, counts.released, counts.cleared
+    )?;
+    eprintln!(rt;
+        "in flight: {in_flight}, blocks: {blocks}, a write: {} ns, a copy: {} ns",
+        each(written, writes),
+        each(copied, writes)
+    )?;
+    Ok(())
+}
+
 /// Takes `writes` writes through the parts, with `in_flight` of them in flight, and prints what that cost.
 fn measure(
     rt: &HostRuntime,
@@ -51,27 +92,9 @@ fn measure(
     requires some_in_flight { 0 < in_flight }
     requires few_blocks { blocks ≤ 262144 }
 {
-    let mut block = Vec::from_elem(rt.alloc(), 0u8, BLOCK_BYTES)?;
+    let copied = copied(rt, source, writes)?;
     let mut way = Way::new(rt.alloc(), in_flight, blocks)?;
-    let start = Instant::now(rt)?;
-    let sum = copy_blocks(source, &mut block, writes);
-    let copied = start.elapsed(rt)?;
-    let start = Instant::now(rt)?;
-    for _ in 0..writes {
-        way.write()?;
-    }
-    let written = start.elapsed(rt)?;
-    let counts = way.counts();
-    println!(rt;
-        "in flight: {in_flight}, blocks: {blocks}, completed: {}, epochs: {}, released: {}, cleared: {}, sum: {sum}",
-        counts.completed, counts.epochs, counts.released, counts.cleared
-    )?;
-    eprintln!(rt;
-        "in flight: {in_flight}, blocks: {blocks}, a write: {} ns, a copy: {} ns",
-        each(written, writes),
-        each(copied, writes)
-    )?;
-    Ok(())
+    compare(rt, &mut way, writes, (in_flight, blocks), copied)
 }
 
 /// Takes `writes` writes through the parts of a small device and of the largest, with few in flight and with many.

@@ -1,5 +1,6 @@
 //! The nodes' cores: worked rows, and frames that a peer does not send.
 
+mod cases;
 mod primary_calls;
 mod primary_decisions;
 mod primary_frames;

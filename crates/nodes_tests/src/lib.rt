@@ -9,3 +9,5 @@ mod nodes;
 mod pairs;
 #[cfg(test)]
 mod scripts;
+#[cfg(test)]
+mod tuples;

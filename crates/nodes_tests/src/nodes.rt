@@ -2,6 +2,7 @@
 //! of a write that failed.
 
 mod answers;
+mod cases;
 mod either_end;
 mod failed_write;
 mod frames;

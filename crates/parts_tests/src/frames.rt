@@ -8,4 +8,3 @@ mod samples;
 mod spelled;
 mod stores;
 mod streams;
-mod vectors;

@@ -7,3 +7,5 @@ mod frames;
 mod parts;
 #[cfg(test)]
 mod ruled;
+#[cfg(test)]
+mod vectors;

@@ -2,8 +2,8 @@
 
 mod connections;
 mod ends;
+mod kinds;
 mod moments;
 mod names;
 mod pieces;
 mod threads;
-mod vectors;

@@ -1,5 +1,5 @@
 //! The outcome of a session.
-ghost use Rattle.std.specs.Prelude.{◌≡◌, length, IfOk};
+ghost use Rattle.std.specs.Prelude.{◌≡◌, ◌*◌, length, vec_len, IfOk};
 
 use crate::options::Options;
 use blocks::{MemStore, Refusal};
@@ -25,14 +25,30 @@ pub(crate) struct Report {
     pub(crate) peer: MemStore,
 }
 
-/// Settles two nodes that are at rest, with the receipts of all writes. The refusals are those of `settle`, and
-/// `NoMemory` (7) if there is no room for the status lines.
-pub(crate) fn bring_together<
+/// The outcome of a session that ended so: its writers have these receipts, and these are its nodes at rest. If a write
+/// was refused, that is the refusal; else those come of the end and of `settle`, and `NoMemory` (7) if there is no room
+/// for the status lines.
+pub(crate) fn conclude<
     O: FrameOut + Drop,
     I: FrameIn + Drop,
     P: FrameOut + Drop,
     J: FrameIn + Drop,
 >(
+    alloc: Global,
+    options: &Options,
+    worked: Result<Vec<Receipt>, Refusal>,
+    ended: Result<(Primary<O, I, MemStore>, Secondary<P, J, MemStore>), Refusal>,
+) -> Result<Report, Refusal>
+    requires { IfOk worked (λ receipts. vec_len receipts ≡ options.now.writers * options.now.writes) }
+    ensures { IfOk result (λ report. report.completed ≡ options.now.writers * options.now.writes) }
+{
+    let receipts = worked?;
+    let (primary, secondary) = ended?;
+    bring_together(alloc, options, primary, secondary, receipts.as_slice())
+}
+
+// Settles both nodes.
+fn bring_together<O: FrameOut + Drop, I: FrameIn + Drop, P: FrameOut + Drop, J: FrameIn + Drop>(
     alloc: Global,
     options: &Options,
     primary: Primary<O, I, MemStore>,

@@ -7,8 +7,8 @@ ghost use Rattle.ruled_link.specs.Names as names;
 ghost use Rattle.ruled_link.specs.Outward.{sending};
 
 use crate::options::Options;
-use crate::parts::parts;
-use crate::report::{Report, bring_together};
+use crate::parts::{Disks, parts};
+use crate::report::{Report, conclude};
 use crate::work::work;
 use blocks::{MemStore, Refusal};
 use ruled_link::{RuledIn, RuledOut, ruled};
@@ -37,11 +37,7 @@ pub(crate) fn run_session<
 ) -> Result<Report, Refusal>
     ensures { IfOk result (λ report. report.completed ≡ options.now.writers * options.now.writes) }
 {
-    let parts = parts(alloc, options, &images)?;
-    let disks = (
-        MemStore::from_image(images.0)?,
-        MemStore::from_image(images.1)?,
-    );
+    let (parts, disks) = parts(alloc, options, images)?;
     let there = ruled(rt, alloc, parts.settings.link)?;
     let back = ruled(rt, alloc, parts.settings.link)?;
     run_named::<Brand, R, E>(rt, alloc, options, there, back, disks, parts, err)
@@ -58,7 +54,7 @@ fn run_named<
     options: &Options,
     there: (RuledOut<R>, RuledIn<R>),
     back: (RuledOut<R>, RuledIn<R>),
-    disks: (MemStore, MemStore),
+    disks: Disks,
     parts: Parts,
     err: &mut E,
 ) -> Result<Report, Refusal>
@@ -94,16 +90,5 @@ fn use_session<
     ensures { IfOk result (λ report. report.completed ≡ options.now.writers * options.now.writes) }
 {
     let worked = work(&rt, alloc, session.mirror(), options, err);
-    match session.finish() {
-        Ok((primary, secondary)) => match worked {
-            Ok(receipts) => {
-                bring_together(alloc, options, primary, secondary, receipts.as_slice())
-            }
-            Err(refusal) => Err(refusal),
-        },
-        Err(refusal) => match worked {
-            Ok(_) => Err(refusal),
-            Err(first) => Err(first),
-        },
-    }
+    conclude(alloc, options, worked, session.finish())
 }

@@ -3,7 +3,7 @@ ghost use Rattle.std.specs.Prelude.{◌≡◌, ◌*◌, ◌<◌, IfOk};
 
 use crate::options::Options;
 use crate::parts::parts;
-use crate::report::{Report, bring_together};
+use crate::report::{Report, conclude};
 use crate::work::work;
 use blocks::{MemStore, Refusal};
 use std::alloc::Global;
@@ -57,9 +57,7 @@ pub(crate) fn run_over<
 ) -> Result<Report, Refusal>
     ensures { IfOk result (λ report. report.completed ≡ options.now.writers * options.now.writes) }
 {
-    let parts = parts(alloc, options, &images)?;
-    let local = MemStore::from_image(images.0)?;
-    let peer = MemStore::from_image(images.1)?;
+    let (parts, (local, peer)) = parts(alloc, options, images)?;
     match WireSession::start_over(rt, alloc, local, peer, parts, ways) {
         Ok(session) => use_session(rt, alloc, options, session, err),
         Err(refusal) => Err(refusal),
@@ -78,16 +76,5 @@ fn use_session<R: Threads + Wait + Clock + Copy + Drop + Send + Sync + 'static, 
     ensures { IfOk result (λ report. report.completed ≡ options.now.writers * options.now.writes) }
 {
     let worked = work(&rt, alloc, session.mirror(), options, err);
-    match session.finish() {
-        Ok((primary, secondary)) => match worked {
-            Ok(receipts) => {
-                bring_together(alloc, options, primary, secondary, receipts.as_slice())
-            }
-            Err(refusal) => Err(refusal),
-        },
-        Err(refusal) => match worked {
-            Ok(_) => Err(refusal),
-            Err(first) => Err(first),
-        },
-    }
+    conclude(alloc, options, worked, session.finish())
 }

@@ -333,31 +333,36 @@ fn refused<R: Wait + Clock + Drop, A: PrimaryHalf + Drop, B: SecondaryHalf + Dro
 ) -> Result<Answers, Refusal> {
     let mut answers = nothing(alloc);
     let part = Bytes::copy_from_slice(alloc, &[0u8; 100])?;
-    let refusals = [
-        (number(write(alloc, mirror, 8, 0)), 1),
-        (number(mirror.write(0, &part)), 1),
-        (number(mirror.read(8, 1)), 1),
-        (number(mirror.read(0, 0)), 1),
-        (number(mirror.reconnect(90, 91)), 36),
-    ];
+    complain(
+        &mut answers,
+        &[
+            (number(write(alloc, mirror, 8, 0)), 1),
+            (number(mirror.write(0, &part)), 1),
+            (number(mirror.read(8, 1)), 1),
+            (number(mirror.read(0, 0)), 1),
+            (number(mirror.reconnect(90, 91)), 36),
+        ],
+    );
+    mirror.cut();
+    complain(
+        &mut answers,
+        &[
+            (number(mirror.reconnect(90, 90)), 33),
+            (number(mirror.reconnect(1, 91)), 33),
+            (number(mirror.reconnect(0, 91)), 33),
+            (number(mirror.reconnect(90, 91)), 0),
+        ],
+    );
+    Ok(answers)
+}
+
+// Complains of each number of a refusal that is another one than the wanted.
+fn complain(answers: &mut Answers, refusals: &[(u8, u8)]) {
     for (found, wanted) in refusals {
         answers.complaints = answers
             .complaints
             .saturating_add(u32::from(found != wanted));
     }
-    mirror.cut();
-    let again = [
-        (number(mirror.reconnect(90, 90)), 33),
-        (number(mirror.reconnect(1, 91)), 33),
-        (number(mirror.reconnect(0, 91)), 33),
-        (number(mirror.reconnect(90, 91)), 0),
-    ];
-    for (found, wanted) in again {
-        answers.complaints = answers
-            .complaints
-            .saturating_add(u32::from(found != wanted));
-    }
-    Ok(answers)
 }
 
 // The number of a refusal, 0 if there is none.

@@ -62,19 +62,13 @@ fn over_failing_reads<R: Threads + Wait + Clock + Copy + Drop + Send + Sync + 's
 fn a_local_fault_is_its_callers_alone(rt: HostRuntime) -> Result<(), Fail> {
     for protocol in [Protocol::A, Protocol::B, Protocol::C] {
         for passes in 0..10u64 {
-            let outcome = over_failing(rt, rt.alloc(), protocol, Fault::LocalWrite(passes)).map_err(
-                |_| "a session",
-            )?;
+            let outcome = over_failing(rt, rt.alloc(), protocol, Fault::LocalWrite(passes))?;
             assert_eq!(rt;
                 (outcome.receipts, outcome.local_faults),
                 (199, 1),
                 "{protocol:?} {passes}"
             );
-            assert_eq!(rt;
-                (outcome.settled.confirmed, outcome.settled.unmarked),
-                (199, 0),
-                "{protocol:?} {passes}"
-            );
+            outcome.is_settled(&rt, 199, &(protocol, passes));
         }
     }
     Ok(())
@@ -84,19 +78,13 @@ fn a_local_fault_is_its_callers_alone(rt: HostRuntime) -> Result<(), Fail> {
 fn a_peer_fault_leaves_no_difference_unmarked(rt: HostRuntime) -> Result<(), Fail> {
     for protocol in [Protocol::A, Protocol::B, Protocol::C] {
         for passes in 0..10u64 {
-            let outcome = over_failing(rt, rt.alloc(), protocol, Fault::PeerWrite(passes)).map_err(
-                |_| "a session",
-            )?;
+            let outcome = over_failing(rt, rt.alloc(), protocol, Fault::PeerWrite(passes))?;
             assert_eq!(rt;
                 (outcome.receipts, outcome.local_faults),
                 (200, 0),
                 "{protocol:?} {passes}"
             );
-            assert_eq!(rt;
-                (outcome.settled.confirmed, outcome.settled.unmarked),
-                (200, 0),
-                "{protocol:?} {passes}"
-            );
+            outcome.is_settled(&rt, 200, &(protocol, passes));
         }
     }
     Ok(())
@@ -106,7 +94,7 @@ fn a_peer_fault_leaves_no_difference_unmarked(rt: HostRuntime) -> Result<(), Fai
 fn a_failed_read_of_a_resync_is_tried_again(rt: HostRuntime) -> Result<(), Fail> {
     // The resync reads each of the eight blocks once.
     for passes in 0..8u64 {
-        let outcome = over_failing_reads(rt, rt.alloc(), passes).map_err(|_| "a session")?;
+        let outcome = over_failing_reads(rt, rt.alloc(), passes)?;
         assert_eq!(rt; (outcome.complaints, outcome.alike), (0, true), "{passes}");
         assert_eq!(rt; outcome.peer_bytes, [1, 2, 3, 4, 5, 6, 7, 8], "{passes}");
         assert_eq!(rt; outcome.settled.unmarked, 0, "{passes}");

@@ -43,14 +43,10 @@ fn a_write_ends_on_the_local_disk_while_the_peer_writes(rt: HostRuntime) -> Resu
     );
     for wide in [under_c, under_a] {
         for case in [wide, wide.over_one_frame()] {
-            let outcome = over_watched(rt, rt.alloc(), case).map_err(|_| "a session")?;
-            assert_eq!(rt; (outcome.receipts, outcome.linked), (2, 2), "{case:?}");
-            assert_eq!(rt; outcome.complaints, 0, "{case:?}");
-            assert_eq!(rt;
-                (outcome.settled.confirmed, outcome.settled.unmarked),
-                (2, 0),
-                "{case:?}"
-            );
+            let outcome = over_watched(rt, rt.alloc(), case)?;
+            outcome.is_without_complaints(&rt, 2, &case);
+            assert_eq!(rt; outcome.linked, 2, "{case:?}");
+            outcome.is_settled(&rt, 2, &case);
         }
     }
     Ok(())
@@ -63,7 +59,7 @@ fn every_block_of_an_unknown_peer_is_copied(rt: HostRuntime) -> Result<(), Fail>
         ..Case::of(Protocol::C, Work::Resync { writes: 8 })
     };
     for case in [wide, wide.over_one_frame()] {
-        let outcome = over_watched(rt, rt.alloc(), case).map_err(|_| "a session")?;
+        let outcome = over_watched(rt, rt.alloc(), case)?;
         assert_eq!(rt; outcome.complaints, 0, "{case:?}");
         assert_eq!(rt; outcome.peer_bytes, [1, 2, 3, 4, 5, 6, 7, 8], "{case:?}");
         assert!(rt; outcome.alike, "{case:?}");

@@ -4,6 +4,8 @@ use link::{FrameIn, FrameOut};
 use primary::{Kind, Primary, Receipt};
 use secondary::Secondary;
 use settle::{Settled, settle};
+use std::fmt::Debug;
+use std::process::Abort;
 
 /// What the callers of a session have at its end.
 #[derive(Drop)]
@@ -41,9 +43,45 @@ pub(crate) struct Outcome {
     pub(crate) peer_bytes: [u8; 8],
 }
 
+impl Outcome {
+    /// The callers have this many receipts, and no complaint.
+    pub(crate) fn is_without_complaints(
+        &self,
+        rt: &impl Abort,
+        receipts: usize,
+        case: &impl Debug,
+    ) {
+        assert_eq!(rt; (self.receipts, self.complaints), (receipts, 0), "{case:?}");
+    }
+
+    /// The settlement confirmed this many receipts, and found no difference without a mark.
+    pub(crate) fn is_settled(&self, rt: &impl Abort, confirmed: u64, case: &impl Debug) {
+        assert_eq!(rt;
+            (self.settled.confirmed, self.settled.unmarked),
+            (confirmed, 0),
+            "{case:?}"
+        );
+    }
+}
+
 /// Settles two nodes at rest with the receipts that callers have, and compares their disks. If the callers failed, so
 /// does it.
-pub(crate) fn compare<
+pub(crate) fn bring_together<
+    O: FrameOut + Drop,
+    I: FrameIn + Drop,
+    S: Store + Drop,
+    P: FrameOut + Drop,
+    J: FrameIn + Drop,
+    T: Store + Drop,
+>(
+    nodes: (Primary<O, I, S>, Secondary<P, J, T>),
+    answers: Result<Answers, Refusal>,
+) -> Result<Outcome, Refusal> {
+    let (mut primary, mut secondary) = nodes;
+    compare(&mut primary, &mut secondary, answers)
+}
+
+fn compare<
     O: FrameOut + Drop,
     I: FrameIn + Drop,
     S: Store + Drop,
@@ -57,15 +95,7 @@ pub(crate) fn compare<
 ) -> Result<Outcome, Refusal> {
     let answers = answers?;
     let settled = settle(primary, secondary, answers.receipts.as_slice())?;
-    let mut alike = true;
-    let mut peer_bytes = [0u8; 8];
-    for number in 0..8usize {
-        let (mut local, mut peer) = ([0u8; BLOCK_BYTES], [0u8; BLOCK_BYTES]);
-        primary.read_block(Block(number as u64), &mut local)?;
-        secondary.read_block(Block(number as u64), &mut peer)?;
-        alike &= local == peer;
-        peer_bytes[number] = peer[0];
-    }
+    let (alike, peer_bytes) = read_disks(primary, secondary)?;
     Ok(Outcome {
         receipts: answers.receipts.len(),
         linked: answers.linked(),
@@ -75,4 +105,28 @@ pub(crate) fn compare<
         alike,
         peer_bytes,
     })
+}
+
+// Whether both disks have the same eight blocks, and the first byte of each of the peer's.
+fn read_disks<
+    O: FrameOut + Drop,
+    I: FrameIn + Drop,
+    S: Store + Drop,
+    P: FrameOut + Drop,
+    J: FrameIn + Drop,
+    T: Store + Drop,
+>(
+    primary: &mut Primary<O, I, S>,
+    secondary: &mut Secondary<P, J, T>,
+) -> Result<(bool, [u8; 8]), Refusal> {
+    let mut alike = true;
+    let mut peer_bytes = [0u8; 8];
+    for number in 0..8usize {
+        let (mut local, mut peer) = ([0u8; BLOCK_BYTES], [0u8; BLOCK_BYTES]);
+        primary.read_block(Block(number as u64), &mut local)?;
+        secondary.read_block(Block(number as u64), &mut peer)?;
+        alike &= local == peer;
+        peer_bytes[number] = peer[0];
+    }
+    Ok((alike, peer_bytes))
 }

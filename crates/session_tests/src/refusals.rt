@@ -58,7 +58,7 @@ fn a_refused_start_leaves_nothing(rt: HostRuntime) -> Result<(), Fail> {
         (with(tuple(7, 1, 0, 0), tuple(20, 21, 22, 23)), false, 32),
     ];
     for (case, is_short, number) in cases {
-        let (answer, is_gone) = answer(rt, rt.alloc(), case, is_short).map_err(|_| "a disk")?;
+        let (answer, is_gone) = answer(rt, rt.alloc(), case, is_short)?;
         let found = match answer {
             Ok(_) => 0,
             Err(refusal) => refusal.number(),
@@ -71,8 +71,8 @@ fn a_refused_start_leaves_nothing(rt: HostRuntime) -> Result<(), Fail> {
 #[test]
 fn a_running_session_refuses_what_it_should(rt: HostRuntime) -> Result<(), Fail> {
     let case = Case::of(Protocol::C, Work::Refused);
-    let (answer, is_gone) = answer(rt, rt.alloc(), case, false).map_err(|_| "a disk")?;
-    let outcome = answer.map_err(|_| "a session")?;
+    let (answer, is_gone) = answer(rt, rt.alloc(), case, false)?;
+    let outcome = answer?;
     assert_eq!(rt; (outcome.complaints, outcome.settled.unmarked), (0, 0));
     assert!(rt; is_gone);
     Ok(())

@@ -1,5 +1,5 @@
 //! Running a session over two disks, from its start to its settlement.
-ghost use Rattle.std.specs.Prelude.{◌≡◌};
+ghost use Rattle.std.specs.Prelude.{◌≡◌, ◌<◌, IfOk};
 ghost use Rattle.endpoint.specs.Calls.{IsNewIn, IsNewOut};
 ghost use Rattle.ruled_link.specs.Inward.{taking};
 ghost use Rattle.ruled_link.specs.Names.{row_of};
@@ -8,7 +8,7 @@ ghost use Rattle.ruled_link.specs.Outward.{sending};
 
 use crate::callers::{Work, carry_out};
 use crate::disks::Signals;
-use crate::outcome::{Outcome, compare};
+use crate::outcome::{Outcome, bring_together};
 use blocks::{Protocol, Refusal, Settings, Store, Tuple};
 use ruled_link::{RuledIn, RuledOut, ruled};
 use std::alloc::Global;
@@ -64,6 +64,26 @@ impl Case {
     pub(crate) fn over_one_frame(self) -> Case {
         Case { link: 1, ..self }
     }
+
+    /// What the session starts from. No block is marked.
+    pub(crate) fn parts(&self, alloc: Global) -> Result<Parts, Refusal>
+        ensures { IfOk result (λ parts. 0 < parts.settings.link) }
+    {
+        let settings = Settings {
+            protocol: self.protocol,
+            link: self.link,
+            ..Settings::STANDARD
+        };
+        settings.check()?;
+        Ok(Parts {
+            settings,
+            own: self.own,
+            peer: self.peer,
+            marks: Vec::from_elem(alloc, false, settings.blocks as usize)?,
+            sync: self.words.0,
+            loss: self.words.1,
+        })
+    }
 }
 
 /// Runs a session over these disks, whose threads and callers share the signals.
@@ -78,22 +98,9 @@ pub(crate) fn run<
     disks: (S, T),
     signals: &Arc<Signals, Global>,
 ) -> Result<Outcome, Refusal> {
-    let settings = Settings {
-        protocol: case.protocol,
-        link: case.link,
-        ..Settings::STANDARD
-    };
-    settings.check()?;
-    let parts = Parts {
-        settings,
-        own: case.own,
-        peer: case.peer,
-        marks: Vec::from_elem(alloc, false, settings.blocks as usize)?,
-        sync: case.words.0,
-        loss: case.words.1,
-    };
-    let there = ruled(rt, alloc, settings.link)?;
-    let back = ruled(rt, alloc, settings.link)?;
+    let parts = case.parts(alloc)?;
+    let there = ruled(rt, alloc, parts.settings.link)?;
+    let back = ruled(rt, alloc, parts.settings.link)?;
     run_named::<Brand, _, _, _>(rt, alloc, case.work, there, back, disks, parts, signals)
 }
 
@@ -141,11 +148,5 @@ fn use_session<
     signals: &Arc<Signals, Global>,
 ) -> Result<Outcome, Refusal> {
     let answers = carry_out(&rt, alloc, session.mirror(), signals, work);
-    match session.finish() {
-        Ok((primary, secondary)) => {
-            let (mut primary, mut secondary) = (primary, secondary);
-            compare(&mut primary, &mut secondary, answers)
-        }
-        Err(refusal) => Err(refusal),
-    }
+    bring_together(session.finish()?, answers)
 }

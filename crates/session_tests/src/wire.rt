@@ -1,19 +1,20 @@
 //! Sessions over streams.
 use crate::callers::{Work, carry_out};
 use crate::disks::{Signals, memory};
-use crate::outcome::{Outcome, compare};
+use crate::outcome::{Outcome, bring_together};
 use crate::pipes::{Fixed, pipe};
 use crate::session::Case;
-use blocks::{Protocol, Refusal, Settings};
+use blocks::{MemStore, Protocol, Refusal};
 use std::alloc::Global;
 use std::io::{Read, Write};
 use std::ops::Range;
+use std::process::Abort;
 use std::sync::Wait;
 use std::test::*;
 use std::thread;
 use std::thread::Threads;
 use std::time::Clock;
-use volume::{Parts, Way, WireSession};
+use volume::{Way, WireSession};
 
 /// No bytes at which a stream fails.
 const NEVER: u64 = u64::MAX;
@@ -75,32 +76,23 @@ fn over_ways<
     V: Write + Drop + Send + 'static,
     E: Read + Drop + Send + 'static,
 >(rt: R, alloc: Global, case: Case, ways: (Way<W, D>, Way<V, E>)) -> Result<Outcome, Refusal> {
-    let settings = Settings {
-        protocol: case.protocol,
-        link: case.link,
-        ..Settings::STANDARD
-    };
-    let parts = Parts {
-        settings,
-        own: case.own,
-        peer: case.peer,
-        marks: Vec::from_elem(alloc, false, settings.blocks as usize)?,
-        sync: case.words.0,
-        loss: case.words.1,
-    };
+    let parts = case.parts(alloc)?;
     let (local, peer) = (memory(alloc, false)?, memory(alloc, false)?);
-    let session = match WireSession::start_over(rt, alloc, local, peer, parts, ways) {
-        Ok(session) => session,
-        Err(refusal) => return Err(refusal),
-    };
-    let answers = carry_out(&rt, alloc, session.mirror(), &Signals::new(), case.work);
-    match session.finish() {
-        Ok((primary, secondary)) => {
-            let (mut primary, mut secondary) = (primary, secondary);
-            compare(&mut primary, &mut secondary, answers)
-        }
+    match WireSession::start_over(rt, alloc, local, peer, parts, ways) {
+        Ok(session) => use_session(rt, alloc, case.work, session),
         Err(refusal) => Err(refusal),
     }
+}
+
+// Lets the callers do their work, ends the session, and settles.
+fn use_session<R: Threads + Wait + Clock + Copy + Drop + Send + Sync + 'static>(
+    rt: R,
+    alloc: Global,
+    work: Work,
+    session: WireSession<R, MemStore, MemStore>,
+) -> Result<Outcome, Refusal> {
+    let answers = carry_out(&rt, alloc, session.mirror(), &Signals::new(), work);
+    bring_together(session.finish()?, answers)
 }
 
 #[test]
@@ -108,14 +100,10 @@ fn each_write_over_streams_has_its_receipt(rt: HostRuntime) -> Result<(), Fail> 
     for protocol in [Protocol::A, Protocol::B, Protocol::C] {
         let wide = Case::of(protocol, Work::Writers { cuts: 0 });
         for case in [wide, wide.over_one_frame()] {
-            let outcome = over_pipes(rt, rt.alloc(), case, WHOLE).map_err(|_| "a session")?;
-            assert_eq!(rt; (outcome.receipts, outcome.linked), (200, 200), "{case:?}");
-            assert_eq!(rt; outcome.complaints, 0, "{case:?}");
-            assert_eq!(rt;
-                (outcome.settled.confirmed, outcome.settled.unmarked),
-                (200, 0),
-                "{case:?}"
-            );
+            let outcome = over_pipes(rt, rt.alloc(), case, WHOLE)?;
+            outcome.is_without_complaints(&rt, 200, &case);
+            assert_eq!(rt; outcome.linked, 200, "{case:?}");
+            outcome.is_settled(&rt, 200, &case);
         }
     }
     Ok(())
@@ -124,7 +112,7 @@ fn each_write_over_streams_has_its_receipt(rt: HostRuntime) -> Result<(), Fail> 
 #[test]
 fn a_session_over_streams_has_one_connection(rt: HostRuntime) -> Result<(), Fail> {
     let case = Case::of(Protocol::C, Work::OneConnection);
-    let outcome = over_pipes(rt, rt.alloc(), case, WHOLE).map_err(|_| "a session")?;
+    let outcome = over_pipes(rt, rt.alloc(), case, WHOLE)?;
     assert_eq!(rt; (outcome.complaints, outcome.settled.unmarked), (0, 0));
     Ok(())
 }
@@ -178,70 +166,59 @@ fn count_sound<R: Threads + Wait + Clock + Copy + Drop + Send + Sync + 'static>(
     Ok(all)
 }
 
+// Each of these sessions is sound.
+fn loses_nothing<R: Abort + Threads + Wait + Clock + Copy + Drop + Send + Sync + 'static>(
+    rt: R,
+    alloc: Global,
+    bytes: Range<u64>,
+    end: End,
+    wanted: u32,
+) -> Result<(), Fail> {
+    let sound = count_sound(rt, alloc, bytes, end)?;
+    assert_eq!(&rt; sound, wanted);
+    Ok(())
+}
+
 // The hello, the DATA frame of one block and a barrier are 4,212 bytes. A stream fails after each number of them, by quarters.
 
 #[test]
 fn a_reader_that_fails_in_the_first_quarter_loses_nothing(rt: HostRuntime) -> Result<(), Fail> {
-    let end = End::Reader;
-    let sound = count_sound(rt, rt.alloc(), 0..1054, end).map_err(|_| "memory")?;
-    assert_eq!(rt; sound, 1054);
-    Ok(())
+    loses_nothing(rt, rt.alloc(), 0..1054, End::Reader, 1054)
 }
 
 #[test]
 fn a_reader_that_fails_in_the_second_quarter_loses_nothing(rt: HostRuntime) -> Result<(), Fail> {
-    let end = End::Reader;
-    let sound = count_sound(rt, rt.alloc(), 1054..2108, end).map_err(|_| "memory")?;
-    assert_eq!(rt; sound, 1054);
-    Ok(())
+    loses_nothing(rt, rt.alloc(), 1054..2108, End::Reader, 1054)
 }
 
 #[test]
 fn a_reader_that_fails_in_the_third_quarter_loses_nothing(rt: HostRuntime) -> Result<(), Fail> {
-    let end = End::Reader;
-    let sound = count_sound(rt, rt.alloc(), 2108..3162, end).map_err(|_| "memory")?;
-    assert_eq!(rt; sound, 1054);
-    Ok(())
+    loses_nothing(rt, rt.alloc(), 2108..3162, End::Reader, 1054)
 }
 
 #[test]
 fn a_reader_that_fails_in_the_last_quarter_loses_nothing(rt: HostRuntime) -> Result<(), Fail> {
-    let end = End::Reader;
-    let sound = count_sound(rt, rt.alloc(), 3162..4213, end).map_err(|_| "memory")?;
-    assert_eq!(rt; sound, 1051);
-    Ok(())
+    loses_nothing(rt, rt.alloc(), 3162..4213, End::Reader, 1051)
 }
 
 #[test]
 fn a_writer_that_fails_in_the_first_quarter_loses_nothing(rt: HostRuntime) -> Result<(), Fail> {
-    let end = End::Writer;
-    let sound = count_sound(rt, rt.alloc(), 0..1054, end).map_err(|_| "memory")?;
-    assert_eq!(rt; sound, 1054);
-    Ok(())
+    loses_nothing(rt, rt.alloc(), 0..1054, End::Writer, 1054)
 }
 
 #[test]
 fn a_writer_that_fails_in_the_second_quarter_loses_nothing(rt: HostRuntime) -> Result<(), Fail> {
-    let end = End::Writer;
-    let sound = count_sound(rt, rt.alloc(), 1054..2108, end).map_err(|_| "memory")?;
-    assert_eq!(rt; sound, 1054);
-    Ok(())
+    loses_nothing(rt, rt.alloc(), 1054..2108, End::Writer, 1054)
 }
 
 #[test]
 fn a_writer_that_fails_in_the_third_quarter_loses_nothing(rt: HostRuntime) -> Result<(), Fail> {
-    let end = End::Writer;
-    let sound = count_sound(rt, rt.alloc(), 2108..3162, end).map_err(|_| "memory")?;
-    assert_eq!(rt; sound, 1054);
-    Ok(())
+    loses_nothing(rt, rt.alloc(), 2108..3162, End::Writer, 1054)
 }
 
 #[test]
 fn a_writer_that_fails_in_the_last_quarter_loses_nothing(rt: HostRuntime) -> Result<(), Fail> {
-    let end = End::Writer;
-    let sound = count_sound(rt, rt.alloc(), 3162..4213, end).map_err(|_| "memory")?;
-    assert_eq!(rt; sound, 1051);
-    Ok(())
+    loses_nothing(rt, rt.alloc(), 3162..4213, End::Writer, 1051)
 }
 
 // The refusal of a start during whose hello these bytes come to the secondary.
@@ -283,7 +260,7 @@ fn foreign_bytes_in_the_hello_are_refused(rt: HostRuntime) -> Result<(), Fail> {
         ),
     ];
     for (bytes, number) in cases {
-        let found = foreign(rt, rt.alloc(), bytes).map_err(|_| "memory")?;
+        let found = foreign(rt, rt.alloc(), bytes)?;
         // The input that ends after these bytes may close the end before it takes them.
         assert!(rt; found == number || found == 12, "{number}: {found}");
     }

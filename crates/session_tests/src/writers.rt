@@ -31,14 +31,10 @@ fn each_write_of_four_writers_has_its_receipt(rt: HostRuntime) -> Result<(), Fai
     for protocol in [Protocol::A, Protocol::B, Protocol::C] {
         let wide = Case::of(protocol, Work::Writers { cuts: 0 });
         for case in [wide, wide.over_one_frame()] {
-            let outcome = over_memory(rt, rt.alloc(), case).map_err(|_| "a session")?;
-            assert_eq!(rt; (outcome.receipts, outcome.linked), (200, 200), "{case:?}");
-            assert_eq!(rt; outcome.complaints, 0, "{case:?}");
-            assert_eq!(rt;
-                (outcome.settled.confirmed, outcome.settled.unmarked),
-                (200, 0),
-                "{case:?}"
-            );
+            let outcome = over_memory(rt, rt.alloc(), case)?;
+            outcome.is_without_complaints(&rt, 200, &case);
+            assert_eq!(rt; outcome.linked, 200, "{case:?}");
+            outcome.is_settled(&rt, 200, &case);
             // Under A and B the cut at the end may come before the peer's disk has done all.
             assert!(rt;
                 protocol != Protocol::C || (outcome.settled.applied >= 200 && outcome.alike),
@@ -53,17 +49,9 @@ fn each_write_of_four_writers_has_its_receipt(rt: HostRuntime) -> Result<(), Fai
 fn writers_of_the_same_blocks_take_turns(rt: HostRuntime) -> Result<(), Fail> {
     let wide = Case::of(Protocol::C, Work::SharedBlocks);
     for case in [wide, wide.over_one_frame()] {
-        let outcome = over_memory(rt, rt.alloc(), case).map_err(|_| "a session")?;
-        assert_eq!(rt;
-            (outcome.receipts, outcome.complaints),
-            (200, 0),
-            "{case:?}"
-        );
-        assert_eq!(rt;
-            (outcome.settled.confirmed, outcome.settled.unmarked),
-            (200, 0),
-            "{case:?}"
-        );
+        let outcome = over_memory(rt, rt.alloc(), case)?;
+        outcome.is_without_complaints(&rt, 200, &case);
+        outcome.is_settled(&rt, 200, &case);
         assert!(rt; outcome.alike, "{case:?}");
     }
     Ok(())
@@ -74,17 +62,9 @@ fn writers_go_on_while_the_link_is_cut(rt: HostRuntime) -> Result<(), Fail> {
     for protocol in [Protocol::A, Protocol::B, Protocol::C] {
         let wide = Case::of(protocol, Work::Writers { cuts: 10 });
         for case in [wide, wide.over_one_frame()] {
-            let outcome = over_memory(rt, rt.alloc(), case).map_err(|_| "a session")?;
-            assert_eq!(rt;
-                (outcome.receipts, outcome.complaints),
-                (200, 0),
-                "{case:?}"
-            );
-            assert_eq!(rt;
-                (outcome.settled.confirmed, outcome.settled.unmarked),
-                (200, 0),
-                "{case:?}"
-            );
+            let outcome = over_memory(rt, rt.alloc(), case)?;
+            outcome.is_without_complaints(&rt, 200, &case);
+            outcome.is_settled(&rt, 200, &case);
         }
     }
     Ok(())
@@ -94,17 +74,9 @@ fn writers_go_on_while_the_link_is_cut(rt: HostRuntime) -> Result<(), Fail> {
 fn a_cut_after_every_tenth_write_loses_none(rt: HostRuntime) -> Result<(), Fail> {
     for protocol in [Protocol::A, Protocol::B, Protocol::C] {
         let case = Case::of(protocol, Work::CutEveryTenth);
-        let outcome = over_memory(rt, rt.alloc(), case).map_err(|_| "a session")?;
-        assert_eq!(rt;
-            (outcome.receipts, outcome.complaints),
-            (1000, 0),
-            "{case:?}"
-        );
-        assert_eq!(rt;
-            (outcome.settled.confirmed, outcome.settled.unmarked),
-            (1000, 0),
-            "{case:?}"
-        );
+        let outcome = over_memory(rt, rt.alloc(), case)?;
+        outcome.is_without_complaints(&rt, 1000, &case);
+        outcome.is_settled(&rt, 1000, &case);
     }
     Ok(())
 }
@@ -113,13 +85,9 @@ fn a_cut_after_every_tenth_write_loses_none(rt: HostRuntime) -> Result<(), Fail>
 fn receipts_of_two_connections_are_confirmed(rt: HostRuntime) -> Result<(), Fail> {
     let wide = Case::of(Protocol::C, Work::TwoConnections);
     for case in [wide, wide.over_one_frame()] {
-        let outcome = over_memory(rt, rt.alloc(), case).map_err(|_| "a session")?;
+        let outcome = over_memory(rt, rt.alloc(), case)?;
         assert_eq!(rt; (outcome.receipts, outcome.linked), (2, 2), "{case:?}");
-        assert_eq!(rt;
-            (outcome.settled.confirmed, outcome.settled.unmarked),
-            (2, 0),
-            "{case:?}"
-        );
+        outcome.is_settled(&rt, 2, &case);
     }
     Ok(())
 }

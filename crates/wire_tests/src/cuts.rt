@@ -1,11 +1,11 @@
 //! A secondary takes the frames that arrived as a whole, wherever the connection is lost.
 use crate::ends::{LostReader, LostWriter};
-use crate::receiver::{open_peer, take_frames};
+use crate::receiver::{Peer, open_peer, take_frames};
 use crate::sender::sent_bytes;
 use bell::Bell;
 use blocks::Refusal;
 use pumps::{Buffer, PumpEnd, pump_in, pump_out};
-use ruled_link::{RuledOut, row};
+use ruled_link::{PieceOut, RuledOut, row};
 use std::alloc::Global;
 use std::io::Read;
 use std::process::Abort;
@@ -28,6 +28,19 @@ fn whole_frames(count: usize) -> u32 {
     }
 }
 
+/// What a secondary takes of what a reader gives: how the pump ends, and how many frames come.
+fn taken<R: Wait + Clock + Copy + Drop, D: Read>(
+    rt: R,
+    buffer: &mut Buffer,
+    reader: &mut D,
+    outward: &mut PieceOut<R>,
+    peer: &mut Peer<R>,
+) -> (PumpEnd, Result<u32, Refusal>) {
+    let stop = AtomicBool::new(false);
+    let end = pump_in(&rt, outward, reader, buffer, &stop, &Bell::new());
+    (end, take_frames(peer))
+}
+
 /// A secondary that gets what a reader gives takes so many frames, and there is no more.
 fn takes<R: Wait + Clock + Copy + Drop + Abort, D: Read>(
     rt: R,
@@ -38,10 +51,17 @@ fn takes<R: Wait + Clock + Copy + Drop + Abort, D: Read>(
 ) -> Result<(), Refusal> {
     let (back, _) = row(rt, alloc, 1)?;
     let (mut outward, mut peer) = open_peer(rt, alloc, RuledOut::new(back))?;
-    let stop = AtomicBool::new(false);
-    let end = pump_in(&rt, &mut outward, reader, buffer, &stop, &Bell::new());
-    assert_eq!(&rt; (end, take_frames(&mut peer)), wanted);
+    let found = taken(rt, buffer, reader, &mut outward, &mut peer);
+    is(rt, found, wanted);
     Ok(())
+}
+
+fn is<R: Abort + Drop>(
+    rt: R,
+    found: (PumpEnd, Result<u32, Refusal>),
+    wanted: (PumpEnd, Result<u32, Refusal>),
+) {
+    assert_eq!(&rt; found, wanted);
 }
 
 /// What arrives of these bytes over a connection that is lost after so many.
@@ -67,14 +87,20 @@ fn arrived<R: Wait + Clock + Copy + Drop + Abort>(
     Ok(writer.got)
 }
 
+/// What the primary sends: all of these bytes.
+fn all_bytes<R: Wait + Copy + Drop + Abort>(rt: R, alloc: Global) -> Result<Vec<u8>, Refusal> {
+    let sent = sent_bytes(rt, alloc)?;
+    assert_eq!(&rt; sent.len(), ALL_BYTES);
+    Ok(sent)
+}
+
 /// The reader of the secondary's pump fails after each byte.
 fn reading_is_lost<R: Wait + Clock + Copy + Drop + Abort>(
     rt: R,
     alloc: Global,
 ) -> Result<(), Refusal> {
-    let sent = sent_bytes(rt, alloc)?;
+    let sent = all_bytes(rt, alloc)?;
     let bytes = sent.as_slice();
-    assert_eq!(&rt; bytes.len(), ALL_BYTES);
     let mut buffer = Buffer::new(alloc)?;
     for count in 0..=bytes.len() {
         let mut reader = LostReader {
@@ -91,9 +117,8 @@ fn writing_is_lost<R: Wait + Clock + Copy + Drop + Abort>(
     rt: R,
     alloc: Global,
 ) -> Result<(), Refusal> {
-    let sent = sent_bytes(rt, alloc)?;
+    let sent = all_bytes(rt, alloc)?;
     let bytes = sent.as_slice();
-    assert_eq!(&rt; bytes.len(), ALL_BYTES);
     let mut buffer = Buffer::new(alloc)?;
     for count in 0..=bytes.len() {
         let got = arrived(rt, &mut buffer, alloc, bytes, count)?;

@@ -1,5 +1,6 @@
 //! A secondary at the end of a row.
-ghost use Rattle.endpoint.specs.Calls.{IsNewOut};
+ghost use Rattle.endpoint.specs.Calls.{IsNewIn, IsNewOut};
+ghost use Rattle.ruled_link.specs.Inward.{taking};
 ghost use Rattle.ruled_link.specs.Outward.{sending};
 
 use blocks::{MemStore, Refusal, Settings, Tuple};
@@ -29,13 +30,27 @@ pub(crate) fn open_peer<R: Wait + Copy + Drop>(
     requires { IsNewOut (sending back) }
 {
     let (outward, inward) = row(rt, alloc, 8)?;
+    let inward = RuledIn::new(alloc, inward)?;
     let disk = MemStore::zeroed(alloc, 8)?;
     let mut peer = Secondary::new(alloc, Settings::STANDARD, disk, ALIKE)?;
+    match connect(&mut peer, back, inward) {
+        Ok(()) => Ok((outward, peer)),
+        Err(refusal) => Err(refusal),
+    }
+}
+
+fn connect<R: Wait + Drop>(
+    peer: &mut Peer<R>,
+    back: RuledOut<R>,
+    inward: RuledIn<R>,
+) -> Result<(), Refusal>
+    requires outward { IsNewOut (sending back) }
+    requires inward { IsNewIn (taking inward) }
+{
     if peer.number() == u32::MAX {
         return Err(Refusal::StreamFull);
     }
-    peer.open(back, RuledIn::new(alloc, inward)?)?;
-    Ok((outward, peer))
+    peer.open(back, inward)
 }
 
 /// Has a secondary take frames until there is none, and counts them.

@@ -1,6 +1,7 @@
 //! The bytes that a primary sends: its hello, a write and the write's barrier.
-ghost use Rattle.endpoint.specs.Calls.{IsNewIn};
+ghost use Rattle.endpoint.specs.Calls.{IsNewIn, IsNewOut};
 ghost use Rattle.ruled_link.specs.Inward.{taking};
+ghost use Rattle.ruled_link.specs.Outward.{sending};
 
 use crate::receiver::{ALIKE, Peer, open_peer};
 use blocks::{MemStore, Refusal, Settings};
@@ -29,8 +30,10 @@ fn open_local<R: Wait + Copy + Drop>(
     let disk = MemStore::zeroed(alloc, 8)?;
     let marks = Vec::from_elem(alloc, false, 8)?;
     let mut local = Primary::new(alloc, Settings::STANDARD, disk, ALIKE, marks)?;
-    local.open(RuledOut::new(outward), inward, 5, 7)?;
-    Ok((sent, local))
+    match local.open(RuledOut::new(outward), inward, 5, 7) {
+        Ok(()) => Ok((sent, local)),
+        Err(refusal) => Err(refusal),
+    }
 }
 
 /// Has both nodes do what they can. What has nothing to do is refused, and changes nothing.
@@ -84,30 +87,44 @@ fn work<R: Wait + Drop>(
     Ok(())
 }
 
-/// Both nodes exchange their hellos, and then the primary writes block 2, filled with AA. Returns the bytes that
-/// it sent.
+/// Both nodes exchange their hellos, and then the primary writes block 2, filled with AA.
 fn exchange<R: Wait + Drop>(
     local: &mut Local<R>,
     peer: &mut Peer<R>,
-    mut tap: Tap<R>,
+    tap: &mut Tap<R>,
     contents: &Bytes,
-) -> Result<Vec<u8>, Refusal> {
-    work(local, peer, &mut tap)?;
+) -> Result<(), Refusal> {
+    work(local, peer, tap)?;
     let _ = local.submit(2, contents);
-    work(local, peer, &mut tap)?;
-    Ok(tap.bytes)
+    work(local, peer, tap)
 }
 
-/// The bytes that a primary sends to a secondary over a disk like its own, with one write, under protocol C.
-pub(crate) fn sent_bytes<R: Wait + Copy + Drop>(rt: R, alloc: Global) -> Result<Vec<u8>, Refusal> {
+/// The bytes that a primary sends to a new secondary, which sends back over this end.
+fn sent_to_peer<R: Wait + Copy + Drop>(
+    rt: R,
+    alloc: Global,
+    local: &mut Local<R>,
+    sent: PieceIn<R>,
+    back: RuledOut<R>,
+) -> Result<Vec<u8>, Refusal>
+    requires { IsNewOut (sending back) }
+{
     let contents = Bytes::copy_from_slice(alloc, &[0xAA; 4096])?;
-    let (back, at_local) = ruled(rt, alloc, 4)?;
-    let (sent, mut local) = open_local(rt, alloc, at_local)?;
     let (onward, mut peer) = open_peer(rt, alloc, back)?;
-    let tap = Tap {
+    let mut tap = Tap {
         sent,
         onward,
         bytes: Vec::new(alloc),
     };
-    exchange(&mut local, &mut peer, tap, &contents)
+    match exchange(local, &mut peer, &mut tap, &contents) {
+        Ok(()) => Ok(tap.bytes),
+        Err(refusal) => Err(refusal),
+    }
+}
+
+/// The bytes that a primary sends to a secondary over a disk like its own, with one write, under protocol C.
+pub(crate) fn sent_bytes<R: Wait + Copy + Drop>(rt: R, alloc: Global) -> Result<Vec<u8>, Refusal> {
+    let (back, at_local) = ruled(rt, alloc, 4)?;
+    let (sent, mut local) = open_local(rt, alloc, at_local)?;
+    sent_to_peer(rt, alloc, &mut local, sent, back)
 }

@@ -139,6 +139,14 @@ fn end(activity: &mut ActivityLog, extent: Extent) -> Result<(), Refusal> {
     Ok(())
 }
 
+/// No block is marked, of so many.
+fn unmarked(alloc: Global, blocks: u32) -> Result<Bitmap, Refusal>
+    requires { blocks ≤ 262144 }
+{
+    let marks = Vec::from_elem(alloc, false, blocks as usize)?;
+    Bitmap::from_marks(alloc, &marks)
+}
+
 /// The write's block is marked. `BadRange` (1) where the device has no such block.
 fn mark(bitmap: &mut Bitmap, range: Range) -> Result<(), Refusal>
     requires { range.count ≡ 1 }
@@ -175,9 +183,11 @@ impl Way {
         requires some_in_flight { 0 < in_flight }
         requires few_blocks { blocks ≤ 262144 }
     {
+        let contents = Bytes::copy_from_slice(alloc, b"contents of a write")?;
+        let bitmap = unmarked(alloc, blocks)?;
+        let activity = ActivityLog::new(alloc, 1024)?;
         let mut log = TransferLog::new(alloc, Protocol::C, blocks, 20_000, in_flight)?;
         log.connect(1);
-        let marks = Vec::from_elem(alloc, false, blocks as usize)?;
         Ok(Way {
             blocks,
             last_block: u64::from(blocks).saturating_sub(1),
@@ -185,9 +195,9 @@ impl Way {
             most_open: u64::from((in_flight / 2).min(blocks)),
             held: Held::new(alloc),
             log,
-            activity: ActivityLog::new(alloc, 1024)?,
-            bitmap: Bitmap::from_marks(alloc, &marks)?,
-            contents: Bytes::copy_from_slice(alloc, b"contents of a write")?,
+            activity,
+            bitmap,
+            contents,
             first_open: 1,
             in_last_epoch: 0,
             barriers: VecDeque::new(alloc),

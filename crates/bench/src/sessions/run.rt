@@ -28,6 +28,12 @@ const ALIKE: Tuple = Tuple {
     second_historical: 0,
 };
 
+/// The disks of both nodes.
+type Disks = (MemStore, MemStore);
+
+/// A direction of a link over a socket: its two ends.
+type Socket = Way<TcpStream, TcpStream>;
+
 /// How frames go from one node to the other.
 #[derive(Clone, Copy, Debug, PartialEq, Eq)]
 pub(crate) enum Path {
@@ -66,12 +72,19 @@ pub(crate) fn run<
         + Sync
         + 'static,
 >(rt: R, alloc: Global, plan: Plan) -> anyhow::Result<Report> {
+    Ok(match plan.path {
+        Path::Link => run_linked(rt, alloc, plan)?,
+        Path::Sockets => run_over(rt, alloc, plan, ways(&rt)?)?,
+    })
+}
+
+// What a session starts from, and its two disks.
+fn parts(alloc: Global, plan: Plan) -> Result<(Parts, Disks), Refusal> {
     let settings = Settings {
         protocol: plan.protocol,
         blocks: BLOCKS,
         ..Settings::STANDARD
     };
-    settings.check()?;
     let parts = Parts {
         settings,
         own: ALIKE,
@@ -80,36 +93,45 @@ pub(crate) fn run<
         sync: 2,
         loss: 3,
     };
-    let disks = (
-        MemStore::zeroed(alloc, BLOCKS)?,
-        MemStore::zeroed(alloc, BLOCKS)?,
-    );
-    match plan.path {
-        Path::Link => {
-            let there = ruled(rt, alloc, settings.link)?;
-            let back = ruled(rt, alloc, settings.link)?;
-            Ok(run_named::<Brand, R>(rt, alloc, plan, there, back, disks, parts)?)
-        }
-        Path::Sockets => {
-            let listener = TcpListener::bind(&rt, (Ipv4Addr::LOCALHOST, 0))?;
-            let ways = (way(&rt, &listener)?, way(&rt, &listener)?);
-            Ok(run_over(rt, alloc, plan, ways, disks, parts)?)
-        }
-    }
+    let local = MemStore::zeroed(alloc, BLOCKS)?;
+    let peer = MemStore::zeroed(alloc, BLOCKS)?;
+    Ok((parts, (local, peer)))
+}
+
+// Both directions, each over a socket of its own.
+fn ways<R: Net<Listener = TcpListener, Stream = TcpStream>>(
+    rt: &R,
+) -> io::Result<(Socket, Socket)> {
+    let listener = TcpListener::bind(rt, (Ipv4Addr::LOCALHOST, 0))?;
+    let there = way(rt, &listener)?;
+    let back = way(rt, &listener)?;
+    Ok((there, back))
 }
 
 // One direction over a socket of its own.
 fn way<R: Net<Listener = TcpListener, Stream = TcpStream>>(
     rt: &R,
     listener: &TcpListener,
-) -> io::Result<Way<TcpStream, TcpStream>> {
+) -> io::Result<Socket> {
     let writer = TcpStream::connect(rt, listener.local_addr()?)?;
     writer.set_nodelay(true)?;
     let (reader, _) = listener.accept()?;
     Ok(Way { writer, reader })
 }
 
-// A session over a link, in one function over the link's name, which the caller picks.
+// A session over a link.
+fn run_linked<R: Threads + Wait + Clock + Copy + Drop + Send + Sync + 'static>(
+    rt: R,
+    alloc: Global,
+    plan: Plan,
+) -> Result<Report, Refusal> {
+    let there = ruled(rt, alloc, Settings::STANDARD.link)?;
+    let back = ruled(rt, alloc, Settings::STANDARD.link)?;
+    let (parts, disks) = parts(alloc, plan)?;
+    run_named::<Brand, R>(rt, alloc, plan, there, back, disks, parts)
+}
+
+// The same, in one function over the link's name, which the caller picks.
 fn run_named<
     L: Linked + Send + Sync + 'static,
     R: Threads + Wait + Clock + Copy + Drop + Send + Sync + 'static,
@@ -119,7 +141,7 @@ fn run_named<
     plan: Plan,
     there: (RuledOut<R>, RuledIn<R>),
     back: (RuledOut<R>, RuledIn<R>),
-    disks: (MemStore, MemStore),
+    disks: Disks,
     parts: Parts,
 ) -> Result<Report, Refusal>
     requires there { there.0.row ≡ row_of L.link names.There }
@@ -130,19 +152,12 @@ fn run_named<
     requires unused_too { IsNewOut (sending back.0) × IsNewIn (taking back.1) }
 {
     let (local, peer) = disks;
-    let started = Session::<R, L, MemStore, MemStore>::start(
+    let session = Session::<R, L, MemStore, MemStore>::start(
         rt, alloc, there, back, local, peer, parts,
-    );
-    match started {
-        Ok(session) => {
-            let report = measured(&rt, alloc, session.mirror(), plan);
-            match session.finish() {
-                Ok(_) => report,
-                Err(refusal) => Err(refusal),
-            }
-        }
-        Err(refusal) => Err(refusal),
-    }
+    )?;
+    let report = measured(&rt, alloc, session.mirror(), plan);
+    session.finish()?;
+    report
 }
 
 // A session over sockets.
@@ -150,21 +165,13 @@ fn run_over<R: Threads + Wait + Clock + Copy + Drop + Send + Sync + 'static>(
     rt: R,
     alloc: Global,
     plan: Plan,
-    ways: (Way<TcpStream, TcpStream>, Way<TcpStream, TcpStream>),
-    disks: (MemStore, MemStore),
-    parts: Parts,
+    ways: (Socket, Socket),
 ) -> Result<Report, Refusal> {
-    let (local, peer) = disks;
-    match WireSession::start_over(rt, alloc, local, peer, parts, ways) {
-        Ok(session) => {
-            let report = measured(&rt, alloc, session.mirror(), plan);
-            match session.finish() {
-                Ok(_) => report,
-                Err(refusal) => Err(refusal),
-            }
-        }
-        Err(refusal) => Err(refusal),
-    }
+    let (parts, (local, peer)) = parts(alloc, plan)?;
+    let session = WireSession::start_over(rt, alloc, local, peer, parts, ways)?;
+    let report = measured(&rt, alloc, session.mirror(), plan);
+    session.finish()?;
+    report
 }
 
 // Makes all writes of a session that runs, and leaves it alone after them.

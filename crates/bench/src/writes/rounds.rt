@@ -118,8 +118,8 @@ impl Rounds {
     }
 
     // One event, and what it did.
-    fn step(&mut self, event: &Event) -> Result<Done, Refusal> {
-        match self.pair.step(event) {
+    fn step(&mut self, event: Event) -> Result<Done, Refusal> {
+        match self.pair.step(&event) {
             Reply::Ok(done) => Ok(done),
             Reply::Closed(_) => Ok(Done::about(What::Nothing)),
             Reply::Refused(refusal) => Err(refusal),
@@ -128,12 +128,12 @@ impl Rounds {
 
     /// Opens both ends, and exchanges the three frames of each node's hello.
     pub(crate) fn greet(&mut self) -> Result<(), Refusal> {
-        self.step(&Event::Open { sync: 2, loss: 3 })?;
+        self.step(Event::Open { sync: 2, loss: 3 })?;
         for _ in 0..HELLO_FRAMES {
-            self.step(&Event::AckOut)?;
-            self.step(&Event::AckIn)?;
-            self.step(&Event::Send)?;
-            self.step(&Event::Receive)?;
+            self.step(Event::AckOut)?;
+            self.step(Event::AckIn)?;
+            self.step(Event::Send)?;
+            self.step(Event::Receive)?;
         }
         if self.pair.primary().stands() {
             Ok(())
@@ -157,7 +157,7 @@ impl Rounds {
             self.submit(workload, turn)?;
         }
         for turn in from..to {
-            let done = self.step(&Event::Local(number_of(turn)))?;
+            let done = self.step(Event::Local(number_of(turn)))?;
             self.note(done)?;
         }
         self.exchange()?;
@@ -180,7 +180,7 @@ impl Rounds {
     fn submit(&mut self, workload: &Workload, turn: u32) -> Result<(), Refusal> {
         let contents = workload.contents(turn)?;
         let first = u64::from(block_of(turn, self.blocks));
-        let done = self.step(&Event::Submit { first, contents })?;
+        let done = self.step(Event::Submit { first, contents })?;
         self.counts.accepted = self.counts.accepted.saturating_add(1);
         self.note(done)
     }
@@ -203,7 +203,7 @@ impl Rounds {
     // Sends as many frames as are due, and the link holds. Answers how many.
     fn send(&mut self) -> Result<u32, Refusal> {
         for sent in 0..self.frames {
-            match self.step(&Event::Send) {
+            match self.step(Event::Send) {
                 Ok(done) => self.note(done)?,
                 Err(Refusal::NothingThere) => return Ok(sent),
                 Err(refusal) => return Err(refusal),
@@ -216,7 +216,7 @@ impl Rounds {
     fn receive(&mut self, frames: u32) -> Result<u32, Refusal> {
         let mut items: u32 = 0;
         for _ in 0..frames {
-            if let What::Frame(Command::Data, _) = self.step(&Event::Receive)?.what {
+            if let What::Frame(Command::Data, _) = self.step(Event::Receive)?.what {
                 items = items.saturating_add(1);
             }
         }
@@ -227,7 +227,7 @@ impl Rounds {
     fn apply(&mut self, items: u32) -> Result<(), Refusal> {
         for _ in 0..items {
             let place = self.pair.secondary().next()?;
-            self.step(&Event::Peer(place))?;
+            self.step(Event::Peer(place))?;
             self.counts.applied = self.counts.applied.saturating_add(1);
         }
         Ok(())
@@ -236,7 +236,7 @@ impl Rounds {
     // The secondary sends the acknowledgements that are due; the link holds all of them. Answers how many.
     fn answer(&mut self) -> Result<u32, Refusal> {
         for sent in 0..self.frames {
-            match self.step(&Event::AckOut) {
+            match self.step(Event::AckOut) {
                 Ok(_) => {}
                 Err(Refusal::NothingThere) => return Ok(sent),
                 Err(refusal) => return Err(refusal),
@@ -248,7 +248,7 @@ impl Rounds {
     // The primary takes this number of acknowledgements.
     fn take_answers(&mut self, answers: u32) -> Result<(), Refusal> {
         for _ in 0..answers {
-            let done = self.step(&Event::AckIn)?;
+            let done = self.step(Event::AckIn)?;
             if done.what == What::Frame(Command::BarrierAck, None) {
                 self.release()?;
             }

@@ -1,6 +1,7 @@
 //! Takes a primary's core through tables.
+use crate::cores::cases::{Core, Scene, Stepped, holds, run};
 use crate::cores::primary_tables::{
-    Answer, Case, Fact, Frame, PROTOCOL_WENT, Part, Row, SIZES_WENT, Said, Start, Step, UUIDS_WENT,
+    Answer, Fact, Frame, PROTOCOL_WENT, Part, SIZES_WENT, Said, Start, Step, UUIDS_WENT,
 };
 use blocks::{Block, Decision, Done, Refusal, Tuple, What};
 use bytes::Bytes;
@@ -8,14 +9,6 @@ use packets::{Acknowledgement, Packet};
 use primary_core::{Fate, PrimaryCore};
 use std::alloc::Global;
 use std::process::Abort;
-use std::test::Fail;
-
-/// Where a part is gone through: the name of the case, and what gives memory.
-#[derive(Clone, Copy)]
-struct Scene {
-    name: &'static str,
-    alloc: Global,
-}
 
 fn ack(first: u64, number: u64, place: u32, count: u32) -> Acknowledgement {
     Acknowledgement {
@@ -109,75 +102,61 @@ fn given(core: &PrimaryCore, alloc: Global, number: u64, fill: (u8, u8)) -> Answ
     Ok(Said::Given(write.number(), range.first.0, range.count, is_same))
 }
 
-fn do_step(core: &mut PrimaryCore, alloc: Global, step: Step) -> Answer {
-    match step {
-        Step::Open(sync, loss) => {
-            core.open(sync, loss)?;
-            Ok(Said::Nothing)
+impl Stepped for PrimaryCore {
+    type Step = Step;
+
+    type Said = Said;
+
+    type Fact = Fact;
+
+    fn do_step(&mut self, alloc: Global, step: Step) -> Answer {
+        match step {
+            Step::Open(sync, loss) => {
+                self.open(sync, loss)?;
+                Ok(Said::Nothing)
+            }
+            Step::Close => Ok(Said::Closed(self.close()?)),
+            Step::Submit(first, blocks, byte) => {
+                let bytes = filled(alloc, blocks, byte)?;
+                Ok(told_of(self.submit(first, &bytes)?))
+            }
+            Step::SubmitPart => {
+                let bytes = Bytes::copy_from_slice(alloc, &[0xAA; 100])?;
+                Ok(told_of(self.submit(0, &bytes)?))
+            }
+            Step::Given(number, blocks, byte) => given(self, alloc, number, (blocks, byte)),
+            Step::Next => Ok(Said::Next(self.next())),
+            Step::Local(number) => {
+                self.start(number)?;
+                Ok(told_of(self.done(number)))
+            }
+            Step::LocalFail(number) => {
+                self.start(number)?;
+                Ok(told_of(self.failed(number)))
+            }
+            Step::Send(frame) => send(self, alloc, frame),
+            Step::Take(frame) => Ok(told_of(self.take(packet_of(alloc, frame))?)),
+            Step::Resync(byte) => resync(self, alloc, byte),
+            Step::Receipt(number) => receipt(self, number),
         }
-        Step::Close => Ok(Said::Closed(core.close()?)),
-        Step::Submit(first, blocks, byte) => {
-            let bytes = filled(alloc, blocks, byte)?;
-            Ok(told_of(core.submit(first, &bytes)?))
-        }
-        Step::SubmitPart => {
-            let bytes = Bytes::copy_from_slice(alloc, &[0xAA; 100])?;
-            Ok(told_of(core.submit(0, &bytes)?))
-        }
-        Step::Given(number, blocks, byte) => given(core, alloc, number, (blocks, byte)),
-        Step::Next => Ok(Said::Next(core.next())),
-        Step::Local(number) => {
-            core.start(number)?;
-            Ok(told_of(core.done(number)))
-        }
-        Step::LocalFail(number) => {
-            core.start(number)?;
-            Ok(told_of(core.failed(number)))
-        }
-        Step::Send(frame) => send(core, alloc, frame),
-        Step::Take(frame) => Ok(told_of(core.take(packet_of(alloc, frame))?)),
-        Step::Resync(byte) => resync(core, alloc, byte),
-        Step::Receipt(number) => receipt(core, number),
     }
-}
 
-fn is_answered(rt: &impl Abort, (name, step): (&str, usize), answer: Answer, wanted: Answer) {
-    assert_eq!(rt; answer, wanted, "{name}: step {step}");
-}
-
-// Each step says what its row has.
-fn run(rt: &impl Abort, core: &mut PrimaryCore, scene: Scene, rows: &[Row]) {
-    for (i, (given, wanted)) in rows.iter().enumerate() {
-        is_answered(
-            rt,
-            (scene.name, i),
-            do_step(core, scene.alloc, *given),
-            *wanted,
-        );
-    }
-}
-
-fn is_true(core: &PrimaryCore, fact: Fact) -> bool {
-    match fact {
-        Fact::Open(wanted) => core.is_open() == wanted,
-        Fact::Stands(wanted) => core.stands() == wanted,
-        Fact::Resync(wanted) => core.is_resync() == wanted,
-        Fact::Tuple(wanted) => core.tuple() == wanted,
-        Fact::Peer(wanted) => core.peer() == wanted,
-        Fact::Connections(wanted) => core.connection() == wanted,
-        Fact::Accepted(wanted) => core.accepted() == wanted,
-        Fact::OpenWrites(wanted) => core.open_writes() == wanted,
-        Fact::Unanswered(wanted) => core.unanswered_writes() == wanted,
-        Fact::OpenEpochs(wanted) => core.open_epochs() == wanted,
-        Fact::Unreleased(wanted) => core.unreleased() == wanted,
-        Fact::Places(wanted) => core.places() == wanted,
-        Fact::Unsent(wanted) => core.unsent() == wanted,
-    }
-}
-
-fn holds(rt: &impl Abort, core: &PrimaryCore, name: &str, facts: &[Fact]) {
-    for (i, fact) in facts.iter().enumerate() {
-        assert!(rt; is_true(core, *fact), "{name}: fact {i}");
+    fn is_true(&self, fact: Fact) -> bool {
+        match fact {
+            Fact::Open(wanted) => self.is_open() == wanted,
+            Fact::Stands(wanted) => self.stands() == wanted,
+            Fact::Resync(wanted) => self.is_resync() == wanted,
+            Fact::Tuple(wanted) => self.tuple() == wanted,
+            Fact::Peer(wanted) => self.peer() == wanted,
+            Fact::Connections(wanted) => self.connection() == wanted,
+            Fact::Accepted(wanted) => self.accepted() == wanted,
+            Fact::OpenWrites(wanted) => self.open_writes() == wanted,
+            Fact::Unanswered(wanted) => self.unanswered_writes() == wanted,
+            Fact::OpenEpochs(wanted) => self.open_epochs() == wanted,
+            Fact::Unreleased(wanted) => self.unreleased() == wanted,
+            Fact::Places(wanted) => self.places() == wanted,
+            Fact::Unsent(wanted) => self.unsent() == wanted,
+        }
     }
 }
 
@@ -236,21 +215,6 @@ fn greet(
     decides(rt, core, scene, peer, Ok(decided));
 }
 
-fn go(rt: &impl Abort, core: &mut PrimaryCore, scene: Scene, part: &Part) {
-    match part {
-        Part::Rows(rows) => run(rt, core, scene, rows),
-        Part::Greeting(words, tuples, decided) => {
-            greet(rt, core, scene, *words, *tuples, *decided)
-        }
-        Part::Decides(peer, decided) => decides(rt, core, scene, *peer, *decided),
-        Part::Refused(frame, refusal) => {
-            run(rt, core, scene, &[(Step::Take(*frame), Err(*refusal))])
-        }
-        Part::Holds(facts) => holds(rt, core, scene.name, facts),
-        Part::Marks(blocks) => has_marks(rt, core, scene.name, blocks),
-    }
-}
-
 fn marks_of(alloc: Global, start: &Start) -> Result<Vec<bool>, Refusal> {
     let mut marks = Vec::from_elem(alloc, false, start.settings.blocks as usize)?;
     for block in start.marked {
@@ -261,55 +225,34 @@ fn marks_of(alloc: Global, start: &Start) -> Result<Vec<bool>, Refusal> {
     Ok(marks)
 }
 
-fn go_on(rt: &impl Abort, core: &mut PrimaryCore, scene: Scene, parts: &[Part]) {
-    for part in parts {
-        go(rt, core, scene, part);
+impl Core for PrimaryCore {
+    type Start = Start;
+
+    type Part = Part;
+
+    type Frame = Frame;
+
+    fn fresh(alloc: Global, start: &Start) -> Result<PrimaryCore, Refusal> {
+        let marks = marks_of(alloc, start)?;
+        PrimaryCore::new(alloc, start.settings, start.own, &marks)
     }
-}
 
-fn go_through(
-    rt: &impl Abort,
-    core: &mut PrimaryCore,
-    scene: Scene,
-    (before, parts, after): &(&[Part], &[Part], &[Part]),
-) {
-    go_on(rt, core, scene, before);
-    go_on(rt, core, scene, parts);
-    go_on(rt, core, scene, after);
-}
-
-// This function alone owns a primary, since each exit of an owner has to drop it.
-fn lives(
-    rt: &(impl Abort + AllocGlobal),
-    name: &'static str,
-    start: &Start,
-    marks: &[bool],
-    lists: &(&[Part], &[Part], &[Part]),
-) -> Result<(), Refusal> {
-    let mut core = PrimaryCore::new(rt.alloc(), start.settings, start.own, marks)?;
-    let scene = Scene {
-        name,
-        alloc: rt.alloc(),
-    };
-    go_through(rt, &mut core, scene, lists);
-    Ok(())
-}
-
-/// A primary that was never opened goes through three lists of parts.
-pub(crate) fn goes(
-    rt: &(impl Abort + AllocGlobal),
-    name: &'static str,
-    start: &Start,
-    lists: (&[Part], &[Part], &[Part]),
-) -> Result<(), Refusal> {
-    let marks = marks_of(rt.alloc(), start)?;
-    lives(rt, name, start, &marks, &lists)
-}
-
-/// Each case's primary goes through its parts.
-pub(crate) fn passes(rt: &(impl Abort + AllocGlobal), cases: &'static [Case]) -> Result<(), Fail> {
-    for case in cases {
-        goes(rt, case.name, case.start, (case.before, case.parts, &[]))?;
+    fn refused(frame: Frame, refusal: Refusal) -> Part {
+        Part::Refused(frame, refusal)
     }
-    Ok(())
+
+    fn go(&mut self, rt: &impl Abort, scene: Scene, part: &Part) {
+        match part {
+            Part::Rows(rows) => run(rt, self, scene, rows),
+            Part::Greeting(words, tuples, decided) => {
+                greet(rt, self, scene, *words, *tuples, *decided)
+            }
+            Part::Decides(peer, decided) => decides(rt, self, scene, *peer, *decided),
+            Part::Refused(frame, refusal) => {
+                run(rt, self, scene, &[(Step::Take(*frame), Err(*refusal))])
+            }
+            Part::Holds(facts) => holds(rt, self, scene.name, facts),
+            Part::Marks(blocks) => has_marks(rt, self, scene.name, blocks),
+        }
+    }
 }

@@ -1,9 +1,10 @@
 //! What a primary decides once it has the peer's identifiers.
-use crate::cores::primary_calls::goes;
+use crate::cores::cases::{Way, goes};
 use crate::cores::primary_tables::{
     Frame, PROTOCOL_WENT, Part, SETTINGS, SIZES_WENT, Said, Start, Step,
 };
 use blocks::{Decision, Protocol, Refusal, Tuple};
+use primary_core::PrimaryCore;
 use std::process::Abort;
 use std::test::Fail;
 
@@ -71,13 +72,12 @@ fn decides(rt: &(impl Abort + AllocGlobal), case: &'static Case) -> Result<(), R
         own: tuple_of(own),
         marked: &[4],
     };
-    let decides = [Part::Decides(tuple_of(peer), decided)];
-    goes(
-        rt,
-        "identifiers",
-        &start,
-        (&HEARD, &decides, &[Part::Marks(marked)]),
-    )
+    let way = Way {
+        before: &HEARD,
+        made: Some(Part::Decides(tuple_of(peer), decided)),
+        after: &[Part::Marks(marked)],
+    };
+    goes::<PrimaryCore, _>(rt, "identifiers", &start, &way)
 }
 
 #[test]

@@ -1,21 +1,13 @@
 //! Frames that no secondary sends: each is refused, and closes the end with all that a close does.
-use crate::cores::primary_calls::goes;
+use crate::cores::cases::{Foreign, are_foreign};
 use crate::cores::primary_tables::{
-    CONNECTED, DONE, Fact, Frame, OWN, PARTED, PROTOCOL_WENT, Part, Row, SETTINGS, SIZES_WENT,
-    START, Said, Start, Step,
+    ACCEPTED, ANSWERED, BARRIER, CONNECTED, DONE, Fact, Frame, OF_ONE, PROTOCOL_WENT, Part, Row,
+    SENT, SIZES_WENT, START, Said, Start, Step,
 };
-use blocks::{Command, Protocol, Refusal, Settings, Tuple, What};
-use std::process::Abort;
+use crate::tuples::{OWN, PARTED};
+use blocks::{Protocol, Refusal, Tuple, What};
+use primary_core::PrimaryCore;
 use std::test::Fail;
-
-/// Write 1 of block 2 is sent, at place 0.
-const SENT: [Row; 2] = [
-    (Step::Submit(2, 1, 0xAA), Ok(Said::Accepted(1))),
-    (
-        Step::Send(Frame::Data(2, 1, 0, 0xAA)),
-        Ok(Said::Went(Command::Data, Some(0))),
-    ),
-];
 
 /// Each comes once write 1 was sent.
 const FOREIGN: [(Frame, Refusal); 13] = [
@@ -53,38 +45,6 @@ const CLOSED: [Row; 4] = [
 /// The end is closed, and the disk goes on under the word for a loss.
 const CUT_OFF: [Fact; 3] = [Fact::Open(false), Fact::Stands(false), Fact::Tuple(PARTED)];
 
-/// Frames that are refused, each of them by a primary of its own, with what comes before and after.
-struct Foreign {
-    name: &'static str,
-    start: &'static Start,
-    before: &'static [Part],
-    frames: &'static [(Frame, Refusal)],
-    after: &'static [Part],
-}
-
-fn is_foreign(
-    rt: &(impl Abort + AllocGlobal),
-    case: &'static Foreign,
-    (frame, refusal): (Frame, Refusal),
-) -> Result<(), Refusal> {
-    let refused = [Part::Refused(frame, refusal)];
-    goes(
-        rt,
-        case.name,
-        case.start,
-        (case.before, &refused, case.after),
-    )
-}
-
-fn are_foreign(rt: &(impl Abort + AllocGlobal), cases: &'static [Foreign]) -> Result<(), Fail> {
-    for case in cases {
-        for row in case.frames {
-            is_foreign(rt, case, *row)?;
-        }
-    }
-    Ok(())
-}
-
 /// The end is closed, block 2 is marked, and write 1 stays open.
 const LEFT_OPEN: [Part; 4] = [
     Part::Rows(&CLOSED),
@@ -99,26 +59,10 @@ const ENDED: [Row; 2] = [
         Step::Submit(2, 1, 0xAA),
         Ok(Said::More(What::Write(1), None, Some(1), false)),
     ),
-    (
-        Step::Send(Frame::Data(2, 1, 0, 0xAA)),
-        Ok(Said::Went(Command::Data, Some(0))),
-    ),
+    SENT,
 ];
 
-const BARRIER: Row = (
-    Step::Send(Frame::Barrier(1)),
-    Ok(Said::Went(Command::Barrier, Some(1))),
-);
-
 const EARLY: [(Frame, Refusal); 1] = [(Frame::BarrierAck(1, 1), Refusal::BadBarrierAck)];
-
-const OF_ONE: Start = Start {
-    settings: Settings {
-        max_epoch: 1,
-        ..SETTINGS
-    },
-    ..START
-};
 
 /// The end is closed, and block 2 is marked.
 const PARTED_END: [Part; 3] = [
@@ -135,24 +79,7 @@ const AGAIN: [(Frame, Refusal); 3] = [
 ];
 
 /// Write 1 is completed, and its barrier was sent.
-const COMPLETED: [Row; 5] = [
-    (Step::Submit(2, 1, 0xAA), Ok(Said::Accepted(1))),
-    (
-        Step::Send(Frame::Data(2, 1, 0, 0xAA)),
-        Ok(Said::Went(Command::Data, Some(0))),
-    ),
-    (Step::Local(1), DONE),
-    (
-        Step::Take(Frame::WriteAck(2, 1, 0)),
-        Ok(Said::More(
-            What::Frame(Command::WriteAck, None),
-            Some(1),
-            Some(1),
-            false,
-        )),
-    ),
-    BARRIER,
-];
+const COMPLETED: [Row; 5] = [ACCEPTED, SENT, (Step::Local(1), DONE), ANSWERED, BARRIER];
 
 const FIRST: [(Frame, Refusal); 4] = [
     (Frame::Sizes(8), Refusal::BadCommand),
@@ -201,11 +128,11 @@ const UNCHANGED: [Part; 4] = [
     Part::Holds(&[Fact::Tuple(OWN)]),
 ];
 
-static FOREIGN_FRAMES: [Foreign; 7] = [
+static FOREIGN_FRAMES: [Foreign<Start, Part, Frame>; 7] = [
     Foreign {
         name: "foreign frames after a write",
         start: &START,
-        before: &[CONNECTED, Part::Rows(&SENT)],
+        before: &[CONNECTED, Part::Rows(&[ACCEPTED, SENT])],
         frames: &FOREIGN,
         after: &LEFT_OPEN,
     },
@@ -260,5 +187,5 @@ static FOREIGN_FRAMES: [Foreign; 7] = [
 
 #[test]
 fn foreign_frames_close_the_end(rt: HostRuntime) -> Result<(), Fail> {
-    are_foreign(&rt, &FOREIGN_FRAMES)
+    are_foreign::<PrimaryCore, _>(&rt, &FOREIGN_FRAMES)
 }

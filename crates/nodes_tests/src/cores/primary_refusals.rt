@@ -1,9 +1,10 @@
 //! What a primary refuses, and in which state: writes, connections and receipts.
-use crate::cores::primary_calls::passes;
+use crate::cores::cases::{Case, passes};
 use crate::cores::primary_tables::{
-    CONNECTED, Case, DONE, Fact, Frame, OWN, PARTED, Part, Row, SETTINGS, START, Said, Start, Step,
+    BARRIER, CONNECTED, DONE, Fact, Frame, Part, RELEASED, Row, SETTINGS, START, Said, Start, Step,
 };
-use blocks::{Block, Command, Decision, Refusal, Settings, Tuple, What};
+use crate::tuples::{OWN, PARTED, RESYNCING};
+use blocks::{Block, Command, Decision, Refusal, Settings, What};
 use primary_core::PrimaryCore;
 use std::alloc::Global;
 use std::test::Fail;
@@ -54,14 +55,8 @@ const ONE_SLOT: [Row; 9] = [
         )),
     ),
     (Step::Submit(1024, 1, 0xBB), Err(Refusal::ActivityFull)),
-    (
-        Step::Send(Frame::Barrier(1)),
-        Ok(Said::Went(Command::Barrier, Some(1))),
-    ),
-    (
-        Step::Take(Frame::BarrierAck(1, 1)),
-        Ok(Said::Went(Command::BarrierAck, None)),
-    ),
+    BARRIER,
+    RELEASED,
     (Step::Submit(1024, 1, 0xBB), Ok(Said::Accepted(2))),
 ];
 
@@ -112,14 +107,6 @@ const CUT: [Row; 8] = [
     (Step::Close, Err(Refusal::NotConnected)),
 ];
 
-/// What the disk has while that resync goes on.
-const RESYNCING: Tuple = Tuple {
-    current: 7,
-    bitmap: 9,
-    first_historical: 1,
-    second_historical: 0,
-};
-
 /// The resync waits for the writes that are open, and takes the blocks of those that are done.
 const RESUMED: [Row; 4] = [
     (Step::Resync(0x11), Err(Refusal::NothingToDo)),
@@ -131,7 +118,7 @@ const RESUMED: [Row; 4] = [
     (Step::Resync(0x11), Err(Refusal::NothingToDo)),
 ];
 
-static REFUSALS: [Case; 8] = [
+static REFUSALS: [Case<Start, Part>; 8] = [
     Case {
         name: "a connection begins once",
         start: &START,
@@ -230,7 +217,7 @@ static REFUSALS: [Case; 8] = [
 
 #[test]
 fn steps_that_are_refused(rt: HostRuntime) -> Result<(), Fail> {
-    passes(&rt, &REFUSALS)
+    passes::<PrimaryCore, _>(&rt, &REFUSALS)
 }
 
 // Why there is no primary of 8 blocks with these marks.

@@ -1,34 +1,12 @@
 //! The primary's half of a resync: marked blocks are read and sent, and what the peer has is not marked.
-use crate::cores::primary_calls::passes;
+use crate::cores::cases::{Case, passes};
 use crate::cores::primary_tables::{
-    CONNECTED, Case, DONE, Fact, Frame, OWN, PARTED, Part, Row, SETTINGS, START, Said, Start, Step,
+    CONNECTED, DONE, Fact, Frame, OF_ONE, Part, RELEASED, Row, START, Said, Start, Step,
 };
-use blocks::{Block, Command, Decision, Refusal, Settings, Tuple, What};
+use crate::tuples::{OWN, PARTED, RESYNCING, SYNCED, TARGET};
+use blocks::{Block, Command, Decision, Refusal, Tuple, What};
+use primary_core::PrimaryCore;
 use std::test::Fail;
-
-/// What the disk has while the resync goes on.
-const RESYNCING: Tuple = Tuple {
-    current: 7,
-    bitmap: 9,
-    first_historical: 1,
-    second_historical: 0,
-};
-
-/// What it has after the resync.
-const SYNCED: Tuple = Tuple {
-    current: 7,
-    bitmap: 0,
-    first_historical: 9,
-    second_historical: 1,
-};
-
-/// What the peer has in the resync.
-const TARGET: Tuple = Tuple {
-    current: 9,
-    bitmap: 0,
-    first_historical: 0,
-    second_historical: 0,
-};
 
 /// The link is lost, and writes without it are completed by the local disk and marked.
 const ALONE: [Row; 8] = [
@@ -180,11 +158,6 @@ const WRITTEN: [Row; 7] = [
     ),
 ];
 
-const RELEASED: Row = (
-    Step::Take(Frame::BarrierAck(1, 1)),
-    Ok(Said::Went(Command::BarrierAck, None)),
-);
-
 const SECOND_BLOCK: Row = (Step::Resync(0xBB), Ok(Said::Did(What::Block(Block(6), 3))));
 
 /// Writes of both marked blocks, sent and answered.
@@ -251,10 +224,7 @@ const ACKNOWLEDGED: [Row; 6] = [
         Step::Take(Frame::WriteAck(3, 3, 1)),
         Ok(Said::Went(Command::WriteAck, None)),
     ),
-    (
-        Step::Take(Frame::BarrierAck(1, 1)),
-        Ok(Said::Went(Command::BarrierAck, None)),
-    ),
+    RELEASED,
 ];
 
 const LOCAL: Row = (
@@ -262,15 +232,7 @@ const LOCAL: Row = (
     Ok(Said::More(What::Nothing, Some(3), None, false)),
 );
 
-const OF_ONE: Start = Start {
-    settings: Settings {
-        max_epoch: 1,
-        ..SETTINGS
-    },
-    ..START
-};
-
-static RESYNCS: [Case; 7] = [
+static RESYNCS: [Case<Start, Part>; 7] = [
     Case {
         name: "a resync copies the marked blocks",
         start: &START,
@@ -353,5 +315,5 @@ static RESYNCS: [Case; 7] = [
 
 #[test]
 fn resyncs_and_their_marks(rt: HostRuntime) -> Result<(), Fail> {
-    passes(&rt, &RESYNCS)
+    passes::<PrimaryCore, _>(&rt, &RESYNCS)
 }

@@ -1,40 +1,25 @@
 //! The primary's half of the worked rows: writes, from their acceptance to their release.
-use crate::cores::primary_calls::passes;
+use crate::cores::cases::{Case, passes};
 use crate::cores::primary_tables::{
-    CONNECTED, Case, DONE, Fact, Frame, OWN, PARTED, Part, Row, SETTINGS, START, Said, Start, Step,
+    ACCEPTED, ANSWERED, BARRIER, CONNECTED, DONE, Fact, Frame, OF_ONE, Part, RELEASED, Row, SENT,
+    SETTINGS, START, Said, Start, Step,
 };
+use crate::tuples::{OWN, PARTED};
 use blocks::{Command, Protocol, Refusal, Settings, What};
+use primary_core::PrimaryCore;
 use std::test::Fail;
-
-const BARRIER: Row = (
-    Step::Send(Frame::Barrier(1)),
-    Ok(Said::Went(Command::Barrier, Some(1))),
-);
-
-const SENT: Row = (
-    Step::Send(Frame::Data(2, 1, 0, 0xAA)),
-    Ok(Said::Went(Command::Data, Some(0))),
-);
 
 /// Under C a write is completed once both disks have it, and released by its epoch's acknowledgement.
 const WRITTEN: [Row; 13] = [
     (Step::Next, Ok(Said::Next(None))),
-    (Step::Submit(2, 1, 0xAA), Ok(Said::Accepted(1))),
+    ACCEPTED,
     (Step::Next, Ok(Said::Next(Some(1)))),
     (Step::Local(1), DONE),
     (Step::Next, Ok(Said::Next(None))),
     (Step::Local(1), Err(Refusal::UnknownJob)),
     SENT,
     (Step::Receipt(1), Err(Refusal::NotCompleted)),
-    (
-        Step::Take(Frame::WriteAck(2, 1, 0)),
-        Ok(Said::More(
-            What::Frame(Command::WriteAck, None),
-            Some(1),
-            Some(1),
-            false,
-        )),
-    ),
+    ANSWERED,
     (
         Step::Receipt(1),
         Ok(Said::Receipt(2, 1, true, Some((1, 0)))),
@@ -44,13 +29,10 @@ const WRITTEN: [Row; 13] = [
     (Step::Receipt(0), Err(Refusal::UnknownJob)),
 ];
 
-const RELEASED: [Row; 3] = [
+const FREED: [Row; 3] = [
     BARRIER,
     (Step::Send(Frame::Barrier(2)), Err(Refusal::NothingThere)),
-    (
-        Step::Take(Frame::BarrierAck(1, 1)),
-        Ok(Said::Went(Command::BarrierAck, None)),
-    ),
+    RELEASED,
 ];
 
 const CLOSED: [Row; 1] = [(Step::Close, Ok(Said::Closed(0)))];
@@ -65,11 +47,11 @@ const COMPLETED: [Fact; 7] = [
     Fact::Places(2),
 ];
 
-const FREED: [Fact; 3] = [Fact::OpenEpochs(0), Fact::Unreleased(0), Fact::Accepted(1)];
+const ALL_FREED: [Fact; 3] = [Fact::OpenEpochs(0), Fact::Unreleased(0), Fact::Accepted(1)];
 
 /// Under A a write is completed once the local disk has it and it is sent.
 const SENT_FIRST: [Row; 3] = [
-    (Step::Submit(2, 1, 0xAA), Ok(Said::Accepted(1))),
+    ACCEPTED,
     SENT,
     (
         Step::Local(1),
@@ -78,7 +60,7 @@ const SENT_FIRST: [Row; 3] = [
 ];
 
 const DONE_FIRST: [Row; 3] = [
-    (Step::Submit(2, 1, 0xAA), Ok(Said::Accepted(1))),
+    ACCEPTED,
     (Step::Local(1), DONE),
     (
         Step::Send(Frame::Data(2, 1, 0, 0xAA)),
@@ -106,7 +88,7 @@ const COMPLETED_UNANSWERED: [Part; 3] = [
 
 /// Under B a write is completed once the local disk has it and the peer has received it.
 const RECEIVED: [Row; 4] = [
-    (Step::Submit(2, 1, 0xAA), Ok(Said::Accepted(1))),
+    ACCEPTED,
     (Step::Local(1), DONE),
     SENT,
     (
@@ -211,22 +193,11 @@ const FULL: [Row; 6] = [
         Step::Take(Frame::WriteAck(2, 1, 0)),
         Ok(Said::Went(Command::WriteAck, None)),
     ),
-    (
-        Step::Take(Frame::BarrierAck(1, 1)),
-        Ok(Said::Went(Command::BarrierAck, None)),
-    ),
+    RELEASED,
     (Step::Receipt(1), Err(Refusal::NotCompleted)),
 ];
 
-const OF_ONE: Start = Start {
-    settings: Settings {
-        max_epoch: 1,
-        ..SETTINGS
-    },
-    ..START
-};
-
-static WRITES: [Case; 7] = [
+static WRITES: [Case<Start, Part>; 7] = [
     Case {
         name: "a write is completed once both disks have it",
         start: &START,
@@ -234,8 +205,8 @@ static WRITES: [Case; 7] = [
         parts: &[
             Part::Rows(&WRITTEN),
             Part::Holds(&COMPLETED),
-            Part::Rows(&RELEASED),
-            Part::Holds(&FREED),
+            Part::Rows(&FREED),
+            Part::Holds(&ALL_FREED),
             Part::Rows(&CLOSED),
             Part::Marks(&[]),
             Part::Holds(&[Fact::Tuple(PARTED)]),
@@ -307,5 +278,5 @@ static WRITES: [Case; 7] = [
 
 #[test]
 fn writes_from_acceptance_to_release(rt: HostRuntime) -> Result<(), Fail> {
-    passes(&rt, &WRITES)
+    passes::<PrimaryCore, _>(&rt, &WRITES)
 }

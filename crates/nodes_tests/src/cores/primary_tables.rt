@@ -1,4 +1,5 @@
 //! What is done to a primary's core, as tables have it.
+use crate::tuples::OWN;
 use blocks::{Command, Decision, Protocol, Refusal, Settings, Tuple, What};
 
 /// A frame, or the fault that stands in its place.
@@ -125,31 +126,6 @@ pub(crate) struct Start {
     pub(crate) marked: &'static [usize],
 }
 
-/// A primary that was never opened, and the two lists of parts that it goes through. The tests are tables of these,
-/// since one function goes through all of them and is proved once.
-pub(crate) struct Case {
-    pub(crate) name: &'static str,
-    pub(crate) start: &'static Start,
-    pub(crate) before: &'static [Part],
-    pub(crate) parts: &'static [Part],
-}
-
-/// What every disk begins with, where a row names nothing else.
-pub(crate) const OWN: Tuple = Tuple {
-    current: 1,
-    bitmap: 0,
-    first_historical: 0,
-    second_historical: 0,
-};
-
-/// What a primary has whose first connection was lost.
-pub(crate) const PARTED: Tuple = Tuple {
-    current: 7,
-    bitmap: 1,
-    first_historical: 0,
-    second_historical: 0,
-};
-
 /// The settings of the worked rows, under protocol C.
 pub(crate) const SETTINGS: Settings = Settings::STANDARD;
 
@@ -158,6 +134,15 @@ pub(crate) const START: Start = Start {
     settings: SETTINGS,
     own: OWN,
     marked: &[],
+};
+
+/// A primary of which each epoch has one write.
+pub(crate) const OF_ONE: Start = Start {
+    settings: Settings {
+        max_epoch: 1,
+        ..SETTINGS
+    },
+    ..START
 };
 
 /// The step did what has no name, and no more.
@@ -171,3 +156,35 @@ pub(crate) const UUIDS_WENT: Answer = Ok(Said::Went(Command::Uuids, None));
 
 /// The first connection, whose words are 5 and 7.
 pub(crate) const CONNECTED: Part = Part::Greeting((5, 7), (OWN, OWN), Decision::NoSync);
+
+/// Write 1 of block 2 is accepted.
+pub(crate) const ACCEPTED: Row = (Step::Submit(2, 1, 0xAA), Ok(Said::Accepted(1)));
+
+/// It is sent, at place 0.
+pub(crate) const SENT: Row = (
+    Step::Send(Frame::Data(2, 1, 0, 0xAA)),
+    Ok(Said::Went(Command::Data, Some(0))),
+);
+
+/// The local disk has it, and the peer's disk too: that completes it, and ends its epoch.
+pub(crate) const ANSWERED: Row = (
+    Step::Take(Frame::WriteAck(2, 1, 0)),
+    Ok(Said::More(
+        What::Frame(Command::WriteAck, None),
+        Some(1),
+        Some(1),
+        false,
+    )),
+);
+
+/// The barrier behind it is sent.
+pub(crate) const BARRIER: Row = (
+    Step::Send(Frame::Barrier(1)),
+    Ok(Said::Went(Command::Barrier, Some(1))),
+);
+
+/// The peer acknowledges the epoch, which has one write.
+pub(crate) const RELEASED: Row = (
+    Step::Take(Frame::BarrierAck(1, 1)),
+    Ok(Said::Went(Command::BarrierAck, None)),
+);

@@ -2,13 +2,14 @@
 ghost use Rattle.std.specs.Prelude.{◌≡◌, ◌<◌, ◌≤◌, ◌*◌, ◌/◌, length, IfOk};
 ghost use Rattle.packets.specs.Spelling.{IsSpellable};
 
+use crate::cores::cases::{Core, Scene, Stepped, holds, run};
+use crate::tuples::OWN;
 use blocks::{Block, Command, Protocol, Refusal, Settings, Tuple, What};
 use bytes::Bytes;
 use packets::{Acknowledgement, Packet};
 use secondary_core::{SecondaryCore, Usage};
 use std::alloc::Global;
 use std::process::Abort;
-use std::test::Fail;
 
 /// A frame, or the fault that stands in its place. Blocks are filled with AA.
 #[derive(Clone, Copy)]
@@ -83,38 +84,6 @@ pub(crate) enum Part {
     Refused(Frame, Refusal),
     Holds(&'static [Fact]),
 }
-
-/// A secondary that was never opened, and the parts that it goes through. The tests are tables of these, since one
-/// function goes through all of them and is proved once.
-pub(crate) struct Case {
-    pub(crate) name: &'static str,
-    pub(crate) settings: Settings,
-    pub(crate) parts: &'static [Part],
-}
-
-/// Frames that are refused, each of them by a secondary of its own under the settings of the worked rows, with what
-/// comes before and after.
-pub(crate) struct Foreign {
-    pub(crate) name: &'static str,
-    pub(crate) before: &'static [Part],
-    pub(crate) frames: &'static [(Frame, Refusal)],
-    pub(crate) after: &'static [Part],
-}
-
-/// Where a part is gone through: the name of the case, and what gives memory.
-#[derive(Clone, Copy)]
-struct Scene {
-    name: &'static str,
-    alloc: Global,
-}
-
-/// What every disk begins with, where a row names nothing else.
-pub(crate) const OWN: Tuple = Tuple {
-    current: 1,
-    bitmap: 0,
-    first_historical: 0,
-    second_historical: 0,
-};
 
 /// The settings of the worked rows, under protocol C.
 pub(crate) const SETTINGS: Settings = Settings::STANDARD;
@@ -232,129 +201,67 @@ fn ack_out(core: &mut SecondaryCore) -> Answer {
     Ok(Said::Sent(packet.command(), number, place))
 }
 
-fn do_step(core: &mut SecondaryCore, alloc: Global, step: Step) -> Answer {
-    match step {
-        Step::Open(number) => core.open(number)?,
-        Step::Close => core.close()?,
-        Step::Take(frame) => return take(core, packet_of(alloc, frame)),
-        Step::Peer(place) => {
-            core.start(place)?;
-            core.done(place);
+impl Stepped for SecondaryCore {
+    type Step = Step;
+
+    type Said = Said;
+
+    type Fact = Fact;
+
+    fn do_step(&mut self, alloc: Global, step: Step) -> Answer {
+        match step {
+            Step::Open(number) => self.open(number)?,
+            Step::Close => self.close()?,
+            Step::Take(frame) => return take(self, packet_of(alloc, frame)),
+            Step::Peer(place) => {
+                self.start(place)?;
+                self.done(place);
+            }
+            Step::PeerFault(place) => {
+                self.start(place)?;
+                self.failed(place);
+            }
+            Step::AckOut => return ack_out(self),
         }
-        Step::PeerFault(place) => {
-            core.start(place)?;
-            core.failed(place);
-        }
-        Step::AckOut => return ack_out(core),
+        Ok(Said::Nothing)
     }
-    Ok(Said::Nothing)
-}
 
-fn is_answered(rt: &impl Abort, (name, step): (&str, usize), answer: Answer, wanted: Answer) {
-    assert_eq!(rt; answer, wanted, "{name}: step {step}");
-}
-
-// Each step says what its row has.
-fn run(rt: &impl Abort, core: &mut SecondaryCore, scene: Scene, rows: &[Row]) {
-    for (i, (given, wanted)) in rows.iter().enumerate() {
-        is_answered(
-            rt,
-            (scene.name, i),
-            do_step(core, scene.alloc, *given),
-            *wanted,
-        );
-    }
-}
-
-fn is_true(core: &SecondaryCore, fact: Fact) -> bool {
-    match fact {
-        Fact::Number(wanted) => core.connection() == wanted,
-        Fact::HelloDone(wanted) => core.is_hello_done() == wanted,
-        Fact::Open(wanted) => core.is_open() == wanted,
-        Fact::Drained(wanted) => core.is_drained() == wanted,
-        Fact::Consistent(wanted) => core.is_consistent() == wanted,
-        Fact::ItemsTaken(wanted) => core.items_taken() == wanted,
-        Fact::Tuple(wanted) => core.tuple() == wanted,
-        Fact::Usage(wanted) => core.usage() == wanted,
-    }
-}
-
-fn holds(rt: &impl Abort, core: &SecondaryCore, name: &str, facts: &[Fact]) {
-    for (i, fact) in facts.iter().enumerate() {
-        assert!(rt; is_true(core, *fact), "{name}: fact {i}");
-    }
-}
-
-fn go(rt: &impl Abort, core: &mut SecondaryCore, scene: Scene, part: &Part) {
-    match part {
-        Part::Rows(rows) => run(rt, core, scene, rows),
-        Part::Refused(frame, refusal) => {
-            run(rt, core, scene, &[(Step::Take(*frame), Err(*refusal))])
-        }
-        Part::Holds(facts) => holds(rt, core, scene.name, facts),
-    }
-}
-
-fn go_on(rt: &impl Abort, core: &mut SecondaryCore, scene: Scene, parts: &[Part]) {
-    for part in parts {
-        go(rt, core, scene, part);
-    }
-}
-
-fn go_through(
-    rt: &impl Abort,
-    core: &mut SecondaryCore,
-    scene: Scene,
-    (before, parts, after): (&[Part], &[Part], &[Part]),
-) {
-    go_on(rt, core, scene, before);
-    go_on(rt, core, scene, parts);
-    go_on(rt, core, scene, after);
-}
-
-// A secondary that was never opened goes through three lists of parts. This function alone owns one, since each exit of
-// an owner has to drop it.
-fn goes(
-    rt: &(impl Abort + AllocGlobal),
-    name: &'static str,
-    settings: Settings,
-    lists: (&[Part], &[Part], &[Part]),
-) -> Result<(), Refusal> {
-    let mut core = SecondaryCore::new(rt.alloc(), settings, OWN)?;
-    let scene = Scene {
-        name,
-        alloc: rt.alloc(),
-    };
-    go_through(rt, &mut core, scene, lists);
-    Ok(())
-}
-
-/// Each case's secondary goes through its parts.
-pub(crate) fn passes(rt: &(impl Abort + AllocGlobal), cases: &'static [Case]) -> Result<(), Fail> {
-    for case in cases {
-        goes(rt, case.name, case.settings, (&[], case.parts, &[]))?;
-    }
-    Ok(())
-}
-
-fn is_foreign(
-    rt: &(impl Abort + AllocGlobal),
-    case: &'static Foreign,
-    (frame, refusal): (Frame, Refusal),
-) -> Result<(), Refusal> {
-    let refused = [Part::Refused(frame, refusal)];
-    goes(rt, case.name, SETTINGS, (case.before, &refused, case.after))
-}
-
-/// Each frame is refused, and goes with what is before and after.
-pub(crate) fn are_foreign(
-    rt: &(impl Abort + AllocGlobal),
-    cases: &'static [Foreign],
-) -> Result<(), Fail> {
-    for case in cases {
-        for row in case.frames {
-            is_foreign(rt, case, *row)?;
+    fn is_true(&self, fact: Fact) -> bool {
+        match fact {
+            Fact::Number(wanted) => self.connection() == wanted,
+            Fact::HelloDone(wanted) => self.is_hello_done() == wanted,
+            Fact::Open(wanted) => self.is_open() == wanted,
+            Fact::Drained(wanted) => self.is_drained() == wanted,
+            Fact::Consistent(wanted) => self.is_consistent() == wanted,
+            Fact::ItemsTaken(wanted) => self.items_taken() == wanted,
+            Fact::Tuple(wanted) => self.tuple() == wanted,
+            Fact::Usage(wanted) => self.usage() == wanted,
         }
     }
-    Ok(())
+}
+
+impl Core for SecondaryCore {
+    type Start = Settings;
+
+    type Part = Part;
+
+    type Frame = Frame;
+
+    fn fresh(alloc: Global, settings: &Settings) -> Result<SecondaryCore, Refusal> {
+        SecondaryCore::new(alloc, *settings, OWN)
+    }
+
+    fn refused(frame: Frame, refusal: Refusal) -> Part {
+        Part::Refused(frame, refusal)
+    }
+
+    fn go(&mut self, rt: &impl Abort, scene: Scene, part: &Part) {
+        match part {
+            Part::Rows(rows) => run(rt, self, scene, rows),
+            Part::Refused(frame, refusal) => {
+                run(rt, self, scene, &[(Step::Take(*frame), Err(*refusal))])
+            }
+            Part::Holds(facts) => holds(rt, self, scene.name, facts),
+        }
+    }
 }

@@ -1,17 +1,12 @@
 //! Frames that no primary sends: each is refused, and closes the end.
+use crate::cores::cases::{Foreign, are_foreign};
 use crate::cores::secondary_calls::{
-    DONE, Fact, Foreign, Frame, GREETED, OPENED, OWN, Part, Row, Said, Step, are_foreign,
+    DONE, Fact, Frame, GREETED, OPENED, Part, Row, SETTINGS, Said, Step,
 };
-use blocks::{Command, Protocol, Refusal, Tuple};
+use crate::tuples::{OWN, SYNCED};
+use blocks::{Command, Protocol, Refusal, Settings};
+use secondary_core::SecondaryCore;
 use std::test::Fail;
-
-/// What the primary sends after a resync.
-const SYNCED: Tuple = Tuple {
-    current: 7,
-    bitmap: 0,
-    first_historical: 9,
-    second_historical: 1,
-};
 
 /// Each comes after write 1 of block 2, at place 0.
 const FOREIGN: [(Frame, Refusal); 11] = [
@@ -62,21 +57,24 @@ const SECOND: [(Frame, Refusal); 2] = [
 
 const CLOSED: [Part; 1] = [Part::Holds(&[Fact::Open(false)])];
 
-static FOREIGN_FRAMES: [Foreign; 3] = [
+static FOREIGN_FRAMES: [Foreign<Settings, Part, Frame>; 3] = [
     Foreign {
         name: "foreign frames after the hello",
+        start: &SETTINGS,
         before: &[OPENED, GREETED, Part::Rows(&[WRITE])],
         frames: &FOREIGN,
         after: &[Part::Rows(&APPLIED)],
     },
     Foreign {
         name: "foreign frames in the hello",
+        start: &SETTINGS,
         before: &[Part::Rows(&[(Step::Open(1), DONE)])],
         frames: &FIRST,
         after: &CLOSED,
     },
     Foreign {
         name: "foreign frames in the hello",
+        start: &SETTINGS,
         before: &[OPENED],
         frames: &SECOND,
         after: &CLOSED,
@@ -85,5 +83,5 @@ static FOREIGN_FRAMES: [Foreign; 3] = [
 
 #[test]
 fn foreign_frames_close_the_end(rt: HostRuntime) -> Result<(), Fail> {
-    are_foreign(&rt, &FOREIGN_FRAMES)
+    are_foreign::<SecondaryCore, _>(&rt, &FOREIGN_FRAMES)
 }

@@ -1,10 +1,11 @@
 //! The secondary's half of the worked rows.
+use crate::cores::cases::{Case, passes};
 use crate::cores::secondary_calls::{
-    Case, DONE, Fact, Frame, GREETED, OPENED, OPENED_IN_A, OPENED_IN_B, Part, Row, SETTINGS, Said,
-    Step, passes,
+    DONE, Fact, Frame, GREETED, OPENED, OPENED_IN_A, OPENED_IN_B, Part, Row, SETTINGS, Said, Step,
 };
-use blocks::{Command, Protocol, Refusal, Settings, Tuple};
-use secondary_core::Usage;
+use crate::tuples::{SYNCED, TARGET};
+use blocks::{Command, Protocol, Refusal, Settings};
+use secondary_core::{SecondaryCore, Usage};
 use std::test::Fail;
 
 const UNOPENED: [Row; 4] = [
@@ -84,20 +85,6 @@ const REOPENED: [Row; 6] = [
     (Step::Open(2), DONE),
 ];
 
-const SYNCING: Tuple = Tuple {
-    current: 9,
-    bitmap: 0,
-    first_historical: 0,
-    second_historical: 0,
-};
-
-const SYNCED: Tuple = Tuple {
-    current: 7,
-    bitmap: 0,
-    first_historical: 9,
-    second_historical: 1,
-};
-
 /// A resync of blocks 3 and 6, but for its end.
 const RESYNC: [Row; 9] = [
     (
@@ -144,10 +131,11 @@ const END: Row = (
     Ok(Said::Took(Command::Uuids, Some(5))),
 );
 
-static STEPS: [Case; 7] = [
+static STEPS: [Case<Settings, Part>; 7] = [
     Case {
         name: "an end opens once",
-        settings: SETTINGS,
+        start: &SETTINGS,
+        before: &[],
         parts: &[
             Part::Rows(&UNOPENED),
             Part::Holds(&[Fact::Number(1), Fact::HelloDone(false)]),
@@ -155,66 +143,56 @@ static STEPS: [Case; 7] = [
     },
     Case {
         name: "an end opens once",
-        settings: SETTINGS,
-        parts: &[OPENED, GREETED, Part::Holds(&[Fact::HelloDone(true)])],
+        start: &SETTINGS,
+        before: &[OPENED, GREETED],
+        parts: &[Part::Holds(&[Fact::HelloDone(true)])],
     },
     Case {
         name: "epochs are applied in order",
-        settings: SETTINGS,
-        parts: &[
-            OPENED,
-            GREETED,
-            Part::Rows(&EPOCHS),
-            Part::Holds(&[Fact::Usage(APPLIED)]),
-        ],
+        start: &SETTINGS,
+        before: &[OPENED, GREETED],
+        parts: &[Part::Rows(&EPOCHS), Part::Holds(&[Fact::Usage(APPLIED)])],
     },
     Case {
         name: "each protocol acknowledges its way",
-        settings: Settings {
+        start: &Settings {
             protocol: Protocol::A,
             ..SETTINGS
         },
+        before: &[OPENED_IN_A, GREETED],
         parts: &[
-            OPENED_IN_A,
-            GREETED,
             Part::Rows(&NEVER),
             Part::Holds(&[Fact::Open(true), Fact::Drained(true)]),
         ],
     },
     Case {
         name: "each protocol acknowledges its way",
-        settings: Settings {
+        start: &Settings {
             protocol: Protocol::B,
             ..SETTINGS
         },
+        before: &[OPENED_IN_B, GREETED],
         parts: &[
-            OPENED_IN_B,
-            GREETED,
             Part::Rows(&RECEIVED),
             Part::Holds(&[Fact::Open(false), Fact::Drained(true)]),
         ],
     },
     Case {
         name: "a closed end keeps its items",
-        settings: Settings {
+        start: &Settings {
             pending: 1,
             ..SETTINGS
         },
-        parts: &[
-            OPENED,
-            GREETED,
-            Part::Rows(&REOPENED),
-            Part::Holds(&[Fact::ItemsTaken(0)]),
-        ],
+        before: &[OPENED, GREETED],
+        parts: &[Part::Rows(&REOPENED), Part::Holds(&[Fact::ItemsTaken(0)])],
     },
     Case {
         name: "a resync makes it consistent again",
-        settings: SETTINGS,
+        start: &SETTINGS,
+        before: &[OPENED, GREETED],
         parts: &[
-            OPENED,
-            GREETED,
             Part::Rows(&RESYNC),
-            Part::Holds(&[Fact::Tuple(SYNCING), Fact::Usage(COPIED)]),
+            Part::Holds(&[Fact::Tuple(TARGET), Fact::Usage(COPIED)]),
             Part::Rows(&[END]),
             Part::Holds(&[
                 Fact::Tuple(SYNCED),
@@ -227,5 +205,5 @@ static STEPS: [Case; 7] = [
 
 #[test]
 fn steps_of_a_secondary(rt: HostRuntime) -> Result<(), Fail> {
-    passes(&rt, &STEPS)
+    passes::<SecondaryCore, _>(&rt, &STEPS)
 }

@@ -1,5 +1,5 @@
 //! What calls answer, as tables have it.
-use blocks::{Command, Done, Refusal, Tuple, What};
+use blocks::{Command, Done, Refusal, What};
 use std::process::Abort;
 
 /// What a call did, or why it is refused.
@@ -85,11 +85,3 @@ pub(crate) const BARRIER_ACK_WENT: Answer = Ok(Done {
     what: What::Frame(Command::BarrierAck, None),
     ..NOTHING
 });
-
-/// What every disk begins with.
-pub(crate) const OWN: Tuple = Tuple {
-    current: 1,
-    bitmap: 0,
-    first_historical: 0,
-    second_historical: 0,
-};

@@ -1,7 +1,10 @@
 //! A write that the local disk fails is marked, and its receipt says so once.
-use crate::nodes::answers::{NOTHING, OWN, PROTOCOL_WENT, SIZES_WENT, UUIDS_WENT};
+use crate::nodes::answers::{NOTHING, PROTOCOL_WENT, SIZES_WENT, UUIDS_WENT};
+use crate::nodes::cases;
+use crate::nodes::cases::passes;
 use crate::nodes::frames::{PROTOCOL_C, SIZES_8, UUIDS_1};
-use crate::nodes::linked_primary::{After, Before, Case, State, Step, passes};
+use crate::nodes::linked_primary::{After, Before, Case, LinkedPrimary, State, Step};
+use crate::tuples::OWN;
 use blocks::{Decision, Done, Refusal, Settings, What};
 use std::test::Fail;
 
@@ -70,22 +73,22 @@ const FAILED: After = After {
         is_marked: true,
         ..CONNECTED
     },
-    receipt: Err(Refusal::UnknownJob),
+    left: Err(Refusal::UnknownJob),
 };
 
-static CASES: [Case; 1] = [Case {
-    before: &GREETING,
-    frames: &[(
+static CASES: [Case; 1] = [cases::Case(
+    &GREETING,
+    &[(
         UUIDS_1,
         Ok(Done {
             what: What::Decided(Decision::NoSync),
             ..NOTHING
         }),
     )],
-    after: &FAILED,
-}];
+    &FAILED,
+)];
 
 #[test]
 fn a_failed_write_is_told_once(rt: HostRuntime) -> Result<(), Fail> {
-    passes(&rt, &CASES)
+    passes::<LinkedPrimary, _>(&rt, &CASES)
 }

@@ -1,14 +1,18 @@
 //! Frames that no secondary sends: each is refused, and closes the end with all that a close does.
 use crate::nodes::answers::{
-    Answer, BARRIER_ACK_WENT, BARRIER_WENT, CLOSED, DONE, NONE, NOTHING, OWN, PROTOCOL_WENT,
-    SIZES_WENT, UUIDS_WENT, WRITE_ACK_WENT, WRITE_WENT,
+    Answer, BARRIER_ACK_WENT, BARRIER_WENT, CLOSED, DONE, NONE, NOTHING, PROTOCOL_WENT, SIZES_WENT,
+    UUIDS_WENT, WRITE_ACK_WENT, WRITE_WENT,
 };
+use crate::nodes::cases;
+use crate::nodes::cases::passes;
 use crate::nodes::either_end::UNREADABLE;
 use crate::nodes::frames::{
     BARRIER_ACK_1, PROTOCOL_C, SIZES_8, Spelled, UUIDS_1, WRITE, WRITE_ACK,
 };
-use crate::nodes::linked_primary::{After, Before, Case, Row, State, Step, passes};
-use blocks::{Command, Decision, Done, Refusal, Settings, Tuple, What};
+use crate::nodes::linked_primary::{After, Before, Case, LinkedPrimary, Row, State, Step};
+use crate::tuples;
+use crate::tuples::OWN;
+use blocks::{Command, Decision, Done, Refusal, Settings, What};
 use primary::Kind;
 use std::test::Fail;
 
@@ -177,12 +181,7 @@ pub(crate) const PARTED: State = State {
     is_open: false,
     stands: false,
     is_resync: false,
-    tuple: Tuple {
-        current: 7,
-        bitmap: 1,
-        first_historical: 0,
-        second_historical: 0,
-    },
+    tuple: tuples::PARTED,
     connections: 1,
     accepted: 1,
     incomplete: 0,
@@ -207,7 +206,7 @@ const PARTED_BEFORE_IT_IS_WRITTEN: After = After {
         (Step::Local(1), COMPLETED),
     ],
     end: PARTED,
-    receipt: Ok((Kind::Alone, 2, 1, Some((1, 0)))),
+    left: Ok((Kind::Alone, 2, 1, Some((1, 0)))),
 };
 
 /// Nothing is sent or taken over a closed end, though a frame waits that an open one would take.
@@ -225,7 +224,7 @@ const PARTED_ALONE: After = After {
     state: PARTED,
     rows: &NO_MORE,
     end: PARTED,
-    receipt: Ok((Kind::Alone, 2, 1, Some((1, 0)))),
+    left: Ok((Kind::Alone, 2, 1, Some((1, 0)))),
 };
 
 /// Write 1 was completed by the peer's answer before.
@@ -234,40 +233,20 @@ const PARTED_LINKED: After = After {
     state: PARTED,
     rows: &NO_MORE,
     end: PARTED,
-    receipt: Ok((Kind::Linked, 2, 1, Some((1, 0)))),
+    left: Ok((Kind::Linked, 2, 1, Some((1, 0)))),
 };
 
 static FOREIGN_FRAMES: [Case; 5] = [
-    Case {
-        before: &WRITE_SENT,
-        frames: &FOREIGN,
-        after: &PARTED_BEFORE_IT_IS_WRITTEN,
-    },
-    Case {
-        before: &WRITE_SENT_AND_WRITTEN,
-        frames: &FOREIGN,
-        after: &PARTED_ALONE,
-    },
-    Case {
-        before: &EPOCH_SENT,
-        frames: &EARLY,
-        after: &PARTED_BEFORE_IT_IS_WRITTEN,
-    },
-    Case {
-        before: &EPOCH_ANSWERED,
-        frames: &AGAIN,
-        after: &PARTED_LINKED,
-    },
-    Case {
-        before: &WRITE_SENT,
-        frames: &UNREADABLE,
-        after: &PARTED_BEFORE_IT_IS_WRITTEN,
-    },
+    cases::Case(&WRITE_SENT, &FOREIGN, &PARTED_BEFORE_IT_IS_WRITTEN),
+    cases::Case(&WRITE_SENT_AND_WRITTEN, &FOREIGN, &PARTED_ALONE),
+    cases::Case(&EPOCH_SENT, &EARLY, &PARTED_BEFORE_IT_IS_WRITTEN),
+    cases::Case(&EPOCH_ANSWERED, &AGAIN, &PARTED_LINKED),
+    cases::Case(&WRITE_SENT, &UNREADABLE, &PARTED_BEFORE_IT_IS_WRITTEN),
 ];
 
 #[test]
 fn foreign_frames_close_the_end(rt: HostRuntime) -> Result<(), Fail> {
-    passes(&rt, &FOREIGN_FRAMES)
+    passes::<LinkedPrimary, _>(&rt, &FOREIGN_FRAMES)
 }
 
 /// The end is open, and its stream stands. Write 1 is completed, and its epoch is not acknowledged.
@@ -295,7 +274,7 @@ const ANSWERED_BEFORE_IT_IS_WRITTEN: After = After {
         (Step::Send, NONE),
     ],
     end: STANDING,
-    receipt: Ok((Kind::Linked, 2, 1, Some((1, 0)))),
+    left: Ok((Kind::Linked, 2, 1, Some((1, 0)))),
 };
 
 const ANSWERED_LAST: After = After {
@@ -303,7 +282,7 @@ const ANSWERED_LAST: After = After {
     state: STANDING,
     rows: &[(Step::Send, BARRIER_WENT), (Step::Send, NONE)],
     end: STANDING,
-    receipt: Ok((Kind::Linked, 2, 1, Some((1, 0)))),
+    left: Ok((Kind::Linked, 2, 1, Some((1, 0)))),
 };
 
 /// The peer acknowledges the epoch of write 1, which the local disk has last.
@@ -318,7 +297,7 @@ const EPOCH_ENDS: After = After {
         open_epochs: 0,
         ..STANDING
     },
-    receipt: Ok((Kind::Linked, 2, 1, Some((1, 0)))),
+    left: Ok((Kind::Linked, 2, 1, Some((1, 0)))),
 };
 
 const EPOCH_ENDED: After = After {
@@ -332,33 +311,29 @@ const EPOCH_ENDED: After = After {
         open_epochs: 0,
         ..STANDING
     },
-    receipt: Ok((Kind::Linked, 2, 1, Some((1, 0)))),
+    left: Ok((Kind::Linked, 2, 1, Some((1, 0)))),
 };
 
 static RIGHT_FRAMES: [Case; 4] = [
-    Case {
-        before: &WRITE_SENT,
-        frames: &[(WRITE_ACK, WRITE_ACK_WENT)],
-        after: &ANSWERED_BEFORE_IT_IS_WRITTEN,
-    },
-    Case {
-        before: &WRITE_SENT_AND_WRITTEN,
-        frames: &[(WRITE_ACK, ACKNOWLEDGED)],
-        after: &ANSWERED_LAST,
-    },
-    Case {
-        before: &EPOCH_SENT,
-        frames: &[(WRITE_ACK, WRITE_ACK_WENT)],
-        after: &EPOCH_ENDS,
-    },
-    Case {
-        before: &EPOCH_ANSWERED,
-        frames: &[(BARRIER_ACK_1, BARRIER_ACK_WENT)],
-        after: &EPOCH_ENDED,
-    },
+    cases::Case(
+        &WRITE_SENT,
+        &[(WRITE_ACK, WRITE_ACK_WENT)],
+        &ANSWERED_BEFORE_IT_IS_WRITTEN,
+    ),
+    cases::Case(
+        &WRITE_SENT_AND_WRITTEN,
+        &[(WRITE_ACK, ACKNOWLEDGED)],
+        &ANSWERED_LAST,
+    ),
+    cases::Case(&EPOCH_SENT, &[(WRITE_ACK, WRITE_ACK_WENT)], &EPOCH_ENDS),
+    cases::Case(
+        &EPOCH_ANSWERED,
+        &[(BARRIER_ACK_1, BARRIER_ACK_WENT)],
+        &EPOCH_ENDED,
+    ),
 ];
 
 #[test]
 fn frames_in_their_turn_are_taken(rt: HostRuntime) -> Result<(), Fail> {
-    passes(&rt, &RIGHT_FRAMES)
+    passes::<LinkedPrimary, _>(&rt, &RIGHT_FRAMES)
 }

@@ -1,9 +1,12 @@
 //! Hellos that no secondary sends: each is refused, and no identifier changes.
-use crate::nodes::answers::{Answer, OWN, PROTOCOL_WENT, SIZES_WENT};
+use crate::nodes::answers::{Answer, PROTOCOL_WENT, SIZES_WENT};
+use crate::nodes::cases;
+use crate::nodes::cases::passes;
 use crate::nodes::either_end::{FIRST, SECOND, THIRD};
 use crate::nodes::frames::{PROTOCOL_C, SIZES_8, Spelled, UUIDS_1};
-use crate::nodes::linked_primary::{After, Before, Case, State, Step, passes};
+use crate::nodes::linked_primary::{After, Before, Case, LinkedPrimary, State, Step};
 use crate::nodes::primary_frames::{NO_MORE, PARTED};
+use crate::tuples::OWN;
 use blocks::{Refusal, Settings};
 use std::test::Fail;
 
@@ -65,33 +68,17 @@ const HELLO_REFUSED: After = After {
     state: UNCHANGED,
     rows: &NO_MORE,
     end: UNCHANGED,
-    receipt: Err(Refusal::UnknownJob),
+    left: Err(Refusal::UnknownJob),
 };
 
 static HELLOS: [Case; 4] = [
-    Case {
-        before: &NOTHING_HEARD,
-        frames: &FIRST,
-        after: &HELLO_REFUSED,
-    },
-    Case {
-        before: &ONE_HEARD,
-        frames: &SECOND,
-        after: &HELLO_REFUSED,
-    },
-    Case {
-        before: &TWO_HEARD,
-        frames: &THIRD,
-        after: &HELLO_REFUSED,
-    },
-    Case {
-        before: &TWO_HEARD,
-        frames: &IDENTIFIERS,
-        after: &HELLO_REFUSED,
-    },
+    cases::Case(&NOTHING_HEARD, &FIRST, &HELLO_REFUSED),
+    cases::Case(&ONE_HEARD, &SECOND, &HELLO_REFUSED),
+    cases::Case(&TWO_HEARD, &THIRD, &HELLO_REFUSED),
+    cases::Case(&TWO_HEARD, &IDENTIFIERS, &HELLO_REFUSED),
 ];
 
 #[test]
 fn a_refused_hello_changes_no_identifier(rt: HostRuntime) -> Result<(), Fail> {
-    passes(&rt, &HELLOS)
+    passes::<LinkedPrimary, _>(&rt, &HELLOS)
 }

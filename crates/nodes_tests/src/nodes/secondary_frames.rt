@@ -1,14 +1,17 @@
 //! Frames that no primary sends: each is refused, and closes the end; what was taken before stays, and is applied.
 use crate::nodes::answers::{
-    Answer, BARRIER_ACK_WENT, BARRIER_WENT, CLOSED, DONE, NONE, NOTHING, OWN, PROTOCOL_WENT,
-    SIZES_WENT, UUIDS_WENT, WRITE_ACK_WENT, WRITE_WENT,
+    Answer, BARRIER_ACK_WENT, BARRIER_WENT, CLOSED, DONE, NONE, NOTHING, PROTOCOL_WENT, SIZES_WENT,
+    UUIDS_WENT, WRITE_ACK_WENT, WRITE_WENT,
 };
+use crate::nodes::cases;
+use crate::nodes::cases::passes;
 use crate::nodes::either_end::{FIRST, SECOND, THIRD, UNREADABLE};
 use crate::nodes::frames::{
     BARRIER_1, PROTOCOL_C, RESYNC, SIZES_8, Spelled, UUIDS_1, UUIDS_7_0_9_1, WRITE, WRITE_ACK,
 };
-use crate::nodes::linked_secondary::{After, Before, Case, State, Step, passes};
-use blocks::{Command, Done, Refusal, What};
+use crate::nodes::linked_secondary::{After, Before, Case, LinkedSecondary, State, Step};
+use crate::tuples::OWN;
+use blocks::{Command, Done, Refusal, Settings, What};
 use secondary_core::Usage;
 use std::test::Fail;
 
@@ -72,24 +75,28 @@ const FOREIGN: [(Spelled, Answer); 10] = [
 ];
 
 const NOTHING_HEARD: Before = Before {
+    settings: Settings::STANDARD,
     heard: &[],
     rows: &[],
 };
 
 const ONE_HEARD: Before = Before {
+    settings: Settings::STANDARD,
     heard: &[PROTOCOL_C],
-    rows: &[(Step::Receive, PROTOCOL_WENT)],
+    rows: &[&[(Step::Receive, PROTOCOL_WENT)]],
 };
 
 const TWO_HEARD: Before = Before {
+    settings: Settings::STANDARD,
     heard: &[PROTOCOL_C, SIZES_8],
-    rows: &[(Step::Receive, PROTOCOL_WENT), (Step::Receive, SIZES_WENT)],
+    rows: &[&[(Step::Receive, PROTOCOL_WENT), (Step::Receive, SIZES_WENT)]],
 };
 
 /// The hello is done, and write 1 was taken.
 const WRITE_HEARD: Before = Before {
+    settings: Settings::STANDARD,
     heard: &[PROTOCOL_C, SIZES_8, UUIDS_1, WRITE],
-    rows: &[
+    rows: &[&[
         (Step::Receive, PROTOCOL_WENT),
         (Step::Receive, SIZES_WENT),
         (Step::Receive, UUIDS_WENT),
@@ -97,7 +104,7 @@ const WRITE_HEARD: Before = Before {
         (Step::AckOut, SIZES_WENT),
         (Step::AckOut, UUIDS_WENT),
         (Step::Receive, WRITE_WENT),
-    ],
+    ]],
 };
 
 /// The data may be used, and no epoch is whole.
@@ -139,7 +146,7 @@ const WRITE_STAYS: After = After {
         (Step::Receive, CLOSED),
     ],
     end: DRAINED,
-    disk: &[(1, 0), (2, 0xAA), (3, 0), (7, 0)],
+    left: &[(1, 0), (2, 0xAA), (3, 0), (7, 0)],
 };
 
 /// The same with nothing taken.
@@ -153,48 +160,28 @@ const HELLO_REFUSED: After = After {
         (Step::Peer(0), Err(Refusal::UnknownJob)),
     ],
     end: DRAINED,
-    disk: &[(2, 0)],
+    left: &[(2, 0)],
 };
 
 static FOREIGN_FRAMES: [Case; 2] = [
-    Case {
-        before: &WRITE_HEARD,
-        frames: &FOREIGN,
-        after: &WRITE_STAYS,
-    },
-    Case {
-        before: &WRITE_HEARD,
-        frames: &UNREADABLE,
-        after: &WRITE_STAYS,
-    },
+    cases::Case(&WRITE_HEARD, &FOREIGN, &WRITE_STAYS),
+    cases::Case(&WRITE_HEARD, &UNREADABLE, &WRITE_STAYS),
 ];
 
 #[test]
 fn foreign_frames_close_the_end(rt: HostRuntime) -> Result<(), Fail> {
-    passes(&rt, &FOREIGN_FRAMES)
+    passes::<LinkedSecondary, _>(&rt, &FOREIGN_FRAMES)
 }
 
 static HELLOS: [Case; 3] = [
-    Case {
-        before: &NOTHING_HEARD,
-        frames: &FIRST,
-        after: &HELLO_REFUSED,
-    },
-    Case {
-        before: &ONE_HEARD,
-        frames: &SECOND,
-        after: &HELLO_REFUSED,
-    },
-    Case {
-        before: &TWO_HEARD,
-        frames: &THIRD,
-        after: &HELLO_REFUSED,
-    },
+    cases::Case(&NOTHING_HEARD, &FIRST, &HELLO_REFUSED),
+    cases::Case(&ONE_HEARD, &SECOND, &HELLO_REFUSED),
+    cases::Case(&TWO_HEARD, &THIRD, &HELLO_REFUSED),
 ];
 
 #[test]
 fn a_refused_hello_closes_the_end(rt: HostRuntime) -> Result<(), Fail> {
-    passes(&rt, &HELLOS)
+    passes::<LinkedSecondary, _>(&rt, &HELLOS)
 }
 
 /// The end is open, its hello is done, and nothing is pending.
@@ -219,7 +206,7 @@ const GREETS: After = After {
         (Step::Receive, NONE),
     ],
     end: STANDING,
-    disk: &[(2, 0)],
+    left: &[(2, 0)],
 };
 
 /// Both writes are applied, the second one first.
@@ -240,7 +227,7 @@ const TWO_APPLIED: After = After {
         (Step::AckOut, NONE),
     ],
     end: STANDING,
-    disk: &[(1, 0), (2, 0xAA), (3, 0xAA), (7, 0)],
+    left: &[(1, 0), (2, 0xAA), (3, 0xAA), (7, 0)],
 };
 
 /// Write 1 is applied, and its epoch is whole.
@@ -263,7 +250,7 @@ const EPOCH_APPLIED: After = After {
         usage: Usage { whole: 1, ..IDLE },
         ..STANDING
     },
-    disk: &[(1, 0), (2, 0xAA), (3, 0), (7, 0)],
+    left: &[(1, 0), (2, 0xAA), (3, 0), (7, 0)],
 };
 
 /// Write 2 went over the link.
@@ -282,24 +269,12 @@ const WRITE_2: Spelled = Spelled::Long(
 );
 
 static RIGHT_FRAMES: [Case; 3] = [
-    Case {
-        before: &TWO_HEARD,
-        frames: &[(UUIDS_1, UUIDS_WENT)],
-        after: &GREETS,
-    },
-    Case {
-        before: &WRITE_HEARD,
-        frames: &[(WRITE_2, WRITE_2_WENT)],
-        after: &TWO_APPLIED,
-    },
-    Case {
-        before: &WRITE_HEARD,
-        frames: &[(BARRIER_1, BARRIER_WENT)],
-        after: &EPOCH_APPLIED,
-    },
+    cases::Case(&TWO_HEARD, &[(UUIDS_1, UUIDS_WENT)], &GREETS),
+    cases::Case(&WRITE_HEARD, &[(WRITE_2, WRITE_2_WENT)], &TWO_APPLIED),
+    cases::Case(&WRITE_HEARD, &[(BARRIER_1, BARRIER_WENT)], &EPOCH_APPLIED),
 ];
 
 #[test]
 fn frames_in_their_turn_are_taken(rt: HostRuntime) -> Result<(), Fail> {
-    passes(&rt, &RIGHT_FRAMES)
+    passes::<LinkedSecondary, _>(&rt, &RIGHT_FRAMES)
 }

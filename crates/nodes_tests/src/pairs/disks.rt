@@ -185,24 +185,29 @@ fn is_met(fault: Given, reply: Reply) -> bool {
 
 /// Both ends close, if they are open, and the disks do what they have left.
 fn ends(rt: &impl Abort, pair: &mut Pair) {
-    let _ = pair.step(&Event::ClosePrimary);
-    let _ = pair.step(&Event::CloseSecondary);
+    may_do(pair, Event::ClosePrimary);
+    may_do(pair, Event::CloseSecondary);
     for _ in 0..pair.primary().accepted() {
         if let Some(number) = pair.primary().next_local() {
-            does(rt, pair, &Event::Local(number));
+            does(rt, pair, Event::Local(number));
         }
     }
     for _ in 0..pair.secondary().usage().pending {
         if let Ok(place) = pair.secondary().next() {
-            does(rt, pair, &Event::Peer(place));
+            does(rt, pair, Event::Peer(place));
         }
     }
     is_ended(rt, pair);
 }
 
+/// Gives a pair an event, which it may refuse.
+fn may_do(pair: &mut Pair, event: Event) {
+    let _ = pair.step(&event);
+}
+
 /// Gives a pair an event that a disk does.
-fn does(rt: &impl Abort, pair: &mut Pair, event: &Event) {
-    let reply = pair.step(event);
+fn does(rt: &impl Abort, pair: &mut Pair, event: Event) {
+    let reply = pair.step(&event);
     assert!(rt;
         matches!(reply, Reply::Ok(_)),
         "{event:?} is replied {reply:?}"

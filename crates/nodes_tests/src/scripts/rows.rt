@@ -1,5 +1,6 @@
 //! How a script is run and judged.
 use script::script_on;
+use std::io::Read;
 use std::process::Abort;
 use std::test::Fail;
 
@@ -27,17 +28,34 @@ pub(crate) fn is_one_line(rt: &impl Abort, said: &[u8]) {
     assert_eq!(rt; said.last(), Some(&b'\n'));
 }
 
+/// The input is no script: nothing is printed, and one line on standard error says so.
+pub(crate) fn is_no_script(rt: &(impl Abort + AllocGlobal), input: &mut impl Read) {
+    let alloc = rt.alloc();
+    let mut written = Vec::new(alloc);
+    let mut said = Vec::new(alloc);
+    let status = script_on(alloc, input, &mut written, &mut said);
+    assert_eq!(rt; status, 1);
+    assert!(rt; written.is_empty());
+    is_one_line(rt, &said);
+}
+
 /// What was written, so that a failed comparison shows lines.
 fn text(written: &[u8]) -> &str {
     std::str::from_utf8(written).unwrap_or("what was written is not UTF-8")
 }
 
+/// A text of these parts.
+pub(crate) fn joined(rt: &impl AllocGlobal, parts: &[&str]) -> Result<String, Fail> {
+    let mut text = String::new(rt.alloc());
+    for part in parts {
+        text.push_str(part)?;
+    }
+    Ok(text)
+}
+
 /// A script of one line, `pair` with some keys.
 pub(crate) fn pair_line(rt: &impl AllocGlobal, keys: &str) -> Result<String, Fail> {
-    let mut line = String::from_str(rt.alloc(), "pair ")?;
-    line.push_str(keys)?;
-    line.push_str("\n")?;
-    Ok(line)
+    joined(rt, &["pair ", keys, "\n"])
 }
 
 /// What a connection of a pair with these identifiers answers to two new words.
@@ -46,10 +64,7 @@ pub(crate) fn decides(
     identifiers: &str,
     answer: &str,
 ) -> Result<(), Fail> {
-    let mut script = pair_line(rt, identifiers)?;
-    script.push_str("connect 97 98\n")?;
-    let mut out = String::from_str(rt.alloc(), "pair ok\nconnect ")?;
-    out.push_str(answer)?;
-    out.push_str("\n")?;
+    let script = joined(rt, &["pair ", identifiers, "\nconnect 97 98\n"])?;
+    let out = joined(rt, &["pair ok\nconnect ", answer, "\n"])?;
     prints(rt, script.as_str(), out.as_str(), "", 0)
 }

@@ -1,15 +1,12 @@
 //! What is a script, and which lines stop one.
-use crate::scripts::rows::{is_one_line, prints};
-use script::script_on;
+use crate::scripts::rows::{is_no_script, joined, prints};
 use std::process::Abort;
 use std::test::Fail;
 
 /// After a pair, none of these lines is a command.
 fn are_no_commands(rt: &(impl Abort + AllocGlobal), lines: &[&str]) -> Result<(), Fail> {
     for line in lines {
-        let mut script = String::from_str(rt.alloc(), "pair\n")?;
-        script.push_str(line)?;
-        script.push_str("\nmarks\n")?;
+        let script = joined(rt, &["pair\n", line, "\nmarks\n"])?;
         prints(
             rt,
             script.as_str(),
@@ -18,19 +15,6 @@ fn are_no_commands(rt: &(impl Abort + AllocGlobal), lines: &[&str]) -> Result<()
             2,
         )?;
     }
-    Ok(())
-}
-
-/// The bytes are no text: nothing is printed, and one line on standard error says so.
-fn are_no_text(rt: &(impl Abort + AllocGlobal), script: &[u8]) -> Result<(), Fail> {
-    let alloc = rt.alloc();
-    let mut written = Vec::new(alloc);
-    let mut said = Vec::new(alloc);
-    let mut input = script;
-    let status = script_on(alloc, &mut input, &mut written, &mut said);
-    assert_eq!(rt; status, 1);
-    assert!(rt; written.is_empty());
-    is_one_line(rt, &said);
     Ok(())
 }
 
@@ -76,9 +60,7 @@ fn have_no_pair(
     err: &str,
 ) -> Result<(), Fail> {
     for command in COMMANDS {
-        let mut script = String::from_str(rt.alloc(), before)?;
-        script.push_str(command)?;
-        script.push_str("\npair\n")?;
+        let script = joined(rt, &[before, command, "\npair\n"])?;
         prints(rt, script.as_str(), out, err, 2)?;
     }
     Ok(())
@@ -241,9 +223,9 @@ const NO_TEXTS: &[&[u8]] = &[
 ];
 
 #[test]
-fn a_script_is_text(rt: HostRuntime) -> Result<(), Fail> {
+fn a_script_is_text(rt: HostRuntime) {
     for script in NO_TEXTS {
-        are_no_text(&rt, script)?;
+        let mut input = *script;
+        is_no_script(&rt, &mut input);
     }
-    Ok(())
 }

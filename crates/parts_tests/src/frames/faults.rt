@@ -1,7 +1,7 @@
 //! Frames that are faulty: each is refused for its first fault, as one frame and as a stream.
 use crate::frames::samples::{Sample, is_read};
 use crate::frames::streams::is_one_frame;
-use crate::frames::vectors::{
+use crate::vectors::{
     BARRIER, OTHER_MAGIC, PROTOCOL_C, RESYNC, RS_WRITE_ACK, SHORT_BARRIER, WRITE, WRITE_ACK,
     WRONG_BARRIER, frame_of, with_blocks,
 };

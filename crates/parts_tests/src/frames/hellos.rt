@@ -4,7 +4,7 @@ ghost use Rattle.parts_tests.specs.Lending.{taken_in};
 
 use crate::frames::links::direction;
 use crate::frames::samples::{Sample, is_read};
-use crate::frames::vectors::{BARRIER, OTHER_MAGIC, SHORT_BARRIER, SIZES, WRONG_BARRIER};
+use crate::vectors::{BARRIER, OTHER_MAGIC, SHORT_BARRIER, SIZES, WRONG_BARRIER};
 use blocks::Refusal;
 use endpoint::Incoming;
 use link::{FrameOut, PlainIn, PlainOut};

@@ -3,7 +3,7 @@
 ghost use Rattle.std.specs.Prelude.{◌≡◌, IfOk};
 ghost use Rattle.link.specs.Directions.{InState, IsDirection, IsUnused};
 
-use crate::frames::vectors::{BARRIER, PROTOCOL_C};
+use crate::vectors::{BARRIER, PROTOCOL_C};
 use blocks::Refusal;
 use link::{FrameIn, FrameOut, PlainIn, PlainLink, PlainOut};
 use packets::Frame;

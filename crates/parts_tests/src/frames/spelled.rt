@@ -3,7 +3,7 @@ ghost use Rattle.packets.specs.Spelling.{IsSpellable};
 
 use crate::frames::samples::{Sample, is_read, packet_of};
 use crate::frames::streams::is_one_frame;
-use crate::frames::vectors::{
+use crate::vectors::{
     BARRIER, BARRIER_ACK, LARGEST_WRITE, PROTOCOL_C, RECV_ACK, RESYNC, RS_WRITE_ACK, SIZES,
     SYNC_UUID, TWO_WRITES_ACK, UUIDS, WRITE, WRITE_ACK, frame_of, with_blocks,
 };

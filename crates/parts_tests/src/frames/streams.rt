@@ -1,6 +1,6 @@
 //! What a decoder makes of a stream: pieces that end inside a frame, pieces of several frames, and a fault.
 use crate::frames::samples::{Sample, packet_of};
-use crate::frames::vectors::{BARRIER, BARRIER_ACK, OTHER_MAGIC, WRITE, with_blocks};
+use crate::vectors::{BARRIER, BARRIER_ACK, OTHER_MAGIC, WRITE, with_blocks};
 use blocks::Refusal;
 use packets::{Decoder, Packet, decode_all};
 use std::alloc::Global;

@@ -4,7 +4,8 @@ ghost use Rattle.packets.specs.Cutting.{IsCut};
 ghost use Rattle.packets.specs.Spelling.{IsSpellable};
 
 use crate::ruled::ends::{accepts, carries, gives, gives_none, hands_back};
-use crate::ruled::vectors::{BARRIER, write};
+use crate::ruled::kinds::write;
+use crate::vectors::BARRIER;
 use blocks::{Block, Refusal};
 use bytes::Bytes;
 use link::{FrameIn, FrameOut};

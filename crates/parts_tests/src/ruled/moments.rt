@@ -3,7 +3,7 @@ ghost use Rattle.std.specs.Prelude.{[]};
 
 use crate::ruled::connections::one_block;
 use crate::ruled::ends::carries;
-use crate::ruled::vectors::write;
+use crate::ruled::kinds::write;
 use ruled_link::{Moment, Piece, PieceIn, PieceOut, watched, watched_row};
 use std::alloc::Global;
 use std::marker::Brand;

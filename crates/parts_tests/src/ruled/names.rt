@@ -5,7 +5,7 @@ ghost use Rattle.ruled_link.specs.Names.{row_of};
 
 use crate::ruled::connections::barrier;
 use crate::ruled::ends::carries;
-use crate::ruled::vectors::BARRIER;
+use crate::vectors::BARRIER;
 use packets::Frame;
 use ruled_link::{Named, RuledIn, RuledOut, join_ends, ruled};
 use std::marker::Brand;

@@ -3,7 +3,8 @@ ghost use Rattle.std.specs.Prelude.{◌<◌};
 
 use crate::ruled::connections::one_block;
 use crate::ruled::ends::{accepts, gives, gives_none};
-use crate::ruled::vectors::{BARRIER, OTHER_MAGIC, frames, write};
+use crate::ruled::kinds::{frames, write};
+use crate::vectors::{BARRIER, OTHER_MAGIC};
 use link::FrameIn;
 use ruled_link::{PIECE_BYTES, Piece, PieceIn, PieceOut, RuledIn, RuledOut, row};
 use std::alloc::Global;

@@ -1,0 +1,174 @@
+//! Cases of a node's core, as tables have them, and what takes a core through one. One function goes through all of
+//! them, and is proved once for both nodes.
+use blocks::Refusal;
+use std::alloc::Global;
+use std::fmt::Debug;
+use std::process::Abort;
+use std::test::Fail;
+
+/// Where a part is gone through: the name of the case, and what gives memory.
+#[derive(Clone, Copy)]
+pub(crate) struct Scene {
+    pub(crate) name: &'static str,
+    pub(crate) alloc: Global,
+}
+
+/// A core by its steps, and by what it holds.
+pub(crate) trait Stepped {
+    type Step: Copy;
+
+    /// What a step says.
+    type Said: Copy + Debug + PartialEq;
+
+    type Fact: Copy;
+
+    fn do_step(&mut self, alloc: Global, step: Self::Step) -> Result<Self::Said, Refusal>;
+
+    fn is_true(&self, fact: Self::Fact) -> bool;
+}
+
+fn is_answered<S: Copy + Debug + PartialEq>(
+    rt: &impl Abort,
+    (name, step): (&str, usize),
+    answer: Result<S, Refusal>,
+    wanted: Result<S, Refusal>,
+) {
+    assert_eq!(rt; answer, wanted, "{name}: step {step}");
+}
+
+/// Each step says what its row has.
+pub(crate) fn run<C: Stepped>(
+    rt: &impl Abort,
+    core: &mut C,
+    scene: Scene,
+    rows: &[(C::Step, Result<C::Said, Refusal>)],
+) {
+    for (i, (step, wanted)) in rows.iter().enumerate() {
+        let answer = core.do_step(scene.alloc, *step);
+        is_answered(rt, (scene.name, i), answer, *wanted);
+    }
+}
+
+/// All of these are true.
+pub(crate) fn holds<C: Stepped>(rt: &impl Abort, core: &C, name: &str, facts: &[C::Fact]) {
+    for (i, fact) in facts.iter().enumerate() {
+        assert!(rt; core.is_true(*fact), "{name}: fact {i}");
+    }
+}
+
+/// A core by the parts of its cases.
+pub(crate) trait Core: Drop + Sized {
+    /// What it is made of.
+    type Start;
+
+    /// A part of what it goes through.
+    type Part: Copy;
+
+    /// A frame, or the fault that stands in its place.
+    type Frame: Copy;
+
+    /// A core that was never opened.
+    fn fresh(alloc: Global, start: &Self::Start) -> Result<Self, Refusal>;
+
+    /// The part in which this frame is refused.
+    fn refused(frame: Self::Frame, refusal: Refusal) -> Self::Part;
+
+    fn go(&mut self, rt: &impl Abort, scene: Scene, part: &Self::Part);
+}
+
+fn go_on<C: Core>(rt: &impl Abort, core: &mut C, scene: Scene, parts: &[C::Part]) {
+    for part in parts {
+        core.go(rt, scene, part);
+    }
+}
+
+/// The parts that a core goes through. The one in the middle, if there is one, is made while the test runs.
+#[derive(Clone, Copy)]
+pub(crate) struct Way<'a, P> {
+    pub(crate) before: &'a [P],
+    pub(crate) made: Option<P>,
+    pub(crate) after: &'a [P],
+}
+
+fn go_through<C: Core>(rt: &impl Abort, core: &mut C, scene: Scene, way: &Way<'_, C::Part>) {
+    go_on(rt, core, scene, way.before);
+    if let Some(part) = &way.made {
+        core.go(rt, scene, part);
+    }
+    go_on(rt, core, scene, way.after);
+}
+
+/// A core that was never opened goes this way.
+pub(crate) fn goes<C: Core, R: Abort + AllocGlobal>(
+    rt: &R,
+    name: &'static str,
+    start: &C::Start,
+    way: &Way<'_, C::Part>,
+) -> Result<(), Refusal> {
+    let mut core = C::fresh(rt.alloc(), start)?;
+    let scene = Scene {
+        name,
+        alloc: rt.alloc(),
+    };
+    go_through(rt, &mut core, scene, way);
+    Ok(())
+}
+
+/// A core that was never opened, and the two lists of parts that it goes through.
+pub(crate) struct Case<S: 'static, P: 'static> {
+    pub(crate) name: &'static str,
+    pub(crate) start: &'static S,
+    pub(crate) before: &'static [P],
+    pub(crate) parts: &'static [P],
+}
+
+/// Each case's core goes through its parts.
+pub(crate) fn passes<C: Core, R: Abort + AllocGlobal>(
+    rt: &R,
+    cases: &'static [Case<C::Start, C::Part>],
+) -> Result<(), Fail> {
+    for case in cases {
+        let way = Way {
+            before: case.before,
+            made: None,
+            after: case.parts,
+        };
+        goes::<C, R>(rt, case.name, case.start, &way)?;
+    }
+    Ok(())
+}
+
+/// Frames that are refused, each of them by a core of its own, with what comes before and after.
+pub(crate) struct Foreign<S: 'static, P: 'static, F: 'static> {
+    pub(crate) name: &'static str,
+    pub(crate) start: &'static S,
+    pub(crate) before: &'static [P],
+    pub(crate) frames: &'static [(F, Refusal)],
+    pub(crate) after: &'static [P],
+}
+
+fn is_foreign<C: Core, R: Abort + AllocGlobal>(
+    rt: &R,
+    case: &'static Foreign<C::Start, C::Part, C::Frame>,
+    (frame, refusal): (C::Frame, Refusal),
+) -> Result<(), Refusal> {
+    let way = Way {
+        before: case.before,
+        made: Some(C::refused(frame, refusal)),
+        after: case.after,
+    };
+    goes::<C, R>(rt, case.name, case.start, &way)
+}
+
+/// Each frame is refused, and goes with what is before and after.
+pub(crate) fn are_foreign<C: Core, R: Abort + AllocGlobal>(
+    rt: &R,
+    cases: &'static [Foreign<C::Start, C::Part, C::Frame>],
+) -> Result<(), Fail> {
+    for case in cases {
+        for row in case.frames {
+            is_foreign::<C, R>(rt, case, *row)?;
+        }
+    }
+    Ok(())
+}

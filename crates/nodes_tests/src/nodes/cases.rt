@@ -1,0 +1,138 @@
+//! Cases of a node over a link whose other end the test has, and what takes a node through one. One function goes
+//! through all of them, and is proved once for both nodes.
+use crate::nodes::answers::{Answer, Spot, is_answered};
+use crate::nodes::frames::Spelled;
+use crate::nodes::other_end::Frames;
+use blocks::{Refusal, Settings};
+use std::alloc::Global;
+use std::fmt::Debug;
+use std::process::Abort;
+use std::test::Fail;
+
+/// A node over a link. What it sends stays in the queue of its link, and what the peer sends was laid in.
+pub(crate) trait Node: Drop + Sized {
+    type Step: Copy;
+
+    /// What it tells of itself.
+    type State: Copy + Debug + PartialEq;
+
+    /// What is looked at besides that at the end.
+    type Left;
+
+    /// A node over a zero-filled disk of 8 blocks, which was never opened.
+    fn fresh(alloc: Global, settings: Settings) -> Result<Self, Refusal>;
+
+    /// Opens the first connection. These frames of the peer wait in its link.
+    fn connect(&mut self, alloc: Global, frames: Frames) -> Result<(), Refusal>;
+
+    /// Takes the next frame of the peer.
+    fn take(&mut self) -> Answer;
+
+    fn do_step(&mut self, alloc: Global, step: Self::Step) -> Answer;
+
+    fn state(&self) -> Self::State;
+
+    /// This is left at the end.
+    fn leaves(&mut self, rt: &impl Abort, spot: Spot, left: &Self::Left);
+}
+
+/// What comes before a frame of the peer.
+pub(crate) struct Before<S: 'static> {
+    pub(crate) settings: Settings,
+    /// The frames that the peer sent before it.
+    pub(crate) heard: &'static [Spelled],
+    /// What is done, and what each call answers.
+    pub(crate) rows: &'static [&'static [(S, Answer)]],
+}
+
+/// What comes of it.
+pub(crate) struct After<S: 'static, T, L> {
+    /// The frames that the peer sent behind it.
+    pub(crate) behind: &'static [Spelled],
+    /// What the node is once it was taken.
+    pub(crate) state: T,
+    /// What is done then.
+    pub(crate) rows: &'static [(S, Answer)],
+    /// What the node is at the end.
+    pub(crate) end: T,
+    pub(crate) left: L,
+}
+
+/// Frames each of which is answered so, in a node of its own, with what comes before and after.
+pub(crate) struct Case<S: 'static, T: 'static, L: 'static>(
+    pub(crate) &'static Before<S>,
+    pub(crate) &'static [(Spelled, Answer)],
+    pub(crate) &'static After<S, T, L>,
+);
+
+fn is<N: Node>(rt: &impl Abort, node: &N, spot: Spot, wanted: &N::State) {
+    assert_eq!(rt;
+        node.state(),
+        *wanted,
+        "case {}, frame {}",
+        spot.case,
+        spot.frame
+    );
+}
+
+// Each call answers what its row has.
+fn run<N: Node>(
+    rt: &impl Abort,
+    (node, alloc): (&mut N, Global),
+    spot: Spot,
+    when: &'static str,
+    rows: &[(N::Step, Answer)],
+) {
+    for (i, (step, wanted)) in rows.iter().enumerate() {
+        let answer = node.do_step(alloc, *step);
+        is_answered(rt, spot, (when, i), answer, *wanted);
+    }
+}
+
+fn goes<N: Node>(
+    rt: &impl Abort,
+    (node, alloc): (&mut N, Global),
+    spot: Spot,
+    case: &'static Case<N::Step, N::State, N::Left>,
+    (frame, wanted): (Spelled, Answer),
+) -> Result<(), Refusal> {
+    let Case(before, _, after) = case;
+    let frames = Frames {
+        before: before.heard,
+        tested: frame,
+        behind: after.behind,
+    };
+    node.connect(alloc, frames)?;
+    for rows in before.rows {
+        run(rt, (node, alloc), spot, "before", rows);
+    }
+    is_answered(rt, spot, ("tested", 0), node.take(), wanted);
+    is(rt, node, spot, &after.state);
+    run(rt, (node, alloc), spot, "after", after.rows);
+    is(rt, node, spot, &after.end);
+    node.leaves(rt, spot, &after.left);
+    Ok(())
+}
+
+fn takes<N: Node, R: Abort + AllocGlobal>(
+    rt: &R,
+    spot: Spot,
+    case: &'static Case<N::Step, N::State, N::Left>,
+    frame: (Spelled, Answer),
+) -> Result<(), Refusal> {
+    let mut node = N::fresh(rt.alloc(), case.0.settings)?;
+    goes(rt, (&mut node, rt.alloc()), spot, case, frame)
+}
+
+/// Goes through the cases.
+pub(crate) fn passes<N: Node, R: Abort + AllocGlobal>(
+    rt: &R,
+    cases: &'static [Case<N::Step, N::State, N::Left>],
+) -> Result<(), Fail> {
+    for (i, case) in cases.iter().enumerate() {
+        for (j, frame) in case.1.iter().enumerate() {
+            takes::<N, R>(rt, Spot { case: i, frame: j }, case, *frame)?;
+        }
+    }
+    Ok(())
+}

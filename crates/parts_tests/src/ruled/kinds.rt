@@ -1,0 +1,41 @@
+//! A frame of each kind, as bytes.
+use crate::vectors::{
+    BARRIER, BARRIER_ACK, PROTOCOL_C, RESYNC, RS_WRITE_ACK, SIZES, SYNC_UUID, TWO_WRITES_ACK,
+    UUIDS, WRITE, WRITE_ACK, with_blocks,
+};
+use blocks::Refusal;
+use std::alloc::Global;
+use std::process::Abort;
+
+/// A frame of each kind: its bytes, or those before its blocks, and how many blocks of bytes AA it has.
+const KINDS: [(&[u8], u8); 11] = [
+    (&WRITE, 1),
+    (&BARRIER, 0),
+    (&WRITE_ACK, 0),
+    (&BARRIER_ACK, 0),
+    (&TWO_WRITES_ACK, 0),
+    (&PROTOCOL_C, 0),
+    (&SIZES, 0),
+    (&UUIDS, 0),
+    (&SYNC_UUID, 0),
+    (&RESYNC, 1),
+    (&RS_WRITE_ACK, 0),
+];
+
+/// The DATA frame of block 2.
+pub(crate) fn write(rt: &impl Abort, alloc: Global) -> Vec<u8> {
+    with_blocks(alloc, &WRITE, 1, 0xAA).expect(rt, "there is memory")
+}
+
+fn frames_in(alloc: Global) -> Result<Vec<Vec<u8>>, Refusal> {
+    let mut frames = Vec::new(alloc);
+    for (front, blocks) in KINDS {
+        frames.push(with_blocks(alloc, front, blocks, 0xAA)?)?;
+    }
+    Ok(frames)
+}
+
+/// A frame of each kind.
+pub(crate) fn frames(rt: &impl Abort, alloc: Global) -> Vec<Vec<u8>> {
+    frames_in(alloc).expect(rt, "there is memory")
+}
