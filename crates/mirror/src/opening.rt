@@ -18,7 +18,8 @@ use secondary::Secondary;
 
 /// Opens both nodes over a new link: the primary sends `there` and takes from `back`, the secondary the other
 /// way round. The two words are fresh generation identifiers, one that a resync would begin, and one that the loss
-/// of the connection begins. Both nodes open, or none: the secondary is asked first.
+/// of the connection begins. Both nodes open, or none: the secondary is asked first. It sends nothing: the first turns
+/// of `work` do the hello. On a pair that was never connected a write before that is refused, `NotConnected` (12).
 ///
 /// `NotDrained` (36) if an end is open, and where the secondary has items pending; `StreamFull` (6) if
 /// 4,294,967,295 connections were opened; `UsedIdentifier` (33) and `NoMemory` (7) as `Primary::open` has them.

@@ -11,7 +11,11 @@ use secondary::Secondary;
 
 /// Has both nodes and their disks do what they can, turn by turn, until neither can do anything, `turns` turns at
 /// most. In a turn each disk does a write or an item, each node sends a frame and takes one, and a resync copies a block.
-/// Returns whether both came to rest: then neither disk has anything left to do.
+/// Returns whether both came to rest: then neither disk has anything left to do. If not, it may be called again. A hello
+/// takes some five turns, a write or a block of a resync a few.
+///
+/// Closed nodes have their disks do what they have. The link has to bring its frames by itself, as
+/// `ruled_link::RuledLink` does: a `link::PlainLink` needs a caller that carries its queue from one end to the other.
 ///
 /// A step that has nothing to do now, or waits for another one, is no failure. Every other refusal ends the work, and
 /// is returned: `NoMemory` (7), `ReadFault` (14), and the protocol errors, which have closed an end. A disk that fails
