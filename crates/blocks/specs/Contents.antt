@@ -1,7 +1,7 @@
 -- The contents of a device, block by block, and what a write makes of them.
 use Rattle.std.specs.Prelude.{ℕ, zero, suc, ◌≡◌, ◌+◌, ◌-◌, ◌/◌, ◌≤◌, ◌⊎◌, List, [], ◌∷◌, ◌++◌, length, take, drop, slice_get}
 
--- the first so many blocks of bytes, each of this size
+-- the first `count` blocks of bytes, each of this size
 abbrev pub cut : ℕ → ℕ → List ℕ → List (List ℕ)
 cut size zero bytes = []
 cut size (suc count) bytes = take size bytes ∷ cut size count (drop size bytes)

@@ -2,7 +2,7 @@
 use Rattle.std.specs.Prelude.{ℕ, ◌+◌, ◌-◌, ◌==◌, Bool, false, ◌&&◌, List, take, if◌then◌else◌, Option, Some, None, is_none}
 use Rattle.blocks.specs.Contents.{overwritten}
 
--- so many writes pass, and the next one puts only its first `kept` blocks and fails
+-- after `passes` writes that succeed, the next one puts only its first `kept` blocks and fails
 pub record WriteArming : Type 0 where
   pub passes : ℕ
   pub kept : ℕ

@@ -1,7 +1,7 @@
 -- Ranges of blocks: which ones a write may cover, which blocks they have, and when two of them meet.
 use Rattle.std.specs.Prelude.{ℕ, zero, suc, ◌≡◌, ◌+◌, ◌-◌, ◌/◌, ◌<◌, ◌≤◌, nat_lt, nat_le, Bool, ◌&&◌, List, [], ◌∷◌, ◌++◌}
 
--- 1 to 32 blocks from this one on, inside a device of so many blocks and inside one extent of 1024
+-- 1 to 32 blocks from this one on, inside a device of `blocks` blocks and inside one extent of 1024
 pub record IsRange (blocks first count : ℕ) : Type 0 where
   pub some : 0 < count
   pub few : count ≤ 32

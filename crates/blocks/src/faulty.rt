@@ -19,7 +19,7 @@ pub struct FaultStore {
     read_arming: Option<u64>,
 }
 
-/// So many writes pass, and the next one puts only its first `kept` blocks and fails.
+/// After `passes` writes that succeed, the next one puts only its first `kept` blocks and fails.
 #[derive(Clone, Copy)]
 struct WriteArming {
     passes: u64,
@@ -68,8 +68,8 @@ impl FaultStore {
         self.arm_after(0, kept);
     }
 
-    /// So many writes pass. The next one puts only its first `kept` blocks, all if it has fewer, and fails;
-    /// those after it pass.
+    /// The next `passes` writes succeed. The one after them puts only its first `kept` blocks, all if it has
+    /// fewer, and fails; the later ones succeed.
     pub fn arm_after(&mut self, passes: u64, kept: u64)
         ensures { self.new ≡ record self.old { write_arming = Some (record { passes = passes; kept = kept }) } }
     {
@@ -83,7 +83,7 @@ impl FaultStore {
         self.arm_read_after(0);
     }
 
-    /// So many reads pass. The next one fails; those after it pass.
+    /// The next `passes` reads succeed. The one after them fails; the later ones succeed.
     pub fn arm_read_after(&mut self, passes: u64)
         ensures { self.new ≡ record self.old { read_arming = Some passes } }
     {

@@ -25,4 +25,5 @@ pub use range::{MAX_RANGE, Range};
 pub use refusal::Refusal;
 pub use settings::{Protocol, Settings};
 pub use store::{Store, StoreFault};
+pub use tally::Tally;
 pub use tuple::Tuple;

@@ -4,24 +4,30 @@ ghost use Rattle.std.specs.Borrow.{ftrue};
 
 use std::marker::Model;
 
-/// How often something happened. It takes no bytes, and its calls do nothing when the program runs.
+/// How often something happened: a store counts its faults so. It takes no bytes, and its calls do nothing when the
+/// program runs.
 #[derive(Drop)]
-pub(crate) struct Tally {
-    pub(crate) ghost count: { ℕ },
+pub struct Tally {
+    pub ghost count: { ℕ },
 }
 
 impl Model for Tally {
     ghost also_owns = { λ _. ftrue };
 }
 
+// It owns nothing.
+unsafe impl Send for Tally {}
+
 impl Tally {
-    pub(crate) fn new() -> Tally
+    /// It has not happened yet.
+    pub fn new() -> Tally
         ensures { result.count ≡ 0 }
     {
         Tally {}
     }
 
-    pub(crate) fn more(&self) -> Tally
+    /// It happened once more.
+    pub fn more(&self) -> Tally
         ensures { result.count ≡ self.now.count + 1 }
     {
         Tally {}

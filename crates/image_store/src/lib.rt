@@ -1,7 +1,6 @@
 //! A disk over an image file, written through.
 #![tactic(auto)]
 
-mod fault_count;
 mod loading;
 mod open_fault;
 mod store;

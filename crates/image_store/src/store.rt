@@ -4,10 +4,9 @@ ghost use Rattle.blocks.specs.Contents.{blocks_of, overwritten, IsTorn};
 ghost use Rattle.blocks.specs.declared.block.TheConstants.{BLOCK_BYTES};
 ghost use Rattle.image_store.specs.Faults.{IsWrongFor};
 
-use crate::fault_count::FaultCount;
 use crate::loading::{check_length, load};
 use crate::{OpenFault, SyncHandle};
-use blocks::{BLOCK_BYTES, Block, MemStore, Range, Store, StoreFault};
+use blocks::{BLOCK_BYTES, Block, MemStore, Range, Store, StoreFault, Tally};
 use std::fs::{OpenFile, OpenOptions};
 use std::marker::Model;
 use std::os::unix::fs::FileExt;
@@ -18,7 +17,7 @@ use std::rt::Files;
 pub struct ImageStore<F> {
     file: F,
     memory: MemStore,
-    faults: FaultCount,
+    faults: Tally,
 }
 
 impl<F> Model for ImageStore<F> {
@@ -41,7 +40,7 @@ impl<F: FileExt> ImageStore<F> {
         ImageStore {
             file,
             memory,
-            faults: FaultCount::new(),
+            faults: Tally::new(),
         }
     }
 }

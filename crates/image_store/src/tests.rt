@@ -8,7 +8,7 @@ use std::sync::Arc;
 use std::test::Fail;
 use std::{fs, io, thread};
 
-// Makes an image of so many blocks, block `n` filled with `n + 1`, and of as many zeros more.
+// Makes an image of `blocks` blocks, block `n` filled with `n + 1`, with `more` zeros after them.
 fn make_image(rt: &HostRuntime, path: &str, blocks: u8, more: usize) -> io::Result<()> {
     let mut bytes = Vec::new(rt.alloc());
     for block in 0..blocks {
