@@ -5,12 +5,12 @@ use Rattle.std.proofs.lemmas.Bool.{both_ways}
 use Rattle.blocks.specs.declared.tuple.Tuple.{Tuple}
 use Rattle.blocks.specs.declared.outcome.Decision.{Decision}
 use Rattle.blocks.specs.declared.outcome.Decision.TheVariants.{NoSync, BitmapSync, FullSync}
-use Rattle.model.specs.Stream.{WriteItem, SyncUuidItem, within}
+use Rattle.model.specs.Stream.{WriteItem, SyncUuidItem}
 use Rattle.model.specs.Frames.{UuidsFrame}
 use Rattle.model.specs.Identifiers.{are_fresh, lost}
-use Rattle.model.specs.Marks.{marking}
-use Rattle.model.specs.Primary.{Waiting, Failed, Accepted, Outward, PrimaryHistory, no_outward, last_of, change_last, last_index, outward, with_outward, stands}
-use Rattle.model.specs.PrimarySteps.{submission, submitted, appending, with_outcome, faulted, accepted_at, closing, known_tuples, opened}
+use Rattle.model.specs.Primary.{Accepted, Outward, PrimaryHistory, no_outward, last_of, change_last, outward, with_outward, stands}
+use Rattle.model.specs.PrimarySteps.{submission, submitted, faulted, accepted_at, closing, known_tuples, opened, faulted_by}
+use Rattle.model.specs.PrimarySteps.{submitted_with}
 use Rattle.model.specs.Acknowledgements.{begun_with}
 use Rattle.model.specs.LocalRuns.{PrimaryEvent, primary_run}
 use Rattle.model.specs.Theorems.{Opening, primary_at}
@@ -77,26 +77,7 @@ named-opens h sync loss fresh n =
 named-submits : (h : PrimaryHistory) (first : ℕ) (contents : List (List ℕ)) → IsNamed h → IsNamed (submitted h first contents)
 named-submits h first contents n = go (stands (outward h))
   where
-    go : (b : Bool) → IsNamed (elim b as (λ _. PrimaryHistory) [
-      | true ↦ appending (WriteItem (submission h first contents))
-          (record h {
-            writes = h.writes ++ record {
-              write = submission h first contents;
-              journal_length = length h.journal;
-              home = Some (record { index = last_index h.connections; place = length (outward h).stream });
-              outcome = Waiting;
-            } ∷ [];
-          })
-      | false ↦ record h {
-        writes = h.writes ++ record {
-          write = submission h first contents;
-          journal_length = length h.journal;
-          home = None;
-          outcome = Waiting;
-        } ∷ [];
-        marks = marking (submission h first contents) h.marks;
-      }
-    ])
+    go : (b : Bool) → IsNamed (submitted_with b h first contents)
     go true = named-change h _ (λ c. record c { stream = c.stream ++ WriteItem (submission h first contents) ∷ [] }) refl refl (λ c. refl) n
     go false = named-same h _ refl refl n
 
@@ -104,11 +85,7 @@ named-faults : (h : PrimaryHistory) (number : ℕ) (offsets : List ℕ) → IsNa
 named-faults h number offsets n = go (accepted_at h number)
   where
     go : (v : Option Accepted) → IsNamed
-        (elim v as (λ _. PrimaryHistory) [
-          | None ↦ h
-          | Some accepted ↦ with_outcome number (Failed (within (length accepted.write.contents) offsets))
-              (record h { marks = marking accepted.write h.marks })
-        ])
+        (faulted_by v number offsets h)
     go None = n
     go (Some accepted) = named-same h _ refl refl n
 

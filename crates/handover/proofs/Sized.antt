@@ -8,13 +8,13 @@ use Rattle.blocks.specs.declared.settings.Protocol.{Protocol}
 use Rattle.blocks.specs.declared.outcome.What.{What}
 use Rattle.blocks.specs.declared.outcome.Reply.{Reply}
 use Rattle.model.specs.Contents.{BlockMap, IsDisk, Layer, block_under, overlay, extent_of, is_range}
-use Rattle.model.specs.Stream.{Item, WriteItem, ResyncItem, BarrierItem, SyncUuidItem, UuidsItem, first_of, contents_of, below, Part, is_in, layers_from}
+use Rattle.model.specs.Stream.{Item, WriteItem, ResyncItem, BarrierItem, SyncUuidItem, UuidsItem, first_of, contents_of, Part, is_in, layers_from}
 use Rattle.model.specs.Frames.{Packet}
 use Rattle.model.specs.Frames.{Received}
 use Rattle.model.specs.Primary.{PrimaryHistory, last_of, change_last, local_layer, local_map}
 use Rattle.model.specs.Secondary.{Inward, SecondaryHistory, no_inward, inward, with_inward, received_item, items_taken, map_of, secondary_map}
-use Rattle.model.specs.SecondarySteps.{answering, barrier_answer, barriers_to_answer, opened_secondary, Checked, checking_hello}
-use Rattle.model.specs.SecondarySteps.{checking_item, checking, take_item, receive, offsets_at, applied_answer}
+use Rattle.model.specs.SecondarySteps.{answering, barrier_answer, barriers_to_answer, opened_secondary, Checked, checking_hello, applied_with}
+use Rattle.model.specs.SecondarySteps.{checking_item, checking, take_item, receive}
 use Rattle.model.specs.SecondarySteps.{applying, failing}
 use Rattle.model.specs.LocalRuns.{PrimaryEvent, primary_run, SecondaryEvent, OpensToo, Receives, Applies, FailsToApply, Acknowledges, ClosesToo}
 use Rattle.model.specs.LocalRuns.{secondary_after, secondary_run}
@@ -126,13 +126,7 @@ inside-answering blocks d i = go d.closed
 inside-applying : (blocks : ℕ) (asked : Protocol) (place : ℕ) (d : Inward) → IsInside blocks d → IsInside blocks (applying asked place d)
 inside-applying blocks asked place d i = go (slice_get (items_taken d) place)
   where
-    go : (v : Option Item) → IsInside blocks (elim v as (λ _. Inward) [
-      | None ↦ d
-      | Some item ↦ record d {
-        applied = d.applied ++ offsets_at place (below (length (contents_of item)));
-        due = elim d.closed [ true ↦ d.due | false ↦ d.due ++ applied_answer asked place item ];
-      }
-    ])
+    go : (v : Option Item) → IsInside blocks (applied_with v asked place d)
     go None = i
     go (Some item) = record { base = i.base; items = i.items; refused = i.refused }
 

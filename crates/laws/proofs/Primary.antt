@@ -1,6 +1,7 @@
 -- A primary by itself: its moves, and what every run of it keeps.
 pub mod Ends
 pub mod ExtentsMoves
+pub mod FirstStreams
 pub mod Homes
 pub mod HomesFollowing
 pub mod HomesMoves

@@ -81,6 +81,20 @@ primary_opening settings disk tuple marks = record {
   connections = [];
 }
 
+-- a connection at its beginning: its two words, and the tuple of its hello
+abbrev pub new_outward : ℕ → ℕ → Tuple → Outward
+new_outward sync loss hello = record {
+  sync = sync;
+  loss = loss;
+  hello = hello;
+  stream = [];
+  pushed = 0;
+  taken = [];
+  refused = false;
+  begun = false;
+  closed = false;
+}
+
 -- The last connection, or a closed one where there was none.
 abbrev pub no_outward : Tuple → Outward
 no_outward t = record { sync = 0; loss = 0; hello = t; stream = []; pushed = 0; taken = []; refused = false; begun = false; closed = true }

@@ -16,7 +16,7 @@ use Rattle.model.specs.Stream.{Item, WriteItem, ResyncItem, BarrierItem, UuidsIt
 use Rattle.model.specs.Frames.{command_of}
 use Rattle.model.specs.Identifiers.{are_fresh, lost, sync_end}
 use Rattle.model.specs.Refusals.{Test, first_refusal}
-use Rattle.model.specs.Primary.{LocalOutcome, Waiting, OnDisk, Failed, Accepted, Linked, Alone, Completion, Outward, PrimaryHistory, outward, last_index}
+use Rattle.model.specs.Primary.{LocalOutcome, Waiting, OnDisk, Failed, Accepted, Linked, Alone, Completion, Outward, PrimaryHistory, new_outward, outward, last_index}
 use Rattle.model.specs.Primary.{with_outward, stands, frames_due, was_resynced, is_answered, is_waiting, is_open, completes, unreleased, open_writes, local_map}
 use Rattle.model.specs.Primary.{active_extents, is_resync, resync_runs, under_way, marked_blocks, free_block}
 use Rattle.model.specs.Marks.{marking, marking_unreleased, releasing}
@@ -70,6 +70,13 @@ resync_is_over h = elim (resync_runs (outward h)) [
 abbrev pub ending_resync : PrimaryHistory → PrimaryHistory
 ending_resync h = appending (UuidsItem (sync_end h.tuple)) (record h { tuple = sync_end h.tuple })
 
+-- what a step comes to, where a resync is over or goes on
+abbrev pub followed_with : (over : Bool) → PrimaryHistory → List ℕ → Option ℕ → Followed
+followed_with over h completed barrier = elim over [
+  | true ↦ record { history = ending_resync h; completed = completed; barrier = barrier; synced = true }
+  | false ↦ record { history = h; completed = completed; barrier = barrier; synced = false }
+]
+
 -- First the journal, then the barrier, then the end of the resync.
 abbrev pub follows : PrimaryHistory → Followed
 follows h =
@@ -78,10 +85,7 @@ follows h =
     let epoch = last_epoch (outward completed).stream in
     let over = epoch_is_over completed in
     let parted : PrimaryHistory = elim over [ true ↦ appending (BarrierItem epoch) completed | false ↦ completed ] in
-    elim (resync_is_over parted) [
-      | true ↦ record { history = ending_resync parted; completed = numbers; barrier = if over then Some epoch else None; synced = true }
-      | false ↦ record { history = parted; completed = numbers; barrier = if over then Some epoch else None; synced = false }
-    ]
+    followed_with (resync_is_over parted) parted numbers (if over then Some epoch else None)
 
 -- A step that was done: its report and its history.
 abbrev pub succeeding : What → PrimaryHistory → Reply × PrimaryHistory
@@ -107,20 +111,7 @@ open_tests h sync loss starved =
 
 -- a new connection, with its words and the tuple of its hello
 abbrev pub opened : PrimaryHistory → ℕ → ℕ → PrimaryHistory
-opened h sync loss =
-    record h {
-      connections = h.connections ++ record {
-        sync = sync;
-        loss = loss;
-        hello = h.tuple;
-        stream = [];
-        pushed = 0;
-        taken = [];
-        refused = false;
-        begun = false;
-        closed = false;
-      } ∷ [];
-    }
+opened h sync loss = record h { connections = h.connections ++ new_outward sync loss h.tuple ∷ [] }
 
 -- the primary opens its end
 abbrev pub open_primary : ℕ → ℕ → Bool → PrimaryHistory → Reply × PrimaryHistory
@@ -155,11 +146,11 @@ submit_tests h first contents starved =
     ∷ (stands c && nat_le 4294967288 (length c.stream), StreamFull) ∷ (starved, NoMemory) ∷ []
 
 -- With a stream the write takes its next place; without one its range is marked.
-abbrev pub submitted : PrimaryHistory → ℕ → List (List ℕ) → PrimaryHistory
-submitted h first contents =
+abbrev pub submitted_with : (has_stream : Bool) → PrimaryHistory → ℕ → List (List ℕ) → PrimaryHistory
+submitted_with has_stream h first contents =
     let write = submission h first contents in
     let c = outward h in
-    elim (stands c) [
+    elim has_stream [
       | true ↦ appending (WriteItem write)
           (record h {
             writes = h.writes ++ record {
@@ -174,6 +165,10 @@ submitted h first contents =
         marks = marking write h.marks;
       }
     ]
+
+-- the write is accepted
+abbrev pub submitted : PrimaryHistory → ℕ → List (List ℕ) → PrimaryHistory
+submitted h first contents = submitted_with (stands (outward h)) h first contents
 
 -- the primary accepts a write
 abbrev pub submit : ℕ → List (List ℕ) → Bool → PrimaryHistory → Reply × PrimaryHistory
@@ -202,12 +197,16 @@ local_done number h = tested h ((not (is_unfinished h number), UnknownJob) ∷ [
 abbrev pub accepted_at : PrimaryHistory → ℕ → Option Accepted
 accepted_at h number = find (λ accepted. accepted.write.number == number) h.writes
 
--- A fault: these offsets of the write reached the disk, and the range is marked.
-abbrev pub faulted : ℕ → List ℕ → PrimaryHistory → PrimaryHistory
-faulted number offsets h = elim (accepted_at h number) [
+-- A fault of a write: these of its offsets reached the disk, and the range is marked.
+abbrev pub faulted_by : Option Accepted → ℕ → List ℕ → PrimaryHistory → PrimaryHistory
+faulted_by write number offsets h = elim write [
   | None ↦ h
   | Some accepted ↦ with_outcome number (Failed (within (length accepted.write.contents) offsets)) (record h { marks = marking accepted.write h.marks })
 ]
+
+-- a fault of the write of this number
+abbrev pub faulted : ℕ → List ℕ → PrimaryHistory → PrimaryHistory
+faulted number offsets h = faulted_by (accepted_at h number) number offsets h
 
 -- the local disk fails a write, and leaves these of its offsets new
 abbrev pub local_fault : ℕ → List ℕ → PrimaryHistory → Reply × PrimaryHistory

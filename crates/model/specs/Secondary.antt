@@ -44,6 +44,21 @@ secondary_opening settings disk tuple = record {
   connections = [];
 }
 
+-- a connection at its beginning: its number, what the disk holds then, and the tuple of its hello
+abbrev pub new_inward : ℕ → BlockMap → Tuple → Inward
+new_inward number base hello = record {
+  number = number;
+  base = base;
+  hello = hello;
+  taken = [];
+  refused = false;
+  applied = [];
+  gone = [];
+  due = [];
+  pushed = 0;
+  closed = false;
+}
+
 -- an end that was never open: a closed one on which nothing happened
 abbrev pub no_inward : SecondaryHistory → Inward
 no_inward h = record {

@@ -20,7 +20,7 @@ use Rattle.model.specs.Frames.{Packet, DataFrame, RsDataReplyFrame, BarrierFrame
 use Rattle.model.specs.Frames.{WriteAckFrame, RsWriteAckFrame, BarrierAckFrame, Received, command_of, naming}
 use Rattle.model.specs.Refusals.{Test, first_refusal, done_with}
 use Rattle.model.specs.Acknowledgements.{same_protocol}
-use Rattle.model.specs.Secondary.{Inward, SecondaryHistory, inward, with_inward, secondary_map, items_taken, pending, is_drained, answers_due, is_applied_to}
+use Rattle.model.specs.Secondary.{Inward, SecondaryHistory, new_inward, inward, with_inward, secondary_map, items_taken, pending, is_drained, answers_due, is_applied_to}
 use Rattle.model.specs.Secondary.{is_in_resync}
 
 -- What follows an effect in the same step: each barrier taken is acknowledged once all of the epochs up to it are applied.
@@ -65,20 +65,7 @@ next_number unseen h = suc ((inward h).number + unseen)
 -- a new connection lies over what the disk holds now
 abbrev pub opened_secondary : ℕ → SecondaryHistory → SecondaryHistory
 opened_secondary unseen h =
-    record h {
-      connections = h.connections ++ record {
-        number = next_number unseen h;
-        base = secondary_map h;
-        hello = h.tuple;
-        taken = [];
-        refused = false;
-        applied = [];
-        gone = [];
-        due = [];
-        pushed = 0;
-        closed = false;
-      } ∷ [];
-    }
+    record h { connections = h.connections ++ new_inward (next_number unseen h) (secondary_map h) h.tuple ∷ [] }
 
 -- the secondary opens its end, and has not seen so many connections of the primary since its last one
 abbrev pub open_secondary : ℕ → SecondaryHistory → Reply × SecondaryHistory
@@ -204,15 +191,19 @@ applied_answer asked place (WriteItem write) =
 applied_answer asked place (ResyncItem block contents) = RsWriteAckFrame (naming place (ResyncItem block contents)) ∷ []
 applied_answer asked place _ = []
 
--- the item is on the disk, and its acknowledgement is due
-abbrev pub applying : Protocol → ℕ → Inward → Inward
-applying asked place c = elim (slice_get (items_taken c) place) [
+-- an item is on the disk, and its acknowledgement is due
+abbrev pub applied_with : Option Item → Protocol → ℕ → Inward → Inward
+applied_with found asked place c = elim found [
   | None ↦ c
   | Some item ↦ record c {
     applied = c.applied ++ offsets_at place (below (length (contents_of item)));
     due = elim c.closed [ true ↦ c.due | false ↦ c.due ++ applied_answer asked place item ];
   }
 ]
+
+-- the item at this place is on the disk
+abbrev pub applying : Protocol → ℕ → Inward → Inward
+applying asked place c = applied_with (slice_get (items_taken c) place) asked place c
 
 -- the secondary's disk does an item
 abbrev pub peer : ℕ → SecondaryHistory → Reply × SecondaryHistory

@@ -1,5 +1,5 @@
 -- A stream of a primary that has begun stays so.
-use Rattle.std.proofs.Common.{ℕ, ◌≡◌, inl, inr, Bool, true, false, ◌||◌, List, [], ◌∷◌, ◌++◌, length, Option, Some, None, sym, ◌∙◌, ap, refl}
+use Rattle.std.proofs.Common.{ℕ, ◌≡◌, inl, inr, Bool, true, false, ◌||◌, List, [], ◌∷◌, Option, Some, None, sym, ◌∙◌, ap, refl}
 use Rattle.std.specs.List.{list_any}
 use Rattle.std.proofs.lemmas.Bool.{cases_Bool, or_left, or_right}
 use Rattle.std.proofs.lemmas.List.Folds.{list_any-append}
@@ -7,10 +7,8 @@ use Rattle.blocks.specs.declared.outcome.Decision.{Decision}
 use Rattle.blocks.specs.declared.outcome.Decision.TheVariants.{NoSync, BitmapSync, FullSync}
 use Rattle.model.specs.Acknowledgements.{begun_with}
 use Rattle.model.specs.LocalRuns.{PrimaryEvent, primary_run}
-use Rattle.model.specs.Marks.{marking}
-use Rattle.model.specs.Primary.{Waiting, Failed, Accepted, Outward, PrimaryHistory, outward, last_index, change_last, stands}
-use Rattle.model.specs.PrimarySteps.{appending, submission, submitted, opened, with_outcome, faulted, accepted_at}
-use Rattle.model.specs.Stream.{WriteItem, within}
+use Rattle.model.specs.Primary.{Accepted, Outward, PrimaryHistory, outward, change_last, stands, new_outward}
+use Rattle.model.specs.PrimarySteps.{submitted, opened, faulted, accepted_at, submitted_with, faulted_by}
 use Rattle.laws.proofs.Primary.Moves.{IsKeptByMoves, kept-by-releases, following-from, keeps-run, with_frame}
 use Rattle.laws.proofs.Rules.RefusedFrames.{refusing}
 
@@ -34,42 +32,13 @@ changes f kept (c ∷ d ∷ cs) has = elim (cases_Bool c.begun) [
 
 opens : (h : PrimaryHistory) (sync loss : ℕ) → HasBegun h → HasBegun (opened h sync loss)
 opens h sync loss has =
-    let new : Outward = record {
-      sync = sync;
-      loss = loss;
-      hello = h.tuple;
-      stream = [];
-      pushed = 0;
-      taken = [];
-      refused = false;
-      begun = false;
-      closed = false;
-    } in
+    let new : Outward = new_outward sync loss h.tuple in
     list_any-append (λ (c : Outward). c.begun) h.connections (new ∷ []) ∙ or_left (list_any (λ (c : Outward). c.begun) h.connections) false has
 
 submits : (h : PrimaryHistory) (first : ℕ) (contents : List (List ℕ)) → HasBegun h → HasBegun (submitted h first contents)
 submits h first contents has = go (stands (outward h))
   where
-    go : (b : Bool) → HasBegun (elim b as (λ _. PrimaryHistory) [
-      | true ↦ appending (WriteItem (submission h first contents))
-          (record h {
-            writes = h.writes ++ record {
-              write = submission h first contents;
-              journal_length = length h.journal;
-              home = Some (record { index = last_index h.connections; place = length (outward h).stream });
-              outcome = Waiting;
-            } ∷ [];
-          })
-      | false ↦ record h {
-        writes = h.writes ++ record {
-          write = submission h first contents;
-          journal_length = length h.journal;
-          home = None;
-          outcome = Waiting;
-        } ∷ [];
-        marks = marking (submission h first contents) h.marks;
-      }
-    ])
+    go : (b : Bool) → HasBegun (submitted_with b h first contents)
     go true = changes _ (λ c is. is) h.connections has
     go false = has
 
@@ -77,11 +46,7 @@ faults : (h : PrimaryHistory) (number : ℕ) (offsets : List ℕ) → HasBegun h
 faults h number offsets has = go (accepted_at h number)
   where
     go : (v : Option Accepted) → HasBegun
-        (elim v as (λ _. PrimaryHistory) [
-          | None ↦ h
-          | Some accepted ↦ with_outcome number (Failed (within (length accepted.write.contents) offsets))
-              (record h { marks = marking accepted.write h.marks })
-        ])
+        (faulted_by v number offsets h)
     go None = has
     go (Some accepted) = has
 

@@ -2,6 +2,7 @@
 use Rattle.std.proofs.Common.{ℕ, suc, ◌≡◌, ◌+◌, ◌<◌, ◌≤◌, nat_le, Bool, true, false, ◌||◌, List, [], ◌∷◌, length, refl, sym, ◌∙◌, ap, subst, arith, Some, None}
 use Rattle.std.specs.Prelude.{filter, find, replicate}
 use Rattle.std.proofs.lemmas.Bool.{le-leb, leb-true, leb-false, lt-leb}
+use Rattle.std.proofs.Math.Bool.{or-false, or-true}
 use Rattle.blocks.specs.Ranges.{is_between}
 use Rattle.bitmap.specs.Marks.{marking, marking_from}
 use Rattle.laws.proofs.Lists.Picks.{found-passes}
@@ -12,10 +13,6 @@ use Rattle.primary_steps.specs.Transitions.{unreleased_blocks}
 or-assoc : (a b c : Bool) → ((a || b) || c) ≡ (a || (b || c))
 or-assoc true b c = refl
 or-assoc false b c = refl
-
-or-false : (a : Bool) → (a || false) ≡ a
-or-false true = refl
-or-false false = refl
 
 twice : (from : ℕ) (f g : ℕ → Bool) (marks : List Bool)
     → marking_from from g (marking_from from f marks) ≡ marking_from from (λ block. f block || g block) marks
@@ -104,10 +101,6 @@ pub mark-all : (ws : List LogWrite) (n : ℕ) (first marks : List Bool) → find
     → marked_from n ws marks ≡ marking (unreleased_blocks ws) first → marks ≡ marking (unreleased_blocks ws) first
 mark-all ws n first marks none rest = sym (ap (λ (more : List LogWrite). marking (unreleased_blocks more) marks) (none-left (is_from n) ws none)
     ∙ none-more 0 marks) ∙ rest
-
-or-true : (a : Bool) → (a || true) ≡ true
-or-true true = refl
-or-true false = refl
 
 -- every block is marked
 pub all-marked : (from : ℕ) (marks : List Bool) → marking_from from (λ block. true) marks ≡ replicate (length marks) true

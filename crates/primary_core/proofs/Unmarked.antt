@@ -5,6 +5,7 @@ use Rattle.std.specs.Prelude.{map, slice_set}
 use Rattle.std.specs.List.{AllByRecursion, list_any}
 use Rattle.std.proofs.lemmas.List.{length-map, map-append}
 use Rattle.std.proofs.lemmas.Bool.{lt-ltb, le-ltb, lt-leb, cases_lt}
+use Rattle.std.proofs.Math.Bool.{and-false}
 use Rattle.blocks.specs.Ranges.{below}
 use Rattle.bitmap.specs.Marks.{marked}
 use Rattle.bitmap.proofs.Lists.{same-marks, marked-set_same, marked-set_other}
@@ -48,10 +49,6 @@ cases_eq a b = elim (cases_lt a b) [
 and-true : (a : Bool) → a ≡ (a && true)
 and-true true = refl
 and-true false = refl
-
-and-false : (a : Bool) → (a && false) ≡ false
-and-false true = refl
-and-false false = refl
 
 -- a block outside of the range is not cleared
 not-below : (r : Released) (latest : List ℕ) (b : ℕ) → b < r.first → clears r b latest ≡ false

@@ -9,6 +9,7 @@ pub mod Epochs
 pub mod Filters
 pub mod Following
 pub mod Freeing
+pub mod Homes
 pub mod Marks
 pub mod NothingFollows
 pub mod Numbers

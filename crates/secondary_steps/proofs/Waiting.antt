@@ -6,6 +6,7 @@ use Rattle.std.proofs.lemmas.Bool.{cases_Bool, and_from, ltb-true, eqb-true, not
 use Rattle.std.proofs.lemmas.Bool.Decides.{nat_tests}
 use Rattle.std.proofs.lemmas.List.{map-append}
 use Rattle.std.proofs.lemmas.List.Elements.{filter-append}
+use Rattle.std.proofs.Math.Bool.{and-false, and-true}
 use Rattle.model.specs.Stream.{Item, is_in, is_whole, has_blocks, contents_of, last_epoch, placed, placed_from, below}
 use Rattle.model.specs.Secondary.{Inward, is_pending}
 use Rattle.model.specs.SecondarySteps.{offsets_at}
@@ -99,14 +100,6 @@ filter-at p q start (x ∷ items) same =
 
 eq-turned : (a b : ℕ) → nat_eq a b ≡ (b == a)
 eq-turned a b = grind (arith, nat_tests)
-
-and-true : (b : Bool) → (b && true) ≡ b
-and-true true = refl
-and-true false = refl
-
-and-false : (b : Bool) → (b && false) ≡ false
-and-false true = refl
-and-false false = refl
 
 -- what waits but for a place, as the disk's list has it
 pub without-placed : (all : List Item) (p : ℕ × Item → Bool) (place start : ℕ) (items : List Item)

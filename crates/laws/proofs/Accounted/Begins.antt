@@ -3,7 +3,6 @@ use Rattle.std.proofs.Common.{ℕ, ◌≡◌, ◌-◌, ◌<◌, inl, inr, true, 
 use Rattle.std.proofs.Common.{nat_lt}
 use Rattle.std.specs.Prelude.{if◌then◌else◌}
 use Rattle.std.proofs.lemmas.Bool.{both_ways, lt-ltb}
-use Rattle.std.proofs.lemmas.Option.{slice_get_within}
 use Rattle.blocks.specs.declared.tuple.Tuple.{Tuple}
 use Rattle.blocks.specs.declared.outcome.Decision.{Decision}
 use Rattle.blocks.specs.declared.outcome.Decision.TheVariants.{NoSync, BitmapSync, FullSync}
@@ -12,15 +11,15 @@ use Rattle.model.specs.Frames.{Received, UuidsFrame}
 use Rattle.model.specs.Identifiers.{decision}
 use Rattle.model.specs.Primary.{Outward, PrimaryHistory, no_outward, last_of, outward, last_index, change_last, with_outward, accepted_frames}
 use Rattle.model.specs.Acknowledgements.{begun_with}
-use Rattle.laws.proofs.Lists.Last.{get-change, get-change-back, get-last-changed, change-twice}
+use Rattle.laws.proofs.Lists.Last.{change-twice}
 use Rattle.laws.proofs.Primary.Moves.{with_frame}
 use Rattle.laws.proofs.Primary.Homes.{open-at}
+use Rattle.laws.proofs.Primary.FirstStreams.{first-now, first-stays}
 use Rattle.laws.proofs.Blocks.Latest.{latest}
 use Rattle.laws.proofs.Blocks.LatestMoves.{latest-same-last, latest-appended}
 use Rattle.laws.proofs.Tracked.Kept.{IsKnown}
 use Rattle.laws.proofs.Accounted.{IsAccounted}
 use Rattle.laws.proofs.Accounted.Steps.{KeepsEnd, open-plain, carries-change, Began, accounted-from}
-use Rattle.laws.proofs.Lists.Elements.{get-end}
 use Rattle.laws.proofs.Blocks.Ranges.{touches-nothing}
 use Rattle.laws.proofs.Primary.Ends.{frames-taking}
 
@@ -46,53 +45,15 @@ began-begins : (h later : PrimaryHistory) (peer : Tuple) (decided : Decision) (f
 began-begins h later peer decided f standing new is accounted b = elim accounted.began [
   | inl none ↦ inr (
     decided,
-    record {
-      connection = last_index h.connections;
-      end = f (outward h);
-      at = subst (λ (l : List Outward). slice_get l (last_index h.connections) ≡ Some (f (outward h))) (sym b.connections)
-          (get-last-changed f (no_outward h.tuple) h.connections (outward h) (open-at h standing) refl);
-      begun = b.begun;
-      earlier = λ k d early at. elim (get-change-back f (no_outward h.tuple) h.connections k d
-          (subst (λ (l : List Outward). slice_get l k ≡ Some d) b.connections at)) [
-            | inl same ↦ none.none k d same
-            | inr changed ↦ absurd (let end = changed.2 in omega arith)
-          ];
-      peer = peer;
-      n = length (outward h).taken;
-      taken = subst (λ (l : List Received). slice_get l (length (outward h).taken) ≡ Some (Ok (UuidsFrame peer))) (sym b.taken)
-          (get-end (outward h).taken (Ok (UuidsFrame peer)));
-      decides = subst (λ (t : Tuple). decision t peer ≡ Ok decided) (none.tuple ∙ sym b.opening_tuple) is;
-    },
+    first-now h later peer f new b.connections b.opening_tuple decided standing b.begun b.taken is none,
     λ whole block inside unmarked latest_none. b.full whole block inside unmarked,
   )
-  | inr first ↦
-      let old = first.1 in
-      let last : ℕ = last_index h.connections in
-      let stays : (k : ℕ) (c : Outward) → slice_get h.connections k ≡ Some c → c.begun ≡ true
-      → slice_get later.connections k ≡ Some c = λ k c at was. elim (get-change f (no_outward h.tuple) h.connections k c at) [
-        | inl same ↦ subst (λ (l : List Outward). slice_get l k ≡ Some c) (sym b.connections) same
-        | inr changed ↦ absurd (both_ways (outward h).begun new (ap (λ (x : Outward). x.begun) (sym changed.1) ∙ was))
-      ] in
-      inr (
-        first.0,
-        record {
-          connection = old.connection;
-          end = old.end;
-          at = stays old.connection old.end old.at old.begun;
-          begun = old.begun;
-          earlier = λ k d early at. elim (get-change-back f (no_outward h.tuple) h.connections k d
-              (subst (λ (l : List Outward). slice_get l k ≡ Some d) b.connections at)) [
-                | inl same ↦ old.earlier k d early same
-                | inr changed ↦ absurd (let end = changed.2 in let within = slice_get_within h.connections old.connection old.end old.at in omega arith)
-              ];
-          peer = old.peer;
-          n = old.n;
-          taken = old.taken;
-          decides = subst (λ (t : Tuple). decision t old.peer ≡ Ok first.0) (sym b.opening_tuple) old.decides;
-        },
-        λ whole block inside unmarked none. first.2 whole block (subst (λ s. block < s) (ap (λ s. s.blocks) b.settings) inside) (b.marks block inside unmarked)
-            (sym (b.last block) ∙ none),
-      )
+  | inr first ↦ inr (
+    first.0,
+    first-stays h later peer f new b.connections b.opening_tuple first.0 first.1,
+    λ whole block inside unmarked none. first.2 whole block (subst (λ s. block < s) (ap (λ s. s.blocks) b.settings) inside) (b.marks block inside unmarked)
+        (sym (b.last block) ∙ none),
+  )
 ]
 
 account-beginning : (h later : PrimaryHistory) (peer : Tuple) (decided : Decision) (f : Outward → Outward) → (outward h).closed ≡ false

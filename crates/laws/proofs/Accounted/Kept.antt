@@ -14,9 +14,9 @@ use Rattle.model.specs.Identifiers.{are_fresh, sync_end}
 use Rattle.model.specs.Marks.{marking, clearing}
 use Rattle.model.specs.Primary.{OnDisk, Failed, Accepted, Outward, PrimaryHistory, primary_opening, no_outward, outward, last_index, change_last, with_outward}
 use Rattle.model.specs.Primary.{stands, in_resync, free_block, resync_runs, is_resync, was_resynced, local_map, is_rs_write_ack, under_way}
-use Rattle.model.specs.Primary.{same_naming, items_sent}
+use Rattle.model.specs.Primary.{same_naming, items_sent, new_outward}
 use Rattle.model.specs.PrimarySteps.{known_tuples, with_completions, epoch_is_over, appending, resync_is_over, ending_resync, follows, opened, is_unfinished}
-use Rattle.model.specs.PrimarySteps.{with_outcome, faulted, accepted_at}
+use Rattle.model.specs.PrimarySteps.{with_outcome, faulted, accepted_at, faulted_by}
 use Rattle.laws.proofs.Rules.FreeBlocks.{free-found}
 use Rattle.laws.proofs.Rules.Marking.{unmarked-by}
 use Rattle.laws.proofs.Rules.EpochEnds.{over-standing}
@@ -47,17 +47,7 @@ use Rattle.std.proofs.lemmas.Option.{slice_get_past}
 -- A new connection has an empty stream.
 carries-open : (h : PrimaryHistory) (sync loss : ℕ) → Carries h (opened h sync loss)
 carries-open h sync loss =
-    let new : Outward = record {
-      sync = sync;
-      loss = loss;
-      hello = h.tuple;
-      stream = [];
-      pushed = 0;
-      taken = [];
-      refused = false;
-      begun = false;
-      closed = false;
-    } in
+    let new : Outward = new_outward sync loss h.tuple in
     record {
       grow = λ k c at. (c, get-left h.connections (new ∷ []) k c at, grows-self c);
       former =
@@ -71,17 +61,7 @@ carries-open h sync loss =
 
 pub keeps-open : (h : PrimaryHistory) (sync loss : ℕ) → KeepsBegun h (opened h sync loss)
 keeps-open h sync loss =
-    let new : Outward = record {
-      sync = sync;
-      loss = loss;
-      hello = h.tuple;
-      stream = [];
-      pushed = 0;
-      taken = [];
-      refused = false;
-      begun = false;
-      closed = false;
-    } in
+    let new : Outward = new_outward sync loss h.tuple in
     record {
       forward = λ k c at begun. (c, get-left h.connections (new ∷ []) k c at, begun, begins-self c.taken);
       back = λ k d at. elim (get-more h.connections new k d at) [ inl old ↦ inl (d, old, refl) | inr added ↦ inr (ap (λ (x : Outward). x.begun) added.1) ];
@@ -174,16 +154,8 @@ account-faults : (h : PrimaryHistory) (number : ℕ) (offsets : List ℕ) → is
 account-faults h number offsets waits accounted = go (accepted_at h number) (known-kept.faults h number offsets waits accounted.known)
   where
     go : (v : Option Accepted) → IsKnown
-        (elim v as (λ _. PrimaryHistory) [
-          | None ↦ h
-          | Some accepted ↦ with_outcome number (Failed (within (length accepted.write.contents) offsets))
-              (record h { marks = marking accepted.write h.marks })
-        ])
-        → IsAccounted (elim v as (λ _. PrimaryHistory) [
-          | None ↦ h
-          | Some accepted ↦ with_outcome number (Failed (within (length accepted.write.contents) offsets))
-              (record h { marks = marking accepted.write h.marks })
-        ])
+        (faulted_by v number offsets h)
+        → IsAccounted (faulted_by v number offsets h)
     go None known = accounted
     go (Some failed) known = accounted-still h
         (with_outcome number (Failed (within (length failed.write.contents) offsets)) (record h { marks = marking failed.write h.marks })) accounted known refl

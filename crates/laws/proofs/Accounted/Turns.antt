@@ -14,7 +14,7 @@ use Rattle.model.specs.Identifiers.{lost}
 use Rattle.model.specs.Marks.{marking}
 use Rattle.model.specs.Primary.{Waiting, Accepted, Outward, PrimaryHistory, no_outward, last_of, outward, last_index, change_last, stands}
 use Rattle.model.specs.Primary.{accepted_frames, is_waiting, is_released, unreleased, barrier_acknowledged, is_barrier_ack}
-use Rattle.model.specs.PrimarySteps.{appending, submission, submitted, closing}
+use Rattle.model.specs.PrimarySteps.{appending, submission, submitted, closing, submitted_with}
 use Rattle.laws.proofs.Rules.CloseMarks.{close-parts}
 use Rattle.laws.proofs.Rules.Marking.{unmarked-by, marked-still, marked-covered}
 use Rattle.laws.specs.Reflections.{touches}
@@ -174,45 +174,7 @@ pub account-submits : (h : PrimaryHistory) (first : ℕ) (contents : List (List 
     → IsAccounted (submitted h first contents)
 account-submits h first contents accounted known = go (stands (outward h)) refl known
   where
-    go : (b : Bool) → stands (outward h) ≡ b → IsKnown (elim b as (λ _. PrimaryHistory) [
-      | true ↦ appending (WriteItem (submission h first contents))
-          (record h {
-            writes = h.writes ++ record {
-              write = submission h first contents;
-              journal_length = length h.journal;
-              home = Some (record { index = last_index h.connections; place = length (outward h).stream });
-              outcome = Waiting;
-            } ∷ [];
-          })
-      | false ↦ record h {
-        writes = h.writes ++ record {
-          write = submission h first contents;
-          journal_length = length h.journal;
-          home = None;
-          outcome = Waiting;
-        } ∷ [];
-        marks = marking (submission h first contents) h.marks;
-      }
-    ]) → IsAccounted (elim b as (λ _. PrimaryHistory) [
-      | true ↦ appending (WriteItem (submission h first contents))
-          (record h {
-            writes = h.writes ++ record {
-              write = submission h first contents;
-              journal_length = length h.journal;
-              home = Some (record { index = last_index h.connections; place = length (outward h).stream });
-              outcome = Waiting;
-            } ∷ [];
-          })
-      | false ↦ record h {
-        writes = h.writes ++ record {
-          write = submission h first contents;
-          journal_length = length h.journal;
-          home = None;
-          outcome = Waiting;
-        } ∷ [];
-        marks = marking (submission h first contents) h.marks;
-      }
-    ])
+    go : (b : Bool) → stands (outward h) ≡ b → IsKnown (submitted_with b h first contents) → IsAccounted (submitted_with b h first contents)
     go false is known =
         let w : Write = submission h first contents in
         let added : Accepted = record { write = w; journal_length = length h.journal; home = None; outcome = Waiting } in

@@ -1,13 +1,11 @@
 -- What a run keeps of its opening: the settings, the opening disk, the opening tuple and the opening marks.
-use Rattle.std.proofs.Common.{ℕ, ◌≡◌, Bool, true, false, List, ◌∷◌, [], ◌++◌, length, Option, Some, None, Ok, refl, ◌∙◌}
+use Rattle.std.proofs.Common.{ℕ, ◌≡◌, Bool, true, false, List, ◌∷◌, [], Option, Some, None, Ok, refl, ◌∙◌}
 use Rattle.blocks.specs.declared.tuple.Tuple.{Tuple}
 use Rattle.blocks.specs.declared.outcome.Decision.{Decision}
 use Rattle.blocks.specs.declared.outcome.Decision.TheVariants.{NoSync, BitmapSync, FullSync}
-use Rattle.model.specs.Stream.{WriteItem, within}
 use Rattle.model.specs.Frames.{UuidsFrame}
-use Rattle.model.specs.Primary.{Waiting, Failed, Accepted, PrimaryHistory, outward, last_index, with_outward, stands}
-use Rattle.model.specs.Marks.{marking}
-use Rattle.model.specs.PrimarySteps.{submission, submitted, appending, with_outcome, faulted, accepted_at}
+use Rattle.model.specs.Primary.{Accepted, PrimaryHistory, outward, with_outward, stands}
+use Rattle.model.specs.PrimarySteps.{submitted, faulted, accepted_at, submitted_with, faulted_by}
 use Rattle.model.specs.Acknowledgements.{begun_with}
 use Rattle.model.specs.Secondary.{SecondaryHistory}
 use Rattle.model.specs.LocalRuns.{PrimaryEvent, primary_run, SecondaryEvent, secondary_after, secondary_run}
@@ -30,26 +28,7 @@ kept o h later settings disk marks tuple a = record { settings = settings ∙ a.
 kept-submits : (o : Opening) (h : PrimaryHistory) (first : ℕ) (contents : List (List ℕ)) → HasOpening o h → HasOpening o (submitted h first contents)
 kept-submits o h first contents a = go (stands (outward h))
   where
-    go : (b : Bool) → HasOpening o (elim b as (λ _. PrimaryHistory) [
-      | true ↦ appending (WriteItem (submission h first contents))
-          (record h {
-            writes = h.writes ++ record {
-              write = submission h first contents;
-              journal_length = length h.journal;
-              home = Some (record { index = last_index h.connections; place = length (outward h).stream });
-              outcome = Waiting;
-            } ∷ [];
-          })
-      | false ↦ record h {
-        writes = h.writes ++ record {
-          write = submission h first contents;
-          journal_length = length h.journal;
-          home = None;
-          outcome = Waiting;
-        } ∷ [];
-        marks = marking (submission h first contents) h.marks;
-      }
-    ])
+    go : (b : Bool) → HasOpening o (submitted_with b h first contents)
     go true = kept o h _ refl refl refl refl a
     go false = kept o h _ refl refl refl refl a
 
@@ -57,11 +36,7 @@ kept-faults : (o : Opening) (h : PrimaryHistory) (number : ℕ) (offsets : List 
 kept-faults o h number offsets a = go (accepted_at h number)
   where
     go : (v : Option Accepted) → HasOpening o
-        (elim v as (λ _. PrimaryHistory) [
-          | None ↦ h
-          | Some accepted ↦ with_outcome number (Failed (within (length accepted.write.contents) offsets))
-              (record h { marks = marking accepted.write h.marks })
-        ])
+        (faulted_by v number offsets h)
     go None = a
     go (Some accepted) = kept o h _ refl refl refl refl a
 

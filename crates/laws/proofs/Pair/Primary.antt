@@ -14,15 +14,15 @@ use Rattle.blocks.specs.declared.outcome.Reply.{Reply}
 use Rattle.blocks.specs.declared.outcome.Reply.TheVariants as reply
 use Rattle.blocks.specs.declared.settings.Settings.{Settings}
 use Rattle.blocks.specs.declared.tuple.Tuple.{Tuple}
-use Rattle.model.specs.Stream.{Item, WriteItem, ResyncItem, SyncUuidItem, IsBeginning, within}
+use Rattle.model.specs.Stream.{Item, WriteItem, ResyncItem, SyncUuidItem, IsBeginning}
 use Rattle.model.specs.Frames.{Packet, ProtocolFrame, UuidsFrame, SizesFrame, RecvAckFrame, WriteAckFrame, RsWriteAckFrame, BarrierAckFrame, Received}
 use Rattle.model.specs.Identifiers.{decision, stands_in}
-use Rattle.model.specs.Marks.{marking, clearing, releasing}
-use Rattle.model.specs.Primary.{Accepted, Waiting, OnDisk, Failed, last_index, PrimaryHistory, Outward, no_outward, outward, last_of, change_last, with_outward}
+use Rattle.model.specs.Marks.{clearing, releasing}
+use Rattle.model.specs.Primary.{Accepted, OnDisk, PrimaryHistory, Outward, no_outward, outward, last_of, change_last, with_outward}
 use Rattle.model.specs.Primary.{stands, frames_due, local_map, free_block}
 use Rattle.model.specs.PrimarySteps.{follows, appending, succeeding, submission, submit_tests, submitted, submit, is_unfinished, with_outcome, local_done}
 use Rattle.model.specs.PrimarySteps.{accepted_at, faulted, local_fault, send_tests, sending, send, resync_tests, resync_next, resync_fault, closing}
-use Rattle.model.specs.PrimarySteps.{close_primary}
+use Rattle.model.specs.PrimarySteps.{close_primary, submitted_with, faulted_by}
 use Rattle.model.specs.Acknowledgements.{Taken, begun_with, meeting, taking_hello, taking_ack, taking, take_frame, ack_in}
 use Rattle.model.specs.Secondary.{Inward, answers_due}
 use Rattle.laws.proofs.Lists.Beginnings.{begins-self}
@@ -179,26 +179,7 @@ module _ (here there : Settings) (ends : List Inward) (none : Inward) where
       (λ _. succeeding (what.Write (suc (length h.writes))) (submitted h first contents)) e (λ passed.
       ends-following (submitted h first contents) (go (stands (outward h))))
     where
-      go : (b : Bool) → HasEnds here there ends (elim b as (λ _. PrimaryHistory) [
-        | true ↦ appending (WriteItem (submission h first contents))
-            (record h {
-              writes = h.writes ++ record {
-                write = submission h first contents;
-                journal_length = length h.journal;
-                home = Some (record { index = last_index h.connections; place = length (outward h).stream });
-                outcome = Waiting;
-              } ∷ [];
-            })
-        | false ↦ record h {
-          writes = h.writes ++ record {
-            write = submission h first contents;
-            journal_length = length h.journal;
-            home = None;
-            outcome = Waiting;
-          } ∷ [];
-          marks = marking (submission h first contents) h.marks;
-        }
-      ])
+      go : (b : Bool) → HasEnds here there ends (submitted_with b h first contents)
       go true = ends-appending (WriteItem (submission h first contents)) h _ e refl refl
       go false = record { settings = e.settings; pairs = e.pairs }
 
@@ -215,11 +196,7 @@ module _ (here there : Settings) (ends : List Inward) (none : Inward) where
       ends-following (faulted number offsets h) (go (accepted_at h number)))
     where
       go : (v : Option Accepted) → HasEnds here there ends
-          (elim v as (λ _. PrimaryHistory) [
-            | None ↦ h
-            | Some accepted ↦ with_outcome number (Failed (within (length accepted.write.contents) offsets))
-                (record h { marks = marking accepted.write h.marks })
-          ])
+          (faulted_by v number offsets h)
       go None = e
       go (Some accepted) = record { settings = e.settings; pairs = e.pairs }
 

@@ -4,12 +4,12 @@ use Rattle.std.specs.Prelude.{option_map}
 use Rattle.std.proofs.lemmas.Option.{slice_get-map}
 use Rattle.blocks.specs.declared.settings.Settings.{Settings}
 use Rattle.blocks.specs.declared.settings.Protocol.{Protocol}
-use Rattle.model.specs.Stream.{Item, IsBeginning, below, contents_of}
+use Rattle.model.specs.Stream.{Item, IsBeginning}
 use Rattle.model.specs.Frames.{Packet, Received}
 use Rattle.model.specs.Primary.{Outward, last_of, change_last, frames_due}
 use Rattle.model.specs.Secondary.{Inward, SecondaryHistory, no_inward, inward, with_inward, items_taken, answers_due}
-use Rattle.model.specs.SecondarySteps.{answering, barrier_answer, barriers_to_answer, receive, peer, peer_fault, ack_out, close_secondary, offsets_at}
-use Rattle.model.specs.SecondarySteps.{applied_answer, applying, failing, adopting}
+use Rattle.model.specs.SecondarySteps.{answering, barrier_answer, barriers_to_answer, receive, peer, peer_fault, ack_out, close_secondary}
+use Rattle.model.specs.SecondarySteps.{applied_answer, applying, failing, adopting, applied_with}
 use Rattle.laws.proofs.Lists.Beginnings.{begins-self}
 use Rattle.laws.proofs.Secondary.Moves.{framed, receipting, pushed_one, closed_end, after-receive, after-peer, after-fault, after-push}
 use Rattle.laws.proofs.Secondary.Moves.{after-close}
@@ -35,13 +35,7 @@ goes-answering d = go d.closed
 goes-applying : (asked : Protocol) (place : ℕ) (d : Inward) → GoesOnToo d (applying asked place d)
 goes-applying asked place d = go (slice_get (items_taken d) place)
   where
-    go : (v : Option Item) → GoesOnToo d (elim v as (λ _. Inward) [
-      | None ↦ d
-      | Some item ↦ record d {
-        applied = d.applied ++ offsets_at place (below (length (contents_of item)));
-        due = elim d.closed [ true ↦ d.due | false ↦ d.due ++ applied_answer asked place item ];
-      }
-    ])
+    go : (v : Option Item) → GoesOnToo d (applied_with v asked place d)
     go None = record { hello = refl; due = begins-self d.due; pushed = refl; taken = refl }
     go (Some item) = record {
       hello = refl;

@@ -13,11 +13,11 @@ use Rattle.model.specs.Contents.{BlockMap, Write, extent_of}
 use Rattle.model.specs.Stream.{Item, WriteItem, ResyncItem, BarrierItem, SyncUuidItem, UuidsItem, IsBeginning, epoch_of, last_epoch, within}
 use Rattle.model.specs.Frames.{UuidsFrame, Received}
 use Rattle.model.specs.Identifiers.{sync_end}
-use Rattle.model.specs.Marks.{marking}
 use Rattle.model.specs.Primary.{LocalOutcome, Waiting, OnDisk, Failed, Accepted, Outward, PrimaryHistory, primary_opening, no_outward, outward, last_index}
 use Rattle.model.specs.Primary.{change_last, with_outward, stands, local_map, accepted_frames, is_barrier_ack, barrier_acknowledged, is_waiting, is_confirmed}
 use Rattle.model.specs.Primary.{is_alone, is_released, unreleased, active_extents}
-use Rattle.model.specs.PrimarySteps.{appending, follows, activity_is_full, submission, submitted, set_outcome, with_outcome, faulted, accepted_at, opened}
+use Rattle.model.specs.PrimarySteps.{follows, activity_is_full, submission, submitted, set_outcome, faulted, accepted_at, opened}
+use Rattle.model.specs.PrimarySteps.{submitted_with, faulted_by}
 use Rattle.model.specs.Acknowledgements.{begun_with}
 use Rattle.model.specs.LocalRuns.{PrimaryEvent, primary_run}
 use Rattle.laws.proofs.Rules.ActiveExtents.{has, has-extent, extents-bound, more-extents}
@@ -200,26 +200,7 @@ few-submits : (settings : Settings) (h : PrimaryHistory) (first : ℕ) (contents
     → HasFewExtents settings h → HasFewExtents settings (submitted h first contents)
 few-submits settings h first contents may homes few = go (stands (outward h))
   where
-    go : (b : Bool) → HasFewExtents settings (elim b as (λ _. PrimaryHistory) [
-      | true ↦ appending (WriteItem (submission h first contents))
-          (record h {
-            writes = h.writes ++ record {
-              write = submission h first contents;
-              journal_length = length h.journal;
-              home = Some (record { index = last_index h.connections; place = length (outward h).stream });
-              outcome = Waiting;
-            } ∷ [];
-          })
-      | false ↦ record h {
-        writes = h.writes ++ record {
-          write = submission h first contents;
-          journal_length = length h.journal;
-          home = None;
-          outcome = Waiting;
-        } ∷ [];
-        marks = marking (submission h first contents) h.marks;
-      }
-    ])
+    go : (b : Bool) → HasFewExtents settings (submitted_with b h first contents)
     go true = few-added settings h _
         (record {
           write = submission h first contents;
@@ -269,11 +250,7 @@ few-faults : (settings : Settings) (h : PrimaryHistory) (number : ℕ) (offsets 
 few-faults settings h number offsets homes few = go (accepted_at h number)
   where
     go : (v : Option Accepted) → HasFewExtents settings
-        (elim v as (λ _. PrimaryHistory) [
-          | None ↦ h
-          | Some accepted ↦ with_outcome number (Failed (within (length accepted.write.contents) offsets))
-              (record h { marks = marking accepted.write h.marks })
-        ])
+        (faulted_by v number offsets h)
     go None = few
     go (Some accepted) = few-outcome settings h _ number (Failed (within (length accepted.write.contents) offsets)) refl refl refl refl homes few
 

@@ -14,8 +14,9 @@ use Rattle.model.specs.Stream.{Item, WriteItem, SyncUuidItem, IsBeginning, withi
 use Rattle.model.specs.Frames.{Received, UuidsFrame, RsWriteAckFrame}
 use Rattle.model.specs.Marks.{Marks, marking, clearing}
 use Rattle.model.specs.Primary.{LocalOutcome, Waiting, OnDisk, Failed, Accepted, Outward, PrimaryHistory, primary_opening, no_outward, outward, change_last}
-use Rattle.model.specs.Primary.{last_index, with_outward, stands, in_resync, accepted_frames}
-use Rattle.model.specs.PrimarySteps.{appending, opened, submission, submitted, set_outcome, with_outcome, faulted, accepted_at, closing}
+use Rattle.model.specs.Primary.{last_index, with_outward, stands, in_resync, accepted_frames, new_outward}
+use Rattle.model.specs.PrimarySteps.{opened, submission, submitted, set_outcome, with_outcome, faulted, accepted_at, closing, faulted_by}
+use Rattle.model.specs.PrimarySteps.{submitted_with}
 use Rattle.model.specs.Acknowledgements.{begun_with}
 use Rattle.laws.proofs.Lists.Beginnings.{begins-self}
 use Rattle.laws.proofs.Lists.Last.{get-change, get-change-back, change-twice, change-none, get-last-changed}
@@ -64,11 +65,7 @@ homes-faults : (h : PrimaryHistory) (number : ℕ) (offsets : List ℕ) → HasH
 homes-faults h number offsets homes = go (accepted_at h number)
   where
     go : (v : Option Accepted) → HasHomes
-        (elim v as (λ _. PrimaryHistory) [
-          | None ↦ h
-          | Some accepted ↦ with_outcome number (Failed (within (length accepted.write.contents) offsets))
-              (record h { marks = marking accepted.write h.marks })
-        ])
+        (faulted_by v number offsets h)
     go None = homes
     go (Some accepted) = homes-outcome h
         (with_outcome number (Failed (within (length accepted.write.contents) offsets)) (record h { marks = marking accepted.write h.marks })) number
@@ -84,17 +81,7 @@ homes-with h later f homes settings connections writes journal keeps = homes-cha
 -- A new connection has an empty stream.
 homes-opens : (h : PrimaryHistory) (sync loss : ℕ) → HasHomes h → HasHomes (opened h sync loss)
 homes-opens h sync loss homes =
-    let new : Outward = record {
-      sync = sync;
-      loss = loss;
-      hello = h.tuple;
-      stream = [];
-      pushed = 0;
-      taken = [];
-      refused = false;
-      begun = false;
-      closed = false;
-    } in
+    let new : Outward = new_outward sync loss h.tuple in
     let grow : AllGrow h.connections (h.connections ++ new ∷ []) = λ k c at. (c, get-left h.connections (new ∷ []) k c at, grows-self c) in
     record {
       numbered = homes.numbered;
@@ -119,26 +106,7 @@ homes-submits h first contents homes = go (stands (outward h)) refl
     write : Write
     write = submission h first contents
 
-    go : (b : Bool) → stands (outward h) ≡ b → HasHomes (elim b as (λ _. PrimaryHistory) [
-      | true ↦ appending (WriteItem (submission h first contents))
-          (record h {
-            writes = h.writes ++ record {
-              write = submission h first contents;
-              journal_length = length h.journal;
-              home = Some (record { index = last_index h.connections; place = length (outward h).stream });
-              outcome = Waiting;
-            } ∷ [];
-          })
-      | false ↦ record h {
-        writes = h.writes ++ record {
-          write = submission h first contents;
-          journal_length = length h.journal;
-          home = None;
-          outcome = Waiting;
-        } ∷ [];
-        marks = marking (submission h first contents) h.marks;
-      }
-    ])
+    go : (b : Bool) → stands (outward h) ≡ b → HasHomes (submitted_with b h first contents)
     go false is =
         let added : Accepted = record { write = submission h first contents; journal_length = length h.journal; home = None; outcome = Waiting } in
         record {

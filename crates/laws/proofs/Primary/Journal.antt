@@ -7,12 +7,11 @@ use Rattle.blocks.specs.declared.tuple.Tuple.{Tuple}
 use Rattle.blocks.specs.declared.outcome.Decision.{Decision}
 use Rattle.blocks.specs.declared.outcome.Decision.TheVariants.{NoSync, BitmapSync, FullSync}
 use Rattle.model.specs.Contents.{BlockMap}
-use Rattle.model.specs.Stream.{WriteItem, within}
-use Rattle.model.specs.Marks.{marking}
+use Rattle.model.specs.Stream.{within}
 use Rattle.model.specs.Primary.{LocalOutcome, Waiting, OnDisk, Failed, Accepted, Completion, PrimaryHistory, primary_opening, outward, last_index, stands}
 use Rattle.model.specs.Primary.{is_open, completes}
-use Rattle.model.specs.PrimarySteps.{newly_completed, completion_of, with_completions, submission, submitted, appending, set_outcome, with_outcome, accepted_at}
-use Rattle.model.specs.PrimarySteps.{faulted}
+use Rattle.model.specs.PrimarySteps.{newly_completed, completion_of, with_completions, submission, submitted, set_outcome, accepted_at}
+use Rattle.model.specs.PrimarySteps.{faulted, submitted_with, faulted_by}
 use Rattle.model.specs.Acknowledgements.{begun_with}
 use Rattle.model.specs.LocalRuns.{PrimaryEvent, primary_run}
 use Rattle.laws.proofs.Primary.Moves.{IsKeptByMoves, kept-by-releases, following-from, keeps-run}
@@ -66,26 +65,7 @@ outcomes h number outcome all n entry at =
 submits : (h : PrimaryHistory) (first : ℕ) (contents : List (List ℕ)) → JournalIsAccepted h → JournalIsAccepted (submitted h first contents)
 submits h first contents all = go (stands (outward h))
   where
-    go : (b : Bool) → JournalIsAccepted (elim b as (λ _. PrimaryHistory) [
-      | true ↦ appending (WriteItem (submission h first contents))
-          (record h {
-            writes = h.writes ++ record {
-              write = submission h first contents;
-              journal_length = length h.journal;
-              home = Some (record { index = last_index h.connections; place = length (outward h).stream });
-              outcome = Waiting;
-            } ∷ [];
-          })
-      | false ↦ record h {
-        writes = h.writes ++ record {
-          write = submission h first contents;
-          journal_length = length h.journal;
-          home = None;
-          outcome = Waiting;
-        } ∷ [];
-        marks = marking (submission h first contents) h.marks;
-      }
-    ])
+    go : (b : Bool) → JournalIsAccepted (submitted_with b h first contents)
     go true = more h (record {
       write = submission h first contents;
       journal_length = length h.journal;
@@ -98,11 +78,7 @@ faults : (h : PrimaryHistory) (number : ℕ) (offsets : List ℕ) → JournalIsA
 faults h number offsets all = go (accepted_at h number)
   where
     go : (v : Option Accepted) → JournalIsAccepted
-        (elim v as (λ _. PrimaryHistory) [
-          | None ↦ h
-          | Some accepted ↦ with_outcome number (Failed (within (length accepted.write.contents) offsets))
-              (record h { marks = marking accepted.write h.marks })
-        ])
+        (faulted_by v number offsets h)
     go None = all
     go (Some accepted) = outcomes h number (Failed (within (length accepted.write.contents) offsets)) all
 

@@ -6,10 +6,10 @@ use Rattle.std.proofs.lemmas.Option.{slice_get_within}
 use Rattle.blocks.specs.Positions.{StreamPosition}
 use Rattle.blocks.specs.declared.outcome.Decision.{Decision}
 use Rattle.blocks.specs.declared.outcome.Decision.TheVariants.{NoSync, BitmapSync, FullSync}
-use Rattle.model.specs.Stream.{WriteItem, within}
-use Rattle.model.specs.Marks.{marking}
-use Rattle.model.specs.Primary.{Waiting, Failed, Accepted, Outward, PrimaryHistory, no_outward, outward, last_index, change_last, stands, is_alone}
-use Rattle.model.specs.PrimarySteps.{appending, submission, submitted, opened, with_outcome, faulted, accepted_at}
+use Rattle.model.specs.Stream.{within}
+use Rattle.model.specs.Primary.{Accepted, Outward, PrimaryHistory, no_outward, outward, last_index, change_last, stands, is_alone}
+use Rattle.model.specs.Primary.{new_outward}
+use Rattle.model.specs.PrimarySteps.{submitted, opened, faulted, accepted_at, submitted_with, faulted_by}
 use Rattle.model.specs.Acknowledgements.{begun_with}
 use Rattle.laws.proofs.Lists.Last.{get-change-back, last-at, length-change}
 use Rattle.laws.proofs.Primary.Moves.{following-from, IsKeptByMoves}
@@ -74,17 +74,7 @@ changes (x ∷ cs) f all k c at less =
 -- a new connection comes where the last one is closed
 opens : (h : PrimaryHistory) (sync loss : ℕ) → (outward h).closed ≡ true → IsLastOpen h → IsLastOpen (opened h sync loss)
 opens h sync loss closed all k c at less =
-    let new : Outward = record {
-      sync = sync;
-      loss = loss;
-      hello = h.tuple;
-      stream = [];
-      pushed = 0;
-      taken = [];
-      refused = false;
-      begun = false;
-      closed = false;
-    } in
+    let new : Outward = new_outward sync loss h.tuple in
     let size : length (h.connections ++ new ∷ []) ≡ length h.connections + 1 = length-append h.connections (new ∷ []) in
     elim (get-more h.connections new k c at) [
       | inr added ↦ absurd (let here = added.0 in omega arith)
@@ -106,26 +96,7 @@ opens h sync loss closed all k c at less =
 submits : (h : PrimaryHistory) (first : ℕ) (contents : List (List ℕ)) → IsLastOpen h → IsLastOpen (submitted h first contents)
 submits h first contents all = go (stands (outward h))
   where
-    go : (b : Bool) → IsLastOpen (elim b as (λ _. PrimaryHistory) [
-      | true ↦ appending (WriteItem (submission h first contents))
-          (record h {
-            writes = h.writes ++ record {
-              write = submission h first contents;
-              journal_length = length h.journal;
-              home = Some (record { index = last_index h.connections; place = length (outward h).stream });
-              outcome = Waiting;
-            } ∷ [];
-          })
-      | false ↦ record h {
-        writes = h.writes ++ record {
-          write = submission h first contents;
-          journal_length = length h.journal;
-          home = None;
-          outcome = Waiting;
-        } ∷ [];
-        marks = marking (submission h first contents) h.marks;
-      }
-    ])
+    go : (b : Bool) → IsLastOpen (submitted_with b h first contents)
     go true = changes h.connections _ all
     go false = all
 
@@ -133,11 +104,7 @@ faults : (h : PrimaryHistory) (number : ℕ) (offsets : List ℕ) → IsLastOpen
 faults h number offsets all = go (accepted_at h number)
   where
     go : (v : Option Accepted) → IsLastOpen
-        (elim v as (λ _. PrimaryHistory) [
-          | None ↦ h
-          | Some accepted ↦ with_outcome number (Failed (within (length accepted.write.contents) offsets))
-              (record h { marks = marking accepted.write h.marks })
-        ])
+        (faulted_by v number offsets h)
     go None = all
     go (Some accepted) = all
 

@@ -9,14 +9,14 @@ use Rattle.blocks.specs.declared.outcome.Decision.{Decision}
 use Rattle.blocks.specs.declared.outcome.Decision.TheVariants.{NoSync, BitmapSync, FullSync}
 use Rattle.blocks.specs.SettingsRange.{IsInRange}
 use Rattle.model.specs.Contents.{BlockMap}
-use Rattle.model.specs.Stream.{Item, WriteItem, ResyncItem, BarrierItem, SyncUuidItem, UuidsItem, last_epoch, epoch_size, IsLawful, within}
+use Rattle.model.specs.Stream.{Item, WriteItem, ResyncItem, BarrierItem, SyncUuidItem, UuidsItem, last_epoch, epoch_size, IsLawful}
 use Rattle.model.specs.Frames.{UuidsFrame}
 use Rattle.model.specs.Identifiers.{sync_end}
-use Rattle.model.specs.Marks.{Marks, marking}
-use Rattle.model.specs.Primary.{Waiting, Failed, Accepted, Outward, PrimaryHistory, primary_opening, no_outward, outward, last_of, last_index, change_last}
-use Rattle.model.specs.Primary.{with_outward, stands, in_resync, local_map, under_way, free_block}
-use Rattle.model.specs.PrimarySteps.{epoch_is_over, appending, resync_is_over, ending_resync, follows, submission, submitted, with_outcome, faulted}
-use Rattle.model.specs.PrimarySteps.{accepted_at, opened}
+use Rattle.model.specs.Marks.{Marks}
+use Rattle.model.specs.Primary.{Accepted, Outward, PrimaryHistory, primary_opening, no_outward, outward, last_of, change_last}
+use Rattle.model.specs.Primary.{with_outward, stands, in_resync, local_map, under_way, free_block, new_outward}
+use Rattle.model.specs.PrimarySteps.{epoch_is_over, appending, resync_is_over, ending_resync, follows, submission, submitted, faulted}
+use Rattle.model.specs.PrimarySteps.{accepted_at, opened, submitted_with, faulted_by}
 use Rattle.model.specs.Acknowledgements.{begun_with}
 use Rattle.model.specs.LocalRuns.{PrimaryEvent, primary_run}
 use Rattle.laws.proofs.Lists.Last.{get-change-back, change-twice, last-change}
@@ -149,26 +149,7 @@ lawful-submits : (settings : Settings) (h : PrimaryHistory) (first : ℕ) (conte
     → HasLawfulStreams settings (submitted h first contents)
 lawful-submits settings h first contents may homes between = go (stands (outward h)) refl
   where
-    go : (b : Bool) → stands (outward h) ≡ b → HasLawfulStreams settings (elim b as (λ _. PrimaryHistory) [
-      | true ↦ appending (WriteItem (submission h first contents))
-          (record h {
-            writes = h.writes ++ record {
-              write = submission h first contents;
-              journal_length = length h.journal;
-              home = Some (record { index = last_index h.connections; place = length (outward h).stream });
-              outcome = Waiting;
-            } ∷ [];
-          })
-      | false ↦ record h {
-        writes = h.writes ++ record {
-          write = submission h first contents;
-          journal_length = length h.journal;
-          home = None;
-          outcome = Waiting;
-        } ∷ [];
-        marks = marking (submission h first contents) h.marks;
-      }
-    ])
+    go : (b : Bool) → stands (outward h) ≡ b → HasLawfulStreams settings (submitted_with b h first contents)
     go true is = lawful-change settings h _ (λ c. record c { stream = c.stream ++ WriteItem (submission h first contents) ∷ [] }) refl refl
         (λ k at lawful. lawful-append (most_writes settings) (outward h).stream (WriteItem (submission h first contents)) lawful
         (subst (λ (s : Settings). MayFollow (most_writes s) (outward h).stream (WriteItem (submission h first contents))) between.streams.setting
@@ -190,11 +171,7 @@ lawful-faults : (settings : Settings) (h : PrimaryHistory) (number : ℕ) (offse
 lawful-faults settings h number offsets streams = go (accepted_at h number)
   where
     go : (v : Option Accepted) → HasLawfulStreams settings
-        (elim v as (λ _. PrimaryHistory) [
-          | None ↦ h
-          | Some accepted ↦ with_outcome number (Failed (within (length accepted.write.contents) offsets))
-              (record h { marks = marking accepted.write h.marks })
-        ])
+        (faulted_by v number offsets h)
     go None = streams
     go (Some accepted) = lawful-same settings h _ refl refl streams
 
@@ -231,17 +208,7 @@ lawful-begins settings h peer decided streams = go decided
 lawful-opens : (settings : Settings) (h : PrimaryHistory) (sync loss : ℕ) → HasLawfulStreams settings h → HasLawfulStreams settings (opened h sync loss)
 lawful-opens settings h sync loss streams = record {
   setting = streams.setting;
-  lawful = λ k c at. elim (get-more h.connections (record {
-    sync = sync;
-    loss = loss;
-    hello = h.tuple;
-    stream = [];
-    pushed = 0;
-    taken = [];
-    refused = false;
-    begun = false;
-    closed = false;
-  }) k c at) [
+  lawful = λ k c at. elim (get-more h.connections (new_outward sync loss h.tuple) k c at) [
     | inl old ↦ streams.lawful k c old
     | inr new ↦ subst (λ (x : Outward). IsLawful (most_writes settings) x.stream) (sym new.1) (lawful-empty (most_writes settings))
   ];

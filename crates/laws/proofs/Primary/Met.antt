@@ -7,13 +7,12 @@ use Rattle.blocks.specs.declared.settings.Settings.{Settings}
 use Rattle.blocks.specs.declared.tuple.Tuple.{Tuple}
 use Rattle.blocks.specs.declared.outcome.Decision.{Decision}
 use Rattle.blocks.specs.declared.outcome.Decision.TheVariants.{NoSync, BitmapSync, FullSync}
-use Rattle.model.specs.Stream.{Item, WriteItem, ResyncItem, BarrierItem, SyncUuidItem, UuidsItem, last_epoch, within}
+use Rattle.model.specs.Stream.{Item, WriteItem, ResyncItem, BarrierItem, SyncUuidItem, UuidsItem, last_epoch}
 use Rattle.model.specs.Frames.{Received, SizesFrame, UuidsFrame, RsWriteAckFrame}
 use Rattle.model.specs.Identifiers.{sync_end}
-use Rattle.model.specs.Marks.{marking}
-use Rattle.model.specs.Primary.{Waiting, Failed, Accepted, Outward, PrimaryHistory, no_outward, outward, last_index, change_last, with_outward, stands}
+use Rattle.model.specs.Primary.{Accepted, Outward, PrimaryHistory, no_outward, outward, change_last, with_outward, stands}
 use Rattle.model.specs.Primary.{local_map, primary_opening}
-use Rattle.model.specs.PrimarySteps.{appending, submission, submitted, with_outcome, faulted, accepted_at, closing}
+use Rattle.model.specs.PrimarySteps.{submission, submitted, faulted, accepted_at, closing, submitted_with, faulted_by}
 use Rattle.model.specs.Acknowledgements.{begun_with}
 use Rattle.model.specs.LocalRuns.{PrimaryEvent, primary_run}
 use Rattle.laws.proofs.Lists.Each.{Each, each-append, each-change}
@@ -76,26 +75,7 @@ module _ (settings : Settings) where
   met-submits : (h : PrimaryHistory) (first : ℕ) (contents : List (List ℕ)) → Kept h → Kept (submitted h first contents)
   met-submits h first contents all = go (stands (outward h))
     where
-      go : (b : Bool) → Kept (elim b as (λ _. PrimaryHistory) [
-        | true ↦ appending (WriteItem (submission h first contents))
-            (record h {
-              writes = h.writes ++ record {
-                write = submission h first contents;
-                journal_length = length h.journal;
-                home = Some (record { index = last_index h.connections; place = length (outward h).stream });
-                outcome = Waiting;
-              } ∷ [];
-            })
-        | false ↦ record h {
-          writes = h.writes ++ record {
-            write = submission h first contents;
-            journal_length = length h.journal;
-            home = None;
-            outcome = Waiting;
-          } ∷ [];
-          marks = marking (submission h first contents) h.marks;
-        }
-      ])
+      go : (b : Bool) → Kept (submitted_with b h first contents)
       go true = met-appending (WriteItem (submission h first contents)) h _ all refl refl
       go false = met-still h _ all refl refl
 
@@ -103,11 +83,7 @@ module _ (settings : Settings) where
   met-faults h number offsets all = go (accepted_at h number)
     where
       go : (v : Option Accepted) → Kept
-          (elim v as (λ _. PrimaryHistory) [
-            | None ↦ h
-            | Some accepted ↦ with_outcome number (Failed (within (length accepted.write.contents) offsets))
-                (record h { marks = marking accepted.write h.marks })
-          ])
+          (faulted_by v number offsets h)
       go None = all
       go (Some accepted) = met-still h _ all refl refl
 

@@ -18,12 +18,12 @@ use Rattle.model.specs.Contents.{BlockMap, is_range, extent_of}
 use Rattle.model.specs.Stream.{Item, WriteItem, ResyncItem, SyncUuidItem, within, last_epoch, items_of_epoch}
 use Rattle.model.specs.Frames.{Packet, ProtocolFrame, UuidsFrame, SizesFrame, RecvAckFrame, WriteAckFrame, RsWriteAckFrame, BarrierAckFrame, Received}
 use Rattle.model.specs.Identifiers.{decision, stands_in, sync_end}
-use Rattle.model.specs.Marks.{marking, releasing}
-use Rattle.model.specs.Primary.{Accepted, Waiting, OnDisk, Failed, Outward, PrimaryHistory, primary_opening, no_outward, outward, last_index, change_last}
+use Rattle.model.specs.Marks.{releasing}
+use Rattle.model.specs.Primary.{Accepted, OnDisk, Outward, PrimaryHistory, primary_opening, no_outward, outward, change_last}
 use Rattle.model.specs.Primary.{with_outward, stands, local_map, in_resync, resync_runs, free_block}
 use Rattle.model.specs.PrimarySteps.{follows, appending, succeeding, epoch_is_over, open_tests, opened, open_primary, submission, submit_tests}
 use Rattle.model.specs.PrimarySteps.{submitted, submit, is_unfinished, with_outcome, local_done, accepted_at, faulted, local_fault, send_tests, sending, send}
-use Rattle.model.specs.PrimarySteps.{resync_tests, resync_next, resync_fault, closing, close_primary, take_completed}
+use Rattle.model.specs.PrimarySteps.{resync_tests, resync_next, resync_fault, closing, close_primary, take_completed, submitted_with, faulted_by}
 use Rattle.model.specs.Acknowledgements.{Taken, begun_with, meeting, taking_hello, taking_ack, taking, take_frame, ack_in}
 use Rattle.model.specs.LocalRuns.{PrimaryEvent, Opens, Submits, WritesLocally, FailsLocally, Sends, Takes, Resyncs, FailsResync, Closes, Receipts}
 use Rattle.model.specs.LocalRuns.{primary_after, primary_run}
@@ -106,26 +106,7 @@ module _ (settings : Settings) (bound : TakesWrites settings) where
       → HasFitEnds settings h → HasFitEnds settings (submitted h first contents)
   fit-submitted h first contents range few a = go (stands (outward h)) refl
     where
-      go : (b : Bool) → stands (outward h) ≡ b → HasFitEnds settings (elim b as (λ _. PrimaryHistory) [
-        | true ↦ appending (WriteItem (submission h first contents))
-            (record h {
-              writes = h.writes ++ record {
-                write = submission h first contents;
-                journal_length = length h.journal;
-                home = Some (record { index = last_index h.connections; place = length (outward h).stream });
-                outcome = Waiting;
-              } ∷ [];
-            })
-        | false ↦ record h {
-          writes = h.writes ++ record {
-            write = submission h first contents;
-            journal_length = length h.journal;
-            home = None;
-            outcome = Waiting;
-          } ∷ [];
-          marks = marking (submission h first contents) h.marks;
-        }
-      ])
+      go : (b : Bool) → stands (outward h) ≡ b → HasFitEnds settings (submitted_with b h first contents)
       go true is = fit-appending (WriteItem (submission h first contents)) h _ refl refl
           (λ s. sendable-work settings (outward h).stream (WriteItem (submission h first contents)) s
           (subst (λ (x : Settings). is_range x first (length contents) ≡ true) a.setting range) refl (few is)) a
@@ -150,11 +131,7 @@ module _ (settings : Settings) (bound : TakesWrites settings) where
       fit-following (faulted number offsets h) (go (accepted_at h number)))
     where
       go : (v : Option Accepted) → HasFitEnds settings
-          (elim v as (λ _. PrimaryHistory) [
-            | None ↦ h
-            | Some accepted ↦ with_outcome number (Failed (within (length accepted.write.contents) offsets))
-                (record h { marks = marking accepted.write h.marks })
-          ])
+          (faulted_by v number offsets h)
       go None = a
       go (Some accepted) = fit-same h _ refl refl a
 

@@ -1,16 +1,15 @@
 -- A closed end of the primary stays as it is, whatever the run and wherever it began.
-use Rattle.std.proofs.Common.{ℕ, ◌≡◌, inl, inr, Bool, true, false, not, List, ◌∷◌, [], length, Option, Some, None, slice_get, Ok, refl, sym, ◌∙◌}
+use Rattle.std.proofs.Common.{ℕ, ◌≡◌, inl, inr, Bool, true, false, not, List, ◌∷◌, [], Option, Some, None, slice_get, Ok, refl, sym, ◌∙◌}
 use Rattle.std.proofs.Common.{subst, ◌++◌}
 use Rattle.std.proofs.lemmas.Bool.{both_ways, not-true, and_parts}
 use Rattle.blocks.specs.declared.tuple.Tuple.{Tuple}
 use Rattle.blocks.specs.declared.outcome.Decision.{Decision}
 use Rattle.blocks.specs.declared.outcome.Decision.TheVariants.{NoSync, BitmapSync, FullSync}
-use Rattle.model.specs.Stream.{WriteItem, SyncUuidItem, within}
+use Rattle.model.specs.Stream.{WriteItem, SyncUuidItem}
 use Rattle.model.specs.Frames.{UuidsFrame}
-use Rattle.model.specs.Primary.{Waiting, Failed, Accepted, Outward, PrimaryHistory, no_outward, outward, change_last, last_index, with_outward, stands}
+use Rattle.model.specs.Primary.{Accepted, Outward, PrimaryHistory, no_outward, outward, change_last, with_outward, stands}
 use Rattle.model.specs.Primary.{in_resync}
-use Rattle.model.specs.Marks.{marking}
-use Rattle.model.specs.PrimarySteps.{submission, submitted, appending, with_outcome, faulted, accepted_at}
+use Rattle.model.specs.PrimarySteps.{submission, submitted, faulted, accepted_at, submitted_with, faulted_by}
 use Rattle.model.specs.Acknowledgements.{begun_with}
 use Rattle.model.specs.LocalRuns.{PrimaryEvent, primary_run}
 use Rattle.model.specs.Headline.{StaysClosed}
@@ -44,26 +43,7 @@ stays-same p h later connections stays =
 stays-submits : (p h : PrimaryHistory) (first : ℕ) (contents : List (List ℕ)) → StaysClosed p h → StaysClosed p (submitted h first contents)
 stays-submits p h first contents stays = go (stands (outward h)) refl
   where
-    go : (b : Bool) → stands (outward h) ≡ b → StaysClosed p (elim b as (λ _. PrimaryHistory) [
-      | true ↦ appending (WriteItem (submission h first contents))
-          (record h {
-            writes = h.writes ++ record {
-              write = submission h first contents;
-              journal_length = length h.journal;
-              home = Some (record { index = last_index h.connections; place = length (outward h).stream });
-              outcome = Waiting;
-            } ∷ [];
-          })
-      | false ↦ record h {
-        writes = h.writes ++ record {
-          write = submission h first contents;
-          journal_length = length h.journal;
-          home = None;
-          outcome = Waiting;
-        } ∷ [];
-        marks = marking (submission h first contents) h.marks;
-      }
-    ])
+    go : (b : Bool) → stands (outward h) ≡ b → StaysClosed p (submitted_with b h first contents)
     go true is = stays-change p h _ (λ c. record c { stream = c.stream ++ WriteItem (submission h first contents) ∷ [] }) refl
         (open-stands (outward h) is) stays
     go false is = stays-same p h _ refl stays
@@ -72,11 +52,7 @@ stays-faults : (p h : PrimaryHistory) (number : ℕ) (offsets : List ℕ) → St
 stays-faults p h number offsets stays = go (accepted_at h number)
   where
     go : (v : Option Accepted) → StaysClosed p
-        (elim v as (λ _. PrimaryHistory) [
-          | None ↦ h
-          | Some accepted ↦ with_outcome number (Failed (within (length accepted.write.contents) offsets))
-              (record h { marks = marking accepted.write h.marks })
-        ])
+        (faulted_by v number offsets h)
     go None = stays
     go (Some accepted) = stays-same p h _ refl stays
 

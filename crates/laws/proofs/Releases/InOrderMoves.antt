@@ -12,11 +12,10 @@ use Rattle.blocks.specs.declared.outcome.Decision.TheVariants.{NoSync, BitmapSyn
 use Rattle.model.specs.Contents.{Write, covers}
 use Rattle.model.specs.Stream.{Item, WriteItem, ResyncItem, BarrierItem, SyncUuidItem, UuidsItem, IsLawful, epoch_of, last_epoch, within}
 use Rattle.model.specs.Frames.{BarrierAckFrame, UuidsFrame, Received, RecvAckFrame, WriteAckFrame, RsWriteAckFrame}
-use Rattle.model.specs.Marks.{marking}
-use Rattle.model.specs.Primary.{Waiting, OnDisk, Failed, Accepted, Outward, PrimaryHistory, outward, last_index, with_outward, stands, change_last}
-use Rattle.model.specs.Primary.{barrier_acknowledged, is_waiting, is_open, accepted_frames, is_barrier_ack, local_map}
-use Rattle.model.specs.PrimarySteps.{conflict, submission, submitted, opened, appending, with_outcome, accepted_at, faulted, with_completions, ending_resync}
-use Rattle.model.specs.PrimarySteps.{follows, closing}
+use Rattle.model.specs.Primary.{OnDisk, Failed, Accepted, Outward, PrimaryHistory, outward, last_index, with_outward, stands, change_last}
+use Rattle.model.specs.Primary.{barrier_acknowledged, is_waiting, is_open, accepted_frames, is_barrier_ack, local_map, new_outward}
+use Rattle.model.specs.PrimarySteps.{conflict, submission, submitted, opened, with_outcome, accepted_at, faulted, with_completions, ending_resync}
+use Rattle.model.specs.PrimarySteps.{follows, closing, submitted_with, faulted_by}
 use Rattle.model.specs.Acknowledgements.{begun_with, is_in_turn}
 use Rattle.laws.proofs.Rules.AckTurns.{turn-has}
 use Rattle.laws.proofs.Rules.Conflicts.{open-apart}
@@ -83,26 +82,7 @@ order-submits : (h : PrimaryHistory) (first : ℕ) (contents : List (List ℕ)) 
     → IsInOrder (submitted h first contents)
 order-submits h first contents may homes known last order = go (stands (outward h)) refl
   where
-    go : (b : Bool) → stands (outward h) ≡ b → IsInOrder (elim b as (λ _. PrimaryHistory) [
-      | true ↦ appending (WriteItem (submission h first contents))
-          (record h {
-            writes = h.writes ++ record {
-              write = submission h first contents;
-              journal_length = length h.journal;
-              home = Some (record { index = last_index h.connections; place = length (outward h).stream });
-              outcome = Waiting;
-            } ∷ [];
-          })
-      | false ↦ record h {
-        writes = h.writes ++ record {
-          write = submission h first contents;
-          journal_length = length h.journal;
-          home = None;
-          outcome = Waiting;
-        } ∷ [];
-        marks = marking (submission h first contents) h.marks;
-      }
-    ])
+    go : (b : Bool) → stands (outward h) ≡ b → IsInOrder (submitted_with b h first contents)
     go true is = order-added h _ (λ c. record c { stream = c.stream ++ WriteItem (submission h first contents) ∷ [] }) _ order refl refl
         (turn-same (outward h) (record (outward h) { stream = (outward h).stream ++ WriteItem (submission h first contents) ∷ [] }) (λ c. c)
         (λ turn. turn-frames (outward h) (record (outward h) { stream = (outward h).stream ++ WriteItem (submission h first contents) ∷ [] }) refl turn))
@@ -130,11 +110,7 @@ order-faults : (h : PrimaryHistory) (number : ℕ) (offsets : List ℕ) → IsIn
 order-faults h number offsets order = go (accepted_at h number)
   where
     go : (v : Option Accepted) → IsInOrder
-        (elim v as (λ _. PrimaryHistory) [
-          | None ↦ h
-          | Some accepted ↦ with_outcome number (Failed (within (length accepted.write.contents) offsets))
-              (record h { marks = marking accepted.write h.marks })
-        ])
+        (faulted_by v number offsets h)
     go None = order
     go (Some accepted) = order-same h _ order refl (keeps-outcome number (Failed (within (length accepted.write.contents) offsets)) h.writes refl)
 
@@ -158,7 +134,7 @@ order-opens h sync loss homes order = record {
 }
   where
     new : Outward
-    new = record { sync = sync; loss = loss; hello = h.tuple; stream = []; pushed = 0; taken = []; refused = false; begun = false; closed = false }
+    new = new_outward sync loss h.tuple
 
 order-begins : (h : PrimaryHistory) (peer : Tuple) (decided : Decision) → HasHomes h → (outward h).closed ≡ false → IsInOrder h
     → IsInOrder (begun_with decided (record (with_outward (with_frame (Ok (UuidsFrame peer))) h) { peer = Some peer }))

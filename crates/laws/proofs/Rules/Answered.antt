@@ -4,6 +4,7 @@ use Rattle.std.specs.List.{list_any}
 use Rattle.std.proofs.Math.Bool.{or-false}
 use Rattle.std.proofs.lemmas.Bool.{ltb-true, lt-ltb, le-ltb}
 use Rattle.std.proofs.lemmas.List.Folds.{list_any-append}
+use Rattle.std.proofs.Math.Bool.{or-true}
 use Rattle.blocks.specs.declared.settings.Protocol.{Protocol}
 use Rattle.blocks.specs.declared.settings.Protocol.TheVariants as protocol
 use Rattle.model.specs.Stream.{Item, IsBeginning}
@@ -91,10 +92,6 @@ pub answered-sent : (by_sending : Protocol → Bool) (asked : Protocol) (c d : O
     → is_answered_by asked d place item ≡ (is_answered_by asked c place item || by_sending asked)
 answered-sent by_sending protocol.A c d place item a b e sent frames =
     lt-ltb place (items_sent d) sent ∙ sym (ap (λ x. nat_lt place (items_sent c) || x) a ∙ or-true (nat_lt place (items_sent c)))
-  where
-    or-true : (x : Bool) → (x || true) ≡ true
-    or-true true = refl
-    or-true false = refl
 answered-sent by_sending protocol.B c d place item a b e sent frames = ap (list_any (is_recv_ack (naming place item))) frames
     ∙ sym (ap (λ x. was_received c place item || x) b ∙ or-false (was_received c place item))
 answered-sent by_sending protocol.C c d place item a b e sent frames = ap (list_any (is_write_ack (naming place item))) frames

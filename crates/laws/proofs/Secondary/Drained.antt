@@ -1,12 +1,12 @@
 -- A secondary opens only when it is drained: on a connection before the last one nothing is pending.
-use Rattle.std.proofs.Common.{ℕ, suc, ◌≡◌, ◌+◌, ◌-◌, ◌<◌, inl, inr, true, false, not, ◌&&◌, List, [], ◌∷◌, ◌++◌, length, Some, slice_get, sym, ◌∙◌, ap, subst}
+use Rattle.std.proofs.Common.{ℕ, suc, ◌≡◌, ◌+◌, ◌-◌, ◌<◌, inl, inr, true, not, ◌&&◌, List, [], ◌∷◌, ◌++◌, length, Some, slice_get, sym, ◌∙◌, ap, subst}
 use Rattle.std.proofs.Common.{arith, length-append}
 use Rattle.std.proofs.lemmas.Bool.{cases_lt, and_parts, not-false, eqb-true}
 use Rattle.std.proofs.lemmas.Option.{slice_get_within}
 use Rattle.blocks.specs.declared.refusal.Refusal.TheVariants.{NotDrained}
 use Rattle.blocks.specs.declared.outcome.What.TheVariants as what
 use Rattle.model.specs.Primary.{change_last}
-use Rattle.model.specs.Secondary.{Inward, SecondaryHistory, no_inward, inward, secondary_map, pending, is_drained}
+use Rattle.model.specs.Secondary.{Inward, SecondaryHistory, no_inward, inward, secondary_map, pending, is_drained, new_inward}
 use Rattle.model.specs.SecondarySteps.{answering, applying, failing, open_secondary_tests, opened_secondary, open_secondary, succeeding_secondary, next_number}
 use Rattle.model.specs.LocalRuns.{SecondaryEvent, OpensToo, Receives, Applies, FailsToApply, Acknowledges, ClosesToo, secondary_after, secondary_run}
 use Rattle.model.specs.Theorems.{secondary_at}
@@ -35,18 +35,7 @@ changes (x ∷ ds) f all k d at less =
 -- a new connection comes where nothing is pending on the last one
 opens : (unseen : ℕ) (h : SecondaryHistory) → is_drained h ≡ true → IsDrainedBefore h → IsDrainedBefore (opened_secondary unseen h)
 opens unseen h drained all k d at less =
-    let new : Inward = record {
-      number = next_number unseen h;
-      base = secondary_map h;
-      hello = h.tuple;
-      taken = [];
-      refused = false;
-      applied = [];
-      gone = [];
-      due = [];
-      pushed = 0;
-      closed = false;
-    } in
+    let new : Inward = new_inward (next_number unseen h) (secondary_map h) h.tuple in
     let size : length (h.connections ++ new ∷ []) ≡ length h.connections + 1 = length-append h.connections (new ∷ []) in
     elim (get-more h.connections new k d at) [
       | inr added ↦ absurd (let here = added.0 in omega arith)

@@ -11,8 +11,9 @@ use Rattle.blocks.specs.declared.tuple.Tuple.{Tuple}
 use Rattle.model.specs.Contents.{BlockMap}
 use Rattle.model.specs.Stream.{Item, below, contents_of}
 use Rattle.model.specs.Frames.{Packet, Received}
-use Rattle.model.specs.Secondary.{Inward, items_taken, accepted_of, received_item}
-use Rattle.model.specs.SecondarySteps.{answering, barrier_answer, barriers_to_answer, is_pending_at, has_earlier, offsets_at, applied_answer, applying, failing}
+use Rattle.model.specs.Secondary.{Inward, items_taken, accepted_of, received_item, new_inward}
+use Rattle.model.specs.SecondarySteps.{answering, barrier_answer, barriers_to_answer, is_pending_at, has_earlier, applying, failing}
+use Rattle.model.specs.SecondarySteps.{applied_with}
 use Rattle.laws.proofs.Rules.DiskFaults.{reached, fault-applied, reached-inside}
 use Rattle.laws.proofs.Secondary.Sound.{IsSound, starting, sound-taking, sound-same, sound-applying, dropped, Started}
 use Rattle.laws.proofs.Lists.Beginnings.{begins-drop}
@@ -45,18 +46,7 @@ base-answering d block =
 
 -- a new connection is good
 pub good-new : (number : ℕ) (disk : BlockMap) (hello : Tuple)
-    → IsGood (record {
-      number = number;
-      base = disk;
-      hello = hello;
-      taken = [];
-      refused = false;
-      applied = [];
-      gone = [];
-      due = [];
-      pushed = 0;
-      closed = false;
-    })
+    → IsGood (new_inward number disk hello)
 good-new number disk hello = record {
   sound = record {
     epoch = 0;
@@ -125,13 +115,7 @@ good-refusing frame d standing good =
 pub base-applying : (asked : Protocol) (place : ℕ) (d : Inward) (block : ℕ) → (applying asked place d).base block ≡ d.base block
 base-applying asked place d block = go (slice_get (items_taken d) place)
   where
-    go : (v : Option Item) → (elim v as (λ _. Inward) [
-      | None ↦ d
-      | Some item ↦ record d {
-        applied = d.applied ++ offsets_at place (below (length (contents_of item)));
-        due = elim d.closed [ true ↦ d.due | false ↦ d.due ++ applied_answer asked place item ];
-      }
-    ]).base block ≡ d.base block
+    go : (v : Option Item) → (applied_with v asked place d).base block ≡ d.base block
     go None = refl
     go (Some item) = refl
 
@@ -143,13 +127,7 @@ good-applying asked place d waiting none good = go (slice_get (items_taken d) pl
     start : Started d place good.sound
     start = starting d place good.sound waiting none
 
-    go : (v : Option Item) → slice_get (items_taken d) place ≡ v → IsGood (elim v as (λ _. Inward) [
-      | None ↦ d
-      | Some item ↦ record d {
-        applied = d.applied ++ offsets_at place (below (length (contents_of item)));
-        due = elim d.closed [ true ↦ d.due | false ↦ d.due ++ applied_answer asked place item ];
-      }
-    ])
+    go : (v : Option Item) → slice_get (items_taken d) place ≡ v → IsGood (applied_with v asked place d)
     go None is = good
     go (Some item) is = record {
       sound = sound-applying d _ place (below (length (contents_of item))) good.sound start

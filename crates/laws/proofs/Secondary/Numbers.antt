@@ -8,7 +8,7 @@ use Rattle.blocks.specs.declared.settings.Protocol.{Protocol}
 use Rattle.model.specs.Stream.{Item, below, contents_of}
 use Rattle.model.specs.Frames.{Packet}
 use Rattle.model.specs.Primary.{last_of, change_last}
-use Rattle.model.specs.Secondary.{Inward, SecondaryHistory, no_inward, inward, inward_at, with_inward, items_taken, secondary_map}
+use Rattle.model.specs.Secondary.{Inward, SecondaryHistory, no_inward, inward, inward_at, with_inward, items_taken, secondary_map, new_inward}
 use Rattle.model.specs.SecondarySteps.{answering, barrier_answer, barriers_to_answer, next_number, opened_secondary, offsets_at, applied_answer, applying}
 use Rattle.model.specs.SecondarySteps.{failing}
 use Rattle.model.specs.LocalRuns.{SecondaryEvent, OpensToo, Receives, Applies, FailsToApply, Acknowledges, ClosesToo, secondary_after, secondary_run}
@@ -111,18 +111,7 @@ rise-opened unseen h r = record {
 }
   where
     new : Inward
-    new = record {
-      number = next_number unseen h;
-      base = secondary_map h;
-      hello = h.tuple;
-      taken = [];
-      refused = false;
-      applied = [];
-      gone = [];
-      due = [];
-      pushed = 0;
-      closed = false;
-    }
+    new = new_inward (next_number unseen h) (secondary_map h) h.tuple
 
 -- Every event keeps it, and so does every run.
 abbrev Rises : SecondaryHistory → Type 0
@@ -202,18 +191,7 @@ counted-opened h c j e at = elim (get-more h.connections new j e at) [
 ]
   where
     new : Inward
-    new = record {
-      number = next_number 0 h;
-      base = secondary_map h;
-      hello = h.tuple;
-      taken = [];
-      refused = false;
-      applied = [];
-      gone = [];
-      due = [];
-      pushed = 0;
-      closed = false;
-    }
+    new = new_inward (next_number 0 h) (secondary_map h) h.tuple
 
 -- every such event keeps the count
 pub counted-after : (event : SecondaryEvent) → IsSeen event → (h : SecondaryHistory) → AreCounted h.connections

@@ -12,7 +12,7 @@ use Rattle.model.specs.Contents.{BlockMap, Write}
 use Rattle.model.specs.Stream.{Item, WriteItem, Part, is_whole, has_blocks}
 use Rattle.model.specs.Frames.{Packet, RecvAckFrame, WriteAckFrame, RsWriteAckFrame, Acknowledged, Received, naming}
 use Rattle.model.specs.Primary.{same_naming, is_recv_ack, is_write_ack, is_rs_write_ack}
-use Rattle.model.specs.Secondary.{Inward, items_taken}
+use Rattle.model.specs.Secondary.{Inward, items_taken, new_inward}
 use Rattle.model.specs.SecondarySteps.{answering, barrier_answer, barriers_to_answer, is_pending_at, has_earlier, offsets_at, failing}
 use Rattle.laws.proofs.Lists.Elements.{get-split}
 use Rattle.laws.proofs.Rules.DiskFaults.{reached, fault-applied}
@@ -107,18 +107,7 @@ orderly-same asked d e part o good taken applied due rest = record {
 
 -- a new connection owes nothing
 pub orderly-new : (asked : Protocol) (number : ℕ) (disk : BlockMap) (hello : Tuple)
-    → IsOrderly asked (record {
-      number = number;
-      base = disk;
-      hello = hello;
-      taken = [];
-      refused = false;
-      applied = [];
-      gone = [];
-      due = [];
-      pushed = 0;
-      closed = false;
-    })
+    → IsOrderly asked (new_inward number disk hello)
 orderly-new asked number disk hello = record {
   good = good-new number disk hello;
   fits = λ n packet at. absurd (cc);

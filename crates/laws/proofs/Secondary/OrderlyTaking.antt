@@ -16,7 +16,7 @@ use Rattle.model.specs.Stream.{Item, WriteItem, ResyncItem, BarrierItem, SyncUui
 use Rattle.model.specs.Frames.{Packet, DataFrame, RecvAckFrame, WriteAckFrame, RsWriteAckFrame, Received, naming}
 use Rattle.model.specs.Primary.{is_recv_ack, is_write_ack, is_rs_write_ack}
 use Rattle.model.specs.Secondary.{Inward, items_taken, received_item}
-use Rattle.model.specs.SecondarySteps.{is_pending_at, has_earlier, offsets_at, applied_answer, applying}
+use Rattle.model.specs.SecondarySteps.{is_pending_at, has_earlier, offsets_at, applied_answer, applying, applied_with}
 use Rattle.laws.proofs.Lists.Elements.{get-more, get-end, same-at}
 use Rattle.laws.proofs.Lists.Picks.{pick-any}
 use Rattle.laws.proofs.Streams.Parts.{in-append, in-offsets, whole-has, whole-from}
@@ -288,20 +288,8 @@ orderly-applying asked place d waiting none o = go (slice_get (items_taken d) pl
         (and_parts (has_blocks item && not (is_whole d.applied place item)) _ (starting d place o.good.sound waiting none).waits).0).1
 
     go : (v : Option Item) → slice_get (items_taken d) place ≡ v
-        → IsGood (elim v as (λ _. Inward) [
-          | None ↦ d
-          | Some item ↦ record d {
-            applied = d.applied ++ offsets_at place (below (length (contents_of item)));
-            due = elim d.closed [ true ↦ d.due | false ↦ d.due ++ applied_answer asked place item ];
-          }
-        ])
-        → IsOrderly asked (elim v as (λ _. Inward) [
-          | None ↦ d
-          | Some item ↦ record d {
-            applied = d.applied ++ offsets_at place (below (length (contents_of item)));
-            due = elim d.closed [ true ↦ d.due | false ↦ d.due ++ applied_answer asked place item ];
-          }
-        ])
+        → IsGood (applied_with v asked place d)
+        → IsOrderly asked (applied_with v asked place d)
     go None is good = o
     go (Some item) is good = due d.closed refl good
       where

@@ -6,6 +6,7 @@ use Rattle.model.specs.Stream.{Item, below, contents_of}
 use Rattle.model.specs.Frames.{Packet}
 use Rattle.model.specs.Secondary.{Inward, SecondaryHistory, no_inward, inward, with_inward, items_taken}
 use Rattle.model.specs.SecondarySteps.{answering, barrier_answer, barriers_to_answer, opened_secondary, offsets_at, applied_answer, applying, failing, adopting}
+use Rattle.model.specs.SecondarySteps.{applied_with}
 use Rattle.model.specs.LocalRuns.{SecondaryEvent, secondary_after, secondary_run}
 use Rattle.model.specs.Headline.{StaysClosedToo}
 use Rattle.laws.proofs.Lists.Last.{get-change, change-twice}
@@ -52,13 +53,7 @@ same-answering d closed = go d.closed refl
 same-applying : (asked : Protocol) (place : ℕ) (d : Inward) → d.closed ≡ true → IsSameClosed d (applying asked place d)
 same-applying asked place d closed = go (slice_get (items_taken d) place)
   where
-    go : (v : Option Item) → IsSameClosed d (elim v as (λ _. Inward) [
-      | None ↦ d
-      | Some item ↦ record d {
-        applied = d.applied ++ offsets_at place (below (length (contents_of item)));
-        due = elim d.closed [ true ↦ d.due | false ↦ d.due ++ applied_answer asked place item ];
-      }
-    ])
+    go : (v : Option Item) → IsSameClosed d (applied_with v asked place d)
     go None = refl
     go (Some item) = ap (λ b. record d {
       applied = d.applied ++ offsets_at place (below (length (contents_of item)));

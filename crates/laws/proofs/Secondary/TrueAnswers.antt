@@ -21,10 +21,11 @@ use Rattle.model.specs.Frames.{WriteAckFrame, RsWriteAckFrame, BarrierAckFrame, 
 use Rattle.model.specs.Primary.{change_last, same_naming}
 use Rattle.model.specs.Refusals.{done_with}
 use Rattle.model.specs.Secondary.{Inward, SecondaryHistory, no_inward, inward, with_inward, items_taken, accepted_of, received_item, secondary_map}
+use Rattle.model.specs.Secondary.{new_inward}
 use Rattle.model.specs.SecondarySteps.{answering, barrier_answer, barriers_to_answer, succeeding_secondary, open_secondary_tests, opened_secondary}
 use Rattle.model.specs.SecondarySteps.{open_secondary, Checked, checking_hello, checking_item, checking, adopting, receiving, take_item, receive, peer_tests}
 use Rattle.model.specs.SecondarySteps.{is_pending_at, has_earlier, offsets_at, applied_answer, applying, peer, failing, peer_fault, ack_out_tests}
-use Rattle.model.specs.SecondarySteps.{answering_with, ack_out, close_secondary}
+use Rattle.model.specs.SecondarySteps.{answering_with, ack_out, close_secondary, applied_with}
 use Rattle.model.specs.Acknowledgements.{same_protocol}
 use Rattle.model.specs.LocalRuns.{SecondaryEvent, OpensToo, Receives, Applies, FailsToApply, Acknowledges, ClosesToo, secondary_after, secondary_run}
 use Rattle.laws.proofs.Lists.Last.{change-twice}
@@ -143,18 +144,7 @@ all-succeeding : (done : What) (h : SecondaryHistory) → AreTruthful h → AreT
 all-succeeding done h all = all-change answering h all (truthful-answering (inward h))
 
 truthful-new : (number : ℕ) (disk : BlockMap) (hello : Tuple)
-    → IsTruthful (record {
-      number = number;
-      base = disk;
-      hello = hello;
-      taken = [];
-      refused = false;
-      applied = [];
-      gone = [];
-      due = [];
-      pushed = 0;
-      closed = false;
-    })
+    → IsTruthful (new_inward number disk hello)
 truthful-new number disk hello = record { good = good-new number disk hello; answers = λ n packet at. absurd (cc) }
 
 -- an end that was never open owes nothing
@@ -386,13 +376,7 @@ truthful-applying : (asked : Protocol) (place : ℕ) (d : Inward) → is_pending
     → IsTruthful (applying asked place d)
 truthful-applying asked place d waiting none t = go (slice_get (items_taken d) place) refl
   where
-    go : (v : Option Item) → slice_get (items_taken d) place ≡ v → IsTruthful (elim v as (λ _. Inward) [
-      | None ↦ d
-      | Some item ↦ record d {
-        applied = d.applied ++ offsets_at place (below (length (contents_of item)));
-        due = elim d.closed [ true ↦ d.due | false ↦ d.due ++ applied_answer asked place item ];
-      }
-    ])
+    go : (v : Option Item) → slice_get (items_taken d) place ≡ v → IsTruthful (applied_with v asked place d)
     go None is = t
     go (Some item) is = due d.closed
       where

@@ -12,9 +12,9 @@ use Rattle.model.specs.Contents.{BlockMap, Write}
 use Rattle.model.specs.Stream.{Item, WriteItem, ResyncItem, BarrierItem, SyncUuidItem, UuidsItem, Part, is_in, is_whole, has_blocks, below, contents_of}
 use Rattle.model.specs.Stream.{barriers_in, epoch_of, placed_from, within}
 use Rattle.model.specs.Frames.{Packet, UuidsFrame, RecvAckFrame, WriteAckFrame, RsWriteAckFrame, BarrierAckFrame, Acknowledged, Received, naming}
-use Rattle.model.specs.Secondary.{Inward, SecondaryHistory, secondary_opening, no_inward, inward, with_inward, items_taken, is_applied_to}
+use Rattle.model.specs.Secondary.{Inward, SecondaryHistory, secondary_opening, no_inward, inward, with_inward, items_taken, is_applied_to, new_inward}
 use Rattle.model.specs.SecondarySteps.{answering, barrier_answer, barriers_to_answer, opened_secondary, offsets_at, applied_answer, applying}
-use Rattle.model.specs.SecondarySteps.{failing, adopting}
+use Rattle.model.specs.SecondarySteps.{failing, adopting, applied_with}
 use Rattle.model.specs.LocalRuns.{SecondaryEvent, secondary_after, secondary_run}
 use Rattle.laws.proofs.Rules.BarrierAnswers as rule
 use Rattle.laws.proofs.Rules.DiskFaults.{reached, fault-applied}
@@ -195,13 +195,7 @@ applied-now before place item =
 true-applying : (asked : Protocol) (place : ℕ) (d : Inward) → HasTrueAnswers d → HasTrueAnswers (applying asked place d)
 true-applying asked place d t = go (slice_get (items_taken d) place) refl
   where
-    go : (v : Option Item) → slice_get (items_taken d) place ≡ v → HasTrueAnswers (elim v as (λ _. Inward) [
-      | None ↦ d
-      | Some item ↦ record d {
-        applied = d.applied ++ offsets_at place (below (length (contents_of item)));
-        due = elim d.closed [ true ↦ d.due | false ↦ d.due ++ applied_answer asked place item ];
-      }
-    ])
+    go : (v : Option Item) → slice_get (items_taken d) place ≡ v → HasTrueAnswers (applied_with v asked place d)
     go None is = t
     go (Some item) is = due d.closed
       where
@@ -228,18 +222,7 @@ true-same d e t items applied due refused = true-change d e [] [] [] t (items �
     ∙ sym (append-nil d.due)) refused (none-more e)
 
 true-new : (number : ℕ) (disk : BlockMap) (hello : Tuple)
-    → HasTrueAnswers (record {
-      number = number;
-      base = disk;
-      hello = hello;
-      taken = [];
-      refused = false;
-      applied = [];
-      gone = [];
-      due = [];
-      pushed = 0;
-      closed = false;
-    })
+    → HasTrueAnswers (new_inward number disk hello)
 true-new number disk hello = record { refused = λ r. absurd (cc); answers = λ n packet at. absurd (cc) }
 
 -- All connections, over every list of events.

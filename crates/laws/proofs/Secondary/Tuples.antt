@@ -11,13 +11,13 @@ use Rattle.blocks.specs.declared.settings.Settings.{Settings}
 use Rattle.blocks.specs.declared.settings.Protocol.{Protocol}
 use Rattle.blocks.specs.declared.tuple.Tuple.{Tuple}
 use Rattle.model.specs.Contents.{BlockMap}
-use Rattle.model.specs.Stream.{Item, below, contents_of}
+use Rattle.model.specs.Stream.{Item}
 use Rattle.model.specs.Frames.{Received}
 use Rattle.model.specs.Primary.{last_of, change_last}
 use Rattle.model.specs.Secondary.{Inward, SecondaryHistory, secondary_opening, no_inward, inward, with_inward, accepted_of, received_item, items_taken}
-use Rattle.model.specs.Secondary.{secondary_map}
-use Rattle.model.specs.SecondarySteps.{answering, barrier_answer, barriers_to_answer, opened_secondary, offsets_at, applied_answer, applying, failing, adopting}
-use Rattle.model.specs.SecondarySteps.{next_number}
+use Rattle.model.specs.Secondary.{secondary_map, new_inward}
+use Rattle.model.specs.SecondarySteps.{answering, barrier_answer, barriers_to_answer, opened_secondary, applying, failing, adopting}
+use Rattle.model.specs.SecondarySteps.{next_number, applied_with}
 use Rattle.model.specs.LocalRuns.{SecondaryEvent, secondary_after, secondary_run}
 use Rattle.laws.proofs.Lists.Last.{get-change, get-change-back, last-at, get-last-changed}
 use Rattle.laws.proofs.Secondary.Moves.{framed, receipting, pushed_one, closed_end, after-event}
@@ -85,13 +85,7 @@ front-answering d = go d.closed
 front-applying : (asked : Protocol) (place : ℕ) (d : Inward) → KeepsFront d (applying asked place d)
 front-applying asked place d = go (slice_get (items_taken d) place)
   where
-    go : (v : Option Item) → KeepsFront d (elim v as (λ _. Inward) [
-      | None ↦ d
-      | Some item ↦ record d {
-        applied = d.applied ++ offsets_at place (below (length (contents_of item)));
-        due = elim d.closed [ true ↦ d.due | false ↦ d.due ++ applied_answer asked place item ];
-      }
-    ])
+    go : (v : Option Item) → KeepsFront d (applied_with v asked place d)
     go None = record { hello = refl; items = λ none. none; refused = λ was. was }
     go (Some item) = record { hello = refl; items = λ none. none; refused = λ was. was }
 
@@ -136,18 +130,7 @@ then-answering tuple h t = tuples-with tuple h (with_inward answering h) answeri
 
 tuples-open : (tuple : Tuple) (unseen : ℕ) (h : SecondaryHistory) → KeepsTuple tuple h → KeepsTuple tuple (opened_secondary unseen h)
 tuples-open tuple unseen h t =
-    let new : Inward = record {
-      number = next_number unseen h;
-      base = secondary_map h;
-      hello = h.tuple;
-      taken = [];
-      refused = false;
-      applied = [];
-      gone = [];
-      due = [];
-      pushed = 0;
-      closed = false;
-    } in
+    let new : Inward = new_inward (next_number unseen h) (secondary_map h) h.tuple in
     record {
       quiet = λ quiet. t.quiet (λ j e at. quiet j e (get-left h.connections (new ∷ []) j e at));
       hello = λ k d at quiet. elim (get-more h.connections new k d at) [

@@ -8,11 +8,10 @@ use Rattle.std.proofs.lemmas.Option.{slice_get_within}
 use Rattle.blocks.specs.Positions.{StreamPosition}
 use Rattle.model.specs.Contents.{Write, Layer, block_under, overlay, covers, extent_of}
 use Rattle.model.specs.Stream.{Item, WriteItem, ResyncItem, placed}
-use Rattle.model.specs.Marks.{marking}
 use Rattle.model.specs.Primary.{Waiting, Accepted, Outward, PrimaryHistory, no_outward, outward, last_index, change_last, stands, is_completed}
 use Rattle.model.specs.Primary.{is_on_disk, local_layer, local_map, is_resync, was_resynced, under_way, resync_runs, in_resync}
 use Rattle.model.specs.Primary.{free_block}
-use Rattle.model.specs.PrimarySteps.{appending, conflict, submission, submitted}
+use Rattle.model.specs.PrimarySteps.{appending, conflict, submission, submitted, submitted_with}
 use Rattle.laws.proofs.Rules.Conflicts.{has_block_of, way-apart}
 use Rattle.laws.proofs.Rules.FreeBlocks.{IsFree, free-found}
 use Rattle.laws.proofs.Rules.Marking.{unmarked-by}
@@ -138,45 +137,7 @@ tracked-submits h first contents may fresh t = go (stands (outward h)) refl
               (subst (λ (a : Accepted). is_completed h a.write.number ≡ true) new.1 completed))
         ]
 
-    go : (b : Bool) → stands (outward h) ≡ b → HasHomes (elim b as (λ _. PrimaryHistory) [
-      | true ↦ appending (WriteItem (submission h first contents))
-          (record h {
-            writes = h.writes ++ record {
-              write = submission h first contents;
-              journal_length = length h.journal;
-              home = Some (record { index = last_index h.connections; place = length (outward h).stream });
-              outcome = Waiting;
-            } ∷ [];
-          })
-      | false ↦ record h {
-        writes = h.writes ++ record {
-          write = submission h first contents;
-          journal_length = length h.journal;
-          home = None;
-          outcome = Waiting;
-        } ∷ [];
-        marks = marking (submission h first contents) h.marks;
-      }
-    ]) → IsTracked (elim b as (λ _. PrimaryHistory) [
-      | true ↦ appending (WriteItem (submission h first contents))
-          (record h {
-            writes = h.writes ++ record {
-              write = submission h first contents;
-              journal_length = length h.journal;
-              home = Some (record { index = last_index h.connections; place = length (outward h).stream });
-              outcome = Waiting;
-            } ∷ [];
-          })
-      | false ↦ record h {
-        writes = h.writes ++ record {
-          write = submission h first contents;
-          journal_length = length h.journal;
-          home = None;
-          outcome = Waiting;
-        } ∷ [];
-        marks = marking (submission h first contents) h.marks;
-      }
-    ])
+    go : (b : Bool) → stands (outward h) ≡ b → HasHomes (submitted_with b h first contents) → IsTracked (submitted_with b h first contents)
     go false is homes =
         let added : Accepted = record { write = write; journal_length = length h.journal; home = None; outcome = Waiting } in
         record {

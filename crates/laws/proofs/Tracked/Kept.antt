@@ -10,13 +10,12 @@ use Rattle.blocks.specs.declared.tuple.Tuple.{Tuple}
 use Rattle.blocks.specs.declared.outcome.Decision.{Decision}
 use Rattle.blocks.specs.declared.outcome.Decision.TheVariants.{NoSync, BitmapSync, FullSync}
 use Rattle.model.specs.Contents.{BlockMap}
-use Rattle.model.specs.Stream.{WriteItem, BarrierItem, last_epoch, within}
+use Rattle.model.specs.Stream.{BarrierItem, last_epoch, within}
 use Rattle.model.specs.Frames.{UuidsFrame}
-use Rattle.model.specs.Marks.{marking}
 use Rattle.model.specs.Primary.{LocalOutcome, Waiting, OnDisk, Failed, Accepted, Completion, PrimaryHistory, primary_opening, outward, last_index, with_outward}
 use Rattle.model.specs.Primary.{stands, is_open, completes, is_completed, is_failed, is_waiting, is_on_disk}
 use Rattle.model.specs.PrimarySteps.{newly_completed, completion_of, with_completions, epoch_is_over, resync_is_over, ending_resync, follows, submission}
-use Rattle.model.specs.PrimarySteps.{submitted, appending, set_outcome, with_outcome, accepted_at, faulted}
+use Rattle.model.specs.PrimarySteps.{submitted, appending, set_outcome, accepted_at, faulted, submitted_with, faulted_by}
 use Rattle.model.specs.Acknowledgements.{begun_with}
 use Rattle.laws.proofs.Primary.Moves.{IsKeptByMoves, following-from, with_frame}
 use Rattle.laws.proofs.Primary.Homes.{HasHomes}
@@ -130,26 +129,7 @@ numbers-submitted h first contents numbers = go (stands (outward h))
     more : (added : Accepted) (n : ℕ) (entry : Completion) → slice_get h.journal n ≡ Some entry → entry.write.number ≤ length (h.writes ++ added ∷ [])
     more added n entry at = let low = numbers.0 n entry at in let long = length-append h.writes (added ∷ []) in omega arith
 
-    go : (b : Bool) → HasNumbers (elim b as (λ _. PrimaryHistory) [
-      | true ↦ appending (WriteItem (submission h first contents))
-          (record h {
-            writes = h.writes ++ record {
-              write = submission h first contents;
-              journal_length = length h.journal;
-              home = Some (record { index = last_index h.connections; place = length (outward h).stream });
-              outcome = Waiting;
-            } ∷ [];
-          })
-      | false ↦ record h {
-        writes = h.writes ++ record {
-          write = submission h first contents;
-          journal_length = length h.journal;
-          home = None;
-          outcome = Waiting;
-        } ∷ [];
-        marks = marking (submission h first contents) h.marks;
-      }
-    ])
+    go : (b : Bool) → HasNumbers (submitted_with b h first contents)
     go true = (
       more (record {
         write = submission h first contents;
@@ -173,11 +153,7 @@ pub numbers-faulted : (h : PrimaryHistory) (number : ℕ) (offsets : List ℕ) �
 numbers-faulted h number offsets numbers = go (accepted_at h number)
   where
     go : (v : Option Accepted) → HasNumbers
-        (elim v as (λ _. PrimaryHistory) [
-          | None ↦ h
-          | Some accepted ↦ with_outcome number (Failed (within (length accepted.write.contents) offsets))
-              (record h { marks = marking accepted.write h.marks })
-        ])
+        (faulted_by v number offsets h)
     go None = numbers
     go (Some accepted) = (numbers-outcome h number (Failed (within (length accepted.write.contents) offsets)) numbers, numbers.1)
 

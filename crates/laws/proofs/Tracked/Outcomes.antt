@@ -8,7 +8,7 @@ use Rattle.model.specs.Contents.{Write, Layer, block_under, overlay, covers}
 use Rattle.model.specs.Marks.{Marks, marking}
 use Rattle.model.specs.Primary.{LocalOutcome, Waiting, OnDisk, Failed, Accepted, PrimaryHistory, outward, is_on_disk, is_failed, is_waiting, is_completed}
 use Rattle.model.specs.Primary.{is_open, offset_reached}
-use Rattle.model.specs.PrimarySteps.{is_unfinished, set_outcome, with_outcome, accepted_at, faulted}
+use Rattle.model.specs.PrimarySteps.{is_unfinished, set_outcome, with_outcome, accepted_at, faulted, faulted_by}
 use Rattle.laws.proofs.Rules.Marking.{unmarked-by}
 use Rattle.laws.proofs.Primary.Homes.{HasHomes}
 use Rattle.laws.proofs.Primary.HomesMoves.{homes-kept}
@@ -138,16 +138,8 @@ pub tracked-faults : (h : PrimaryHistory) (number : ℕ) (offsets : List ℕ) �
 tracked-faults h number offsets unfinished t = go (accepted_at h number) refl
   where
     go : (v : Option Accepted) → accepted_at h number ≡ v
-        → HasHomes (elim v as (λ _. PrimaryHistory) [
-          | None ↦ h
-          | Some accepted ↦ with_outcome number (Failed (within (length accepted.write.contents) offsets))
-              (record h { marks = marking accepted.write h.marks })
-        ])
-        → IsTracked (elim v as (λ _. PrimaryHistory) [
-          | None ↦ h
-          | Some accepted ↦ with_outcome number (Failed (within (length accepted.write.contents) offsets))
-              (record h { marks = marking accepted.write h.marks })
-        ])
+        → HasHomes (faulted_by v number offsets h)
+        → IsTracked (faulted_by v number offsets h)
     go None none homes = t
     go (Some accepted) some homes =
         let found = pick-found (λ (a : Accepted). a.write.number == number) h.writes accepted some in

@@ -14,7 +14,7 @@ use Rattle.model.specs.Frames.{Received, UuidsFrame, RsWriteAckFrame, Acknowledg
 use Rattle.model.specs.Identifiers.{are_fresh, sync_start, sync_end, lost}
 use Rattle.model.specs.Marks.{Marks, clearing, marking_all, marking_unreleased}
 use Rattle.model.specs.Primary.{Accepted, Completion, Outward, PrimaryHistory, no_outward, last_of, outward, last_index, change_last, with_outward, stands}
-use Rattle.model.specs.Primary.{is_on_disk, is_completed, is_open, completes}
+use Rattle.model.specs.Primary.{is_on_disk, is_completed, is_open, completes, new_outward}
 use Rattle.model.specs.Primary.{is_resync, was_resynced, same_naming, items_sent}
 use Rattle.model.specs.PrimarySteps.{known_tuples, newly_completed, completion_of, with_completions, epoch_is_over, appending, resync_is_over, ending_resync}
 use Rattle.model.specs.PrimarySteps.{opened, closing, receipted}
@@ -97,17 +97,7 @@ tracked-ending g over t = tracked-appending g (UuidsItem (sync_end g.tuple)) (sy
 pub tracked-opens : (h : PrimaryHistory) (sync loss : ℕ) → (outward h).closed ≡ true → are_fresh sync loss (known_tuples h) ≡ true → IsTracked h
     → IsTracked (opened h sync loss)
 tracked-opens h sync loss closed fresh t =
-    let new : Outward = record {
-      sync = sync;
-      loss = loss;
-      hello = h.tuple;
-      stream = [];
-      pushed = 0;
-      taken = [];
-      refused = false;
-      begun = false;
-      closed = false;
-    } in
+    let new : Outward = new_outward sync loss h.tuple in
     let none : stands (outward (opened h sync loss)) ≡ false = ap stands (last-more (no_outward h.tuple) new h.connections) in
     tracked-quiet h (h.connections ++ new ∷ []) h.marks h.tuple h.peer h.receipts t (homes-kept.opens h sync loss closed fresh t.homes)
     (λ block. latest-opened h.connections new block refl)

@@ -12,13 +12,13 @@ use Rattle.blocks.specs.declared.settings.Settings.{Settings}
 use Rattle.blocks.specs.declared.settings.Protocol.{Protocol}
 use Rattle.blocks.specs.declared.tuple.Tuple.{Tuple}
 use Rattle.model.specs.Contents.{BlockMap}
-use Rattle.model.specs.Stream.{Item, WriteItem, UuidsItem, IsBeginning, below, contents_of}
+use Rattle.model.specs.Stream.{Item, WriteItem, UuidsItem, IsBeginning}
 use Rattle.model.specs.Frames.{Received, UuidsFrame}
 use Rattle.model.specs.Primary.{change_last, is_sync_start, is_sync_end, is_resync}
 use Rattle.model.specs.Secondary.{Inward, SecondaryHistory, secondary_opening, no_inward, inward, with_inward, accepted_of, received_item, items_taken}
-use Rattle.model.specs.Secondary.{is_in_resync, secondary_map}
-use Rattle.model.specs.SecondarySteps.{answering, barrier_answer, barriers_to_answer, opened_secondary, next_number, offsets_at, applied_answer, applying}
-use Rattle.model.specs.SecondarySteps.{failing, adopting}
+use Rattle.model.specs.Secondary.{is_in_resync, secondary_map, new_inward}
+use Rattle.model.specs.SecondarySteps.{answering, barrier_answer, barriers_to_answer, opened_secondary, next_number, applying}
+use Rattle.model.specs.SecondarySteps.{failing, adopting, applied_with}
 use Rattle.model.specs.LocalRuns.{SecondaryEvent, secondary_after, secondary_run}
 use Rattle.laws.proofs.Lists.Beginnings.{begins-self, get-beginning}
 use Rattle.laws.proofs.Lists.Elements.{get-left, get-more, get-end}
@@ -156,13 +156,7 @@ plain-answering d = go d.closed
 plain-applying : (asked : Protocol) (place : ℕ) (d : Inward) → KeepsPlain d (applying asked place d)
 plain-applying asked place d = go (slice_get (items_taken d) place)
   where
-    go : (v : Option Item) → KeepsPlain d (elim v as (λ _. Inward) [
-      | None ↦ d
-      | Some item ↦ record d {
-        applied = d.applied ++ offsets_at place (below (length (contents_of item)));
-        due = elim d.closed [ true ↦ d.due | false ↦ d.due ++ applied_answer asked place item ];
-      }
-    ])
+    go : (v : Option Item) → KeepsPlain d (applied_with v asked place d)
     go None = same-items d d refl refl (λ was. was)
     go (Some item) = same-items d _ refl refl (λ was. was)
 
@@ -260,18 +254,7 @@ synced-opens unseen h t = record {
 }
   where
     new : Inward
-    new = record {
-      number = next_number unseen h;
-      base = secondary_map h;
-      hello = h.tuple;
-      taken = [];
-      refused = false;
-      applied = [];
-      gone = [];
-      due = [];
-      pushed = 0;
-      closed = false;
-    }
+    new = new_inward (next_number unseen h) (secondary_map h) h.tuple
 
 -- a resync starts
 synced-starts : (h : SecondaryHistory) (frame : Received) (tuple : Tuple) → HasSynced h → HasSynced (adopting tuple false (with_inward (framed frame) h))

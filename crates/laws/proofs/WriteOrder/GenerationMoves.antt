@@ -7,7 +7,7 @@ use Rattle.blocks.specs.declared.tuple.Tuple.{Tuple}
 use Rattle.model.specs.Stream.{Item, BarrierItem, UuidsItem, IsBeginning, last_epoch}
 use Rattle.model.specs.Frames.{UuidsFrame}
 use Rattle.model.specs.Identifiers.{are_fresh, stands_in, lost, sync_end}
-use Rattle.model.specs.Primary.{Outward, PrimaryHistory, no_outward, outward, last_of, change_last}
+use Rattle.model.specs.Primary.{Outward, PrimaryHistory, no_outward, outward, last_of, change_last, new_outward}
 use Rattle.model.specs.PrimarySteps.{known_tuples, with_completions, resync_is_over, ending_resync, follows, opened}
 use Rattle.laws.proofs.Lists.Beginnings.{begins-self, get-beginning}
 use Rattle.laws.proofs.Lists.Elements.{get-left, get-more}
@@ -335,7 +335,7 @@ left-opens h sync loss shut fresh t = record {
 }
   where
     new : Outward
-    new = record { sync = sync; loss = loss; hello = h.tuple; stream = []; pushed = 0; taken = []; refused = false; begun = false; closed = false }
+    new = new_outward sync loss h.tuple
 
     size : length (h.connections ++ new ∷ []) ≡ length h.connections + 1
     size = length-append h.connections (new ∷ [])

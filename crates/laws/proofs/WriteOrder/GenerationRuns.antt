@@ -1,6 +1,6 @@
 -- A generation that was left does not come back, in any run of a primary.
-use Rattle.std.proofs.Common.{ℕ, zero, suc, ◌≡◌, ◌-◌, ◌<◌, ◌⊎◌, inl, inr, Bool, true, false, List, [], ◌∷◌, ◌++◌, length, Option, Some, None, slice_get, Ok}
-use Rattle.std.proofs.Common.{refl, ◌∙◌, ap, subst}
+use Rattle.std.proofs.Common.{ℕ, ◌≡◌, ◌-◌, ◌<◌, ◌⊎◌, inl, inr, Bool, true, false, List, [], ◌∷◌, ◌++◌, Option, Some, None, Ok}
+use Rattle.std.proofs.Common.{refl, ◌∙◌, ap}
 use Rattle.std.specs.Prelude.{is_some, unwrap_or, if◌then◌else◌}
 use Rattle.std.proofs.lemmas.Bool.{both_ways}
 use Rattle.blocks.specs.declared.settings.Settings.{Settings}
@@ -9,22 +9,23 @@ use Rattle.blocks.specs.declared.outcome.Decision.{Decision}
 use Rattle.blocks.specs.declared.outcome.Decision.TheVariants.{NoSync, BitmapSync, FullSync}
 use Rattle.blocks.specs.SettingsRange.{IsInRange}
 use Rattle.model.specs.Contents.{BlockMap}
-use Rattle.model.specs.Stream.{Item, WriteItem, ResyncItem, SyncUuidItem, UuidsItem, within}
+use Rattle.model.specs.Stream.{WriteItem, ResyncItem, SyncUuidItem, UuidsItem}
 use Rattle.model.specs.Frames.{Received, UuidsFrame, RsWriteAckFrame, BarrierAckFrame}
 use Rattle.model.specs.Identifiers.{stands_in, decision, lost}
-use Rattle.model.specs.Marks.{marking}
-use Rattle.model.specs.Primary.{Waiting, OnDisk, Failed, Accepted, Outward, PrimaryHistory, no_outward, outward, last_of, last_index, change_last, with_outward}
+use Rattle.model.specs.Primary.{OnDisk, Accepted, Outward, PrimaryHistory, no_outward, outward, last_of, change_last, with_outward}
 use Rattle.model.specs.Primary.{stands, local_map, primary_opening}
-use Rattle.model.specs.PrimarySteps.{appending, submission, submitted, with_outcome, accepted_at, faulted, closing, receipted}
+use Rattle.model.specs.PrimarySteps.{submission, submitted, with_outcome, accepted_at, faulted, closing, receipted, submitted_with}
+use Rattle.model.specs.PrimarySteps.{faulted_by}
 use Rattle.model.specs.Acknowledgements.{begun_with}
 use Rattle.model.specs.LocalRuns.{PrimaryEvent, primary_run}
 use Rattle.laws.proofs.Rules.EpochEnds.{TakesWrites, takes-writes}
 use Rattle.laws.proofs.Lists.Beginnings.{begins-self}
 use Rattle.laws.proofs.Lists.Last.{change-twice}
-use Rattle.laws.proofs.Primary.Homes.{HasHomes, open-at}
+use Rattle.laws.proofs.Primary.Homes.{HasHomes}
+use Rattle.laws.proofs.Primary.FirstStreams.{no-item}
 use Rattle.laws.proofs.Primary.Moves.{IsKeptByMoves, IsKeptByReleases, keeps-run, with_frame, pushing}
 use Rattle.laws.proofs.Accounted.{IsAccounted}
-use Rattle.laws.proofs.WriteOrder.SpanRuns.{Spanned, SpannedAfter, spans-kept, spans-released, spans-run}
+use Rattle.laws.proofs.WriteOrder.SpanRuns.{start-end, Spanned, SpannedAfter, spans-kept, spans-released, spans-run}
 use Rattle.laws.proofs.WriteOrder.Generations.{outward-change, start-current}
 use Rattle.laws.proofs.WriteOrder.GenerationMoves.{HasLeft, left-still, left-with, left-appends, left-following, left-closes, left-opens}
 use Rattle.laws.proofs.WriteOrder.GenerationBegins.{left-beginning}
@@ -33,26 +34,7 @@ use Rattle.laws.proofs.Rules.RefusedFrames.{refusing_frame, refused_out, refused
 left-submits : (h : PrimaryHistory) (first : ℕ) (contents : List (List ℕ)) → HasLeft h → HasLeft (submitted h first contents)
 left-submits h first contents t = go (stands (outward h))
   where
-    go : (b : Bool) → HasLeft (elim b as (λ _. PrimaryHistory) [
-      | true ↦ appending (WriteItem (submission h first contents))
-          (record h {
-            writes = h.writes ++ record {
-              write = submission h first contents;
-              journal_length = length h.journal;
-              home = Some (record { index = last_index h.connections; place = length (outward h).stream });
-              outcome = Waiting;
-            } ∷ [];
-          })
-      | false ↦ record h {
-        writes = h.writes ++ record {
-          write = submission h first contents;
-          journal_length = length h.journal;
-          home = None;
-          outcome = Waiting;
-        } ∷ [];
-        marks = marking (submission h first contents) h.marks;
-      }
-    ])
+    go : (b : Bool) → HasLeft (submitted_with b h first contents)
     go true = left-appends h _ (WriteItem (submission h first contents)) refl refl refl (λ tuple is. cc) t
     go false = left-still h _ refl refl refl t
 
@@ -60,18 +42,9 @@ left-faults : (h : PrimaryHistory) (number : ℕ) (offsets : List ℕ) → HasLe
 left-faults h number offsets t = go (accepted_at h number)
   where
     go : (v : Option Accepted) → HasLeft
-        (elim v as (λ _. PrimaryHistory) [
-          | None ↦ h
-          | Some accepted ↦ with_outcome number (Failed (within (length accepted.write.contents) offsets))
-              (record h { marks = marking accepted.write h.marks })
-        ])
+        (faulted_by v number offsets h)
     go None = t
     go (Some accepted) = left-still h _ refl refl refl t
-
--- what a stream begins with ends no resync
-start-end : (word n : ℕ) (tuple : Tuple) → slice_get (SyncUuidItem word ∷ []) n ≡ Some (UuidsItem tuple) → ⊥
-start-end word zero tuple at = cc
-start-end word (suc n) tuple at = cc
 
 left-begins : (h : PrimaryHistory) (peer : Tuple) (decided : Decision) → HasHomes h → IsAccounted h → (outward h).closed ≡ false → (outward h).begun ≡ false
     → decision h.tuple peer ≡ Ok decided → stands_in (outward h).loss peer ≡ false → HasLeft h
@@ -83,12 +56,6 @@ left-begins h peer decided homes accounted standing fresh is unused t = go decid
 
     taken : PrimaryHistory
     taken = record (with_outward (with_frame (Ok (UuidsFrame peer))) h) { peer = Some peer }
-
-    empty : (outward h).stream ≡ []
-    empty = homes.empty (length h.connections - 1) (outward h) (open-at h standing) fresh
-
-    none-there : (n : ℕ) (i : Item) → slice_get (outward h).stream n ≡ Some i → ⊥
-    none-there n i at = let there : slice_get [] n ≡ Some i = subst (λ (l : List Item). slice_get l n ≡ Some i) empty at in cc (there)
 
     go : (v : Decision) → decision h.tuple peer ≡ Ok v
         → HasLeft (begun_with v (record (with_outward (with_frame (Ok (UuidsFrame peer))) h) { peer = Some peer }))
@@ -102,7 +69,7 @@ left-begins h peer decided homes accounted standing fresh is unused t = go decid
           loss = refl;
           hello = refl;
           taken = refl;
-          no_end = λ n tuple at. none-there n (UuidsItem tuple) at;
+          no_end = λ n tuple at. no-item h homes standing fresh n (UuidsItem tuple) at;
           how = inl (refl, refl);
         }) t
     go BitmapSync is =

@@ -11,7 +11,7 @@ use Rattle.model.specs.Contents.{Write, covers, overlay}
 use Rattle.model.specs.Stream.{Item, WriteItem, ResyncItem, UuidsItem, IsBeginning, epoch_of, last_epoch}
 use Rattle.model.specs.Frames.{Received, Acknowledged, RsWriteAckFrame}
 use Rattle.model.specs.Marks.{clearing}
-use Rattle.model.specs.Primary.{LocalOutcome, Waiting, OnDisk, Failed, Accepted, Outward, PrimaryHistory, outward, with_outward, stands}
+use Rattle.model.specs.Primary.{LocalOutcome, Waiting, OnDisk, Failed, Accepted, Outward, PrimaryHistory, outward, with_outward, stands, new_outward}
 use Rattle.model.specs.Primary.{local_layer, local_map, offset_reached, is_waiting, is_failed, is_resync, was_resynced, resync_runs}
 use Rattle.model.specs.Primary.{in_resync, free_block, accepted_frames}
 use Rattle.model.specs.PrimarySteps.{epoch_is_over, appending, opened, closing}
@@ -108,7 +108,7 @@ spans-opens h sync loss last shut t = record {
 }
   where
     new : Outward
-    new = record { sync = sync; loss = loss; hello = h.tuple; stream = []; pushed = 0; taken = []; refused = false; begun = false; closed = false }
+    new = new_outward sync loss h.tuple
 
     passes : Passes h (opened h sync loss)
     passes = record {

@@ -14,7 +14,7 @@ use Rattle.model.specs.Contents.{BlockMap, covers}
 use Rattle.model.specs.Stream.{Item, WriteItem, ResyncItem, SyncUuidItem, UuidsItem}
 use Rattle.model.specs.Frames.{Received, UuidsFrame, BarrierAckFrame}
 use Rattle.model.specs.Identifiers.{decision}
-use Rattle.model.specs.Primary.{OnDisk, Accepted, Outward, PrimaryHistory, no_outward, outward, last_index, change_last, with_outward, stands, local_map}
+use Rattle.model.specs.Primary.{OnDisk, Accepted, Outward, PrimaryHistory, no_outward, outward, change_last, with_outward, stands, local_map}
 use Rattle.model.specs.Primary.{accepted_frames, primary_opening, unreleased, is_released}
 use Rattle.model.specs.PrimarySteps.{with_outcome, receipted}
 use Rattle.model.specs.Acknowledgements.{begun_with}
@@ -23,9 +23,10 @@ use Rattle.model.specs.Headline.{is_marked, is_covered}
 use Rattle.laws.proofs.Rules.EpochEnds.{TakesWrites, takes-writes}
 use Rattle.laws.specs.Reflections.{FirstBegan, NoneBegan}
 use Rattle.laws.proofs.Lists.Beginnings.{begins-self}
-use Rattle.laws.proofs.Lists.Elements.{get-end, same-at}
-use Rattle.laws.proofs.Lists.Last.{get-change, get-change-back, change-twice, get-last-changed}
+use Rattle.laws.proofs.Lists.Elements.{same-at}
+use Rattle.laws.proofs.Lists.Last.{change-twice, get-last-changed}
 use Rattle.laws.proofs.Primary.Homes.{HasHomes, open-at}
+use Rattle.laws.proofs.Primary.FirstStreams.{no-item, first-now, first-stays}
 use Rattle.laws.proofs.Primary.Moves.{IsKeptByMoves, IsKeptByReleases, both-kept, keeps-run, with_frame, pushing}
 use Rattle.laws.proofs.Primary.LastOpen.{IsLastOpen}
 use Rattle.laws.proofs.Releases.Cleared.{done-releases, confirmed-releases}
@@ -61,44 +62,11 @@ module _ (h later : PrimaryHistory) (peer : Tuple) (decided : Decision) (f : Out
     (b : BeginsStream h later peer decided f) where
   -- a stream that began before stays the first one
   begins-first : KeepsFirst h later
-  begins-first other old = record {
-    connection = old.connection;
-    end = old.end;
-    at = elim (get-change f (no_outward h.tuple) h.connections old.connection old.end old.at) [
-      | inl same ↦ subst (λ (l : List Outward). slice_get l old.connection ≡ Some old.end) (sym b.connections) same
-      | inr changed ↦ absurd (both_ways (outward h).begun fresh (ap (λ (x : Outward). x.begun) (sym changed.1) ∙ old.begun))
-    ];
-    begun = old.begun;
-    earlier = λ k d early at. elim (get-change-back f (no_outward h.tuple) h.connections k d
-        (subst (λ (l : List Outward). slice_get l k ≡ Some d) b.connections at)) [
-          | inl same ↦ old.earlier k d early same
-          | inr changed ↦ absurd (let end = changed.2 in let within = slice_get_within h.connections old.connection old.end old.at in omega arith)
-        ];
-    peer = old.peer;
-    n = old.n;
-    taken = old.taken;
-    decides = subst (λ (t : Tuple). decision t old.peer ≡ Ok other) (sym b.opening.1.0) old.decides;
-  }
+  begins-first = first-stays h later peer f fresh b.connections b.opening.1.0
 
   -- or it is this one
   begins-now : NoneBegan h → FirstBegan later decided
-  begins-now none = record {
-    connection = last_index h.connections;
-    end = f (outward h);
-    at = subst (λ (l : List Outward). slice_get l (last_index h.connections) ≡ Some (f (outward h))) (sym b.connections)
-        (get-last-changed f (no_outward h.tuple) h.connections (outward h) (open-at h standing) refl);
-    begun = b.begun;
-    earlier = λ k d early at. elim (get-change-back f (no_outward h.tuple) h.connections k d
-        (subst (λ (l : List Outward). slice_get l k ≡ Some d) b.connections at)) [
-          | inl same ↦ none.none k d same
-          | inr changed ↦ absurd (let end = changed.2 in omega arith)
-        ];
-    peer = peer;
-    n = length (outward h).taken;
-    taken = subst (λ (l : List Received). slice_get l (length (outward h).taken) ≡ Some (Ok (UuidsFrame peer))) (sym b.taken)
-        (get-end (outward h).taken (Ok (UuidsFrame peer)));
-    decides = subst (λ (t : Tuple). decision t peer ≡ Ok decided) (none.tuple ∙ sym b.opening.1.0) is;
-  }
+  begins-now = first-now h later peer f fresh b.connections b.opening.1.0 decided standing b.begun b.taken is
 
   begins-passes : Passes h later
   begins-passes = passes-change h later f b.connections b.writes b.opening begins-first
@@ -216,7 +184,7 @@ start-block : (word n block : ℕ) (contents : List ℕ) → slice_get (SyncUuid
 start-block word zero block contents at = cc
 start-block word (suc n) block contents at = cc
 
-start-end : (word n : ℕ) (tuple : Tuple) → slice_get (SyncUuidItem word ∷ []) n ≡ Some (UuidsItem tuple) → ⊥
+pub start-end : (word n : ℕ) (tuple : Tuple) → slice_get (SyncUuidItem word ∷ []) n ≡ Some (UuidsItem tuple) → ⊥
 start-end word zero tuple at = cc
 start-end word (suc n) tuple at = cc
 
@@ -231,12 +199,6 @@ spans-begins h peer decided homes last accounted standing fresh is t = go decide
     taken : PrimaryHistory
     taken = record (with_outward (with_frame (Ok (UuidsFrame peer))) h) { peer = Some peer }
 
-    empty : (outward h).stream ≡ []
-    empty = homes.empty (length h.connections - 1) (outward h) (open-at h standing) fresh
-
-    none-there : (n : ℕ) (i : Item) → slice_get (outward h).stream n ≡ Some i → ⊥
-    none-there n i at = let there : slice_get [] n ≡ Some i = subst (λ (l : List Item). slice_get l n ≡ Some i) empty at in cc (there)
-
     go : (v : Decision) → decision h.tuple peer ≡ Ok v
         → HasSpans (begun_with v (record (with_outward (with_frame (Ok (UuidsFrame peer))) h) { peer = Some peer }))
     go NoSync is = begins-spans h (begun_with NoSync taken) peer NoSync (λ c. record c { taken = c.taken ++ Ok (UuidsFrame peer) ∷ []; begun = true }) homes
@@ -246,8 +208,8 @@ spans-begins h peer decided homes last accounted standing fresh is t = go decide
           opening = (refl, (refl, (refl, refl)));
           begun = refl;
           taken = refl;
-          no_block = λ n block contents at. none-there n (ResyncItem block contents) at;
-          no_end = λ n tuple at. none-there n (UuidsItem tuple) at;
+          no_block = λ n block contents at. no-item h homes standing fresh n (ResyncItem block contents) at;
+          no_end = λ n tuple at. no-item h homes standing fresh n (UuidsItem tuple) at;
           marks = λ block inside unmarked. unmarked;
           full = λ same. absurd (cc);
         }) t

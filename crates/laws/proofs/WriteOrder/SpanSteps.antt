@@ -10,7 +10,7 @@ use Rattle.model.specs.Contents.{BlockMap, Layer, Write, block_under, overlay}
 use Rattle.model.specs.Stream.{WriteItem, within}
 use Rattle.model.specs.Marks.{marking, releasing, is_cleared}
 use Rattle.model.specs.Primary.{LocalOutcome, Waiting, OnDisk, Failed, Accepted, Outward, PrimaryHistory, outward, change_last, is_waiting, is_failed}
-use Rattle.model.specs.PrimarySteps.{set_outcome, with_outcome, is_unfinished, accepted_at, faulted}
+use Rattle.model.specs.PrimarySteps.{set_outcome, with_outcome, is_unfinished, accepted_at, faulted, faulted_by}
 use Rattle.laws.proofs.Rules.Marking.{unmarked-by}
 use Rattle.laws.proofs.Lists.Beginnings.{begins-self}
 use Rattle.laws.proofs.Lists.Elements.{same-at}
@@ -123,11 +123,7 @@ pub spans-faults : (h : PrimaryHistory) (number : ℕ) (offsets : List ℕ) → 
 spans-faults h number offsets last t = go (accepted_at h number) refl
   where
     go : (v : Option Accepted) → accepted_at h number ≡ v
-        → HasSpans (elim v as (λ _. PrimaryHistory) [
-          | None ↦ h
-          | Some accepted ↦ with_outcome number (Failed (within (length accepted.write.contents) offsets))
-              (record h { marks = marking accepted.write h.marks })
-        ])
+        → HasSpans (faulted_by v number offsets h)
     go None is = t
     go (Some accepted) is =
         let failed : LocalOutcome = Failed (within (length accepted.write.contents) offsets) in

@@ -9,7 +9,7 @@ use Rattle.model.specs.Contents.{Write, overlay}
 use Rattle.model.specs.Stream.{WriteItem, ResyncItem, UuidsItem}
 use Rattle.model.specs.Marks.{marking}
 use Rattle.model.specs.Primary.{Waiting, Accepted, Outward, PrimaryHistory, no_outward, outward, last_index, stands}
-use Rattle.model.specs.PrimarySteps.{appending, submission, submitted}
+use Rattle.model.specs.PrimarySteps.{appending, submission, submitted, submitted_with}
 use Rattle.laws.proofs.Lists.Beginnings.{begins-self, take-begins}
 use Rattle.laws.proofs.Lists.Elements.{get-left, get-more}
 use Rattle.laws.proofs.Lists.Last.{get-last-changed}
@@ -199,25 +199,6 @@ pub spans-submits : (h : PrimaryHistory) (first : ℕ) (contents : List (List �
     → HasSpans h → HasSpans (submitted h first contents)
 spans-submits h first contents may homes last accounted t = go (stands (outward h)) refl
   where
-    go : (b : Bool) → stands (outward h) ≡ b → HasSpans (elim b as (λ _. PrimaryHistory) [
-      | true ↦ appending (WriteItem (submission h first contents))
-          (record h {
-            writes = h.writes ++ record {
-              write = submission h first contents;
-              journal_length = length h.journal;
-              home = Some (record { index = last_index h.connections; place = length (outward h).stream });
-              outcome = Waiting;
-            } ∷ [];
-          })
-      | false ↦ record h {
-        writes = h.writes ++ record {
-          write = submission h first contents;
-          journal_length = length h.journal;
-          home = None;
-          outcome = Waiting;
-        } ∷ [];
-        marks = marking (submission h first contents) h.marks;
-      }
-    ])
+    go : (b : Bool) → stands (outward h) ≡ b → HasSpans (submitted_with b h first contents)
     go true is = submits-connected h (submission h first contents) homes last is t
     go false is = submits-alone h (submission h first contents) last accounted is may.connected t

@@ -18,10 +18,10 @@ use Rattle.model.specs.Stream.{Item, WriteItem, ResyncItem, BarrierItem, SyncUui
 use Rattle.model.specs.Frames.{Received, UuidsFrame, RsWriteAckFrame, BarrierAckFrame}
 use Rattle.model.specs.Identifiers.{sync_end}
 use Rattle.model.specs.Marks.{marking}
-use Rattle.model.specs.Primary.{LocalOutcome, Waiting, OnDisk, Failed, Accepted, Completion, Outward, PrimaryHistory, no_outward, outward, last_index}
+use Rattle.model.specs.Primary.{LocalOutcome, Waiting, OnDisk, Accepted, Completion, Outward, PrimaryHistory, no_outward, outward, last_index}
 use Rattle.model.specs.Primary.{change_last, with_outward, stands, local_map, is_completed, is_open, primary_opening}
 use Rattle.model.specs.PrimarySteps.{set_outcome, completion_of, newly_completed, with_completions, appending, ending_resync, follows, submission, submitted}
-use Rattle.model.specs.PrimarySteps.{with_outcome, accepted_at, faulted, closing}
+use Rattle.model.specs.PrimarySteps.{with_outcome, accepted_at, faulted, closing, submitted_with, faulted_by}
 use Rattle.model.specs.Acknowledgements.{begun_with}
 use Rattle.model.specs.LocalRuns.{PrimaryEvent, primary_run}
 use Rattle.model.specs.WriteOrder.{comes_before}
@@ -258,26 +258,7 @@ turns-submits settings h first contents p t = go (stands (outward h)) refl
               both_ways (is_completed h a.write.number) (subst (λ (w : _). is_completed h w.number ≡ false) open_one.3 not_done) done)
         ]
 
-    go : (b : Bool) → stands (outward h) ≡ b → HasTurns (elim b as (λ _. PrimaryHistory) [
-      | true ↦ appending (WriteItem (submission h first contents))
-          (record h {
-            writes = h.writes ++ record {
-              write = submission h first contents;
-              journal_length = length h.journal;
-              home = Some (record { index = last_index h.connections; place = length (outward h).stream });
-              outcome = Waiting;
-            } ∷ [];
-          })
-      | false ↦ record h {
-        writes = h.writes ++ record {
-          write = submission h first contents;
-          journal_length = length h.journal;
-          home = None;
-          outcome = Waiting;
-        } ∷ [];
-        marks = marking (submission h first contents) h.marks;
-      }
-    ])
+    go : (b : Bool) → stands (outward h) ≡ b → HasTurns (submitted_with b h first contents)
     go true is =
         let item : Item = WriteItem (submission h first contents) in
         let f : Outward → Outward = λ c. record c { stream = c.stream ++ item ∷ [] } in
@@ -324,11 +305,7 @@ turns-faults : (h : PrimaryHistory) (number : ℕ) (offsets : List ℕ) → HasT
 turns-faults h number offsets t = go (accepted_at h number)
   where
     go : (v : Option Accepted) → HasTurns
-        (elim v as (λ _. PrimaryHistory) [
-          | None ↦ h
-          | Some accepted ↦ with_outcome number (Failed (within (length accepted.write.contents) offsets))
-              (record h { marks = marking accepted.write h.marks })
-        ])
+        (faulted_by v number offsets h)
     go None = t
     go (Some accepted) = turns-same h _ refl (stay-outcome number _ h.writes) refl t
 

@@ -7,7 +7,7 @@ use Rattle.blocks.specs.Positions.{StreamPosition}
 use Rattle.model.specs.Contents.{Write}
 use Rattle.model.specs.Stream.{Item, WriteItem, ResyncItem, BarrierItem, SyncUuidItem, UuidsItem, is_write}
 use Rattle.model.specs.Frames.{Acknowledged, naming}
-use Rattle.model.specs.Primary.{Accepted, Outward, PrimaryHistory, outward, last_index, stands, items_sent, same_naming, is_answered_by, is_answered, is_alone}
+use Rattle.model.specs.Primary.{Accepted, PrimaryHistory, outward, last_index, stands, items_sent, same_naming, is_answered_by, is_answered, is_alone}
 use Rattle.model.specs.Primary.{is_released, unreleased}
 use Rattle.model.specs.Acknowledgements.{names_sent, was_named}
 use Rattle.transferlog.specs.Log.{awaits_in}
@@ -20,6 +20,7 @@ use Rattle.laws.proofs.Primary.LastOpen.{IsLastOpen}
 use Rattle.primary_steps.specs.Core.{PrimaryState}
 use Rattle.primary_steps.specs.Taking.{named}
 use Rattle.primary_steps.specs.Leaves.{is_sent, logged_of, Leaves}
+use Rattle.primary_steps.proofs.Common.Homes.{sent-at, answered-at}
 use Rattle.primary_steps.proofs.Common.Numbers.{any-some}
 use Rattle.primary_steps.proofs.Common.Releasing.{IsHere, not-alone, confirmed-answered}
 use Rattle.primary_steps.proofs.LocalDisk.Writes.{one, found-is}
@@ -29,24 +30,11 @@ use Rattle.laws.proofs.Rules.Releases.{freed-linked, released-parts}
 pub answered-here : (h : PrimaryHistory) (a : Accepted) (place : ℕ) → a.home ≡ Some (record { index = last_index h.connections; place = place })
     → slice_get h.connections (last_index h.connections) ≡ Some (outward h)
     → is_answered h a ≡ is_answered_by h.settings.protocol (outward h) place (WriteItem a.write)
-answered-here h a place home there =
-    ap (λ (v : Option StreamPosition). elim v as
-    (λ _. Bool) [
-      | None ↦ false
-      | Some home ↦ elim (slice_get h.connections home.index) as
-          (λ _. Bool) [ None ↦ false | Some c ↦ is_answered_by h.settings.protocol c home.place (WriteItem a.write) ]
-    ]) home
-    ∙ ap (λ (v : Option Outward). elim v as (λ _. Bool) [ None ↦ false | Some c ↦ is_answered_by h.settings.protocol c place (WriteItem a.write) ]) there
+answered-here h a place home there = answered-at h a (last_index h.connections) place (outward h) home there
 
 pub sent-here : (h : PrimaryHistory) (a : Accepted) (place : ℕ) → a.home ≡ Some (record { index = last_index h.connections; place = place })
     → slice_get h.connections (last_index h.connections) ≡ Some (outward h) → is_sent h a ≡ nat_lt place (items_sent (outward h))
-sent-here h a place home there =
-    ap (λ (v : Option StreamPosition). elim v as
-    (λ _. Bool) [
-      | None ↦ false
-      | Some home ↦ elim (slice_get h.connections home.index) as (λ _. Bool) [ None ↦ false | Some c ↦ nat_lt home.place (items_sent c) ]
-    ]) home
-    ∙ ap (λ (v : Option Outward). elim v as (λ _. Bool) [ None ↦ false | Some c ↦ nat_lt place (items_sent c) ]) there
+sent-here h a place home there = sent-at h a (last_index h.connections) place (outward h) home there
 
 -- The write that an acknowledgement names.
 pub record Names (h : PrimaryHistory) (ack : Acknowledged) : Type 0 where

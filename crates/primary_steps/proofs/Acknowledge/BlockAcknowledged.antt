@@ -7,6 +7,7 @@ use Rattle.std.specs.List.{list_any}
 use Rattle.std.proofs.lemmas.Bool.{both_ways, and_parts, not-true, eqb-true, eq-eqb, false_from_ne_true}
 use Rattle.std.proofs.lemmas.List.Elements.{filter-append}
 use Rattle.std.proofs.lemmas.Option.{slice_get_within}
+use Rattle.std.proofs.Math.Bool.{and-false, and-true, or-true}
 use Rattle.blocks.specs.Positions.{StreamPosition}
 use Rattle.blocks.specs.declared.settings.Settings.{Settings}
 use Rattle.blocks.specs.declared.settings.Protocol.{Protocol}
@@ -52,24 +53,12 @@ use Rattle.primary_steps.proofs.Acknowledge.WriteAnswered.{frames-more}
 use Rattle.laws.proofs.Rules.Answered.{answered-other}
 use Rattle.laws.proofs.Primary.Seen.{alone-seen, sent-seen, answered-seen, confirmed-seen}
 
-or-true : (b : Bool) → (b || true) ≡ true
-or-true true = refl
-or-true false = refl
-
 -- the mark of a block goes
 pub set-marks : (blocks : ℕ) (marks : ℕ → Bool) (block : ℕ) → set (marks_in blocks marks) block false ≡ marks_in blocks (clearing block marks)
 set-marks blocks marks block = go 0 block (below blocks) (omega arith)
     (λ i x at. let is = sym (get-below blocks i (let within = slice_get_within (below blocks) i x at in let size = length-below blocks in omega arith))
     ∙ at in let same : i ≡ x = cc in omega arith)
   where
-    and-true : (b : Bool) → (b && true) ≡ b
-    and-true true = refl
-    and-true false = refl
-
-    and-false : (b : Bool) → (b && false) ≡ false
-    and-false true = refl
-    and-false false = refl
-
     kept : (x : ℕ) → (x ≡ block → ⊥) → marks x ≡ (marks x && not (x == block))
     kept x other = sym (ap (λ b. marks x && not b) (false_from_ne_true (x == block) (λ same. other (eqb-true x block same))) ∙ and-true (marks x))
 

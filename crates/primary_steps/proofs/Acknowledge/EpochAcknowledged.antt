@@ -2,7 +2,7 @@
 use Rattle.std.proofs.Common.{ℕ, zero, suc, ◌≡◌, ◌+◌, ◌-◌, ◌<◌, ◌≤◌, ◌⊎◌, inl, inr, Bool, true, false, not, ◌&&◌, ◌||◌, List, [], ◌∷◌, ◌++◌, length, map}
 use Rattle.std.proofs.Common.{filter, take, drop, Option, Some, None, slice_get, Result, Ok, Err, refl, sym, ◌∙◌, ap, subst, arith, nat_le, ◌==◌}
 use Rattle.std.proofs.Math.Bool.{or-false}
-use Rattle.std.proofs.lemmas.List.{append-nil}
+use Rattle.std.proofs.lemmas.List.{append-nil, map-id}
 use Rattle.std.specs.Prelude.{if◌then◌else◌}
 use Rattle.std.proofs.lemmas.Bool.{cases_lt, both_ways, and_parts, eqb-true, eq-eqb, lt-ltb, le-leb, lt-leb, leb-true, false_from_ne_true}
 use Rattle.std.proofs.lemmas.Option.{slice_get_within}
@@ -181,7 +181,7 @@ module _ (settings : Settings) (bound : TakesWrites settings) (s : PrimaryState)
   confirmed-moved = record {
     settings = refl;
     journal = refl;
-    writes = same-list h.writes;
+    writes = sym (map-id h.writes);
     write = λ a. refl;
     logged = λ i a at. seen a;
     released = λ i a at. released-with later a _ _ _ (settled-seen a.outcome) (not-not (is_alone h a) ∙ sym (alone-same a))
@@ -192,10 +192,6 @@ module _ (settings : Settings) (bound : TakesWrites settings) (s : PrimaryState)
     failed = λ i a at so. so;
   }
     where
-      same-list : (ws : List Accepted) → ws ≡ map (λ a. a) ws
-      same-list [] = refl
-      same-list (a ∷ ws) = ap (λ (l : List Accepted). a ∷ l) (same-list ws)
-
       stays-told : (i : ℕ) (a : Accepted) → slice_get h.writes i ≡ Some a → is_freed h a ≡ true → is_freed later a ≡ true
       stays-told i a at told = elim (freed-cases h a told) [
         | inl confirmed ↦ freed-confirmed later a (confirmed-stays i a at confirmed)
@@ -351,13 +347,6 @@ module _ (settings : Settings) (bound : TakesWrites settings) (s : PrimaryState)
       (λ (entry : ℕ × Item). is_resync entry.1 && not (was_resynced (outward h) entry.0 entry.1)) (placed (outward h).stream)
       (λ i entry at. ap (λ b. is_resync entry.1 && not b) (block-same entry.0 entry.1))))
 
-  same-list : h.writes ≡ map (λ a. a) h.writes
-  same-list = go h.writes
-    where
-      go : (ws : List Accepted) → ws ≡ map (λ a. a) ws
-      go [] = refl
-      go (a ∷ ws) = ap (λ (l : List Accepted). a ∷ l) (go ws)
-
   -- All is there for what follows.
   pub confirmed-due : IsDue (record s { log = confirming number size s.log }) None
       (releasing h (with_outward (with_frame (Ok (BarrierAckFrame number size))) h))
@@ -378,7 +367,7 @@ module _ (settings : Settings) (bound : TakesWrites settings) (s : PrimaryState)
     marks =
         ap (unmarking l1.released l1.latest) left.rest.marks
         ∙ unmarking-is settings h taken l1.released l1.latest ordered after.1.1.0.0 after.1.0 (confirmed-releases settings h number size end.stands ordered)
-        (reports-of h taken (λ a. a) l1.released released-left same-list (λ a. refl)) h.settings.blocks h.marks log-left.latest;
+        (reports-of h taken (λ a. a) l1.released released-left (sym (map-id h.writes)) (λ a. refl)) h.settings.blocks h.marks log-left.latest;
     activity = subst (λ rs. LeavesActivity (leaving rs s.activity) h.settings.slots (unreleased later))
         (ap (λ ws. map released_of (filter (writes.is_released upto) ws)) (map-none s.log.writes))
         (moved-activity s h later (λ w. w) (λ a. a) upto left homes ordered.1.0 confirmed-moved);

@@ -1,11 +1,13 @@
 -- The peer answers a write: what that leaves, before what follows.
-use Rattle.std.proofs.Common.{ℕ, ◌≡◌, inl, inr, Bool, true, false, not, ◌&&◌, ◌||◌, List, [], ◌∷◌, ◌++◌, length, map, filter, Option, Some, None, slice_get}
+use Rattle.std.proofs.Common.{ℕ, ◌≡◌, inl, inr, Bool, true, false, not, ◌&&◌, ◌||◌, List, [], ◌∷◌, ◌++◌, length, filter, Option, Some, None, slice_get}
 use Rattle.std.proofs.Common.{refl, sym, ◌∙◌, ap, subst, ◌==◌}
 use Rattle.std.proofs.Math.Bool.{or-false}
 use Rattle.std.specs.Prelude.{if◌then◌else◌}
 use Rattle.std.specs.List.{list_any}
 use Rattle.std.proofs.lemmas.Bool.{both_ways, and_parts, eqb-true}
 use Rattle.std.proofs.lemmas.List.Folds.{list_any-append}
+use Rattle.std.proofs.lemmas.List.{map-id}
+use Rattle.std.proofs.Math.Bool.{or-true}
 use Rattle.blocks.specs.Positions.{StreamPosition}
 use Rattle.blocks.specs.declared.settings.Settings.{Settings}
 use Rattle.blocks.specs.declared.settings.Protocol.{Protocol}
@@ -17,7 +19,7 @@ use Rattle.model.specs.Primary.{was_resynced, completes}
 use Rattle.transferlog.specs.Log.{changing}
 use Rattle.transferlog.specs.Ring.{on}
 use Rattle.transferlog.specs.Writes as writes
-use Rattle.transferlog.specs.Writes.{LogWrite, released_of}
+use Rattle.transferlog.specs.Writes.{released_of}
 use Rattle.transferlog.specs.declared.report.Released.{Released}
 use Rattle.laws.proofs.Rules.Completions.{completes-parts}
 use Rattle.laws.proofs.Lists.Last.{get-change, get-last-changed}
@@ -141,10 +143,6 @@ module _ (settings : Settings) (s : PrimaryState) (h : PrimaryHistory) (e : EndS
       ∙ (answers ack.place (WriteItem names.accepted.write)
       ∙ (ap (λ b. is_answered_by h.settings.protocol (outward h) ack.place (WriteItem names.accepted.write) || b) names.naming_is
       ∙ or-true (is_answered_by h.settings.protocol (outward h) ack.place (WriteItem names.accepted.write))))))
-    where
-      or-true : (b : Bool) → (b || true) ≡ true
-      or-true true = refl
-      or-true false = refl
 
   sees : (i : ℕ) (a : Accepted) → slice_get h.writes i ≡ Some a → logged_of later a ≡ on ack.number writes.answering (logged_of h a)
   sees i a at = go (a.write.number == ack.number) refl
@@ -168,7 +166,7 @@ module _ (settings : Settings) (s : PrimaryState) (h : PrimaryHistory) (e : EndS
     journal = refl;
     connections = refl;
     last = out;
-    writes = same-list h.writes;
+    writes = sym (map-id h.writes);
     write = λ a. refl;
     home = λ a. refl;
     logged = sees;
@@ -184,10 +182,6 @@ module _ (settings : Settings) (s : PrimaryState) (h : PrimaryHistory) (e : EndS
     resynced = no_block;
     answered = answered-mono;
   }
-    where
-      same-list : (ws : List Accepted) → ws ≡ map (λ a. a) ws
-      same-list [] = refl
-      same-list (a ∷ ws) = ap (λ (l : List Accepted). a ∷ l) (same-list ws)
 
   clears-none : (n : ℕ) (r : Released) → slice_get (changing ack.number writes.answering s.log).1.released n ≡ Some r → r.clears ≡ false
   clears-none n r at =

@@ -1,11 +1,12 @@
 -- An end closes, by a call or by a protocol error: what that leaves.
-use Rattle.std.proofs.Common.{ℕ, ◌≡◌, ◌≤◌, inl, inr, Bool, true, false, not, ◌&&◌, ◌||◌, List, [], ◌∷◌, ◌++◌, length, map, filter, Option, Some, None}
+use Rattle.std.proofs.Common.{ℕ, ◌≡◌, ◌≤◌, inl, inr, Bool, true, false, not, ◌&&◌, ◌||◌, List, [], ◌++◌, length, map, filter, Option, Some, None}
 use Rattle.std.proofs.Common.{slice_get, refl, sym, ◌∙◌, ap, subst, arith, ◌==◌}
 use Rattle.std.specs.Prelude.{find, is_some, if◌then◌else◌}
 use Rattle.std.specs.List.{list_any}
 use Rattle.std.proofs.lemmas.Bool.{both_ways, eqb-true, false_from_ne_true}
-use Rattle.std.proofs.lemmas.List.{length-map}
+use Rattle.std.proofs.lemmas.List.{length-map, map-id}
 use Rattle.std.proofs.lemmas.List.Elements.{filter-append}
+use Rattle.std.proofs.Math.Bool.{or-true}
 use Rattle.blocks.specs.Positions.{StreamPosition}
 use Rattle.blocks.specs.declared.tuple.Tuple.{Tuple}
 use Rattle.blocks.specs.declared.settings.Settings.{Settings}
@@ -18,7 +19,7 @@ use Rattle.model.specs.Marks.{marking_unreleased}
 use Rattle.model.specs.Primary.{Accepted, Completion, Outward, PrimaryHistory, no_outward, outward, last_index, change_last, stands}
 use Rattle.model.specs.Primary.{accepted_frames, is_answered_by, is_answered, is_alone, is_failed}
 use Rattle.model.specs.Primary.{is_released, is_completed, is_open, open_writes, completes, unreleased, under_way}
-use Rattle.model.specs.PrimarySteps.{Followed, newly_completed, with_completions, appending, resync_is_over, ending_resync, follows}
+use Rattle.model.specs.PrimarySteps.{newly_completed, with_completions, appending, resync_is_over, follows, followed_with}
 use Rattle.transferlog.specs.Log.{draining}
 use Rattle.transferlog.specs.Writes as writes
 use Rattle.transferlog.specs.Writes.{completed_of, released_of}
@@ -105,7 +106,7 @@ module _ (s : PrimaryState) (h h1 : PrimaryHistory) (k : Outward → Outward) (e
   closed-moved = record {
     settings = c.settings;
     journal = c.journal;
-    writes = c.writes ∙ same-list h.writes;
+    writes = c.writes ∙ sym (map-id h.writes);
     write = λ a. refl;
     logged = λ i a at. λ j. record (logged_of h a) { linked = not (all-alone i a at j); sent = sent-same a j; answered = answered-same a j };
     released = λ i a at. released-with h1 a _ true false (settled-seen a.outcome) (sym (all-alone i a at))
@@ -113,10 +114,6 @@ module _ (s : PrimaryState) (h h1 : PrimaryHistory) (k : Outward → Outward) (e
     stays = λ i a at so. released-by h1 a (released-parts h a so).done (freed-alone h1 a (all-alone i a at));
     failed = λ i a at so. so;
   }
-    where
-      same-list : (ws : List Accepted) → ws ≡ map (λ a. a) ws
-      same-list [] = refl
-      same-list (a ∷ ws) = ap (λ (l : List Accepted). a ∷ l) (same-list ws)
 
   -- no stream stands
   down : stands (outward h1) ≡ false
@@ -128,10 +125,6 @@ module _ (s : PrimaryState) (h h1 : PrimaryHistory) (k : Outward → Outward) (e
       let was : completes h a ≡ true = sym (left.rest.quiet i a ata)
       ∙ (ap (list_any (λ (entry : Completion). entry.write.number == a.write.number)) (sym c.journal) ∙ completed) in
       completes-by h1 a (completes-parts h a was).0 (ap (λ b. is_answered h1 a || b) (all-alone i a ata) ∙ or-true (is_answered h1 a))
-    where
-      or-true : (b : Bool) → (b || true) ≡ true
-      or-true true = refl
-      or-true false = refl
 
   -- the log, once drained
   drained-log : LeavesLog (draining s.log) h1
@@ -269,19 +262,6 @@ module _ (s : PrimaryState) (h h1 : PrimaryHistory) (k : Outward → Outward) (e
       ∙ (length-map (newly_completed h1) (λ a. completed_of (logged_of h1 a))
       ∙ (sym (length-map (newly_completed h1) (λ a. a.write.number)) ∙ by-end (resync_is_over (parted (with_completions h1)))))
     where
-      by-end : (b : Bool) → length (map (λ a. a.write.number) (newly_completed h1)) ≡ length (elim b as (λ _. Followed) [
-        | true ↦ record {
-          history = ending_resync (parted (with_completions h1));
-          completed = map (λ accepted. accepted.write.number) (newly_completed h1);
-          barrier = barrier_of (with_completions h1);
-          synced = true;
-        }
-        | false ↦ record {
-          history = parted (with_completions h1);
-          completed = map (λ accepted. accepted.write.number) (newly_completed h1);
-          barrier = barrier_of (with_completions h1);
-          synced = false;
-        }
-      ]).completed
+      by-end : (b : Bool) → length (map (λ a. a.write.number) (newly_completed h1)) ≡ length (followed_with b (parted (with_completions h1)) (map (λ accepted. accepted.write.number) (newly_completed h1)) (barrier_of (with_completions h1))).completed
       by-end true = refl
       by-end false = refl

@@ -6,6 +6,7 @@ use Rattle.std.specs.List.{list_any}
 use Rattle.std.proofs.lemmas.Bool.{cases_lt, both_ways, and_parts, and_from, not-true, false_from_ne_true, eqb-true, eq-eqb, le-leb, lt-ltb, ltb-true}
 use Rattle.std.proofs.lemmas.Bool.{leb-false, lt-leb, le-ltb}
 use Rattle.std.proofs.lemmas.Option.{slice_get_within, slice_get-map}
+use Rattle.std.proofs.Math.Bool.{and-false}
 use Rattle.blocks.specs.Positions.{StreamPosition}
 use Rattle.blocks.specs.declared.settings.Settings.{Settings}
 use Rattle.model.specs.Contents.{Write}
@@ -263,10 +264,6 @@ module _ (s : PrimaryState) (h h1 : PrimaryHistory) (n : ℕ) (f : LogWrite → 
           by-number : (b : Bool) → (if b then false else nat_lt 0 0 && nat_le 0 n) ≡ false
           by-number true = refl
           by-number false = refl
-
-          and-false : (b : Bool) → (b && false) ≡ false
-          and-false true = refl
-          and-false false = refl
 
   ends-as : (b d : Bool) → closes_any (on n f) s.log ≡ b → is_in_last n s.log.epochs ≡ d
       → ended_by (closes_any (on n f) s.log) n s.log.epochs ≡ ended_if (b && d) s.log.epochs

@@ -7,6 +7,7 @@ use Rattle.std.specs.Prelude.{option_map, is_none, if◌then◌else◌}
 use Rattle.std.specs.List.{list_any}
 use Rattle.std.proofs.lemmas.Bool.{both_ways}
 use Rattle.std.proofs.lemmas.List.Folds.{list_any-append}
+use Rattle.std.proofs.Math.Bool.{and-false, or-true}
 use Rattle.blocks.specs.declared.tuple.Tuple.{Tuple}
 use Rattle.blocks.specs.declared.outcome.What.{What}
 use Rattle.blocks.specs.declared.outcome.Done.{Done}
@@ -17,7 +18,7 @@ use Rattle.blocks.specs.Ranges.{below}
 use Rattle.model.specs.Stream.{Item, BarrierItem, UuidsItem, last_epoch}
 use Rattle.model.specs.Primary.{Accepted, Outward, PrimaryHistory, no_outward, last_of, outward, last_index, stands, is_completed, completes, unreleased}
 use Rattle.model.specs.Primary.{open_writes, in_resync, is_sync_start, is_sync_end, resync_runs, under_way}
-use Rattle.model.specs.PrimarySteps.{Followed, newly_completed, with_completions, epoch_is_over, appending, resync_is_over, ending_resync, succeeding}
+use Rattle.model.specs.PrimarySteps.{Followed, newly_completed, with_completions, epoch_is_over, appending, resync_is_over, ending_resync, succeeding, followed_with}
 use Rattle.transferlog.specs.Log as log
 use Rattle.transferlog.specs.Writes.{completed_of}
 use Rattle.laws.proofs.Rules.ResyncEnds.{over-stands, not-running, over-by}
@@ -72,14 +73,6 @@ pub record Follows (got : Done × PrimaryState) (step : Reply × PrimaryHistory)
   pub leaves : Leaves got.1 step.1
 
 -- Lists and truth values.
-
-or-true : (b : Bool) → (b || true) ≡ true
-or-true true = refl
-or-true false = refl
-
-and-false : (b : Bool) → (b && false) ≡ false
-and-false true = refl
-and-false false = refl
 
 -- an end that queues nothing
 queued-none : (v : Option EndState) → option_map (λ (e : EndState). record e { unsent = e.unsent ++ [] }) v ≡ v
@@ -347,20 +340,7 @@ module _ (s : PrimaryState) (barrier : Option ℕ) (h : PrimaryHistory) (due : I
       same = over-same (core.appending (barrier_item barrier) (reporting s)) (parted (with_completions h)) rest-parted.marks rest-parted.end
 
       model-by : Bool → Followed
-      model-by b = elim b [
-        | true ↦ record {
-          history = ending_resync (parted (with_completions h));
-          completed = map (λ accepted. accepted.write.number) (newly_completed h);
-          barrier = barrier_of (with_completions h);
-          synced = true;
-        }
-        | false ↦ record {
-          history = parted (with_completions h);
-          completed = map (λ accepted. accepted.write.number) (newly_completed h);
-          barrier = barrier_of (with_completions h);
-          synced = false;
-        }
-      ]
+      model-by b = followed_with b (parted (with_completions h)) (map (λ accepted. accepted.write.number) (newly_completed h)) (barrier_of (with_completions h))
 
       core-by : Bool → Done × PrimaryState
       core-by b = if b then (done_of name barrier true s.log, ending (core.appending (barrier_item barrier) (reporting s)))

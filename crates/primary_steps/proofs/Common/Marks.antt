@@ -6,6 +6,7 @@ use Rattle.std.specs.List.{list_any}
 use Rattle.std.proofs.lemmas.Bool.{cases_lt, both_ways, and_parts, and_from, eqb-true, eq-eqb, false_from_ne_true, not-true}
 use Rattle.std.proofs.lemmas.List.{length-append, length-map}
 use Rattle.std.proofs.lemmas.Option.{slice_get_within, slice_get-map}
+use Rattle.std.proofs.Math.Bool.{and-true}
 use Rattle.blocks.specs.declared.settings.Settings.{Settings}
 use Rattle.blocks.specs.Ranges.{below, is_between}
 use Rattle.model.specs.Contents.{covers}
@@ -215,7 +216,3 @@ unmarking-none released latest blocks marks none =
     nothing : (rs : List Released) → list_any (λ (r : Released). false) rs ≡ false
     nothing [] = refl
     nothing (r ∷ rs) = nothing rs
-
-    and-true : (b : Bool) → (b && true) ≡ b
-    and-true true = refl
-    and-true false = refl

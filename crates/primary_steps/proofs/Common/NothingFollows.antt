@@ -10,7 +10,7 @@ use Rattle.model.specs.Stream.{BarrierItem, UuidsItem, last_epoch}
 use Rattle.model.specs.Identifiers.{sync_end}
 use Rattle.model.specs.Primary.{Accepted, Outward, PrimaryHistory, no_outward, outward, stands, is_failed, is_open, completes, in_resync}
 use Rattle.model.specs.PrimarySteps.{Followed, completion_of, newly_completed, with_completions, epoch_is_over, appending, resync_is_over, ending_resync}
-use Rattle.model.specs.PrimarySteps.{follows, succeeding}
+use Rattle.model.specs.PrimarySteps.{follows, succeeding, followed_with}
 use Rattle.laws.proofs.Rules.ResyncEnds.{over-stands, not-running}
 use Rattle.laws.proofs.Primary.Ends.{stands-parts}
 use Rattle.laws.proofs.Primary.LawfulMoves.{last-changed}
@@ -45,20 +45,7 @@ follows-rest h = go (resync_is_over (parted (with_completions h))) refl
     numbers : List ℕ
     numbers = map (λ accepted. accepted.write.number) (newly_completed h)
 
-    go : (b : Bool) → resync_is_over (parted (with_completions h)) ≡ b → IsResting (elim b as (λ _. Followed) [
-      | true ↦ record {
-        history = ending_resync (parted (with_completions h));
-        completed = map (λ accepted. accepted.write.number) (newly_completed h);
-        barrier = barrier_of (with_completions h);
-        synced = true;
-      }
-      | false ↦ record {
-        history = parted (with_completions h);
-        completed = map (λ accepted. accepted.write.number) (newly_completed h);
-        barrier = barrier_of (with_completions h);
-        synced = false;
-      }
-    ]).history
+    go : (b : Bool) → resync_is_over (parted (with_completions h)) ≡ b → IsResting (followed_with b (parted (with_completions h)) (map (λ accepted. accepted.write.number) (newly_completed h)) (barrier_of (with_completions h))).history
     go true over = ended-rests (parted (with_completions h)) over
     go false on = on
 
@@ -134,8 +121,5 @@ still h quiet on rests name = ap answer (same-follow ∙ by-resync)
 
     by-resync : followed h [] ≡ record { history = h; completed = []; barrier = None; synced = false }
     by-resync =
-        ap (λ b. elim b as (λ _. Followed) [
-          | true ↦ record { history = ending_resync (parted h); completed = []; barrier = barrier_of h; synced = true }
-          | false ↦ record { history = parted h; completed = []; barrier = barrier_of h; synced = false }
-        ]) (ap resync_is_over parted-is ∙ rests)
+        ap (λ b. followed_with b (parted h) ([]) (barrier_of h)) (ap resync_is_over parted-is ∙ rests)
         ∙ λ i. record { history = parted-is i; completed = []; barrier = if on i then Some (last_epoch (outward h).stream) else None; synced = false }

@@ -2,6 +2,7 @@
 use Rattle.std.proofs.Common.{ℕ, ◌≡◌, ◌+◌, inl, inr, Bool, true, false, not, ◌&&◌, ◌||◌, List, Option, Some, None, slice_get, refl, sym, ◌∙◌, ap, subst, arith}
 use Rattle.std.proofs.Common.{nat_le}
 use Rattle.std.proofs.lemmas.Bool.{cases_Bool, both_ways, leb-true}
+use Rattle.std.proofs.Math.Bool.{and-false, or-true}
 use Rattle.blocks.specs.Positions.{StreamPosition}
 use Rattle.blocks.specs.declared.settings.Protocol.{Protocol}
 use Rattle.model.specs.Stream.{Item, WriteItem, epoch_of}
@@ -12,6 +13,7 @@ use Rattle.transferlog.specs.Writes as log
 use Rattle.laws.proofs.Primary.Homes.{HasHomes, alone-at, alone-homeless, confirmed-at}
 use Rattle.laws.proofs.Primary.LastOpen.{IsLastOpen, open-is-last}
 use Rattle.primary_steps.specs.Leaves.{logged_of, LeavesEpochs}
+use Rattle.primary_steps.proofs.Common.Homes.{answered-at}
 use Rattle.primary_steps.proofs.Common.WriteStates.{settled-seen, not-not, open-seen}
 use Rattle.laws.proofs.Rules.Releases.{freed-linked, released-parts, released-with, IsReleased}
 
@@ -79,22 +81,9 @@ module _ (h : PrimaryHistory) (l : LogState) (homes : HasHomes h) (last : IsLast
       let epoch : ℕ = epoch_of (outward h).stream here.place in
       let within : nat_le epoch e.acked ≡ true = sym (e.acknowledged epoch (omega arith))
       ∙ (sym (confirmed-at h a (record { index = last_index h.connections; place = here.place }) (outward h) here.home here.connected) ∙ confirmed) in
-      answered-here here.place here.home here.connected
+      answered-at h a (last_index h.connections) here.place (outward h) here.home here.connected
       ∙ (ap (λ (p : Protocol). is_answered_by p (outward h) here.place (WriteItem a.write)) (sym protocol)
       ∙ e.answered here.place a.write here.there (leb-true epoch e.acked within))
-    where
-      answered-here : (place : ℕ) → a.home ≡ Some (record { index = last_index h.connections; place = place })
-          → slice_get h.connections (last_index h.connections) ≡ Some (outward h)
-          → is_answered h a ≡ is_answered_by h.settings.protocol (outward h) place (WriteItem a.write)
-      answered-here place home connected =
-          ap (λ (v : Option StreamPosition). elim v as
-          (λ _. Bool) [
-            | None ↦ false
-            | Some home ↦ elim (slice_get h.connections home.index) as
-                (λ _. Bool) [ None ↦ false | Some c ↦ is_answered_by h.settings.protocol c home.place (WriteItem a.write) ]
-          ]) home
-          ∙ ap (λ (v : Option Outward). elim v as (λ _. Bool) [ None ↦ false | Some c ↦ is_answered_by h.settings.protocol c place (WriteItem a.write) ])
-          connected
 
   -- what is released is open no more
   pub released-not-open : (i : ℕ) (a : Accepted) → slice_get h.writes i ≡ Some a → is_released h a ≡ true → log.is_open (logged_of h a) ≡ false
@@ -109,16 +98,8 @@ module _ (h : PrimaryHistory) (l : LogState) (homes : HasHomes h) (last : IsLast
         | inr linked ↦
             ap (λ b. b || is_alone h a) (confirmed-answered i a at linked (freed-linked h a parts.freed linked))
       ]
-        where
-          or-true : (b : Bool) → (b || true) ≡ true
-          or-true true = refl
-          or-true false = refl
 
       by-outcome : (o : LocalOutcome) → a.outcome ≡ o → (not (completes h a) && not (is_failed a.outcome)) ≡ false
       by-outcome Waiting is = absurd (both_ways (is_waiting a.outcome) parts.done (ap is_waiting is))
       by-outcome OnDisk is = λ j. not (is_on_disk (is j) && told j) && not (is_failed (is j))
       by-outcome (Failed offsets) is = ap (λ (o : LocalOutcome). not (completes h a) && not (is_failed o)) is ∙ and-false (not (completes h a))
-        where
-          and-false : (b : Bool) → (b && false) ≡ false
-          and-false true = refl
-          and-false false = refl

@@ -5,6 +5,7 @@ use Rattle.std.specs.Prelude.{if◌then◌else◌}
 use Rattle.std.specs.List.{list_any}
 use Rattle.std.proofs.lemmas.Bool.{both_ways, false_from_ne_true}
 use Rattle.std.proofs.lemmas.List.{length-map}
+use Rattle.std.proofs.Math.Bool.{and-false, and-true}
 use Rattle.blocks.specs.declared.settings.Settings.{Settings}
 use Rattle.model.specs.Contents.{Write, covers, extent_of}
 use Rattle.model.specs.Primary.{Accepted, PrimaryHistory, is_failed, is_released, is_completed, is_open, completes, unreleased}
@@ -89,16 +90,8 @@ module _ (s : PrimaryState) (h h1 : PrimaryHistory) (move : LogWrite → LogWrit
     where
       go : (b : Bool) → completes h1 (g a) ≡ b → ((not (is_released h a) && log.is_open (logged_of h a)) && b) ≡ (is_open h1 (g a) && b)
       go false is = and-false (not (is_released h a) && log.is_open (logged_of h a)) ∙ sym (and-false (is_open h1 (g a)))
-        where
-          and-false : (b : Bool) → (b && false) ≡ false
-          and-false true = refl
-          and-false false = refl
       go true is = and-true (not (is_released h a) && log.is_open (logged_of h a)) ∙ (by-was (completes h a) refl ∙ sym (and-true (is_open h1 (g a))))
         where
-          and-true : (b : Bool) → (b && true) ≡ b
-          and-true true = refl
-          and-true false = refl
-
           unfailed : is_failed (g a).outcome ≡ false
           unfailed = completes-not-failed h1 (g a) is
 
@@ -114,10 +107,6 @@ module _ (s : PrimaryState) (h h1 : PrimaryHistory) (move : LogWrite → LogWrit
           by-was true was =
               ap (λ b. not (is_released h a) && b) (open-seen h a ∙ λ j. not (was j) && not (is_failed a.outcome))
               ∙ (and-false (not (is_released h a)) ∙ sym (open-is ∙ ap not was))
-            where
-              and-false : (b : Bool) → (b && false) ≡ false
-              and-false true = refl
-              and-false false = refl
           by-was false was =
               let open_log : log.is_open (logged_of h a) ≡ true = open-seen h a ∙ λ j. not (was j) && not (unfailed-was j) in
               let unreleased_so : is_released h a ≡ false =

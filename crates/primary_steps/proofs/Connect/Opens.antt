@@ -12,7 +12,7 @@ use Rattle.blocks.specs.Ranges.{below}
 use Rattle.model.specs.Stream.{WriteItem, epoch_of}
 use Rattle.model.specs.Refusals.{done_with}
 use Rattle.model.specs.Primary.{Accepted, Outward, PrimaryHistory, no_outward, outward, last_index, stands, items_sent, is_answered_by, is_answered, is_alone}
-use Rattle.model.specs.Primary.{is_confirmed, is_released, barrier_acknowledged, unreleased, open_writes, under_way}
+use Rattle.model.specs.Primary.{is_confirmed, is_released, barrier_acknowledged, unreleased, open_writes, under_way, new_outward}
 use Rattle.model.specs.PrimarySteps as step
 use Rattle.laws.proofs.Rules.Completions.{completes-same}
 use Rattle.laws.proofs.Rules.EpochEnds.{down-on}
@@ -105,30 +105,10 @@ module _ (h : PrimaryHistory) (new : Outward) (homes : HasHomes h) where
 -- The end opens.
 module _ (sync loss : ℕ) (s : PrimaryState) (h : PrimaryHistory) (left : Leaves s h) (homes : HasHomes h) (shut : (outward h).closed ≡ true) where
   abbrev new : Outward
-  new = record { sync = sync; loss = loss; hello = h.tuple; stream = []; pushed = 0; taken = []; refused = false; begun = false; closed = false }
+  new = new_outward sync loss h.tuple
 
-  last : outward (step.opened h sync loss) ≡ record {
-    sync = sync;
-    loss = loss;
-    hello = h.tuple;
-    stream = [];
-    pushed = 0;
-    taken = [];
-    refused = false;
-    begun = false;
-    closed = false;
-  }
-  last = last-more (no_outward h.tuple) (record {
-    sync = sync;
-    loss = loss;
-    hello = h.tuple;
-    stream = [];
-    pushed = 0;
-    taken = [];
-    refused = false;
-    begun = false;
-    closed = false;
-  }) h.connections
+  last : outward (step.opened h sync loss) ≡ new_outward sync loss h.tuple
+  last = last-more (no_outward h.tuple) (new_outward sync loss h.tuple) h.connections
 
   none-before : stands (outward h) ≡ false
   none-before = ap (λ b. not b && (outward h).begun) shut

@@ -6,6 +6,7 @@ use Rattle.std.specs.Prelude.{if◌then◌else◌}
 use Rattle.std.specs.List.{list_any}
 use Rattle.std.proofs.lemmas.Bool.{both_ways, lt-ltb, lt-leb}
 use Rattle.std.proofs.lemmas.Option.{slice_get_within}
+use Rattle.std.proofs.Math.Bool.{or-true}
 use Rattle.blocks.specs.declared.tuple.Tuple.{Tuple}
 use Rattle.blocks.specs.Identifiers.{sync_start}
 use Rattle.bitmap.specs.Marks.{marking}
@@ -151,10 +152,6 @@ goes-on-led h d word last bound one = not-over h d last (record {
 pub all-marked : (blocks : ℕ) (marks : ℕ → Bool) → marking (λ block. true) (marks_in blocks marks) ≡ marks_in blocks (marking_all blocks)
 all-marked blocks marks = marking-in blocks (λ block. true) marks
     ∙ marks-same blocks (λ block. marks block || true) (marking_all blocks) (λ block inside. or-true (marks block) ∙ sym (lt-ltb block blocks inside))
-  where
-    or-true : (b : Bool) → (b || true) ≡ true
-    or-true true = refl
-    or-true false = refl
 
 -- no more than before
 pub none-marked : (blocks : ℕ) (marks : ℕ → Bool) → marking (λ block. false) (marks_in blocks marks) ≡ marks_in blocks marks

@@ -4,6 +4,7 @@ use Rattle.std.proofs.Common.{refl, sym, ◌∙◌, ap, subst, arith, ◌==◌}
 use Rattle.std.specs.Prelude.{find, if◌then◌else◌}
 use Rattle.std.proofs.lemmas.Bool.{both_ways, and_parts, not-false, eqb-true, eq-eqb, false_from_ne_true}
 use Rattle.std.proofs.lemmas.List.Elements.{filter-append}
+use Rattle.std.proofs.Math.Bool.{and-false, and-true}
 use Rattle.blocks.specs.declared.settings.Settings.{Settings}
 use Rattle.blocks.specs.declared.refusal.Refusal.TheVariants.{UnknownJob}
 use Rattle.blocks.specs.declared.outcome.What.TheVariants as what
@@ -14,7 +15,7 @@ use Rattle.model.specs.Marks.{marking}
 use Rattle.model.specs.Primary.{LocalOutcome, Waiting, OnDisk, Failed, Accepted, PrimaryHistory, outward, is_waiting, is_on_disk, is_failed, is_alone}
 use Rattle.model.specs.Primary.{is_confirmed, is_released, is_completed, is_open, open_writes, completes, stands, under_way}
 use Rattle.model.specs.PrimarySteps as step
-use Rattle.model.specs.PrimarySteps.{is_unfinished, set_outcome, with_outcome, accepted_at, faulted}
+use Rattle.model.specs.PrimarySteps.{is_unfinished, set_outcome, with_outcome, accepted_at, faulted, faulted_by}
 use Rattle.transferlog.specs.Log as log
 use Rattle.transferlog.specs.Log.{changing}
 use Rattle.transferlog.specs.Writes as writes
@@ -67,10 +68,7 @@ module _ (settings : Settings) (bound : TakesWrites settings) (s : PrimaryState)
 
   faulted-is : faulted number offsets h ≡ with_outcome number (Failed (within (length the.accepted.write.contents) offsets))
       (record h { marks = marking the.accepted.write h.marks })
-  faulted-is = ap (λ (v : Option Accepted). elim v as (λ _. PrimaryHistory) [
-    | None ↦ h
-    | Some accepted ↦ with_outcome number (Failed (within (length accepted.write.contents) offsets)) (record h { marks = marking accepted.write h.marks })
-  ]) found
+  faulted-is = ap (λ (v : Option Accepted). faulted_by v number offsets h) found
 
   -- the core's
   failing-is : transition.failing number s ≡ record s {
@@ -164,10 +162,6 @@ module _ (settings : Settings) (bound : TakesWrites settings) (s : PrimaryState)
       go a passed true same = (λ j. (released_of
           (logged_of h (if same j then record a { outcome = Failed (within (length the.accepted.write.contents) offsets) } else a))).clears)
           ∙ and-false (not (is_alone h a))
-        where
-          and-false : (b : Bool) → (b && false) ≡ false
-          and-false true = refl
-          and-false false = refl
       go a passed false same =
           let parts = and_parts (not (is_released h a)) (is_released h (set_outcome number (Failed (within (length the.accepted.write.contents) offsets)) a))
           passed in
@@ -244,14 +238,6 @@ module _ (settings : Settings) (bound : TakesWrites settings) (s : PrimaryState)
           ∙ ap (map holding_write) (sym (filter-map (is_open h) (set_outcome number (Failed (within (length the.accepted.write.contents) offsets)))
           h.writes)))))
         where
-          and-false : (b : Bool) → (b && false) ≡ false
-          and-false true = refl
-          and-false false = refl
-
-          and-true : (b : Bool) → (b && true) ≡ b
-          and-true true = refl
-          and-true false = refl
-
           pointwise : (a : Accepted) (b : Bool)
               → (is_open h a && not b) ≡ is_open h (if b then record a { outcome = Failed (within (length the.accepted.write.contents) offsets) } else a)
           pointwise a true = and-false (is_open h a) ∙ sym (and-false (not (is_completed h a.write.number)))

@@ -14,7 +14,7 @@ use Rattle.blocks.specs.declared.outcome.Reply.TheVariants as reply
 use Rattle.model.specs.Contents.{IsDisk}
 use Rattle.model.specs.Refusals.{done_with}
 use Rattle.model.specs.Primary as model
-use Rattle.model.specs.Primary.{Waiting, Accepted, Outward, PrimaryHistory, last_index, no_outward, outward, frames_due, primary_opening}
+use Rattle.model.specs.Primary.{Waiting, Accepted, Outward, PrimaryHistory, last_index, no_outward, outward, frames_due, primary_opening, new_outward}
 use Rattle.model.specs.PrimarySteps as step
 use Rattle.model.specs.Refusals.{first_refusal}
 use Rattle.model.specs.Stream.{WriteItem}
@@ -165,7 +165,7 @@ submit-number n first contents starved done core had steps = ap told to
 
 -- the connection that is opened
 abbrev new : ℕ → ℕ → PrimaryHistory → Outward
-new sync loss h = record { sync = sync; loss = loss; hello = h.tuple; stream = []; pushed = 0; taken = []; refused = false; begun = false; closed = false }
+new sync loss h = new_outward sync loss h.tuple
 
 opened-keeps : (sync loss : ℕ) (h : PrimaryHistory) → reply.Ok (done_with what.Nothing) ≡ (step.open_primary sync loss false h).0
     → Keeps (step.opened h sync loss) (unchanged (step.opened h sync loss)) (step.open_primary sync loss false h).1

@@ -6,6 +6,7 @@ use Rattle.std.specs.List.{list_any}
 use Rattle.std.proofs.lemmas.Bool.{cases_lt, and_parts, lt-ltb, le-ltb, le-leb, lt-leb}
 use Rattle.std.proofs.lemmas.List.{map-append}
 use Rattle.std.proofs.lemmas.List.Elements.{filter-append}
+use Rattle.std.proofs.Math.Bool.{and-true}
 use Rattle.blocks.specs.Ranges.{below}
 use Rattle.blocks.specs.declared.settings.Settings.{Settings}
 use Rattle.epochs.specs.Epochs.{unacknowledged}
@@ -142,7 +143,3 @@ says-epochs s h reached left = go (stands (outward h)) refl
             ∙ (any-either (λ (entry : ℕ × Item). is_write entry.1) (λ (entry : ℕ × Item). is_resync entry.1) (items_of_epoch (outward h).stream (suc b))
             ∙ (λ i. (sym (some-filtered (λ (entry : ℕ × Item). is_write entry.1) (items_of_epoch (outward h).stream (suc b))) ∙ ap (nat_lt 0) (sym e.size)) i
             || sym e.resync i))))
-          where
-            and-true : (c : Bool) → (c && true) ≡ c
-            and-true true = refl
-            and-true false = refl

@@ -16,7 +16,7 @@ use Rattle.model.specs.Marks.{marking, releasing}
 use Rattle.model.specs.Primary.{Waiting, OnDisk, Failed, Accepted, Outward, PrimaryHistory, free_block, last_index, outward, change_last, stands}
 use Rattle.model.specs.Primary.{frames_due, local_map, local_layer}
 use Rattle.model.specs.PrimarySteps as step
-use Rattle.model.specs.PrimarySteps.{follows, appending, succeeding, submission}
+use Rattle.model.specs.PrimarySteps.{follows, appending, succeeding, submission, submitted_with}
 use Rattle.laws.proofs.Rules.FramesDue as rule
 use Rattle.laws.proofs.Rules.EpochEnds.{over-standing}
 use Rattle.laws.proofs.Blocks.Overlays.{overlay-append}
@@ -166,26 +166,7 @@ submits-keeps first contents starved h =
     (λ _. succeeding (what.Write (suc (length h.writes))) (step.submitted h first contents)) (keeps-self h)
     (λ passed. keeps-following h (step.submitted h first contents) (unchanged h) (go (stands (outward h)) refl))
   where
-    go : (b : Bool) → stands (outward h) ≡ b → Keeps h (unchanged h) (elim b as (λ _. PrimaryHistory) [
-      | true ↦ appending (WriteItem (submission h first contents))
-          (record h {
-            writes = h.writes ++ record {
-              write = submission h first contents;
-              journal_length = length h.journal;
-              home = Some (record { index = last_index h.connections; place = length (outward h).stream });
-              outcome = Waiting;
-            } ∷ [];
-          })
-      | false ↦ record h {
-        writes = h.writes ++ record {
-          write = submission h first contents;
-          journal_length = length h.journal;
-          home = None;
-          outcome = Waiting;
-        } ∷ [];
-        marks = marking (submission h first contents) h.marks;
-      }
-    ])
+    go : (b : Bool) → stands (outward h) ≡ b → Keeps h (unchanged h) (submitted_with b h first contents)
     go true is =
         keeps-change h h _ (unchanged h) (unchanged h) (λ c. record c { stream = c.stream ++ WriteItem (submission h first contents) ∷ [] })
         (WriteItem (submission h first contents) ∷ []) (keeps-self h) (open-stands (outward h) is) refl refl refl refl refl refl refl

@@ -9,10 +9,9 @@ use Rattle.blocks.specs.declared.outcome.Decision.{Decision}
 use Rattle.blocks.specs.declared.outcome.Decision.TheVariants.{NoSync, BitmapSync, FullSync}
 use Rattle.model.specs.Stream.{WriteItem, SyncUuidItem, within}
 use Rattle.model.specs.Frames.{UuidsFrame}
-use Rattle.model.specs.Marks.{marking}
-use Rattle.model.specs.Primary.{Waiting, Failed, Accepted, Outward, PrimaryHistory, primary_opening, no_outward, outward, change_last, last_index, last_of}
+use Rattle.model.specs.Primary.{Accepted, Outward, PrimaryHistory, primary_opening, no_outward, outward, change_last, last_of}
 use Rattle.model.specs.Primary.{with_outward, stands, in_resync, items_sent, frames_due}
-use Rattle.model.specs.PrimarySteps.{submission, submitted, appending, with_outcome, faulted, accepted_at}
+use Rattle.model.specs.PrimarySteps.{submission, submitted, faulted, accepted_at, submitted_with, faulted_by}
 use Rattle.model.specs.Acknowledgements.{begun_with}
 use Rattle.laws.proofs.Rules.FramesDue.{length-due}
 use Rattle.laws.proofs.Rules.EpochEnds.{over-standing, takes-writes}
@@ -64,26 +63,7 @@ longer-by xs x = let size = length-append xs (x ∷ []) in omega arith
 pushed-submits : (h : PrimaryHistory) (first : ℕ) (contents : List (List ℕ)) → ArePushed h → ArePushed (submitted h first contents)
 pushed-submits h first contents all = go (stands (outward h)) refl
   where
-    go : (b : Bool) → stands (outward h) ≡ b → ArePushed (elim b as (λ _. PrimaryHistory) [
-      | true ↦ appending (WriteItem (submission h first contents))
-          (record h {
-            writes = h.writes ++ record {
-              write = submission h first contents;
-              journal_length = length h.journal;
-              home = Some (record { index = last_index h.connections; place = length (outward h).stream });
-              outcome = Waiting;
-            } ∷ [];
-          })
-      | false ↦ record h {
-        writes = h.writes ++ record {
-          write = submission h first contents;
-          journal_length = length h.journal;
-          home = None;
-          outcome = Waiting;
-        } ∷ [];
-        marks = marking (submission h first contents) h.marks;
-      }
-    ])
+    go : (b : Bool) → stands (outward h) ≡ b → ArePushed (submitted_with b h first contents)
     go true is = appends h _ (λ c. record c { stream = c.stream ++ WriteItem (submission h first contents) ∷ [] }) refl is refl refl
         (longer-by (outward h).stream _) all
     go false is = all
@@ -92,11 +72,7 @@ pushed-faults : (h : PrimaryHistory) (number : ℕ) (offsets : List ℕ) → Are
 pushed-faults h number offsets all = go (accepted_at h number)
   where
     go : (v : Option Accepted) → ArePushed
-        (elim v as (λ _. PrimaryHistory) [
-          | None ↦ h
-          | Some accepted ↦ with_outcome number (Failed (within (length accepted.write.contents) offsets))
-              (record h { marks = marking accepted.write h.marks })
-        ])
+        (faulted_by v number offsets h)
     go None = all
     go (Some accepted) = all
 

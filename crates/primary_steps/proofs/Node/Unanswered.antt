@@ -1,13 +1,12 @@
 -- How many writes of the standing stream were sent and are not answered, as a primary's log tells it.
-use Rattle.std.proofs.Common.{ℕ, zero, suc, ◌≡◌, ◌+◌, ◌<◌, ◌≤◌, inl, inr, Bool, true, false, cond, not, ◌&&◌, List, [], ◌∷◌, length, map, filter, Option}
-use Rattle.std.proofs.Common.{Some, None, slice_get, refl, sym, ◌∙◌, ap, arith, nat_lt}
+use Rattle.std.proofs.Common.{ℕ, zero, suc, ◌≡◌, ◌+◌, ◌<◌, ◌≤◌, inl, inr, Bool, true, false, cond, not, ◌&&◌, List, [], ◌∷◌, length, map, filter}
+use Rattle.std.proofs.Common.{Some, slice_get, refl, sym, ◌∙◌, ap, arith, nat_lt}
 use Rattle.std.specs.Prelude.{if◌then◌else◌, option_map}
 use Rattle.std.proofs.lemmas.Bool.{cases_Bool, both_ways, and_parts, and_from, not-true}
 use Rattle.std.proofs.lemmas.List.{length-map}
-use Rattle.blocks.specs.Positions.{StreamPosition}
 use Rattle.model.specs.Contents.{Write}
 use Rattle.model.specs.Stream.{Item, WriteItem, ResyncItem, BarrierItem, SyncUuidItem, UuidsItem, is_write, number_of, placed, placed_from}
-use Rattle.model.specs.Primary.{Accepted, Outward, PrimaryHistory, is_alone, is_answered, is_answered_by, is_released, items_sent}
+use Rattle.model.specs.Primary.{Accepted, PrimaryHistory, is_alone, is_answered, is_answered_by, is_released, items_sent}
 use Rattle.model.specs.Primary.{last_index, outward, stands, unreleased}
 use Rattle.model.specs.Status.{unanswered}
 use Rattle.transferlog.specs.Writes.{LogWrite, is_unanswered}
@@ -18,6 +17,7 @@ use Rattle.laws.proofs.Streams.Places.{placed-at, placed-back}
 use Rattle.primary_steps.specs.Core.{PrimaryState}
 use Rattle.primary_steps.specs.Leaves.{is_sent, logged_of, Leaves}
 use Rattle.primary_steps.specs.Steps.{IsReached}
+use Rattle.primary_steps.proofs.Common.Homes.{sent-at, answered-at}
 use Rattle.primary_steps.proofs.Common.Filters.{filter-at, filter-map, filter-none, filter-twice}
 use Rattle.primary_steps.proofs.Common.Reached.{IsOrdered, reached-ordered}
 use Rattle.primary_steps.proofs.Common.Numbers.{AreNumberedFrom, numbered-first, numbered-rest, get-map}
@@ -126,31 +126,6 @@ stream-rises low start (UuidsItem tuple ∷ items) rises least =
 placed-here : (items : List Item) (n : ℕ) (item : Item) → slice_get items n ≡ Some item → slice_get (placed items) n ≡ Some (n, item)
 placed-here items n item at = let same : 0 + n ≡ n = omega arith in placed-at 0 items n item at
     ∙ ap (λ (m : ℕ). let entry : ℕ × Item = (m, item) in Some entry) same
-
--- What is seen of a write at its home.
-
-sent-at : (h : PrimaryHistory) (a : Accepted) (k place : ℕ) (c : Outward) → a.home ≡ Some (record { index = k; place = place })
-    → slice_get h.connections k ≡ Some c
-    → is_sent h a ≡ nat_lt place (items_sent c)
-sent-at h a k place c home there =
-    ap (λ (v : Option StreamPosition). elim v as
-    (λ _. Bool) [
-      | None ↦ false
-      | Some home ↦ elim (slice_get h.connections home.index) as (λ _. Bool) [ None ↦ false | Some c ↦ nat_lt home.place (items_sent c) ]
-    ]) home
-    ∙ ap (λ (v : Option Outward). elim v as (λ _. Bool) [ None ↦ false | Some c ↦ nat_lt place (items_sent c) ]) there
-
-answered-at : (h : PrimaryHistory) (a : Accepted) (k place : ℕ) (c : Outward) → a.home ≡ Some (record { index = k; place = place })
-    → slice_get h.connections k ≡ Some c
-    → is_answered h a ≡ is_answered_by h.settings.protocol c place (WriteItem a.write)
-answered-at h a k place c home there =
-    ap (λ (v : Option StreamPosition). elim v as
-    (λ _. Bool) [
-      | None ↦ false
-      | Some home ↦ elim (slice_get h.connections home.index) as
-          (λ _. Bool) [ None ↦ false | Some c ↦ is_answered_by h.settings.protocol c home.place (WriteItem a.write) ]
-    ]) home
-    ∙ ap (λ (v : Option Outward). elim v as (λ _. Bool) [ None ↦ false | Some c ↦ is_answered_by h.settings.protocol c place (WriteItem a.write) ]) there
 
 -- The writes that the log says are not answered.
 module _ (s : PrimaryState) (h : PrimaryHistory) (reached : IsReached h) (left : Leaves s h) where

@@ -4,6 +4,7 @@ use Rattle.std.proofs.Common.{None, slice_get, Result, Ok, Err, refl, sym, ◌�
 use Rattle.std.specs.Prelude.{option_map, if◌then◌else◌}
 use Rattle.std.proofs.lemmas.Bool.{cases_lt, both_ways, and_parts, lt-ltb, le-ltb, eqb-true, eq-eqb}
 use Rattle.std.proofs.lemmas.Option.{slice_get_within}
+use Rattle.std.proofs.Math.Bool.{or-true}
 use Rattle.blocks.specs.Positions.{StreamPosition}
 use Rattle.blocks.specs.declared.settings.Settings.{Settings}
 use Rattle.blocks.specs.declared.settings.Protocol.{Protocol}
@@ -41,6 +42,7 @@ use Rattle.primary_steps.specs.Leaves.{is_sent, logged_of, LeavesEnd, EndLeft, L
 use Rattle.primary_steps.specs.Steps.{Agrees, SendsAgree}
 use Rattle.transferlog.specs.Writes.{released_of}
 use Rattle.transferlog.specs.declared.report.Released.{Released}
+use Rattle.primary_steps.proofs.Common.Homes.{sent-at, answered-at}
 use Rattle.primary_steps.proofs.Common.OneWriteLeaves.{change-due, entries-stay, held-stays}
 use Rattle.primary_steps.proofs.Common.OneWrite.{IsChange, released-is}
 use Rattle.primary_steps.proofs.Common.Following.{IsDue, follow}
@@ -111,27 +113,11 @@ module _ (settings : Settings) (bound : TakesWrites settings) (s : PrimaryState)
 
           sent_now : is_sent (with_outward pushing h) a ≡ true
           sent_now =
-              ap (λ (v : Option StreamPosition). elim v as (λ _. Bool) [
-                | None ↦ false
-                | Some home ↦ elim (slice_get (change_last pushing h.connections) home.index) as
-                    (λ _. Bool) [ None ↦ false | Some c ↦ nat_lt home.place (items_sent c) ]
-              ]) home
-              ∙ (ap (λ (v : Option Outward). elim v as (λ _. Bool) [ None ↦ false | Some c ↦ nat_lt (items_sent (outward h)) (items_sent c) ]) end-then
-              ∙ lt-ltb (items_sent (outward h)) (items_sent (pushing (outward h))) (omega arith))
+              sent-at (with_outward pushing h) a (last_index h.connections) (items_sent (outward h)) (pushing (outward h)) home end-then
+              ∙ lt-ltb (items_sent (outward h)) (items_sent (pushing (outward h))) (omega arith)
 
           answered_was : is_answered h a ≡ is_answered_by h.settings.protocol (outward h) (items_sent (outward h)) (WriteItem a.write)
-          answered_was =
-              ap (λ (v : Option StreamPosition). elim v as
-              (λ _. Bool) [
-                | None ↦ false
-                | Some home ↦ elim (slice_get h.connections home.index) as
-                    (λ _. Bool) [ None ↦ false | Some c ↦ is_answered_by h.settings.protocol c home.place (WriteItem a.write) ]
-              ]) home
-              ∙ ap (λ (v : Option Outward). elim v as (λ _. Bool) [
-                | None ↦ false
-                | Some c ↦ is_answered_by h.settings.protocol c (items_sent (outward h))
-                    (WriteItem a.write)
-              ]) last-at
+          answered_was = answered-at h a (last_index h.connections) (items_sent (outward h)) (outward h) home last-at
 
           by-protocol : (asked : Protocol)
               → is_answered_by asked (pushing (outward h)) (items_sent (outward h)) (WriteItem a.write) ≡
@@ -182,10 +168,6 @@ module _ (settings : Settings) (bound : TakesWrites settings) (s : PrimaryState)
       by-number true false true is so disk told =
           (λ j. (disk-seen a.outcome ∙ disk) j && ((is_answered h a || answers_sent s.log.protocol) || not (not (so j))))
           ∙ or-true (is_answered h a || answers_sent s.log.protocol)
-        where
-          or-true : (b : Bool) → (b || true) ≡ true
-          or-true true = refl
-          or-true false = refl
       by-number true false false is so disk told = absurd (cc)
 
   sent-change : IsChange h (with_outward pushing h) write.number (writes.sending (answers_sent s.log.protocol)) (λ a. a) pushing

@@ -7,13 +7,12 @@ use Rattle.blocks.specs.declared.refusal.Refusal.{Refusal}
 use Rattle.blocks.specs.declared.settings.Protocol.{Protocol}
 use Rattle.blocks.specs.declared.outcome.Reply.{Reply}
 use Rattle.model.specs.Stream.{Item, WriteItem, ResyncItem, BarrierItem, SyncUuidItem, UuidsItem, contents_of, items_meet, epoch_of, last_epoch}
-use Rattle.model.specs.Stream.{below}
 use Rattle.model.specs.Frames.{Packet, Received}
 use Rattle.model.specs.Primary.{last_of, change_last}
 use Rattle.model.specs.Secondary.{Inward, SecondaryHistory, secondary_opening, inward, no_inward, with_inward, items_taken, received_item}
-use Rattle.model.specs.SecondarySteps.{Checked, checking, checking_hello, checking_item, adopting, take_item}
-use Rattle.model.specs.SecondarySteps.{receive, opened_secondary, answering, barrier_answer, barriers_to_answer, applying, applied_answer}
-use Rattle.model.specs.SecondarySteps.{offsets_at, failing}
+use Rattle.model.specs.SecondarySteps.{Checked, checking, checking_hello, checking_item, adopting, take_item, applied_with}
+use Rattle.model.specs.SecondarySteps.{receive, opened_secondary, answering, barrier_answer, barriers_to_answer, applying}
+use Rattle.model.specs.SecondarySteps.{failing}
 use Rattle.model.specs.LocalRuns.{SecondaryEvent, OpensToo, Receives, Applies, FailsToApply, Acknowledges, ClosesToo, secondary_after, secondary_run}
 use Rattle.laws.proofs.Lists.Elements.{get-more}
 use Rattle.laws.proofs.Lists.Last.{change-twice, last-change, last-more}
@@ -118,13 +117,7 @@ apart-answering d fine = go d.closed
 apart-applying : (asked : Protocol) (place : ℕ) (d : Inward) → AreApart (items_taken d) → AreApart (items_taken (applying asked place d))
 apart-applying asked place d fine = go (slice_get (items_taken d) place)
   where
-    go : (v : Option Item) → AreApart (items_taken (elim v as (λ _. Inward) [
-      | None ↦ d
-      | Some item ↦ record d {
-        applied = d.applied ++ offsets_at place (below (length (contents_of item)));
-        due = elim d.closed [ true ↦ d.due | false ↦ d.due ++ applied_answer asked place item ];
-      }
-    ]))
+    go : (v : Option Item) → AreApart (items_taken (applied_with v asked place d))
     go None = fine
     go (Some item) = fine
 

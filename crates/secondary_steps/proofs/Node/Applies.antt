@@ -13,7 +13,7 @@ use Rattle.model.specs.Stream.{Item, Part, contents_of, below, within}
 use Rattle.model.specs.Frames.{Packet}
 use Rattle.model.specs.Refusals.{done_with}
 use Rattle.model.specs.Secondary.{Inward, SecondaryHistory, inward, no_inward, with_inward, items_taken, answers_due, map_of}
-use Rattle.model.specs.SecondarySteps.{answering, applying, applied_answer, failing, offsets_at, is_pending_at, has_earlier}
+use Rattle.model.specs.SecondarySteps.{answering, applying, applied_answer, failing, offsets_at, applied_with}
 use Rattle.model.specs.SecondarySteps as step
 use Rattle.model.specs.LocalRuns.{Applies, FailsToApply}
 use Rattle.laws.proofs.Lists.Each.{each-get}
@@ -97,13 +97,7 @@ grows-applying asked place c = go (slice_get (items_taken c) place)
       shut = λ was. was;
     }
 
-    go : (v : Option Item) → Grows c (elim v as (λ _. Inward) [
-      | None ↦ c
-      | Some item ↦ record c {
-        applied = c.applied ++ offsets_at place (below (length (contents_of item)));
-        due = elim c.closed [ true ↦ c.due | false ↦ c.due ++ applied_answer asked place item ];
-      }
-    ])
+    go : (v : Option Item) → Grows c (applied_with v asked place c)
     go None = record { hello = refl; pushed = refl; more = []; due = sym (append-nil c.due); none = λ was. refl; shut = λ was. was }
     go (Some item) = by item c.closed refl
 
@@ -113,13 +107,7 @@ applied-is : (asked : Protocol) (place : ℕ) (item : Item) (c : Inward) → sli
       applied = c.applied ++ offsets_at place (below (length (contents_of item)));
       due = elim c.closed [ true ↦ c.due | false ↦ c.due ++ applied_answer asked place item ];
     }
-applied-is asked place item c there = ap (λ (v : Option Item). elim v as (λ _. Inward) [
-  | None ↦ c
-  | Some item ↦ record c {
-    applied = c.applied ++ offsets_at place (below (length (contents_of item)));
-    due = elim c.closed [ true ↦ c.due | false ↦ c.due ++ applied_answer asked place item ];
-  }
-]) there
+applied-is asked place item c there = ap (λ (v : Option Item). applied_with v asked place c) there
 
 -- The disk did an item.
 module _ (n : NodeState) (place : ℕ) (item : Item) (starts : start place n.core ≡ Ok item) where

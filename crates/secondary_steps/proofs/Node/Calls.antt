@@ -15,7 +15,7 @@ use Rattle.model.specs.Contents.{IsDisk}
 use Rattle.model.specs.Frames.{Packet, Received, command_of}
 use Rattle.model.specs.Refusals.{first_refusal, done_with}
 use Rattle.model.specs.Secondary.{Inward, SecondaryHistory, inward, no_inward, with_inward, items_taken, pending, answers_due, map_of, secondary_map}
-use Rattle.model.specs.Secondary.{secondary_opening}
+use Rattle.model.specs.Secondary.{secondary_opening, new_inward}
 use Rattle.model.specs.SecondarySteps as step
 use Rattle.model.specs.LocalRuns.{OpensToo, Receives, Acknowledges, ClosesToo}
 use Rattle.laws.proofs.Lists.Elements.{append-one}
@@ -73,18 +73,7 @@ node-opened unseen n core is = node-steps (OpensToo unseen) n (replied plainly (
     })
   where
     new : SecondaryHistory → Inward
-    new h = record {
-      number = step.next_number unseen h;
-      base = secondary_map h;
-      hello = h.tuple;
-      taken = [];
-      refused = false;
-      applied = [];
-      gone = [];
-      due = [];
-      pushed = 0;
-      closed = false;
-    }
+    new h = new_inward (step.next_number unseen h) (secondary_map h) h.tuple
 
     ends : (h : SecondaryHistory) → inward (with_inward step.answering (step.opened_secondary unseen h)) ≡ new h
     ends h = inward-with step.answering (step.opened_secondary unseen h) (append-one h.connections (new h))

@@ -5,6 +5,7 @@ use Rattle.std.specs.Prelude.{filter}
 use Rattle.std.specs.List.{list_any}
 use Rattle.std.proofs.lemmas.Bool.{cases_Bool, cases_lt, both_ways, eq-eqb, eqb-true, false_from_ne_true, lt-ltb, le-leb, or_cases, or_right, and_from}
 use Rattle.std.proofs.lemmas.Option.{slice_get_past, slice_get_cases}
+use Rattle.std.proofs.Math.Bool.{or-false}
 use Rattle.blocks.specs.Contents.{overwritten, IsTorn}
 use Rattle.model.specs.Contents.{overlay, is_between}
 use Rattle.model.specs.Stream.{Item, Part, is_in, is_barrier, barriers_in, epoch_of, first_of, contents_of, items_meet, layers_from, below, within}
@@ -116,10 +117,6 @@ laid-map c place item s start apart there offsets device new same laid block = e
         both_ways (has offsets (block - first_of item)) (bare (subst (λ (x : Item). touches x block ≡ true) is touched)) listed) in
         in-append c.applied (offsets_at place offsets) (0 + n) (block - first_of one)
         ∙ (ap (λ b. is_in c.applied (0 + n) (block - first_of one) || b) none ∙ or-false (is_in c.applied (0 + n) (block - first_of one)))
-      where
-        or-false : (b : Bool) → (b || false) ≡ b
-        or-false true = refl
-        or-false false = refl
 
 -- What a write leaves in a block.
 

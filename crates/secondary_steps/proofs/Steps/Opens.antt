@@ -9,6 +9,7 @@ use Rattle.blocks.specs.declared.outcome.What.TheVariants as what
 use Rattle.blocks.specs.declared.outcome.Reply.TheVariants as reply
 use Rattle.model.specs.Refusals.{first_refusal, done_with}
 use Rattle.model.specs.Secondary.{Inward, SecondaryHistory, inward, no_inward, items_taken, pending, is_drained, with_inward, secondary_map}
+use Rattle.model.specs.Secondary.{new_inward}
 use Rattle.model.specs.SecondarySteps as step
 use Rattle.laws.proofs.Lists.Elements.{append-one}
 use Rattle.laws.proofs.Lists.Last.{last-more}
@@ -84,18 +85,7 @@ opens-agree unseen s h left = tested-agrees plainly s h (open_tests s) (step.ope
     })
   where
     new : Inward
-    new = record {
-      number = step.next_number unseen h;
-      base = secondary_map h;
-      hello = h.tuple;
-      taken = [];
-      refused = false;
-      applied = [];
-      gone = [];
-      due = [];
-      pushed = 0;
-      closed = false;
-    }
+    new = new_inward (step.next_number unseen h) (secondary_map h) h.tuple
 
     ends : inward (with_inward step.answering (step.opened_secondary unseen h)) ≡ new
     ends = inward-with step.answering (step.opened_secondary unseen h) (append-one h.connections new)
