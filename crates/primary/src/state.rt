@@ -26,27 +26,13 @@ pub struct Primary<O: FrameOut + Drop, I: FrameIn + Drop, S: Store + Drop> {
 }
 
 impl<O: FrameOut + Drop, I: FrameIn + Drop, S: Store + Drop> Model for Primary<O, I, S> {
-    ghost use Rattle.primary.specs.State.{PrimaryView, IsNode};
+    ghost use Rattle.primary.specs.State.{PrimaryView, IsNode, seen};
 
     ghost Value = { PrimaryView };
 
-    ghost view = { λ n. record {
-      core = n.core.state;
-      disk = S.contents n.store;
-      outgoing = n.outgoing;
-      incoming = n.incoming;
-      faults = S.faults n.store;
-      steady = S.steady n.store;
-    } };
+    ghost view = { λ n. seen n.core.state (S.contents n.store) n.outgoing n.incoming (S.faults n.store) (S.steady n.store) };
 
-    ghost invariant = { λ n. IsNode (record {
-      core = n.core.state;
-      disk = S.contents n.store;
-      outgoing = n.outgoing;
-      incoming = n.incoming;
-      faults = S.faults n.store;
-      steady = S.steady n.store;
-    }) };
+    ghost invariant = { λ n. IsNode (seen n.core.state (S.contents n.store) n.outgoing n.incoming (S.faults n.store) (S.steady n.store)) };
 }
 
 impl<O: FrameOut + Drop, I: FrameIn + Drop, S: Store + Drop> Primary<O, I, S> {

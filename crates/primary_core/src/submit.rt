@@ -23,7 +23,7 @@ use transferlog::Accepted;
 /// The most writes that are accepted (this project's limit).
 const MOST_WRITES: u64 = 1_048_576;
 
-/// A stream of so many items takes no more but those that come unasked (this project's limit).
+/// A stream with this many items takes only those that come unasked (this project's limit).
 pub(crate) const MOST_ITEMS: u32 = 4_294_967_288;
 
 impl PrimaryCore {

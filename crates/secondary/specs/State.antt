@@ -17,6 +17,10 @@ pub record SecondaryView : Type 0 where
   pub faults : ℕ
   pub steady : Bool
 
+-- what is seen of a node with this core, disk and link
+abbrev pub seen : SecondaryState → List (List ℕ) → Option OutgoingState → Option IncomingState → ℕ → Bool → SecondaryView
+seen core disk outgoing incoming faults steady = record { core = core; disk = disk; outgoing = outgoing; incoming = incoming; faults = faults; steady = steady }
+
 -- the node as its history sees it
 abbrev pub node : SecondaryView → NodeState
 node v = record { core = v.core; disk = v.disk; pushed = pushed_of v.outgoing; taken = taken_of v.incoming }

@@ -20,18 +20,11 @@ pub struct Unlinked<S: Store + Drop> {
 
 impl<S: Store + Drop> Model for Unlinked<S> {
     ghost use Rattle.std.specs.Prelude.{None};
-    ghost use Rattle.secondary.specs.State.{SecondaryView};
+    ghost use Rattle.secondary.specs.State.{SecondaryView, seen};
 
     ghost Value = { SecondaryView };
 
-    ghost view = { λ n. record {
-      core = n.core.state;
-      disk = S.contents n.store;
-      outgoing = None;
-      incoming = None;
-      faults = S.faults n.store;
-      steady = S.steady n.store;
-    } };
+    ghost view = { λ n. seen n.core.state (S.contents n.store) None None (S.faults n.store) (S.steady n.store) };
 }
 
 impl<O: FrameOut + Drop, I: FrameIn + Drop, S: Store + Drop> Secondary<O, I, S> {

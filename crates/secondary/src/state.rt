@@ -26,27 +26,13 @@ pub struct Secondary<O: FrameOut + Drop, I: FrameIn + Drop, S: Store + Drop> {
 }
 
 impl<O: FrameOut + Drop, I: FrameIn + Drop, S: Store + Drop> Model for Secondary<O, I, S> {
-    ghost use Rattle.secondary.specs.State.{SecondaryView, IsNode};
+    ghost use Rattle.secondary.specs.State.{SecondaryView, IsNode, seen};
 
     ghost Value = { SecondaryView };
 
-    ghost view = { λ n. record {
-      core = n.core.state;
-      disk = S.contents n.store;
-      outgoing = n.outgoing;
-      incoming = n.incoming;
-      faults = S.faults n.store;
-      steady = S.steady n.store;
-    } };
+    ghost view = { λ n. seen n.core.state (S.contents n.store) n.outgoing n.incoming (S.faults n.store) (S.steady n.store) };
 
-    ghost invariant = { λ n. IsNode (record {
-      core = n.core.state;
-      disk = S.contents n.store;
-      outgoing = n.outgoing;
-      incoming = n.incoming;
-      faults = S.faults n.store;
-      steady = S.steady n.store;
-    }) };
+    ghost invariant = { λ n. IsNode (seen n.core.state (S.contents n.store) n.outgoing n.incoming (S.faults n.store) (S.steady n.store)) };
 }
 
 impl<O: FrameOut + Drop, I: FrameIn + Drop, S: Store + Drop> Secondary<O, I, S> {
