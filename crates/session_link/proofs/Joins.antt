@@ -36,8 +36,8 @@ pub joined : (v : PrimaryView) (w : SecondaryView) (o : OutgoingState) (acks : I
     → ((number : ℕ) → BeginsPushed (taken_at number i) (pushed_at number o)) → ((number : ℕ) → BeginsPushed (taken_at number acks) (pushed_at number answers))
     → (p : PrimaryHistory) (s : SecondaryHistory) → PrimaryHas v p → SecondaryHas w s → IsJoined p s
 joined v w o acks answers i out_is acks_is answers_is in_is there back p s had held = record {
-  out = λ number. carried number o had.over.out i held.over.inn _ _ out_is had.over.out_there in_is held.over.in_there (had.over.pushed number)
-      (held.over.taken number) (there number);
-  back = λ number. carried number answers held.over.out acks had.over.inn _ _ answers_is held.over.out_there acks_is had.over.in_there
-      (held.over.pushed number) (had.over.taken number) (back number);
+  out = λ number. carried number o had.over.traffic.out i held.over.traffic.inn _ _ out_is had.over.traffic.out_there in_is held.over.traffic.in_there (had.over.traffic.pushed number)
+      (held.over.traffic.taken number) (there number);
+  back = λ number. carried number answers held.over.traffic.out acks had.over.traffic.inn _ _ answers_is held.over.traffic.out_there acks_is had.over.traffic.in_there
+      (held.over.traffic.pushed number) (had.over.traffic.taken number) (back number);
 }

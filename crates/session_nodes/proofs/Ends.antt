@@ -2,7 +2,6 @@
 -- one, and what went past on each connection by its number.
 use Rattle.std.proofs.Common.{ℕ, ◌≡◌, ◌<◌, List, [], map, Option, Some, None, Ok, refl, sym, ◌∙◌, ap, arith}
 use Rattle.std.specs.Prelude.{Result, Err, OnOk, OnErr, option_map}
-use Rattle.std.specs.List.{AllByRecursion}
 use Rattle.std.proofs.lemmas.Option.{same_Some}
 use Rattle.blocks.specs.declared.refusal.Refusal.{Refusal}
 use Rattle.model.specs.Frames.{Packet, Received}
@@ -13,6 +12,7 @@ use Rattle.endpoint.specs.Calls.{IsNewIn, IsNewOut, pushed_of, taken_of}
 use Rattle.endpoint.specs.Incoming.{IncomingState, TakenBefore, with_received, taking_anew, incoming, taken_before}
 use Rattle.endpoint.specs.Outgoing.{OutgoingState, PushedBefore, with_pushed, pushing_anew, outgoing, pushed_before}
 use Rattle.endpoint.specs.Joined.{pushed_at, pushed_past, taken_at, taken_past}
+use Rattle.session_nodes.specs.Traffic.{KnowTraffic}
 use Rattle.session_nodes.proofs.Connections.{all-more, all-same, by-number, came-more, earlier, past-more}
 
 -- What the calls of a node leave of its ends.
@@ -66,20 +66,6 @@ ends-took {inn} {inn_later} result frame takes same_out = record { sender = λ o
 
 -- What went past on each connection.
 
--- Both ends are on the last connection, those before it have lower numbers, and of each number this was pushed and this was taken.
-pub record KnowTraffic (out_there : Option OutgoingState) (in_there : Option IncomingState) (last : ℕ) (sent : ℕ → List Packet)
-    (came : ℕ → List Received) : Type 0 where
-  pub out : OutgoingState
-  pub inn : IncomingState
-  pub out_is : out_there ≡ Some out
-  pub in_is : in_there ≡ Some inn
-  pub out_number : out.number ≡ last
-  pub in_number : inn.number ≡ last
-  pub out_past : AllByRecursion (λ before. before.number < last) out.past
-  pub in_past : AllByRecursion (λ before. before.number < last) inn.past
-  pub pushed : (number : ℕ) → pushed_at number out ≡ sent number
-  pub taken : (number : ℕ) → taken_at number inn ≡ came number
-
 -- A later history has on its last connection what the ends have there, and on any other what an earlier history had.
 pub record NextTraffic (out_there : Option OutgoingState) (in_there : Option IncomingState) (last : ℕ) (sent sent_later : ℕ → List Packet)
     (came came_later : ℕ → List Received) : Type 0 where
@@ -105,15 +91,15 @@ pub traffic-stays : {out out_later : Option OutgoingState} {inn inn_later : Opti
     {came came_later : ℕ → List Received} → KnowTraffic out inn last sent came → SameEnds out out_later inn inn_later → last_later ≡ last
     → NextTraffic out_later inn_later last_later sent sent_later came came_later → KnowTraffic out_later inn_later last_later sent_later came_later
 traffic-stays {sent_later} {came_later} was same still next =
-    let out = same.sender was.out was.out_is in
-    let inn = same.receiver was.inn was.in_is in
+    let out = same.sender was.out was.out_there in
+    let inn = same.receiver was.inn was.in_there in
     let out_number = out.2 ∙ (was.out_number ∙ sym still) in
     let in_number = inn.2 ∙ (was.in_number ∙ sym still) in
     record {
       out = out.0;
       inn = inn.0;
-      out_is = out.1;
-      in_is = inn.1;
+      out_there = out.1;
+      in_there = inn.1;
       out_number = out_number;
       in_number = in_number;
       out_past = all-same (λ (b : PushedBefore). b.number) still out.3 was.out_past;
@@ -138,8 +124,8 @@ traffic-begins {out_later} {inn_later} {last} {number} {sent_later} {came_later}
     in_is next = record {
       out = begun_out;
       inn = begun_in;
-      out_is = out_now;
-      in_is = in_now;
+      out_there = out_now;
+      in_there = in_now;
       out_number = refl;
       in_number = refl;
       out_past = all-more (λ (b : PushedBefore). b.number) last number was.out.past _ was.out_past (omega arith) (let here = was.out_number in omega arith);
@@ -162,31 +148,31 @@ traffic-begins {out_later} {inn_later} {last} {number} {sent_later} {came_later}
 
     out_now : out_later ≡ Some (record (pushing_anew number was.out) { room = room; waiting = waiting })
     out_now = out_is ∙ ap (λ (o : OutgoingState). Some (record (pushing_anew number o) { room = room; waiting = waiting }))
-        (same_Some before was.out (sym out_there ∙ was.out_is))
+        (same_Some before was.out (sym out_there ∙ was.out_there))
 
     in_now : inn_later ≡ Some (record (taking_anew number was.inn) { queued = queued; capacity = capacity })
     in_now = in_is ∙ ap (λ (i : IncomingState). Some (record (taking_anew number i) { queued = queued; capacity = capacity }))
-        (same_Some had was.inn (sym in_there ∙ was.in_is))
+        (same_Some had was.inn (sym in_there ∙ was.in_there))
 
 -- Unused ends are on their first connection, and nothing went past on any other.
 pub traffic-first : {out : Option OutgoingState} {inn : Option IncomingState} {last : ℕ} {sent sent_later : ℕ → List Packet}
     {came came_later : ℕ → List Received} (o : OutEnd) (i : InEnd) → IsNewOut o → IsNewIn i → out ≡ Some (outgoing o) → inn ≡ Some (incoming i) → last ≡ 1
     → ((number : ℕ) → sent number ≡ []) → ((number : ℕ) → came number ≡ []) → NextTraffic out inn last sent sent_later came came_later
     → KnowTraffic out inn last sent_later came_later
-traffic-first {sent_later} {came_later} o i new_out new_in out_is in_is first none_sent none_came next =
+traffic-first {sent_later} {came_later} o i new_out new_in out_there in_there first none_sent none_came next =
     let out_number = new_out.number ∙ sym first in
     let in_number = new_in.number ∙ sym first in
     record {
       out = outgoing o;
       inn = incoming i;
-      out_is = out_is;
-      in_is = in_is;
+      out_there = out_there;
+      in_there = in_there;
       out_number = out_number;
       in_number = in_number;
       out_past = all-same (λ (b : PushedBefore). b.number) refl (ap (map pushed_before) new_out.past) tt;
       in_past = all-same (λ (b : TakenBefore). b.number) refl (ap (map taken_before) new_in.past) tt;
-      pushed = pushed-next (outgoing o) sent_later out_is out_number next.pushed_last (λ number other.
+      pushed = pushed-next (outgoing o) sent_later out_there out_number next.pushed_last (λ number other.
           ap (λ (l : List Past). pushed_past number (map pushed_before l)) new_out.past ∙ (sym (none_sent number) ∙ sym (next.pushed number other)));
-      taken = taken-next (incoming i) came_later in_is in_number next.taken_last (λ number other.
+      taken = taken-next (incoming i) came_later in_there in_number next.taken_last (λ number other.
           ap (λ (l : List Past). taken_past number (map taken_before l)) new_in.past ∙ (sym (none_came number) ∙ sym (next.taken number other)));
     }

@@ -11,7 +11,7 @@ use Rattle.blocks.specs.declared.refusal.Refusal.TheVariants.{ReadFault}
 use Rattle.blocks.specs.declared.outcome.Reply.{Reply}
 use Rattle.blocks.specs.declared.outcome.Reply.TheVariants as reply
 use Rattle.blocks.specs.declared.outcome.What.TheVariants as what
-use Rattle.model.specs.Frames.{Packet, Received}
+use Rattle.model.specs.Frames.{Received}
 use Rattle.model.specs.Refusals.{first_refusal, done_with}
 use Rattle.model.specs.Primary.{OnDisk, Outward, PrimaryHistory, no_outward, outward, outward_at, with_outward, frames_due}
 use Rattle.model.specs.PrimarySteps as step
@@ -37,8 +37,9 @@ use Rattle.primary_steps.proofs.Node.Keeps.{closes-keeps, receipts-keeps}
 use Rattle.primary_steps.proofs.Node.Runs.{opens-to, refused-same}
 use Rattle.primary_steps.proofs.Node.Takes.{takes-keep}
 use Rattle.primary.specs.State.{IsRestarted, PrimaryView, node}
-use Rattle.session_nodes.proofs.Ends.{KnowTraffic, NextTraffic, SameEnds, traffic-begins, traffic-first, traffic-stays}
-use Rattle.session_nodes.specs.Primaries.{PrimaryOver, PrimaryHas, PrimaryIsHad, IsPrimaryStep, PrimarySteps, PrimaryRuns}
+use Rattle.session_nodes.specs.Traffic.{KnowTraffic}
+use Rattle.session_nodes.proofs.Ends.{NextTraffic, SameEnds, traffic-begins, traffic-first, traffic-stays}
+use Rattle.session_nodes.specs.Primaries.{sent, came, PrimaryHas, PrimaryIsHad, IsPrimaryStep, PrimarySteps, PrimaryRuns}
 use Rattle.laws.proofs.Rules.Memory.{may-open, ack-in-has}
 
 -- Events that open no end leave the number of connections.
@@ -88,13 +89,6 @@ stays-after Closes none h reached = stays-keeps h _ _ (closes-keeps h)
 stays-after (Receipts number) none h reached = stays-keeps h _ _ (receipts-keeps number h)
 
 -- What went past on a connection that has ended.
-
--- what was pushed and what was taken on the connection of a number
-abbrev sent : PrimaryHistory → ℕ → List Packet
-sent h number = take (outward_at h number).pushed (frames_due h.settings (outward_at h number))
-
-abbrev came : PrimaryHistory → ℕ → List Received
-came h number = (outward_at h number).taken
 
 -- the traffic of a number is the same in both
 record SameTraffic (h later : PrimaryHistory) (number : ℕ) : Type 0 where
@@ -157,49 +151,18 @@ last-outward h some = elim (last-at (no_outward h.tuple) h.connections) [
       sym (ap (outward_at h) next) ∙ outward-there h (length h.connections - 1) (outward h) last
 ]
 
--- what both ends know of the connections of the history
-abbrev KnowEnds : PrimaryView → PrimaryHistory → Type 0
-KnowEnds v h = KnowTraffic v.outgoing v.incoming (length h.connections) (sent h) (came h)
-
-know-ends : (v : PrimaryView) (h : PrimaryHistory) → PrimaryOver v h → KnowEnds v h
-know-ends v h over = record {
-  out = over.out;
-  inn = over.inn;
-  out_is = over.out_there;
-  in_is = over.in_there;
-  out_number = over.out_number;
-  in_number = over.in_number;
-  out_past = over.out_past;
-  in_past = over.in_past;
-  pushed = over.pushed;
-  taken = over.taken;
-}
-
 -- The node goes on to a later history, of which both ends know the traffic, where they know what is new of it.
 has-next : (w : PrimaryView) (h later : PrimaryHistory) → NodeHas (node w) later → GoesOn h later → 0 < length later.connections
-    → (NextTraffic w.outgoing w.incoming (length later.connections) (sent h) (sent later) (came h) (came later) → KnowEnds w later) → PrimaryHas w later
+    → (NextTraffic w.outgoing w.incoming (length later.connections) (sent h) (sent later) (came h) (came later) → KnowTraffic w.outgoing w.incoming (length later.connections) (sent later) (came later)) → PrimaryHas w later
 has-next w h later has on some know = record {
   has = has;
-  over = record {
-    out = ends.out;
-    inn = ends.inn;
-    out_there = ends.out_is;
-    in_there = ends.in_is;
-    opened = some;
-    out_number = ends.out_number;
-    in_number = ends.in_number;
-    out_past = ends.out_past;
-    in_past = ends.in_past;
-    pushed = ends.pushed;
-    taken = ends.taken;
-    ended = ended;
-  };
+  over = record { traffic = ends; opened = some; ended = ended };
 }
   where
     last : outward_at later (length later.connections) ≡ outward later
     last = last-outward later some
 
-    ends : KnowEnds w later
+    ends : KnowTraffic w.outgoing w.incoming (length later.connections) (sent later) (came later)
     ends = know (record {
       pushed_last = has.leaves.pushed ∙ ap (λ (c : Outward). take c.pushed (frames_due later.settings c)) (sym last);
       taken_last = has.leaves.taken ∙ ap (λ (c : Outward). c.taken) (sym last);
@@ -232,7 +195,7 @@ has-step event none v w h was same has =
       most = omega arith;
       shut = λ k c early at. over.ended k c (omega arith) at;
     })
-    (omega arith) (traffic-stays (know-ends v h over) same count)
+    (omega arith) (traffic-stays over.traffic same count)
 
 -- So the node's step is a step over the link, and the node is one over it then.
 pub steps-over : {Told : Type 0} (event : PrimaryEvent) → IsNoOpening event → (step : PrimaryHistory → Told × PrimaryHistory)
@@ -332,7 +295,7 @@ has-opened sync loss number v w h was said has counted restarted =
     let size = (opened-more sync loss h said).0 in
     let r = subst (λ (n : ℕ). IsRestarted n v w) (counted ∙ has.leaves.core.rest.connections) restarted in
     has-next w h (primary_after (Opens sync loss false) h) has (opens-on sync loss h said was.over.ended) (omega arith)
-    (traffic-begins (know-ends v h was.over) (omega arith) r.before r.room r.waiting r.out_there r.out r.had r.queued r.capacity r.in_there r.inn)
+    (traffic-begins was.over.traffic (omega arith) r.before r.room r.waiting r.out_there r.out r.had r.queued r.capacity r.in_there r.inn)
 
 -- So an end that opens anew goes on over its link, and one that is refused stays as it is.
 pub reopens-over : (sync loss : ℕ) (v w : PrimaryView) (result : Result ℕ Refusal)
@@ -353,7 +316,7 @@ reopens-over sync loss v w (Err e) s restarted counted unchanged = record {
 
 -- both sides of the link are there
 pub is-there : (v : PrimaryView) → PrimaryIsHad v → (is_some v.outgoing ≡ true) × (is_some v.incoming ≡ true)
-is-there v had = (ap is_some had.has.over.out_there, ap is_some had.has.over.in_there)
+is-there v had = (ap is_some had.has.over.traffic.out_there, ap is_some had.has.over.traffic.in_there)
 
 -- A new node that opens over unused ends.
 pub first-over : (sync loss : ℕ) (v w : PrimaryView) (h : PrimaryHistory) (o : OutEnd) (i : InEnd) → IsNewOut o → IsNewIn i → h.connections ≡ []

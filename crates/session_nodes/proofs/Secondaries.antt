@@ -11,7 +11,6 @@ use Rattle.blocks.specs.declared.settings.Protocol.{Protocol}
 use Rattle.blocks.specs.declared.outcome.Reply.{Reply}
 use Rattle.blocks.specs.declared.outcome.Reply.TheVariants as reply
 use Rattle.blocks.specs.declared.outcome.What.TheVariants as what
-use Rattle.model.specs.Frames.{Packet, Received}
 use Rattle.model.specs.Refusals.{first_refusal, done_with}
 use Rattle.model.specs.Primary.{last_of, change_last}
 use Rattle.model.specs.Secondary.{Inward, SecondaryHistory, no_inward, inward, inward_at, with_inward, answers_due, is_drained, items_taken}
@@ -34,8 +33,9 @@ use Rattle.secondary_steps.specs.Steps.{plainly, replied}
 use Rattle.secondary_steps.specs.Node.{IsReached, NodeHas, NodeSteps, secondary_step}
 use Rattle.secondary_steps.proofs.Node.Runs.{opens-to, refused-same}
 use Rattle.secondary.specs.State.{IsRestarted, SecondaryView, node}
-use Rattle.session_nodes.proofs.Ends.{KnowTraffic, NextTraffic, SameEnds, traffic-begins, traffic-first, traffic-stays}
-use Rattle.session_nodes.specs.Secondaries.{SecondaryOver, SecondaryHas, SecondaryIsHad, SecondarySteps, SecondaryRuns}
+use Rattle.session_nodes.specs.Traffic.{KnowTraffic}
+use Rattle.session_nodes.proofs.Ends.{NextTraffic, SameEnds, traffic-begins, traffic-first, traffic-stays}
+use Rattle.session_nodes.specs.Secondaries.{sent, came, SecondaryHas, SecondaryIsHad, SecondarySteps, SecondaryRuns}
 use Rattle.laws.proofs.Rules.RefusedFrames.{refused_end}
 
 -- Events that open no end leave the number of connections.
@@ -108,13 +108,6 @@ has-rise : (h : SecondaryHistory) → IsReached h → NumbersRise h.connections
 has-rise h is = subst (λ (g : SecondaryHistory). NumbersRise g.connections) (sym is.reached) (numbers-rise is.events _ refl)
 
 -- What went past on a connection that has ended.
-
--- what was pushed and what was taken on the connection of a number
-abbrev sent : SecondaryHistory → ℕ → List Packet
-sent h number = take (inward_at h number).pushed (answers_due h.settings (inward_at h number))
-
-abbrev came : SecondaryHistory → ℕ → List Received
-came h number = (inward_at h number).taken
 
 -- the traffic of a number is the same in both
 record SameTraffic (h later : SecondaryHistory) (number : ℕ) : Type 0 where
@@ -220,43 +213,12 @@ same-traffic h later rise also on number other = elim (inward-cases later number
 last-inward : (h : SecondaryHistory) → NumbersRise h.connections → 0 < length h.connections → inward_at h (inward h).number ≡ inward h
 last-inward h rise some = inward-there h rise (length h.connections - 1) (inward h) (last-stands h some)
 
--- what both ends know of the connections of the history
-abbrev KnowEnds : SecondaryView → SecondaryHistory → Type 0
-KnowEnds v h = KnowTraffic v.outgoing v.incoming (inward h).number (sent h) (came h)
-
-know-ends : (v : SecondaryView) (h : SecondaryHistory) → SecondaryOver v h → KnowEnds v h
-know-ends v h over = record {
-  out = over.out;
-  inn = over.inn;
-  out_is = over.out_there;
-  in_is = over.in_there;
-  out_number = over.out_number;
-  in_number = over.in_number;
-  out_past = over.out_past;
-  in_past = over.in_past;
-  pushed = over.pushed;
-  taken = over.taken;
-}
-
 -- The node goes on to a later history, of which both ends know the traffic, where they know what is new of it.
 has-next : (w : SecondaryView) (h later : SecondaryHistory) → IsReached h → NodeHas (node w) later → GoesOn h later → 0 < length later.connections
-    → (NextTraffic w.outgoing w.incoming (inward later).number (sent h) (sent later) (came h) (came later) → KnowEnds w later) → SecondaryHas w later
+    → (NextTraffic w.outgoing w.incoming (inward later).number (sent h) (sent later) (came h) (came later) → KnowTraffic w.outgoing w.incoming (inward later).number (sent later) (came later)) → SecondaryHas w later
 has-next w h later reached has on some know = record {
   has = has;
-  over = record {
-    out = ends.out;
-    inn = ends.inn;
-    out_there = ends.out_is;
-    in_there = ends.in_is;
-    opened = some;
-    out_number = ends.out_number;
-    in_number = ends.in_number;
-    out_past = ends.out_past;
-    in_past = ends.in_past;
-    pushed = ends.pushed;
-    taken = ends.taken;
-    ended = ended;
-  };
+  over = record { traffic = ends; opened = some; ended = ended };
 }
   where
     last : inward_at later (inward later).number ≡ inward later
@@ -265,7 +227,7 @@ has-next w h later reached has on some know = record {
     traffic : (number : ℕ) → (number ≡ (inward later).number → ⊥) → SameTraffic h later number
     traffic = same-traffic h later (has-rise h reached) (has-rise later has.reached) on
 
-    ends : KnowEnds w later
+    ends : KnowTraffic w.outgoing w.incoming (inward later).number (sent later) (came later)
     ends = know (record {
       pushed_last = has.leaves.pushed ∙ ap (λ (d : Inward). take d.pushed (answers_due later.settings d)) (sym last);
       taken_last = has.leaves.taken ∙ ap (λ (d : Inward). d.taken) (sym last);
@@ -300,7 +262,7 @@ has-step event none v w h was same has =
       last = λ equal. stays.number;
       shut = λ k c early at. over.ended k c (omega arith) at;
     })
-    (omega arith) (traffic-stays (know-ends v h over) same stays.number)
+    (omega arith) (traffic-stays over.traffic same stays.number)
 
 -- So the node's step is a step over the link, and the node is one over it then.
 pub steps-over : (event : SecondaryEvent) → IsNoOpening event → ((h : SecondaryHistory) → (secondary_step event h).1 ≡ secondary_after event h)
@@ -409,7 +371,7 @@ has-opened unseen number v w h was said has counted restarted =
     let next = more.number in
     let r = subst (λ (n : ℕ). IsRestarted n v w) (counted ∙ sym more.number) restarted in
     has-next w h (secondary_after (OpensToo unseen) h) was.has.reached has (opens-on unseen h said was.over.ended) (omega arith)
-    (traffic-begins (know-ends v h was.over) (omega arith) r.before r.room r.waiting r.out_there r.out r.had r.queued r.capacity r.in_there r.inn)
+    (traffic-begins was.over.traffic (omega arith) r.before r.room r.waiting r.out_there r.out r.had r.queued r.capacity r.in_there r.inn)
 
 -- So an end that opens anew goes on over its link, and one that is refused stays as it is.
 pub reopens-over : (number : ℕ) (v w : SecondaryView) (result : Result (Unit {0}) Refusal) → v.core.number < number
@@ -431,7 +393,7 @@ reopens-over number v w (Err e) above s restarted unchanged = record {
 
 -- both sides of the link are there
 pub is-there : (v : SecondaryView) → SecondaryIsHad v → (is_some v.outgoing ≡ true) × (is_some v.incoming ≡ true)
-is-there v had = (ap is_some had.has.over.out_there, ap is_some had.has.over.in_there)
+is-there v had = (ap is_some had.has.over.traffic.out_there, ap is_some had.has.over.traffic.in_there)
 
 -- A new node that opens over unused ends.
 pub first-over : (v w : SecondaryView) (h : SecondaryHistory) (o : OutEnd) (i : InEnd) → IsNewOut o → IsNewIn i → h.connections ≡ [] → NodeHas (node v) h

@@ -1,2 +1,3 @@
 pub mod Primaries
 pub mod Secondaries
+pub mod Traffic

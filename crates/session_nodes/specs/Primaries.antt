@@ -1,36 +1,31 @@
 -- A primary whose connections all went over one link.
 use Rattle.std.specs.Prelude.{ℕ, suc, ◌≡◌, ◌<◌, List, take, Some, slice_get, length, true, ◌&&◌, Option, is_none, Result}
-use Rattle.std.specs.List.{AllByRecursion}
 use Rattle.model.specs.Primary.{Outward, PrimaryHistory, outward_at, frames_due}
-use Rattle.model.specs.Frames.{Received}
+use Rattle.model.specs.Frames.{Packet, Received}
 use Rattle.model.specs.LocalRuns.{PrimaryEvent, Takes, primary_run}
 use Rattle.blocks.specs.declared.refusal.Refusal.{Refusal}
 use Rattle.blocks.specs.declared.outcome.Done.{Done}
 use Rattle.blocks.specs.declared.outcome.Reply.{Reply}
 use Rattle.blocks.specs.declared.outcome.Reply.TheVariants as reply
 use Rattle.endpoint.specs.Calls.{is_starved}
-use Rattle.endpoint.specs.Incoming.{IncomingState}
-use Rattle.endpoint.specs.Outgoing.{OutgoingState}
-use Rattle.endpoint.specs.Joined.{pushed_at, taken_at}
 use Rattle.primary_steps.specs.Node.{NodeHas, primary_step}
 use Rattle.primary_steps.specs.Steps.{replied}
 use Rattle.primary.specs.State.{PrimaryView, node}
+use Rattle.session_nodes.specs.Traffic.{KnowTraffic}
 
--- Every connection of the history went over the ends that the node has: of each number, the present one and the earlier ones,
--- what went out there is what the history pushed, and what came in is what it took. The ends are on the last connection, and
--- the earlier ones are closed.
+-- what the history pushed on the connection of a number, the present one or an earlier one
+abbrev pub sent : PrimaryHistory → ℕ → List Packet
+sent h number = take (outward_at h number).pushed (frames_due h.settings (outward_at h number))
+
+-- and what it took
+abbrev pub came : PrimaryHistory → ℕ → List Received
+came h number = (outward_at h number).taken
+
+-- Every connection of the history went over the ends that the node has: of each number, what went out there is what the history
+-- pushed, and what came in is what it took. The ends are on the last connection, and the earlier ones are closed.
 pub record PrimaryOver (v : PrimaryView) (h : PrimaryHistory) : Type 0 where
-  pub out : OutgoingState
-  pub inn : IncomingState
-  pub out_there : v.outgoing ≡ Some out
-  pub in_there : v.incoming ≡ Some inn
+  pub traffic : KnowTraffic v.outgoing v.incoming (length h.connections) (sent h) (came h)
   pub opened : 0 < length h.connections
-  pub out_number : out.number ≡ length h.connections
-  pub in_number : inn.number ≡ length h.connections
-  pub out_past : AllByRecursion (λ before. before.number < length h.connections) out.past
-  pub in_past : AllByRecursion (λ before. before.number < length h.connections) inn.past
-  pub pushed : (number : ℕ) → pushed_at number out ≡ take (outward_at h number).pushed (frames_due h.settings (outward_at h number))
-  pub taken : (number : ℕ) → taken_at number inn ≡ (outward_at h number).taken
   pub ended : (k : ℕ) (c : Outward) → suc k < length h.connections → slice_get h.connections k ≡ Some c → c.closed ≡ true
 
 -- the node has this history, and all of its connections went over the node's ends

@@ -1,35 +1,30 @@
 -- A secondary whose connections all went over one link.
 use Rattle.std.specs.Prelude.{ℕ, suc, ◌≡◌, ◌<◌, ◌&&◌, List, take, Option, Some, Result, is_none, slice_get, length, true}
-use Rattle.std.specs.List.{AllByRecursion}
 use Rattle.model.specs.Secondary.{Inward, SecondaryHistory, inward, inward_at, answers_due}
-use Rattle.model.specs.Frames.{Received}
+use Rattle.model.specs.Frames.{Packet, Received}
 use Rattle.model.specs.LocalRuns.{SecondaryEvent, Receives, secondary_run}
 use Rattle.blocks.specs.declared.refusal.Refusal.{Refusal}
 use Rattle.blocks.specs.declared.outcome.Done.{Done}
 use Rattle.blocks.specs.declared.outcome.Reply.{Reply}
 use Rattle.endpoint.specs.Calls.{is_starved}
-use Rattle.endpoint.specs.Incoming.{IncomingState}
-use Rattle.endpoint.specs.Outgoing.{OutgoingState}
-use Rattle.endpoint.specs.Joined.{pushed_at, taken_at}
 use Rattle.secondary_steps.specs.Node.{NodeHas, secondary_step}
 use Rattle.secondary_steps.specs.Steps.{replied}
 use Rattle.secondary.specs.State.{SecondaryView, node}
+use Rattle.session_nodes.specs.Traffic.{KnowTraffic}
 
--- Every connection of the history went over the ends that the node has: of each number, the present one and the earlier ones,
--- what went out there is what the history pushed, and what came in is what it took. The ends are on the last connection, and
--- the earlier ones are closed.
+-- what the history pushed on the connection of a number, the present one or an earlier one
+abbrev pub sent : SecondaryHistory → ℕ → List Packet
+sent h number = take (inward_at h number).pushed (answers_due h.settings (inward_at h number))
+
+-- and what it took
+abbrev pub came : SecondaryHistory → ℕ → List Received
+came h number = (inward_at h number).taken
+
+-- Every connection of the history went over the ends that the node has: of each number, what went out there is what the history
+-- pushed, and what came in is what it took. The ends are on the last connection, and the earlier ones are closed.
 pub record SecondaryOver (v : SecondaryView) (h : SecondaryHistory) : Type 0 where
-  pub out : OutgoingState
-  pub inn : IncomingState
-  pub out_there : v.outgoing ≡ Some out
-  pub in_there : v.incoming ≡ Some inn
+  pub traffic : KnowTraffic v.outgoing v.incoming (inward h).number (sent h) (came h)
   pub opened : 0 < length h.connections
-  pub out_number : out.number ≡ (inward h).number
-  pub in_number : inn.number ≡ (inward h).number
-  pub out_past : AllByRecursion (λ before. before.number < (inward h).number) out.past
-  pub in_past : AllByRecursion (λ before. before.number < (inward h).number) inn.past
-  pub pushed : (number : ℕ) → pushed_at number out ≡ take (inward_at h number).pushed (answers_due h.settings (inward_at h number))
-  pub taken : (number : ℕ) → taken_at number inn ≡ (inward_at h number).taken
   pub ended : (k : ℕ) (d : Inward) → suc k < length h.connections → slice_get h.connections k ≡ Some d → d.closed ≡ true
 
 -- the node has this history, and all of its connections went over the node's ends
