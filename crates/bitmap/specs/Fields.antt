@@ -2,12 +2,12 @@
 use Rattle.std.specs.Prelude.{ℕ, zero, suc, ◌≡◌, ◌+◌, ◌/◌, ◌≤◌, Bool, false, List, [], ◌∷◌, length, slice_index}
 use Rattle.bitmap.specs.Marks.{bit_of, count, count_in}
 
--- the bits of so many blocks from one on
+-- the bits of `n` blocks, from block `from` on
 abbrev pub bits_from : ℕ → ℕ → List ℕ → List Bool
 bits_from from zero words = []
 bits_from from (suc n) words = bit_of words from ∷ bits_from (suc from) n words
 
--- the marks of so many blocks
+-- the marks of the first `blocks` blocks
 abbrev pub marks_of : ℕ → List ℕ → List Bool
 marks_of blocks words = bits_from 0 blocks words
 

@@ -43,7 +43,7 @@ command_at number =
 abbrev pub is_blocks : ℕ → Bool
 is_blocks len = nat_lt 0 len && nat_lt len 131073 && (len % 4096 == 0)
 
--- whether the payload of a command may have so many bytes
+-- whether the payload of a command may have `len` bytes
 abbrev pub is_length : Command → ℕ → Bool
 is_length command.Data len = nat_lt 24 len && is_blocks (len - 24)
 is_length command.RsDataReply len = len == 4120

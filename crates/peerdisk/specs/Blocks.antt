@@ -3,7 +3,7 @@ use Rattle.std.specs.Prelude.{ℕ, ◌+◌, Bool, false, ◌||◌, List, map, le
 use Rattle.std.specs.List.{list_any}
 use Rattle.blocks.specs.Ranges.{is_between, below}
 
--- for each of so many blocks whether it passes
+-- for each of the first `size` blocks whether it passes
 abbrev pub flags : ℕ → (ℕ → Bool) → List Bool
 flags size test = map test (below size)
 
@@ -15,7 +15,7 @@ is_set (Some flag) = flag
 abbrev pub has : List Bool → ℕ → Bool
 has blocks block = is_set (slice_get blocks block)
 
--- no block of so many
+-- none of the first `size` blocks
 abbrev pub none_of : ℕ → List Bool
 none_of size = flags size (λ block. false)
 

@@ -37,7 +37,7 @@ module _ {X : Type 0} where
   trimmed (None ∷ slots) = trimmed slots
   trimmed (Some e ∷ slots) = Some e ∷ slots
 
-  -- so many slots, with holes past the last of these
+  -- `n` slots, with holes past the last of these
   abbrev pub padded : ℕ → List (Option X) → List (Option X)
   padded zero slots = []
   padded (suc n) [] = None ∷ padded n []

@@ -8,7 +8,7 @@ use blocks::Refusal;
 use std::alloc::Global;
 use std::sync::Wait;
 
-/// A link between two nodes in threads of their own: both directions at once, each as `ruled` makes it.
+/// A link between two nodes, in one thread or in two: both directions at once, each as `ruled` makes it.
 #[derive(Drop)]
 pub struct RuledLink<R: Wait> {
     /// Where the primary sends and the secondary takes.

@@ -44,7 +44,7 @@ pub record LogValue : Type 0 where
   pub state : LogState
   pub spare : ℕ
 
--- a log with no write, of a device of so many blocks
+-- a log with no write, of a device of `blocks` blocks
 abbrev pub empty_log : Protocol → ℕ → ℕ → ℕ → LogState
 empty_log protocol blocks max_epoch backlog = record {
   protocol = protocol;
