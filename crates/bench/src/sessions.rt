@@ -9,9 +9,8 @@ use blocks::Protocol;
 use measure::Report;
 use run::{Path, Plan};
 use std::net::{Net, TcpListener, TcpStream};
-use std::sync::Wait;
-use std::thread::Threads;
-use std::time::{Clock, Duration};
+use std::time::Duration;
+use volume::Runtime;
 
 /// Writers at a time.
 const WRITERS: [u32; 3] = [1, 4, 16];
@@ -19,17 +18,11 @@ const WRITERS: [u32; 3] = [1, 4, 16];
 const PROTOCOLS: [Protocol; 3] = [Protocol::A, Protocol::B, Protocol::C];
 
 /// Measures sessions with this many writes for each writer, over a link and over sockets.
-pub(crate) fn measure_all<
-    R: Net<Listener = TcpListener, Stream = TcpStream>
-        + Threads
-        + Wait
-        + Clock
-        + Copy
-        + Drop
-        + Send
-        + Sync
-        + 'static,
->(host: &HostRuntime, rt: R, writes: u32) -> anyhow::Result<()> {
+pub(crate) fn measure_all<R: Runtime + Net<Listener = TcpListener, Stream = TcpStream>>(
+    host: &HostRuntime,
+    rt: R,
+    writes: u32,
+) -> anyhow::Result<()> {
     measure::copied(host, writes)?;
     for path in [Path::Link, Path::Sockets] {
         for protocol in PROTOCOLS {
@@ -50,17 +43,11 @@ pub(crate) fn measure_all<
 }
 
 /// Starts a session, leaves it alone for this many seconds, and ends it: what it costs then is seen from outside.
-pub(crate) fn idle<
-    R: Net<Listener = TcpListener, Stream = TcpStream>
-        + Threads
-        + Wait
-        + Clock
-        + Copy
-        + Drop
-        + Send
-        + Sync
-        + 'static,
->(host: &HostRuntime, rt: R, seconds: u32) -> anyhow::Result<()> {
+pub(crate) fn idle<R: Runtime + Net<Listener = TcpListener, Stream = TcpStream>>(
+    host: &HostRuntime,
+    rt: R,
+    seconds: u32,
+) -> anyhow::Result<()> {
     let plan = Plan {
         path: Path::Link,
         protocol: Protocol::C,

@@ -2,10 +2,7 @@
 //! prints what their session came to.
 #![tactic(auto)]
 
-mod help;
 mod program;
-mod serve;
-mod session;
 #[cfg(test)]
 mod tests;
 

@@ -1,5 +1,6 @@
 //! The program's words.
 use crate::program::run_on;
+use session_run::Host;
 use std::alloc::Global;
 use std::fs::File;
 use std::io::{IsTerminal, Write};
@@ -7,10 +8,7 @@ use std::net::{Net, TcpListener, TcpStream};
 use std::process::Abort;
 use std::random::RandomSource;
 use std::rt::Files;
-use std::sync::Wait;
 use std::test::Fail;
-use std::thread::Threads;
-use std::time::Clock;
 use std::{fs, io};
 
 const ONE_WRITE: &str = "\
@@ -77,18 +75,10 @@ impl IsTerminal for Said {
 /// Runs the program over these words with a script on its standard input.
 fn runs<
     H: Abort
-        + AllocGlobal
+        + Host
         + Files<File = File>
         + Net<Listener = TcpListener, Stream = TcpStream>
-        + Threads
-        + Wait
-        + Clock
-        + RandomSource
-        + Copy
-        + Drop
-        + Send
-        + Sync
-        + 'static,
+        + RandomSource,
 >(rt: &H, words: &[&str], out: &str, status: u8) -> Result<(), Fail> {
     let alloc = rt.alloc();
     let mut written = Vec::new(alloc);

@@ -3,11 +3,12 @@ ghost use Rattle.std.specs.Prelude.{◌∷◌, [], map, OnOk};
 ghost use Rattle.requests.specs.Receipts.{HasMore, range_of, span_of};
 
 use crate::perform::errno_of;
+use halves::{PrimaryHalf, SecondaryHalf};
 use nbd::Errno;
 use primary::Receipt;
+use session_threads::{Begun, Mirror};
 use std::sync::Wait;
 use std::time::Clock;
-use volume::{Begun, Mirror, PrimaryHalf, SecondaryHalf};
 
 /// Waits for all writes that were begun, one after another, and keeps their receipts. If any fails, the others are waited
 /// for too.

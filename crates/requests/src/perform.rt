@@ -7,11 +7,12 @@ use crate::payload::{front, zeros};
 use crate::requests::Requests;
 use blocks::{BLOCK_BYTES, Range, Refusal};
 use bytes::Bytes;
+use halves::{PrimaryHalf, SecondaryHalf};
 use nbd::{Errno, Ranges};
+use session_threads::{Begun, Mirror};
 use std::alloc::Global;
 use std::sync::Wait;
 use std::time::Clock;
-use volume::{Begun, Mirror, PrimaryHalf, SecondaryHalf};
 
 /// Reads these ranges, which have `count` blocks together.
 pub(crate) fn read<R: Wait + Clock + Drop, A: PrimaryHalf + Drop, B: SecondaryHalf + Drop>(

@@ -9,15 +9,16 @@ use crate::flushes::{Flushes, pause};
 use crate::perform::{begin_write, begin_zeroes, read};
 use crate::under_way::UnderWay;
 use blocks::Protocol;
+use halves::{PrimaryHalf, SecondaryHalf};
 use image_store::SyncHandle;
 use nbd::{Command, Errno, Ranges, Request};
 use primary::Receipt;
+use session_threads::{Begun, Mirror};
 use std::alloc::Global;
 use std::fs::File;
 use std::sync::Wait;
 use std::sync::atomic::{AtomicU64, Ordering};
 use std::time::Clock;
-use volume::{Begun, Mirror, PrimaryHalf, SecondaryHalf};
 
 /// Does the requests of block clients over one session after another, by any number of threads at a time.
 #[derive(Drop)]

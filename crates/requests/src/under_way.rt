@@ -1,7 +1,7 @@
 //! A request whose writes were begun.
 use nbd::{Errno, Request};
+use session_threads::Begun;
 use std::marker::Model;
-use volume::Begun;
 
 /// A request whose writes were begun. Invariant: if none was refused, what was begun is all that it writes.
 #[derive(Debug, Drop)]

@@ -1,6 +1,6 @@
 //! The addresses that a server listens at.
 use crate::fault::Fault;
-use crate::options::ServeOptions;
+use options::ServeOptions;
 use std::io;
 use std::net::{Ipv4Addr, Net, SocketAddr, TcpListener, TcpStream};
 

@@ -7,7 +7,6 @@ mod client;
 mod doors;
 mod fault;
 mod keeper;
-mod options;
 mod page;
 mod places;
 mod printing;
@@ -24,3 +23,4 @@ mod workers;
 
 pub use options::ServeOptions;
 pub use printing::serve;
+pub use volume::Host;

@@ -3,13 +3,13 @@ ghost use Rattle.std.specs.Prelude.{◌<◌, ◌≤◌, IfOk};
 
 use crate::doors::Doors;
 use crate::fault::Fault;
-use crate::options::ServeOptions;
 use crate::rest::{Disks, Tally};
 use crate::service::Service;
 use crate::sessions::run_sessions;
 use crate::threads::start_threads;
 use blocks::{BLOCK_BYTES, MAX_BLOCKS, Refusal};
 use image_store::{ImageStore, OpenFault, SyncHandle};
+use options::ServeOptions;
 use requests::Requests;
 use std::alloc::{AllocError, Global};
 use std::fs::File;
@@ -17,10 +17,9 @@ use std::io::{Read, Write};
 use std::net::{Net, TcpListener, TcpStream};
 use std::random::RandomSource;
 use std::rt::Files;
-use std::sync::{Arc, Wait};
-use std::thread::Threads;
-use std::time::Clock;
+use std::sync::Arc;
 use std::{fs, io};
+use volume::{Host, Runtime};
 
 /// An opened image, and the handle by which it is synced.
 type Opened = (ImageStore<File>, SyncHandle<File>);
@@ -30,18 +29,7 @@ type Opened = (ImageStore<File>, SyncHandle<File>);
 /// file, an address, the output, memory or a thread failed; 3 for any other refusal. Then a line on `err` tells of
 /// it. The end of `input` is no order to end.
 pub fn serve<
-    H: Files<File = File>
-        + AllocGlobal
-        + Net<Listener = TcpListener, Stream = TcpStream>
-        + Threads
-        + Wait
-        + Clock
-        + RandomSource
-        + Copy
-        + Drop
-        + Send
-        + Sync
-        + 'static,
+    H: Host + Files<File = File> + Net<Listener = TcpListener, Stream = TcpStream> + RandomSource,
     I: Read + Drop + Send + 'static,
     W: Write,
     E: Write,
@@ -64,18 +52,7 @@ pub fn serve<
 // Serves both images. Returns what the sessions have come to.
 fn serve_images<
     'a,
-    H: Files<File = File>
-        + AllocGlobal
-        + Net<Listener = TcpListener, Stream = TcpStream>
-        + Threads
-        + Wait
-        + Clock
-        + RandomSource
-        + Copy
-        + Drop
-        + Send
-        + Sync
-        + 'static,
+    H: Host + Files<File = File> + Net<Listener = TcpListener, Stream = TcpStream> + RandomSource,
     I: Read + Drop + Send + 'static,
     E: Write,
 >(rt: &H, options: &ServeOptions<'a>, input: I, err: &mut E) -> Result<Tally, Fault<'a>> {
@@ -103,17 +80,7 @@ fn serve_images<
 // Starts the threads of a server of `blocks` blocks, and says where it is.
 fn begin<
     'a,
-    H: AllocGlobal
-        + Net<Listener = TcpListener, Stream = TcpStream>
-        + Threads
-        + Wait
-        + Clock
-        + RandomSource
-        + Copy
-        + Drop
-        + Send
-        + Sync
-        + 'static,
+    H: Host + Net<Listener = TcpListener, Stream = TcpStream> + RandomSource,
     I: Read + Drop + Send + 'static,
     E: Write,
 >(
@@ -138,7 +105,7 @@ fn begin<
 }
 
 // Runs the sessions of a server until it ends.
-fn finish<'a, H: Threads + Wait + Clock + Copy + Drop + Send + Sync + 'static>(
+fn finish<'a, H: Runtime>(
     rt: &H,
     service: &Service,
     options: &ServeOptions<'a>,

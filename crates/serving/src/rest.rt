@@ -1,6 +1,6 @@
 //! The parts that a session leaves for the next one.
 use crate::service::Service;
-use blocks::{Refusal, Store, Tuple};
+use blocks::{Refusal, Store};
 use handover::parts_after;
 use image_store::ImageStore;
 use link::{FrameIn, FrameOut};
@@ -12,14 +12,6 @@ use volume::Parts;
 
 /// The disks of both nodes.
 pub(crate) type Disks = (ImageStore<File>, ImageStore<File>);
-
-/// The identifiers of a disk that nothing is known of.
-pub(crate) const NONE: Tuple = Tuple {
-    current: 0,
-    bitmap: 0,
-    first_historical: 0,
-    second_historical: 0,
-};
 
 /// What the sessions of a server have come to.
 #[derive(Clone, Copy, Debug, PartialEq, Eq)]
@@ -60,16 +52,11 @@ pub(crate) struct Rest {
 
 /// Settles two nodes that are at rest, and takes from them what the next session starts from. The refusals are those of
 /// `settle` and `parts_after`.
-pub(crate) fn bring_together<
-    O: FrameOut + Drop,
-    I: FrameIn + Drop,
-    P: FrameOut + Drop,
-    J: FrameIn + Drop,
->(
+pub(crate) fn bring_together(
     service: &Service,
     tally: Tally,
-    primary: Primary<O, I, ImageStore<File>>,
-    secondary: Secondary<P, J, ImageStore<File>>,
+    primary: Primary<impl FrameOut + Drop, impl FrameIn + Drop, ImageStore<File>>,
+    secondary: Secondary<impl FrameOut + Drop, impl FrameIn + Drop, ImageStore<File>>,
     receipts: &[Receipt],
 ) -> Result<Rest, Refusal> {
     let (mut primary, mut secondary) = (primary, secondary);
@@ -84,18 +71,11 @@ pub(crate) fn bring_together<
 }
 
 // Settles both nodes. Returns the parts of the next session, and what the sessions have come to.
-fn compare<
-    O: FrameOut + Drop,
-    I: FrameIn + Drop,
-    S: Store + Drop,
-    P: FrameOut + Drop,
-    J: FrameIn + Drop,
-    T: Store + Drop,
->(
+fn compare(
     service: &Service,
     tally: Tally,
-    primary: &mut Primary<O, I, S>,
-    secondary: &mut Secondary<P, J, T>,
+    primary: &mut Primary<impl FrameOut + Drop, impl FrameIn + Drop, impl Store + Drop>,
+    secondary: &mut Secondary<impl FrameOut + Drop, impl FrameIn + Drop, impl Store + Drop>,
     receipts: &[Receipt],
 ) -> Result<(Parts, Tally), Refusal> {
     let settled = settle(primary, secondary, receipts)?;

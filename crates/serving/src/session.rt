@@ -1,11 +1,8 @@
 //! One session of a server, from its start to its settlement.
-ghost use Rattle.endpoint.specs.Calls.{IsNewIn, IsNewOut};
-ghost use Rattle.ruled_link.specs.Inward.{taking};
-ghost use Rattle.ruled_link.specs.Names.{row_of};
 ghost use Rattle.ruled_link.specs.Names as names;
-ghost use Rattle.ruled_link.specs.Outward.{sending};
 ghost use Rattle.serving.specs.Links.{IsNewDirection};
-ghost use Rattle.std.specs.Prelude.{◌≡◌, IfOk};
+ghost use Rattle.std.specs.Prelude.{IfOk};
+ghost use Rattle.volume.specs.Links.{AreEndsOf};
 
 use crate::rest::{Disks, Rest, Tally, bring_together};
 use crate::service::Service;
@@ -17,16 +14,14 @@ use std::alloc::Global;
 use std::fs::File;
 use std::marker::Brand;
 use std::sync::Wait;
-use std::thread::Threads;
-use std::time::Clock;
-use volume::{Linked, Parts, Session};
+use volume::{Linked, Parts, Runtime, Session};
 
 /// Both ends of a direction of a link.
 type Direction<R> = (RuledOut<R>, RuledIn<R>);
 
 /// Runs a session over these disks, does the requests of clients over it, and returns what it leaves. The refusals
 /// are `BadSetting` (15), and those of `Session::start`, `Session::finish` and `settle`.
-pub(crate) fn run_session<R: Threads + Wait + Clock + Copy + Drop + Send + Sync + 'static>(
+pub(crate) fn run_session<R: Runtime>(
     rt: R,
     service: &Service,
     cut_every: Option<u32>,
@@ -62,10 +57,7 @@ fn link<R: Wait + Copy>(
 }
 
 // All that the session is used for stands in one function over its link's name, which the caller picks.
-fn run_named<
-    L: Linked + Send + Sync + 'static,
-    R: Threads + Wait + Clock + Copy + Drop + Send + Sync + 'static,
->(
+fn run_named<L: Linked + Send + Sync + 'static, R: Runtime>(
     rt: R,
     service: &Service,
     cut_every: Option<u32>,
@@ -75,12 +67,8 @@ fn run_named<
     parts: Parts,
     tally: Tally,
 ) -> Result<Rest, Refusal>
-    requires there { there.0.row ≡ row_of L.link names.There }
-    requires there_too { there.1.row ≡ row_of L.link names.There }
-    requires back { back.0.row ≡ row_of L.link names.Back }
-    requires back_too { back.1.row ≡ row_of L.link names.Back }
-    requires unused { IsNewOut (sending there.0) × IsNewIn (taking there.1) }
-    requires unused_too { IsNewOut (sending back.0) × IsNewIn (taking back.1) }
+    requires there { AreEndsOf L.link names.There there }
+    requires back { AreEndsOf L.link names.Back back }
 {
     let (local, peer) = disks;
     match Session::<R, L, ImageStore<File>, ImageStore<File>>::start(
@@ -98,10 +86,7 @@ fn run_named<
 }
 
 // Does the requests of clients, ends the session, and settles.
-fn use_session<
-    L: Linked + Send + Sync + 'static,
-    R: Threads + Wait + Clock + Copy + Drop + Send + Sync + 'static,
->(
+fn use_session<L: Linked + Send + Sync + 'static, R: Runtime>(
     rt: R,
     service: &Service,
     cut_every: Option<u32>,

@@ -1,24 +1,13 @@
 //! One session after another, over the same disks.
-use crate::rest::{Disks, NONE, Rest, Tally};
+use crate::rest::{Disks, Rest, Tally};
 use crate::service::Service;
 use crate::session::run_session;
 use blocks::{BLOCK_BYTES, Block, Refusal, Settings, Store, Tuple};
-use std::sync::Wait;
-use std::thread::Threads;
-use std::time::Clock;
-use volume::Parts;
-
-/// The identifiers of a disk at the start.
-const FIRST: Tuple = Tuple {
-    current: 1,
-    bitmap: 0,
-    first_historical: 0,
-    second_historical: 0,
-};
+use volume::{Parts, Runtime};
 
 /// Runs sessions over these disks until the server ends, and returns what the last one leaves. If the disks differ at
 /// the start, nothing counts as known of the peer's, which is made like the local one.
-pub(crate) fn run_sessions<R: Threads + Wait + Clock + Copy + Drop + Send + Sync + 'static>(
+pub(crate) fn run_sessions<R: Runtime>(
     rt: R,
     service: &Service,
     cut_every: Option<u32>,
@@ -38,8 +27,14 @@ pub(crate) fn run_sessions<R: Threads + Wait + Clock + Copy + Drop + Send + Sync
 // What the first session starts from.
 fn first_rest(service: &Service, disks: Disks) -> Result<Rest, Refusal> {
     let mut disks = disks;
-    let same = are_alike(&mut disks);
-    match first_parts(service, if same { FIRST } else { NONE }) {
+    let first = Tuple::new(1, 0, 0, 0);
+    let unknown = Tuple::new(0, 0, 0, 0);
+    let peer = if are_alike(&mut disks) {
+        first
+    } else {
+        unknown
+    };
+    match first_parts(service, first, peer) {
         Ok(parts) => Ok(Rest {
             disks,
             parts,
@@ -49,8 +44,8 @@ fn first_rest(service: &Service, disks: Disks) -> Result<Rest, Refusal> {
     }
 }
 
-// The parts of the first session, over a peer with these identifiers.
-fn first_parts(service: &Service, peer: Tuple) -> Result<Parts, Refusal> {
+// The parts of the first session, over disks with these identifiers.
+fn first_parts(service: &Service, own: Tuple, peer: Tuple) -> Result<Parts, Refusal> {
     let settings = Settings {
         protocol: service.protocol,
         blocks: service.blocks,
@@ -61,7 +56,7 @@ fn first_parts(service: &Service, peer: Tuple) -> Result<Parts, Refusal> {
     let (sync, loss) = service.words();
     Ok(Parts {
         settings,
-        own: FIRST,
+        own,
         peer,
         marks,
         sync,

@@ -9,24 +9,14 @@ use std::hash::RandomState;
 use std::io::Read;
 use std::net::{Net, TcpListener, TcpStream};
 use std::random::RandomSource;
-use std::sync::{Arc, Wait};
+use std::sync::Arc;
 use std::thread;
-use std::thread::Threads;
-use std::time::Clock;
+use volume::Runtime;
 
 /// Starts the threads that let clients in, that answer those of the status page, and that wait for the order to end.
 pub(crate) fn start_threads<
     'a,
-    H: Net<Listener = TcpListener, Stream = TcpStream>
-        + Threads
-        + Wait
-        + Clock
-        + RandomSource
-        + Copy
-        + Drop
-        + Send
-        + Sync
-        + 'static,
+    H: Runtime + Net<Listener = TcpListener, Stream = TcpStream> + RandomSource,
     I: Read + Drop + Send + 'static,
 >(rt: &H, service: &Arc<Service, Global>, doors: Doors, input: I) -> Result<(), Fault<'a>> {
     let rt = *rt;
@@ -47,7 +37,7 @@ pub(crate) fn start_threads<
 }
 
 // Starts the thread of the status page.
-fn start_page<'a, H: Threads + Wait + Clock + RandomSource + Copy + Drop + Send + Sync + 'static>(
+fn start_page<'a, H: Runtime + RandomSource>(
     rt: &H,
     service: &Arc<Service, Global>,
     page: Door,

@@ -8,8 +8,8 @@ use std::io::{BufRead, BufReader, Read};
 use std::net::{Net, SocketAddr, TcpListener, TcpStream};
 use std::sync::{Arc, Wait};
 use std::thread;
-use std::thread::Threads;
-use std::time::{Clock, Duration};
+use std::time::Duration;
+use volume::Runtime;
 
 /// How many clients there may be at a time. Further ones are closed at once.
 const MAX_CLIENTS: u32 = 256;
@@ -21,11 +21,7 @@ const PAUSE_MS: u64 = 100;
 const QUIT: &str = "quit";
 
 /// Lets clients in, each with a thread of its own, until the server ends.
-pub(crate) fn let_in<R: Threads + Wait + Clock + Copy + Drop + Send + Sync + 'static>(
-    rt: R,
-    service: &Arc<Service, Global>,
-    listener: &TcpListener,
-) {
+pub(crate) fn let_in<R: Runtime>(rt: R, service: &Arc<Service, Global>, listener: &TcpListener) {
     for _ in rt.forever() {
         let accepted = listener.accept();
         if service.is_over() {
@@ -41,7 +37,7 @@ pub(crate) fn let_in<R: Threads + Wait + Clock + Copy + Drop + Send + Sync + 'st
 }
 
 // Starts the thread of a client.
-fn welcome<R: Threads + Wait + Clock + Copy + Drop + Send + Sync + 'static>(
+fn welcome<R: Runtime>(
     rt: R,
     service: &Arc<Service, Global>,
     stream: TcpStream,

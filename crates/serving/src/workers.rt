@@ -7,9 +7,8 @@ use primary::Receipt;
 use std::sync::atomic::{AtomicBool, Ordering};
 use std::sync::{Mutex, Wait};
 use std::thread;
-use std::thread::Threads;
 use std::time::{Clock, Duration};
-use volume::{Mirror, PrimaryHalf, SecondaryHalf};
+use volume::{Mirror, PrimaryHalf, Runtime, SecondaryHalf, SharedPrimary, SharedSecondary};
 
 /// How many threads do the requests of all clients, each of them some together.
 const WORKERS: usize = 4;
@@ -27,11 +26,7 @@ const SESSION_WRITES: u64 = 1_000_000;
 /// Does the requests of clients over this mirror until the server ends or the session has accepted about a million
 /// writes, and returns the receipts of all their writes. When it returns, both disks are alike and the link has
 /// nothing left to do, or the server ends.
-pub(crate) fn work<
-    R: Threads + Wait + Clock + Copy + Drop + Send + Sync + 'static,
-    A: PrimaryHalf + Drop + Send + Sync + 'static,
-    B: SecondaryHalf + Drop + Send + Sync + 'static,
->(
+pub(crate) fn work<R: Runtime, A: SharedPrimary, B: SharedSecondary>(
     rt: &R,
     service: &Service,
     mirror: &Mirror<R, A, B>,
@@ -53,11 +48,11 @@ pub(crate) fn work<
 
 // Does requests in all threads, and gathers the receipts. Their room is made at once: if it grew, the memory of a session
 // would depend on those before it.
-fn do_requests<
-    R: Threads + Wait + Clock + Copy + Drop + Send + Sync + 'static,
-    A: PrimaryHalf + Drop + Send + Sync + 'static,
-    B: SecondaryHalf + Drop + Send + Sync + 'static,
->(rt: &R, service: &Service, mirror: &Mirror<R, A, B>) -> Result<Vec<Receipt>, Refusal> {
+fn do_requests<R: Runtime, A: SharedPrimary, B: SharedSecondary>(
+    rt: &R,
+    service: &Service,
+    mirror: &Mirror<R, A, B>,
+) -> Result<Vec<Receipt>, Refusal> {
     let gathered = Mutex::new(Vec::with_capacity(service.alloc, MOST_RECEIPTS)?);
     let left = thread::map_indices(
         rt,

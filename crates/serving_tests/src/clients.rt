@@ -1,6 +1,6 @@
 //! A client over a socket. Its bytes and the server's are written out by hand from the protocol document.
 use blocks::Protocol;
-use serving::{ServeOptions, serve};
+use serving::{Host, ServeOptions, serve};
 use std::alloc::Global;
 use std::fs::File;
 use std::io::{Read, Write};
@@ -10,7 +10,6 @@ use std::rt::Files;
 use std::sync::atomic::{AtomicBool, Ordering};
 use std::sync::{Arc, Wait};
 use std::test::Fail;
-use std::thread::Threads;
 use std::time::{Clock, Duration};
 use std::{fs, io, thread};
 
@@ -213,18 +212,7 @@ fn is_told(alloc: Global, stream: &mut TcpStream) -> io::Result<bool> {
 // Serves two images to one client, under this protocol. Returns the server's status, and whether the client had the right
 // answers.
 fn serve_one<
-    H: Files<File = File>
-        + AllocGlobal
-        + Net<Listener = TcpListener, Stream = TcpStream>
-        + Threads
-        + Wait
-        + Clock
-        + RandomSource
-        + Copy
-        + Drop
-        + Send
-        + Sync
-        + 'static,
+    H: Host + Files<File = File> + Net<Listener = TcpListener, Stream = TcpStream> + RandomSource,
 >(rt: H, protocol: Protocol, out: &mut Vec<u8>) -> io::Result<(u8, bool)> {
     let alloc = rt.alloc();
     let free = TcpListener::bind(&rt, (Ipv4Addr::LOCALHOST, 0))?;

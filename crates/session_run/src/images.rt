@@ -8,13 +8,6 @@ use std::io::Read;
 use std::rt::Files;
 use std::{fs, io};
 
-/// The files that hold the disks. A disk with no file is filled with zeros, and is not saved.
-#[derive(Clone, Copy)]
-pub struct Images<'a> {
-    pub local: Option<&'a str>,
-    pub peer: Option<&'a str>,
-}
-
 /// The bytes of a disk of `blocks` blocks: its file's, or zeros.
 pub(crate) fn load<'a, H: Files + AllocGlobal>(
     rt: &H,

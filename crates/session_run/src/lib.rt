@@ -4,8 +4,8 @@
 
 mod fault;
 mod images;
-mod options;
 mod parts;
+mod plan;
 mod report;
 mod saving;
 mod session;
@@ -14,6 +14,6 @@ mod telling;
 mod whole_run;
 mod work;
 
-pub use images::Images;
-pub use options::{Options, Path, Telling};
+pub use options::{Images, Path, RunOptions, Telling};
+pub use volume::Host;
 pub use whole_run::run;

@@ -1,9 +1,9 @@
 //! The outcome of a session.
 ghost use Rattle.std.specs.Prelude.{◌≡◌, ◌*◌, length, vec_len, IfOk};
 
-use crate::options::Options;
 use blocks::{MemStore, Refusal};
 use link::{FrameIn, FrameOut};
+use options::RunOptions;
 use primary::{Primary, Receipt};
 use secondary::Secondary;
 use settle::settle;
@@ -35,7 +35,7 @@ pub(crate) fn conclude<
     J: FrameIn + Drop,
 >(
     alloc: Global,
-    options: &Options,
+    options: &RunOptions,
     worked: Result<Vec<Receipt>, Refusal>,
     ended: Result<(Primary<O, I, MemStore>, Secondary<P, J, MemStore>), Refusal>,
 ) -> Result<Report, Refusal>
@@ -50,7 +50,7 @@ pub(crate) fn conclude<
 // Settles both nodes.
 fn bring_together<O: FrameOut + Drop, I: FrameIn + Drop, P: FrameOut + Drop, J: FrameIn + Drop>(
     alloc: Global,
-    options: &Options,
+    options: &RunOptions,
     primary: Primary<O, I, MemStore>,
     secondary: Secondary<P, J, MemStore>,
     receipts: &[Receipt],
@@ -75,7 +75,7 @@ fn bring_together<O: FrameOut + Drop, I: FrameIn + Drop, P: FrameOut + Drop, J: 
 // The status lines of both nodes, if they are wanted.
 fn status<O: FrameOut + Drop, I: FrameIn + Drop, P: FrameOut + Drop, J: FrameIn + Drop>(
     alloc: Global,
-    options: &Options,
+    options: &RunOptions,
     primary: &Primary<O, I, MemStore>,
     secondary: &Secondary<P, J, MemStore>,
 ) -> Result<Option<(String, String)>, Refusal> {

@@ -1,7 +1,7 @@
 //! Saving both disks.
 use crate::fault::Fault;
-use crate::images::Images;
 use blocks::{BLOCK_BYTES, Block, MemStore, Store};
+use options::Images;
 use std::alloc::{AllocError, Global};
 use std::fs::OpenFile;
 use std::io::{BufWriter, ErrorKind, Write};

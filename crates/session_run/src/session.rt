@@ -1,37 +1,28 @@
 //! A session over a link in this process, from its start to its settlement.
 ghost use Rattle.std.specs.Prelude.{◌≡◌, ◌*◌, ◌<◌, IfOk};
-ghost use Rattle.endpoint.specs.Calls.{IsNewIn, IsNewOut};
-ghost use Rattle.ruled_link.specs.Inward.{taking};
-ghost use Rattle.ruled_link.specs.Names.{row_of};
 ghost use Rattle.ruled_link.specs.Names as names;
-ghost use Rattle.ruled_link.specs.Outward.{sending};
+ghost use Rattle.volume.specs.Links.{AreEndsOf};
 
-use crate::options::Options;
 use crate::parts::{Disks, parts};
 use crate::report::{Report, conclude};
 use crate::work::work;
 use blocks::{MemStore, Refusal};
+use options::RunOptions;
 use ruled_link::{RuledIn, RuledOut, ruled};
 use std::alloc::Global;
 use std::io::Write;
 use std::marker::Brand;
-use std::sync::Wait;
-use std::thread::Threads;
-use std::time::Clock;
-use volume::{Linked, Parts, Session};
+use volume::{Linked, Parts, Runtime, Session};
 
 /// Runs a session over the images of two disks: starts it, makes all writes while the link is cut, ends it, and
 /// settles. On `err` it tells what the options want.
 ///
 /// `BadSetting` (15) if a setting is out of its range or an image has not its blocks; else the refusals of
 /// `Session::start`, of `Mirror::write`, of `Session::finish` and of `settle`, in this order.
-pub(crate) fn run_session<
-    R: Threads + Wait + Clock + Copy + Drop + Send + Sync + 'static,
-    E: Write + Send,
->(
+pub(crate) fn run_session<R: Runtime, E: Write + Send>(
     rt: R,
     alloc: Global,
-    options: &Options,
+    options: &RunOptions,
     images: (Vec<u8>, Vec<u8>),
     err: &mut E,
 ) -> Result<Report, Refusal>
@@ -44,14 +35,10 @@ pub(crate) fn run_session<
 }
 
 // All that the session is used for stands in one function over its link's name, which the caller picks.
-fn run_named<
-    L: Linked + Send + Sync + 'static,
-    R: Threads + Wait + Clock + Copy + Drop + Send + Sync + 'static,
-    E: Write + Send,
->(
+fn run_named<L: Linked + Send + Sync + 'static, R: Runtime, E: Write + Send>(
     rt: R,
     alloc: Global,
-    options: &Options,
+    options: &RunOptions,
     there: (RuledOut<R>, RuledIn<R>),
     back: (RuledOut<R>, RuledIn<R>),
     disks: Disks,
@@ -59,12 +46,8 @@ fn run_named<
     err: &mut E,
 ) -> Result<Report, Refusal>
     requires blocks { 0 < options.now.blocks }
-    requires there { there.0.row ≡ row_of L.link names.There }
-    requires there_too { there.1.row ≡ row_of L.link names.There }
-    requires back { back.0.row ≡ row_of L.link names.Back }
-    requires back_too { back.1.row ≡ row_of L.link names.Back }
-    requires unused { IsNewOut (sending there.0) × IsNewIn (taking there.1) }
-    requires unused_too { IsNewOut (sending back.0) × IsNewIn (taking back.1) }
+    requires there { AreEndsOf L.link names.There there }
+    requires back { AreEndsOf L.link names.Back back }
     ensures { IfOk result (λ report. report.completed ≡ options.now.writers * options.now.writes) }
 {
     let (local, peer) = disks;
@@ -75,14 +58,10 @@ fn run_named<
 }
 
 // Makes all writes, ends the session, and settles.
-fn use_session<
-    L: Linked + Send + Sync + 'static,
-    R: Threads + Wait + Clock + Copy + Drop + Send + Sync + 'static,
-    E: Write + Send,
->(
+fn use_session<L: Linked + Send + Sync + 'static, R: Runtime, E: Write + Send>(
     rt: R,
     alloc: Global,
-    options: &Options,
+    options: &RunOptions,
     session: Session<R, L, MemStore, MemStore>,
     err: &mut E,
 ) -> Result<Report, Refusal>

@@ -1,5 +1,6 @@
 //! Progress lines of a run.
-use crate::options::Options;
+use crate::plan::all_writes;
+use options::RunOptions;
 use std::io;
 use std::io::Write;
 use std::sync::atomic::{AtomicU64, Ordering};
@@ -61,7 +62,7 @@ pub(crate) fn tell<
     A: PrimaryHalf + Drop,
     B: SecondaryHalf + Drop,
     E: Write,
->(rt: &R, mirror: &Mirror<R, A, B>, options: &Options, course: &Course, err: &mut E) {
+>(rt: &R, mirror: &Mirror<R, A, B>, options: &RunOptions, course: &Course, err: &mut E) {
     let mut has_line = false;
     for _ in rt.forever() {
         if course.wait(rt) {
@@ -77,7 +78,7 @@ pub(crate) fn tell<
 
 fn tell_once<R: Wait + Clock + Drop, A: PrimaryHalf + Drop, B: SecondaryHalf + Drop, E: Write>(
     mirror: &Mirror<R, A, B>,
-    options: &Options,
+    options: &RunOptions,
     course: &Course,
     err: &mut E,
 ) -> io::Result<()> {
@@ -91,7 +92,7 @@ fn tell_once<R: Wait + Clock + Drop, A: PrimaryHalf + Drop, B: SecondaryHalf + D
     }
     if options.telling.progress {
         let completed = course.completed.load(Ordering::SeqCst);
-        let all = options.all_writes();
+        let all = all_writes(options);
         let marks = mirror.marks();
         write!(
             err,

@@ -2,19 +2,18 @@
 ghost use Rattle.std.specs.Prelude.{◌≡◌, ◌≤◌};
 
 use crate::fault::Fault;
-use crate::images::{Images, load};
-use crate::options::{Options, Path};
+use crate::images::load;
+use crate::plan::settings;
 use crate::report::Report;
 use crate::saving::save;
 use crate::session::run_session;
-use crate::sockets::{connect, run_over};
+use crate::sockets::run_over;
 use crate::telling::tell_status;
+use options::{Images, Path, RunOptions};
 use std::io::Write;
 use std::net::{Net, TcpListener, TcpStream};
 use std::rt::Files;
-use std::sync::Wait;
-use std::thread::Threads;
-use std::time::Clock;
+use volume::{Host, loopback};
 
 /// Runs a session with these options over these images, saves both disks, and prints `completed X`, `settled X`
 /// and `unmarked 0`, X being the number of writes. Returns the exit status: 0 if all is done; 1 if a file, the
@@ -24,20 +23,10 @@ use std::time::Clock;
 /// start, the writes, saving. Then a line on `err` tells of the first, which for a refusal R is `refused R`; nothing is
 /// printed, and if the fault came before saving, no image is changed. What the options want told goes to `err` too.
 pub fn run<
-    H: Files
-        + AllocGlobal
-        + Net<Listener = TcpListener, Stream = TcpStream>
-        + Threads
-        + Wait
-        + Clock
-        + Copy
-        + Drop
-        + Send
-        + Sync
-        + 'static,
+    H: Host + Files + Net<Listener = TcpListener, Stream = TcpStream>,
     W: Write,
     E: Write + Send,
->(rt: &H, options: &Options, images: &Images<'_>, out: &mut W, err: &mut E) -> u8
+>(rt: &H, options: &RunOptions, images: &Images<'_>, out: &mut W, err: &mut E) -> u8
     ensures { result ≤ 3 }
 {
     match run_images(rt, options, images, out, err) {
@@ -51,27 +40,17 @@ pub fn run<
 
 fn run_images<
     'a,
-    H: Files
-        + AllocGlobal
-        + Net<Listener = TcpListener, Stream = TcpStream>
-        + Threads
-        + Wait
-        + Clock
-        + Copy
-        + Drop
-        + Send
-        + Sync
-        + 'static,
+    H: Host + Files + Net<Listener = TcpListener, Stream = TcpStream>,
     W: Write,
     E: Write + Send,
 >(
     rt: &H,
-    options: &Options,
+    options: &RunOptions,
     images: &Images<'a>,
     out: &mut W,
     err: &mut E,
 ) -> Result<(), Fault<'a>> {
-    options.settings().check()?;
+    settings(options).check()?;
     let local = load(rt, images.local, options.blocks)?;
     let peer = load(rt, images.peer, options.blocks)?;
     let mut report = run_disks(rt, options, (local, peer), err)?;
@@ -86,23 +65,15 @@ fn run_images<
 }
 
 // Runs the session over two disks.
-fn run_disks<
-    'a,
-    H: Net<Listener = TcpListener, Stream = TcpStream>
-        + AllocGlobal
-        + Threads
-        + Wait
-        + Clock
-        + Copy
-        + Drop
-        + Send
-        + Sync
-        + 'static,
-    E: Write + Send,
->(rt: &H, options: &Options, images: (Vec<u8>, Vec<u8>), err: &mut E) -> Result<Report, Fault<'a>> {
+fn run_disks<'a, H: Host + Net<Listener = TcpListener, Stream = TcpStream>, E: Write + Send>(
+    rt: &H,
+    options: &RunOptions,
+    images: (Vec<u8>, Vec<u8>),
+    err: &mut E,
+) -> Result<Report, Fault<'a>> {
     let report = match options.path {
         Path::Link => run_session(*rt, rt.alloc(), options, images, err),
-        Path::Sockets => match connect(rt) {
+        Path::Sockets => match loopback(rt) {
             Ok(ways) => run_over(*rt, rt.alloc(), options, images, ways, err),
             Err(error) => return Err(Fault::Unconnected(error)),
         },

@@ -2,10 +2,11 @@
 ghost use Rattle.std.specs.Prelude.{◌≡◌, ◌*◌, ◌<◌, vec_len, IfOk};
 ghost use Rattle.std.specs.Thread.{IsSend, IsSync};
 
-use crate::options::{Options, byte, words};
+use crate::plan::{all_writes, block, byte, words};
 use crate::telling::{Course, tell};
 use blocks::{BLOCK_BYTES, Refusal};
 use bytes::Bytes;
+use options::RunOptions;
 use primary::Receipt;
 use std::alloc::Global;
 use std::io::Write;
@@ -29,7 +30,7 @@ pub(crate) fn work<
     rt: &R,
     alloc: Global,
     mirror: &Mirror<R, A, B>,
-    options: &Options,
+    options: &RunOptions,
     err: &mut E,
 ) -> Result<Vec<Receipt>, Refusal>
     requires { 0 < options.now.blocks }
@@ -62,7 +63,7 @@ fn write_and_cut<
     rt: &R,
     alloc: Global,
     mirror: &Mirror<R, A, B>,
-    options: &Options,
+    options: &RunOptions,
     course: &Course,
 ) -> Result<Vec<Receipt>, Refusal>
     requires { 0 < options.now.blocks }
@@ -103,7 +104,7 @@ fn write_all<
     rt: &R,
     alloc: Global,
     mirror: &Mirror<R, A, B>,
-    options: &Options,
+    options: &RunOptions,
     course: &Course,
 ) -> Result<Vec<Receipt>, Refusal>
     requires { 0 < options.now.blocks }
@@ -122,7 +123,7 @@ fn write_all<
         all.append(&mut receipts?)?;
     }
     // Each writer that was not refused has all of its receipts.
-    if all.len() as u64 != options.all_writes() {
+    if all.len() as u64 != all_writes(options) {
         return Err(Refusal::UnknownJob);
     }
     Ok(all)
@@ -132,7 +133,7 @@ fn write_all<
 fn write_turns<R: Wait + Clock + Drop, A: PrimaryHalf + Drop, B: SecondaryHalf + Drop>(
     alloc: Global,
     mirror: &Mirror<R, A, B>,
-    options: &Options,
+    options: &RunOptions,
     writer: u32,
     course: &Course,
 ) -> Result<Vec<Receipt>, Refusal>
@@ -142,7 +143,7 @@ fn write_turns<R: Wait + Clock + Drop, A: PrimaryHalf + Drop, B: SecondaryHalf +
     let mut receipts = Vec::with_capacity(alloc, options.writes as usize)?;
     for turn in 0..options.writes {
         let bytes = Bytes::copy_from_slice(alloc, &[byte(writer, turn); BLOCK_BYTES])?;
-        receipts.push(mirror.write(options.block(writer, turn), &bytes)?)?;
+        receipts.push(mirror.write(block(options, writer, turn), &bytes)?)?;
         course.count();
     }
     Ok(receipts)

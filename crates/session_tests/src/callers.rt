@@ -8,9 +8,8 @@ use std::alloc::Global;
 use std::sync::Wait;
 use std::sync::atomic::Ordering;
 use std::thread;
-use std::thread::Threads;
 use std::time::Clock;
-use volume::{Mirror, PrimaryHalf, SecondaryHalf};
+use volume::{Mirror, PrimaryHalf, Runtime, SecondaryHalf, SharedPrimary, SharedSecondary};
 
 /// Writers of a session, and the writes of each.
 pub(crate) const WRITERS: usize = 4;
@@ -45,11 +44,7 @@ pub(crate) enum Work {
 }
 
 /// Does it, and returns what the callers have then.
-pub(crate) fn carry_out<
-    R: Threads + Wait + Clock + Copy + Drop + Send + Sync + 'static,
-    A: PrimaryHalf + Drop + Send + Sync + 'static,
-    B: SecondaryHalf + Drop + Send + Sync + 'static,
->(
+pub(crate) fn carry_out<R: Runtime, A: SharedPrimary, B: SharedSecondary>(
     rt: &R,
     alloc: Global,
     mirror: &Mirror<R, A, B>,
@@ -102,11 +97,7 @@ fn write<R: Wait + Clock + Drop, A: PrimaryHalf + Drop, B: SecondaryHalf + Drop>
 }
 
 // All writers, each in a thread of its own, and the one that cuts.
-fn all_writers<
-    R: Threads + Wait + Clock + Copy + Drop + Send + Sync + 'static,
-    A: PrimaryHalf + Drop + Send + Sync + 'static,
-    B: SecondaryHalf + Drop + Send + Sync + 'static,
->(
+fn all_writers<R: Runtime, A: SharedPrimary, B: SharedSecondary>(
     rt: &R,
     alloc: Global,
     mirror: &Mirror<R, A, B>,
@@ -210,11 +201,7 @@ fn cut_every_tenth<R: Wait + Clock + Drop, A: PrimaryHalf + Drop, B: SecondaryHa
 }
 
 // Two callers, whose writes are under way at one time.
-fn gate<
-    R: Threads + Wait + Clock + Copy + Drop + Send + Sync + 'static,
-    A: PrimaryHalf + Drop + Send + Sync + 'static,
-    B: SecondaryHalf + Drop + Send + Sync + 'static,
->(
+fn gate<R: Runtime, A: SharedPrimary, B: SharedSecondary>(
     rt: &R,
     alloc: Global,
     mirror: &Mirror<R, A, B>,

@@ -5,10 +5,9 @@ use crate::outcome::Outcome;
 use crate::session::{Case, UNKNOWN, run};
 use blocks::{Protocol, Refusal};
 use std::alloc::Global;
-use std::sync::{Arc, Wait};
+use std::sync::Arc;
 use std::test::*;
-use std::thread::Threads;
-use std::time::Clock;
+use volume::Runtime;
 
 /// Which call of which disk fails.
 #[derive(Clone, Copy, Debug, PartialEq, Eq)]
@@ -21,7 +20,7 @@ enum Fault {
 
 // A session of four writers over disks one of which fails once. A write that fails is on the disk all the same, if its
 // number is odd.
-fn over_failing<R: Threads + Wait + Clock + Copy + Drop + Send + Sync + 'static>(
+fn over_failing<R: Runtime>(
     rt: R,
     alloc: Global,
     protocol: Protocol,
@@ -41,11 +40,7 @@ fn over_failing<R: Threads + Wait + Clock + Copy + Drop + Send + Sync + 'static>
 }
 
 // A session without writes that copies all eight blocks to its peer, over a local disk that fails one read of them.
-fn over_failing_reads<R: Threads + Wait + Clock + Copy + Drop + Send + Sync + 'static>(
-    rt: R,
-    alloc: Global,
-    passes: u64,
-) -> Result<Outcome, Refusal> {
+fn over_failing_reads<R: Runtime>(rt: R, alloc: Global, passes: u64) -> Result<Outcome, Refusal> {
     let signals = Arc::new(alloc, Signals::new())?;
     let disks = (
         FailingDisk::new(memory(alloc, true)?, None, Some(passes)),

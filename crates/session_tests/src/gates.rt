@@ -5,17 +5,12 @@ use crate::outcome::Outcome;
 use crate::session::{Case, UNKNOWN, run};
 use blocks::{Protocol, Refusal};
 use std::alloc::Global;
-use std::sync::{Arc, Wait};
+use std::sync::Arc;
 use std::test::*;
-use std::thread::Threads;
-use std::time::Clock;
+use volume::Runtime;
 
 // A session over disks that tell of what they do. The peer's disk waits where the callers' work says so.
-fn over_watched<R: Threads + Wait + Clock + Copy + Drop + Send + Sync + 'static>(
-    rt: R,
-    alloc: Global,
-    case: Case,
-) -> Result<Outcome, Refusal> {
+fn over_watched<R: Runtime>(rt: R, alloc: Global, case: Case) -> Result<Outcome, Refusal> {
     let signals = Arc::new(alloc, Signals::new())?;
     let (waits, opens) = match case.work {
         Work::Gate { receipt_opens } => (true, !receipt_opens),

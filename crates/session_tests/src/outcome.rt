@@ -66,31 +66,20 @@ impl Outcome {
 
 /// Settles two nodes at rest with the receipts that callers have, and compares their disks. If the callers failed, so
 /// does it.
-pub(crate) fn bring_together<
-    O: FrameOut + Drop,
-    I: FrameIn + Drop,
-    S: Store + Drop,
-    P: FrameOut + Drop,
-    J: FrameIn + Drop,
-    T: Store + Drop,
->(
-    nodes: (Primary<O, I, S>, Secondary<P, J, T>),
+pub(crate) fn bring_together(
+    nodes: (
+        Primary<impl FrameOut + Drop, impl FrameIn + Drop, impl Store + Drop>,
+        Secondary<impl FrameOut + Drop, impl FrameIn + Drop, impl Store + Drop>,
+    ),
     answers: Result<Answers, Refusal>,
 ) -> Result<Outcome, Refusal> {
     let (mut primary, mut secondary) = nodes;
     compare(&mut primary, &mut secondary, answers)
 }
 
-fn compare<
-    O: FrameOut + Drop,
-    I: FrameIn + Drop,
-    S: Store + Drop,
-    P: FrameOut + Drop,
-    J: FrameIn + Drop,
-    T: Store + Drop,
->(
-    primary: &mut Primary<O, I, S>,
-    secondary: &mut Secondary<P, J, T>,
+fn compare(
+    primary: &mut Primary<impl FrameOut + Drop, impl FrameIn + Drop, impl Store + Drop>,
+    secondary: &mut Secondary<impl FrameOut + Drop, impl FrameIn + Drop, impl Store + Drop>,
     answers: Result<Answers, Refusal>,
 ) -> Result<Outcome, Refusal> {
     let answers = answers?;
@@ -108,16 +97,9 @@ fn compare<
 }
 
 // Whether both disks have the same eight blocks, and the first byte of each of the peer's.
-fn read_disks<
-    O: FrameOut + Drop,
-    I: FrameIn + Drop,
-    S: Store + Drop,
-    P: FrameOut + Drop,
-    J: FrameIn + Drop,
-    T: Store + Drop,
->(
-    primary: &mut Primary<O, I, S>,
-    secondary: &mut Secondary<P, J, T>,
+fn read_disks(
+    primary: &mut Primary<impl FrameOut + Drop, impl FrameIn + Drop, impl Store + Drop>,
+    secondary: &mut Secondary<impl FrameOut + Drop, impl FrameIn + Drop, impl Store + Drop>,
 ) -> Result<(bool, [u8; 8]), Refusal> {
     let mut alike = true;
     let mut peer_bytes = [0u8; 8];

@@ -5,10 +5,9 @@ use crate::outcome::Outcome;
 use crate::session::{ALIKE, Case, run};
 use blocks::{MemStore, Protocol, Refusal, Tuple};
 use std::alloc::Global;
-use std::sync::{Arc, Wait};
+use std::sync::Arc;
 use std::test::*;
-use std::thread::Threads;
-use std::time::Clock;
+use volume::Runtime;
 
 const fn tuple(current: u64, bitmap: u64, first_historical: u64, second_historical: u64) -> Tuple {
     Tuple {
@@ -21,7 +20,7 @@ const fn tuple(current: u64, bitmap: u64, first_historical: u64, second_historic
 
 // What a session answers whose callers only ask for what it refuses, and whether its disks are gone then. The peer's
 // disk may be a block short.
-fn answer<R: Threads + Wait + Clock + Copy + Drop + Send + Sync + 'static>(
+fn answer<R: Runtime>(
     rt: R,
     alloc: Global,
     case: Case,

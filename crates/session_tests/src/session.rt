@@ -1,10 +1,7 @@
 //! Running a session over two disks, from its start to its settlement.
-ghost use Rattle.std.specs.Prelude.{◌≡◌, ◌<◌, IfOk};
-ghost use Rattle.endpoint.specs.Calls.{IsNewIn, IsNewOut};
-ghost use Rattle.ruled_link.specs.Inward.{taking};
-ghost use Rattle.ruled_link.specs.Names.{row_of};
+ghost use Rattle.std.specs.Prelude.{◌<◌, IfOk};
 ghost use Rattle.ruled_link.specs.Names as names;
-ghost use Rattle.ruled_link.specs.Outward.{sending};
+ghost use Rattle.volume.specs.Links.{AreEndsOf};
 
 use crate::callers::{Work, carry_out};
 use crate::disks::Signals;
@@ -13,10 +10,8 @@ use blocks::{Protocol, Refusal, Settings, Store, Tuple};
 use ruled_link::{RuledIn, RuledOut, ruled};
 use std::alloc::Global;
 use std::marker::Brand;
-use std::sync::{Arc, Wait};
-use std::thread::Threads;
-use std::time::Clock;
-use volume::{Linked, Parts, Session};
+use std::sync::Arc;
+use volume::{Linked, Parts, Runtime, Session};
 
 /// The identifiers of disks that are alike.
 pub(crate) const ALIKE: Tuple = Tuple {
@@ -87,11 +82,7 @@ impl Case {
 }
 
 /// Runs a session over these disks, whose threads and callers share the signals.
-pub(crate) fn run<
-    R: Threads + Wait + Clock + Copy + Drop + Send + Sync + 'static,
-    S: Store + Drop + Send + 'static,
-    T: Store + Drop + Send + 'static,
->(
+pub(crate) fn run<R: Runtime, S: Store + Drop + Send + 'static, T: Store + Drop + Send + 'static>(
     rt: R,
     alloc: Global,
     case: Case,
@@ -107,7 +98,7 @@ pub(crate) fn run<
 // Everything that a session is used for stands in one function over its link's name, which the caller picks.
 fn run_named<
     L: Linked + Send + Sync + 'static,
-    R: Threads + Wait + Clock + Copy + Drop + Send + Sync + 'static,
+    R: Runtime,
     S: Store + Drop + Send + 'static,
     T: Store + Drop + Send + 'static,
 >(
@@ -120,12 +111,8 @@ fn run_named<
     parts: Parts,
     signals: &Arc<Signals, Global>,
 ) -> Result<Outcome, Refusal>
-    requires there { there.0.row ≡ row_of L.link names.There }
-    requires there_too { there.1.row ≡ row_of L.link names.There }
-    requires back { back.0.row ≡ row_of L.link names.Back }
-    requires back_too { back.1.row ≡ row_of L.link names.Back }
-    requires unused { IsNewOut (sending there.0) × IsNewIn (taking there.1) }
-    requires unused_too { IsNewOut (sending back.0) × IsNewIn (taking back.1) }
+    requires there { AreEndsOf L.link names.There there }
+    requires back { AreEndsOf L.link names.Back back }
 {
     let (local, peer) = disks;
     match Session::<R, L, S, T>::start(rt, alloc, there, back, local, peer, parts) {
@@ -137,7 +124,7 @@ fn run_named<
 // Lets the callers do their work, ends the session, and settles.
 fn use_session<
     L: Linked + Send + Sync + 'static,
-    R: Threads + Wait + Clock + Copy + Drop + Send + Sync + 'static,
+    R: Runtime,
     S: Store + Drop + Send + 'static,
     T: Store + Drop + Send + 'static,
 >(

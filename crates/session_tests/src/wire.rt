@@ -14,7 +14,7 @@ use std::test::*;
 use std::thread;
 use std::thread::Threads;
 use std::time::Clock;
-use volume::{Way, WireSession};
+use volume::{Runtime, Way, WireSession};
 
 /// No bytes at which a stream fails.
 const NEVER: u64 = u64::MAX;
@@ -55,7 +55,7 @@ const WHOLE: Failing = Failing {
 };
 
 // A session over pipes.
-fn over_pipes<R: Threads + Wait + Clock + Copy + Drop + Send + Sync + 'static>(
+fn over_pipes<R: Runtime>(
     rt: R,
     alloc: Global,
     case: Case,
@@ -70,7 +70,7 @@ fn over_pipes<R: Threads + Wait + Clock + Copy + Drop + Send + Sync + 'static>(
 
 // A session over two ways.
 fn over_ways<
-    R: Threads + Wait + Clock + Copy + Drop + Send + Sync + 'static,
+    R: Runtime,
     W: Write + Drop + Send + 'static,
     D: Read + Drop + Send + 'static,
     V: Write + Drop + Send + 'static,
@@ -85,7 +85,7 @@ fn over_ways<
 }
 
 // Lets the callers do their work, ends the session, and settles.
-fn use_session<R: Threads + Wait + Clock + Copy + Drop + Send + Sync + 'static>(
+fn use_session<R: Runtime>(
     rt: R,
     alloc: Global,
     work: Work,
@@ -119,11 +119,7 @@ fn a_session_over_streams_has_one_connection(rt: HostRuntime) -> Result<(), Fail
 
 // What a session comes to in which a stream fails: its hello ends with 12, or its one write has its receipt and no
 // difference is without a mark.
-fn is_sound<R: Threads + Wait + Clock + Copy + Drop + Send + Sync + 'static>(
-    rt: R,
-    alloc: Global,
-    failing: Failing,
-) -> bool {
+fn is_sound<R: Runtime>(rt: R, alloc: Global, failing: Failing) -> bool {
     match over_pipes(rt, alloc, Case::of(Protocol::C, Work::OneWrite), failing) {
         Ok(outcome) => {
             outcome.receipts == 1
@@ -139,7 +135,7 @@ fn is_sound<R: Threads + Wait + Clock + Copy + Drop + Send + Sync + 'static>(
 const LANES: usize = 16;
 
 // For how many of these numbers of bytes a session is sound in which a stream fails after so many.
-fn count_sound<R: Threads + Wait + Clock + Copy + Drop + Send + Sync + 'static>(
+fn count_sound<R: Runtime>(
     rt: R,
     alloc: Global,
     bytes: Range<u64>,
@@ -222,11 +218,7 @@ fn a_writer_that_fails_in_the_last_quarter_loses_nothing(rt: HostRuntime) -> Res
 }
 
 // The refusal of a start during whose hello these bytes come to the secondary.
-fn foreign<R: Threads + Wait + Clock + Copy + Drop + Send + Sync + 'static>(
-    rt: R,
-    alloc: Global,
-    bytes: &'static [u8],
-) -> Result<u8, Refusal> {
+fn foreign<R: Runtime>(rt: R, alloc: Global, bytes: &'static [u8]) -> Result<u8, Refusal> {
     let (writer, _) = pipe(rt, alloc, NEVER, NEVER)?;
     let there = Way {
         writer,

@@ -5,17 +5,12 @@ use crate::outcome::Outcome;
 use crate::session::{Case, run};
 use blocks::{Protocol, Refusal};
 use std::alloc::Global;
-use std::sync::{Arc, Wait};
+use std::sync::Arc;
 use std::test::*;
-use std::thread::Threads;
-use std::time::Clock;
+use volume::Runtime;
 
 // A session over plain disks.
-fn over_memory<R: Threads + Wait + Clock + Copy + Drop + Send + Sync + 'static>(
-    rt: R,
-    alloc: Global,
-    case: Case,
-) -> Result<Outcome, Refusal> {
+fn over_memory<R: Runtime>(rt: R, alloc: Global, case: Case) -> Result<Outcome, Refusal> {
     let signals = Arc::new(alloc, Signals::new())?;
     run(
         rt,

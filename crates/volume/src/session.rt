@@ -1,15 +1,12 @@
 //! A session over a link in this process.
-ghost use Rattle.std.specs.Prelude.{◌≡◌, ◌≤◌, IfOk};
-ghost use Rattle.endpoint.specs.Calls.{IsNewIn, IsNewOut};
+ghost use Rattle.std.specs.Prelude.{◌≤◌, IfOk};
 ghost use Rattle.model.specs.Headline.{IsJoined};
 ghost use Rattle.model.specs.Primary.{PrimaryHistory};
 ghost use Rattle.model.specs.Secondary.{SecondaryHistory};
-ghost use Rattle.ruled_link.specs.Inward.{taking};
-ghost use Rattle.ruled_link.specs.Names.{row_of};
 ghost use Rattle.ruled_link.specs.Names as names;
-ghost use Rattle.ruled_link.specs.Outward.{sending};
 ghost use Rattle.session_nodes.specs.Primaries.{PrimaryHas, PrimaryIsHad};
 ghost use Rattle.session_nodes.specs.Secondaries.{SecondaryHas, SecondaryIsHad};
+ghost use Rattle.volume.specs.Links.{AreEndsOf};
 
 use blocks::{Refusal, Settings, Store, Tuple};
 use locked_halves::{LocalHalf, PeerHalf};
@@ -69,12 +66,8 @@ impl<
         peer: T,
         parts: Parts,
     ) -> Result<Session<R, L, S, T>, Refusal>
-        requires there { there.0.row ≡ row_of L.link names.There }
-        requires there_too { there.1.row ≡ row_of L.link names.There }
-        requires back { back.0.row ≡ row_of L.link names.Back }
-        requires back_too { back.1.row ≡ row_of L.link names.Back }
-        requires unused { IsNewOut (sending there.0) × IsNewIn (taking there.1) }
-        requires unused_too { IsNewOut (sending back.0) × IsNewIn (taking back.1) }
+        requires there { AreEndsOf L.link names.There there }
+        requires back { AreEndsOf L.link names.Back back }
     {
         let (out, taken) = there;
         let (answers, acks) = back;

@@ -1,10 +1,10 @@
 //! A session whose frames go over streams of bytes, as sockets are.
-ghost use Rattle.std.specs.Prelude.{◌≤◌, IfOk};
+ghost use Rattle.std.specs.Prelude.{◌<◌, ◌≤◌, IfOk};
 ghost use Rattle.session_nodes.specs.Primaries.{PrimaryIsHad};
 ghost use Rattle.session_nodes.specs.Secondaries.{SecondaryIsHad};
 
 use crate::session::Parts;
-use blocks::{Refusal, Store};
+use blocks::{Refusal, Settings, Store, Tuple};
 use locked_halves::{LocalHalf, PeerHalf};
 use primary::Primary;
 use ruled_link::{RuledIn, RuledOut};
@@ -64,21 +64,21 @@ impl<
         ways: (Way<W, D>, Way<V, E>),
     ) -> Result<WireSession<R, S, T>, Refusal> {
         parts.settings.check()?;
-        let link = parts.settings.link;
-        let (local_ends, local_rows) = half_rows(rt, alloc, link)?;
-        let (peer_ends, peer_rows) = half_rows(rt, alloc, link)?;
-        let local = LocalHalf::open(
+        let words = (parts.sync, parts.loss);
+        let settings = parts.settings;
+        let (local, local_rows) = open_local(
             rt,
             alloc,
-            parts.settings,
+            settings,
             local,
             parts.own,
             parts.marks,
-            local_ends,
-            (parts.sync, parts.loss),
+            words,
         )?;
-        match PeerHalf::open(rt, alloc, parts.settings, peer, parts.peer, peer_ends) {
-            Ok(peer) => { WireSession::over(rt, alloc, local, peer, (local_rows, peer_rows), ways) }
+        match open_peer(rt, alloc, settings, peer, parts.peer) {
+            Ok((peer, peer_rows)) => {
+                WireSession::over(rt, alloc, local, peer, (local_rows, peer_rows), ways)
+            }
             Err(refusal) => Err(refusal),
         }
     }
@@ -101,6 +101,42 @@ impl<
             Ok(running) => Ok(WireSession { running }),
             Err(refusal) => Err(refusal),
         }
+    }
+}
+
+// The primary's half over rows of its own, and the pumps' ends of these.
+fn open_local<R: Wait + Copy + Drop, S: Store + Drop>(
+    rt: R,
+    alloc: Global,
+    settings: Settings,
+    store: S,
+    tuple: Tuple,
+    marks: Vec<bool>,
+    words: (u64, u64),
+) -> Result<(WireLocal<R, S>, PumpEnds<R>), Refusal>
+    requires { 0 < settings.link }
+{
+    let (ends, rows) = half_rows(rt, alloc, settings.link)?;
+    match LocalHalf::open(rt, alloc, settings, store, tuple, marks, ends, words) {
+        Ok(half) => Ok((half, rows)),
+        Err(refusal) => Err(refusal),
+    }
+}
+
+// The secondary's.
+fn open_peer<R: Wait + Copy + Drop, T: Store + Drop>(
+    rt: R,
+    alloc: Global,
+    settings: Settings,
+    store: T,
+    tuple: Tuple,
+) -> Result<(WirePeer<R, T>, PumpEnds<R>), Refusal>
+    requires { 0 < settings.link }
+{
+    let (ends, rows) = half_rows(rt, alloc, settings.link)?;
+    match PeerHalf::open(rt, alloc, settings, store, tuple, ends) {
+        Ok(half) => Ok((half, rows)),
+        Err(refusal) => Err(refusal),
     }
 }
 

@@ -1,10 +1,6 @@
 //! A session that is measured, from its start to its end.
-ghost use Rattle.std.specs.Prelude.{◌≡◌};
-ghost use Rattle.endpoint.specs.Calls.{IsNewIn, IsNewOut};
-ghost use Rattle.ruled_link.specs.Inward.{taking};
-ghost use Rattle.ruled_link.specs.Names.{row_of};
 ghost use Rattle.ruled_link.specs.Names as names;
-ghost use Rattle.ruled_link.specs.Outward.{sending};
+ghost use Rattle.volume.specs.Links.{AreEndsOf};
 
 use super::measure::{BLOCKS, Report};
 use super::writers::write_all;
@@ -13,26 +9,16 @@ use ruled_link::{RuledIn, RuledOut, ruled};
 use std::alloc::Global;
 use std::fmt::Display;
 use std::marker::Brand;
-use std::net::{Ipv4Addr, Net, TcpListener, TcpStream};
-use std::sync::Wait;
-use std::thread::Threads;
-use std::time::{Clock, Duration, Instant};
-use std::{fmt, io, thread};
-use volume::{Linked, Mirror, Parts, PrimaryHalf, SecondaryHalf, Session, Way, WireSession};
-
-/// The identifiers of disks that are alike.
-const ALIKE: Tuple = Tuple {
-    current: 1,
-    bitmap: 0,
-    first_historical: 0,
-    second_historical: 0,
+use std::net::{Net, TcpListener, TcpStream};
+use std::time::{Duration, Instant};
+use std::{fmt, thread};
+use volume::{
+    Linked, Mirror, Parts, PrimaryHalf, Runtime, SecondaryHalf, Session, SharedPrimary,
+    SharedSecondary, Socket, WireSession, loopback,
 };
 
 /// The disks of both nodes.
 type Disks = (MemStore, MemStore);
-
-/// A direction of a link over a socket: its two ends.
-type Socket = Way<TcpStream, TcpStream>;
 
 /// How frames go from one node to the other.
 #[derive(Clone, Copy, Debug, PartialEq, Eq)]
@@ -61,20 +47,14 @@ pub(crate) struct Plan {
 }
 
 /// Runs a session over two disks filled with zeros, and returns what its writers had.
-pub(crate) fn run<
-    R: Net<Listener = TcpListener, Stream = TcpStream>
-        + Threads
-        + Wait
-        + Clock
-        + Copy
-        + Drop
-        + Send
-        + Sync
-        + 'static,
->(rt: R, alloc: Global, plan: Plan) -> anyhow::Result<Report> {
+pub(crate) fn run<R: Runtime + Net<Listener = TcpListener, Stream = TcpStream>>(
+    rt: R,
+    alloc: Global,
+    plan: Plan,
+) -> anyhow::Result<Report> {
     Ok(match plan.path {
         Path::Link => run_linked(rt, alloc, plan)?,
-        Path::Sockets => run_over(rt, alloc, plan, ways(&rt)?)?,
+        Path::Sockets => run_over(rt, alloc, plan, loopback(&rt)?)?,
     })
 }
 
@@ -85,10 +65,11 @@ fn parts(alloc: Global, plan: Plan) -> Result<(Parts, Disks), Refusal> {
         blocks: BLOCKS,
         ..Settings::STANDARD
     };
+    let alike = Tuple::new(1, 0, 0, 0);
     let parts = Parts {
         settings,
-        own: ALIKE,
-        peer: ALIKE,
+        own: alike,
+        peer: alike,
         marks: Vec::from_elem(alloc, false, BLOCKS as usize)?,
         sync: 2,
         loss: 3,
@@ -98,33 +79,8 @@ fn parts(alloc: Global, plan: Plan) -> Result<(Parts, Disks), Refusal> {
     Ok((parts, (local, peer)))
 }
 
-// Both directions, each over a socket of its own.
-fn ways<R: Net<Listener = TcpListener, Stream = TcpStream>>(
-    rt: &R,
-) -> io::Result<(Socket, Socket)> {
-    let listener = TcpListener::bind(rt, (Ipv4Addr::LOCALHOST, 0))?;
-    let there = way(rt, &listener)?;
-    let back = way(rt, &listener)?;
-    Ok((there, back))
-}
-
-// One direction over a socket of its own.
-fn way<R: Net<Listener = TcpListener, Stream = TcpStream>>(
-    rt: &R,
-    listener: &TcpListener,
-) -> io::Result<Socket> {
-    let writer = TcpStream::connect(rt, listener.local_addr()?)?;
-    writer.set_nodelay(true)?;
-    let (reader, _) = listener.accept()?;
-    Ok(Way { writer, reader })
-}
-
 // A session over a link.
-fn run_linked<R: Threads + Wait + Clock + Copy + Drop + Send + Sync + 'static>(
-    rt: R,
-    alloc: Global,
-    plan: Plan,
-) -> Result<Report, Refusal> {
+fn run_linked<R: Runtime>(rt: R, alloc: Global, plan: Plan) -> Result<Report, Refusal> {
     let there = ruled(rt, alloc, Settings::STANDARD.link)?;
     let back = ruled(rt, alloc, Settings::STANDARD.link)?;
     let (parts, disks) = parts(alloc, plan)?;
@@ -132,10 +88,7 @@ fn run_linked<R: Threads + Wait + Clock + Copy + Drop + Send + Sync + 'static>(
 }
 
 // The same, in one function over the link's name, which the caller picks.
-fn run_named<
-    L: Linked + Send + Sync + 'static,
-    R: Threads + Wait + Clock + Copy + Drop + Send + Sync + 'static,
->(
+fn run_named<L: Linked + Send + Sync + 'static, R: Runtime>(
     rt: R,
     alloc: Global,
     plan: Plan,
@@ -144,12 +97,8 @@ fn run_named<
     disks: Disks,
     parts: Parts,
 ) -> Result<Report, Refusal>
-    requires there { there.0.row ≡ row_of L.link names.There }
-    requires there_too { there.1.row ≡ row_of L.link names.There }
-    requires back { back.0.row ≡ row_of L.link names.Back }
-    requires back_too { back.1.row ≡ row_of L.link names.Back }
-    requires unused { IsNewOut (sending there.0) × IsNewIn (taking there.1) }
-    requires unused_too { IsNewOut (sending back.0) × IsNewIn (taking back.1) }
+    requires there { AreEndsOf L.link names.There there }
+    requires back { AreEndsOf L.link names.Back back }
 {
     let (local, peer) = disks;
     let session = Session::<R, L, MemStore, MemStore>::start(
@@ -161,7 +110,7 @@ fn run_named<
 }
 
 // A session over sockets.
-fn run_over<R: Threads + Wait + Clock + Copy + Drop + Send + Sync + 'static>(
+fn run_over<R: Runtime>(
     rt: R,
     alloc: Global,
     plan: Plan,
@@ -175,11 +124,12 @@ fn run_over<R: Threads + Wait + Clock + Copy + Drop + Send + Sync + 'static>(
 }
 
 // Makes all writes of a session that runs, and leaves it alone after them.
-fn measured<
-    R: Threads + Wait + Clock + Copy + Drop + Send + Sync + 'static,
-    A: PrimaryHalf + Drop + Send + Sync + 'static,
-    B: SecondaryHalf + Drop + Send + Sync + 'static,
->(rt: &R, alloc: Global, mirror: &Mirror<R, A, B>, plan: Plan) -> Result<Report, Refusal> {
+fn measured<R: Runtime, A: SharedPrimary, B: SharedSecondary>(
+    rt: &R,
+    alloc: Global,
+    mirror: &Mirror<R, A, B>,
+    plan: Plan,
+) -> Result<Report, Refusal> {
     let start = Instant::now(rt);
     let waits = write_all(rt, alloc, mirror, plan)?;
     let time = match start {

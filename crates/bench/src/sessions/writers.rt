@@ -5,19 +5,19 @@ use bytes::Bytes;
 use std::alloc::Global;
 use std::sync::Wait;
 use std::thread;
-use std::thread::Threads;
 use std::time::{Clock, Instant};
-use volume::{Mirror, PrimaryHalf, SecondaryHalf};
+use volume::{Mirror, PrimaryHalf, Runtime, SecondaryHalf, SharedPrimary, SharedSecondary};
 
 /// Blocks that each writer writes in turn.
 const BLOCKS_OF_A_WRITER: u64 = 512;
 
 /// Lets each writer make its writes in a thread of its own. Returns how long each write waited, in nanoseconds.
-pub(crate) fn write_all<
-    R: Threads + Wait + Clock + Copy + Drop + Send + Sync + 'static,
-    A: PrimaryHalf + Drop + Send + Sync + 'static,
-    B: SecondaryHalf + Drop + Send + Sync + 'static,
->(rt: &R, alloc: Global, mirror: &Mirror<R, A, B>, plan: Plan) -> Result<Vec<u64>, Refusal> {
+pub(crate) fn write_all<R: Runtime, A: SharedPrimary, B: SharedSecondary>(
+    rt: &R,
+    alloc: Global,
+    mirror: &Mirror<R, A, B>,
+    plan: Plan,
+) -> Result<Vec<u64>, Refusal> {
     let bytes = Bytes::copy_from_slice(alloc, &[0x5A; BLOCK_BYTES])?;
     let each = thread::map_indices(
         rt,

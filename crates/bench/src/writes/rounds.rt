@@ -14,14 +14,6 @@ use std::collections::VecDeque;
 /// a barrier or two more than writes.
 const PASSES: u32 = 3;
 
-/// The generation identifiers of both disks before the first connection.
-const FIRST: Tuple = Tuple {
-    current: 1,
-    bitmap: 0,
-    first_historical: 0,
-    second_historical: 0,
-};
-
 /// What became of the writes.
 #[derive(Clone, Copy)]
 pub(crate) struct Counts {
@@ -80,11 +72,12 @@ impl Rounds {
         let local = MemStore::from_image(blank(alloc, blocks)?)?;
         let peer = MemStore::from_image(blank(alloc, blocks)?)?;
         let marks = Vec::from_elem(alloc, false, blocks as usize)?;
+        let first = Tuple::new(1, 0, 0, 0);
         Ok(Rounds {
             blocks,
             in_flight,
             frames: settings.link,
-            pair: Pair::from_parts(alloc, settings, local, peer, FIRST, FIRST, marks)?,
+            pair: Pair::from_parts(alloc, settings, local, peer, first, first, marks)?,
             barriers: VecDeque::new(alloc),
             counts: Counts {
                 accepted: 0,

@@ -1,9 +1,9 @@
-//! The options of a server.
+//! What a server is to do.
 use blocks::Protocol;
 use std::net::SocketAddr;
 
 /// What a server is to do.
-#[derive(Clone, Copy)]
+#[derive(Clone, Copy, Debug, PartialEq, Eq)]
 pub struct ServeOptions<'a> {
     /// The image of the local disk.
     pub local: &'a str,

@@ -1,8 +1,8 @@
 //! The words of `serve`.
-use crate::session::{number, option, protocol, protocol_option};
+use crate::run::{number, option, protocol, protocol_option};
 use blocks::MAX_BLOCKS;
 use clap::{ArgMatches, Command, Error};
-use serving::ServeOptions;
+use options::ServeOptions;
 use std::alloc::Global;
 use std::net::SocketAddr;
 

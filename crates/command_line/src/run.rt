@@ -2,7 +2,7 @@
 use blocks::{MAX_BLOCKS, Protocol, Settings};
 use clap::builder::ValueParser;
 use clap::{Arg, ArgAction, ArgMatches, Command, Error, value_parser};
-use session_run::{Images, Options, Path, Telling};
+use options::{Images, Path, RunOptions, Telling};
 use std::alloc::Global;
 
 const RUN_ABOUT: &str = "Runs a session of writer threads, and prints what it came to";
@@ -66,12 +66,12 @@ fn with_options<'a>(alloc: Global, command: Command<'a>) -> Result<Command<'a>, 
 }
 
 /// What a run is to do, whose frames go this way. `progress` says whether a long run is to show how far it is.
-pub(crate) fn options(words: &ArgMatches<'_>, path: Path, progress: bool) -> Options {
+pub(crate) fn options(words: &ArgMatches<'_>, path: Path, progress: bool) -> RunOptions {
     let cuts = match path {
         Path::Link => words.get_one("cuts").unwrap_or(0),
         Path::Sockets => 0,
     };
-    Options {
+    RunOptions {
         protocol: protocol(words),
         blocks: words.get_one("blocks").unwrap_or(Settings::STANDARD.blocks),
         writers: words.get_one("writers").unwrap_or(2),

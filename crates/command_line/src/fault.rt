@@ -1,0 +1,51 @@
+//! Words that are no order.
+ghost use Rattle.std.specs.Prelude.{◌≤◌};
+
+use clap::Error;
+use clap::error::ErrorKind;
+use numbers::Status;
+use std::io::Write;
+
+/// Why words are no order.
+#[derive(Drop)]
+pub enum Fault<'a> {
+    /// They ask for help, which is then in the error, or they are wrong.
+    Words(Error),
+    /// A server is to listen at this, which is no address with a port.
+    Address(&'a str),
+}
+
+impl Fault<'_> {
+    /// Prints help on `out` where it was asked for, and else what is wrong with the words on `err`. Returns the exit status:
+    /// 0 for help, 1 if it could not be written or there was no memory, and else 2.
+    pub fn tell<W: Write, E: Write>(&self, out: &mut W, err: &mut E) -> u8
+        ensures { result ≤ 2 }
+    {
+        match self {
+            Fault::Words(error) => tell_words(error, out, err),
+            Fault::Address(address) => {
+                let _ = writeln!(err, "error: {address} is no address with a port");
+                Status::Misused.code()
+            }
+        }
+    }
+}
+
+fn tell_words<W: Write, E: Write>(error: &Error, out: &mut W, err: &mut E) -> u8
+    ensures { result ≤ 2 }
+{
+    if !error.use_stderr() {
+        return match write!(out, "{error}") {
+            Ok(()) => Status::Done.code(),
+            Err(fault) => {
+                let _ = writeln!(err, "the output could not be written: {fault}");
+                Status::Failed.code()
+            }
+        };
+    }
+    let _ = write!(err, "{error}");
+    match error.kind() {
+        ErrorKind::OutOfMemory => Status::Failed.code(),
+        _ => Status::Misused.code(),
+    }
+}

@@ -1,0 +1,11 @@
+//! The program's words: what it may be asked to do, its help, and what is wrong with words that it does not know.
+#![tactic(auto)]
+
+mod fault;
+mod help;
+mod order;
+mod run;
+mod serve;
+
+pub use fault::Fault;
+pub use order::{HelpTexts, Order, parse};

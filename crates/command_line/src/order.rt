@@ -1,0 +1,100 @@
+//! The order that the program's words give.
+use crate::fault::Fault;
+use crate::help::{RunHelp, ScriptHelp, ServeHelp, TcpHelp};
+use crate::{run, serve};
+use clap::{Arg, ArgMatches, Command, Error};
+use options::{Images, Path, RunOptions, ServeOptions};
+use std::alloc::{AllocError, Global};
+use std::convert::AsStr;
+
+const ABOUT: &str =
+    "Runs a pair of mirrored disks, after DRBD 8.4, from a script or by threads: without words, the script of standard input.";
+
+/// What the program is to do.
+#[derive(Clone, Copy, Debug, PartialEq, Eq)]
+pub enum Order<'a> {
+    /// To run the script of this file, `-` being the standard input.
+    Script(&'a str),
+    /// To run a session over these images.
+    Run(RunOptions, Images<'a>),
+    /// To serve two images to block clients.
+    Serve(ServeOptions<'a>),
+}
+
+/// The texts below the usages.
+#[derive(Drop)]
+pub struct HelpTexts {
+    script: String,
+    run: String,
+    tcp: String,
+    serve: String,
+}
+
+impl HelpTexts {
+    /// The texts; the system's error if there is no memory for them.
+    pub fn new(alloc: Global) -> Result<HelpTexts, AllocError> {
+        Ok(HelpTexts {
+            script: format!(in alloc; "{ScriptHelp}")?,
+            run: format!(in alloc; "{RunHelp}")?,
+            tcp: format!(in alloc; "{TcpHelp}")?,
+            serve: format!(in alloc; "{ServeHelp}")?,
+        })
+    }
+}
+
+/// The order of these words, the first of which is the program's name. `progress` says whether a long run is to show how
+/// far it is.
+pub fn parse<'a, S: AsStr>(
+    alloc: Global,
+    helps: &'a HelpTexts,
+    words: &'a [S],
+    progress: bool,
+) -> Result<Order<'a>, Fault<'a>> {
+    match matches_of(alloc, helps, words) {
+        Ok(matches) => order_of(&matches, progress),
+        Err(error) => Err(Fault::Words(error)),
+    }
+}
+
+// The command line.
+fn matches_of<'a, S: AsStr>(
+    alloc: Global,
+    helps: &'a HelpTexts,
+    words: &'a [S],
+) -> Result<ArgMatches<'a>, Error> {
+    let file = Arg::new(alloc, "FILE")
+        .required(true)
+        .help("The script; - is the standard input");
+    let script = Command::new(alloc, "script")
+        .about("Runs a script, and prints what each command did")
+        .after_help(helps.script.as_str())
+        .arg(file)?;
+    Command::new(alloc, "drbdpair")
+        .bin_name("drbdpair")?
+        .about(ABOUT)
+        .after_help(helps.script.as_str())
+        .subcommand_required(true)
+        .subcommand(script)?
+        .subcommand(run::run(alloc, helps.run.as_str())?)?
+        .subcommand(run::tcp(alloc, helps.tcp.as_str())?)?
+        .subcommand(serve::serve(alloc, helps.serve.as_str())?)?
+        .try_get_matches_from(words)
+}
+
+fn order_of<'a>(matches: &ArgMatches<'a>, progress: bool) -> Result<Order<'a>, Fault<'a>> {
+    match matches.subcommand() {
+        Some(("run", words)) => Ok(run_of(words, Path::Link, progress)),
+        Some(("tcp", words)) => Ok(run_of(words, Path::Sockets, progress)),
+        Some(("serve", words)) => match serve::options(words) {
+            Some(options) => Ok(Order::Serve(options)),
+            None => Err(Fault::Address(serve::listen(words))),
+        },
+        Some((_, words)) => Ok(Order::Script(words.get_str("FILE").unwrap_or("-"))),
+        None => Ok(Order::Script("-")),
+    }
+}
+
+// A run whose frames go this way.
+fn run_of<'a>(words: &ArgMatches<'a>, path: Path, progress: bool) -> Order<'a> {
+    Order::Run(run::options(words, path, progress), run::images(words))
+}
