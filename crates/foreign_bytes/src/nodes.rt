@@ -31,14 +31,6 @@ const OWN: Tuple = Tuple {
     second_historical: 0,
 };
 
-/// The identifiers of a fresh disk, to which all blocks are copied.
-const UNKNOWN: Tuple = Tuple {
-    current: 0,
-    bitmap: 0,
-    first_historical: 0,
-    second_historical: 0,
-};
-
 /// A primary at the ends of two rows.
 pub(crate) type RowLocal<R> = Local<RuledOut<R>, RuledIn<R>, MemStore>;
 
@@ -90,7 +82,7 @@ pub(crate) fn open_peer<R: Wait + Copy + Drop>(
 ) -> Result<(RowPeer<R>, RowEnds<R>), Refusal> {
     let disk = MemStore::zeroed(alloc, SETTINGS.blocks)?;
     let (ends, rows) = rows(rt, alloc)?;
-    match Peer::open(alloc, SETTINGS, disk, UNKNOWN, ends) {
+    match Peer::open(alloc, SETTINGS, disk, Tuple::new(0, 0, 0, 0), ends) {
         Ok(node) => Ok((node, rows)),
         Err(refusal) => Err(refusal),
     }

@@ -13,14 +13,6 @@ pub(super) type Local<R> = Primary<RuledOut<R>, RuledIn<R>, FaultStore>;
 /// A secondary over one.
 pub(super) type Peer<R> = Secondary<RuledOut<R>, RuledIn<R>, FaultStore>;
 
-/// The generation identifiers of two disks that begin alike.
-const ALIKE: Tuple = Tuple {
-    current: 1,
-    bitmap: 0,
-    first_historical: 0,
-    second_historical: 0,
-};
-
 /// The most turns until both nodes are idle.
 const TURNS: u32 = 100;
 
@@ -43,10 +35,11 @@ pub(super) fn local<R: Wait + Drop>(
 ) -> Result<Local<R>, Refusal> {
     let mut marks = Vec::from_elem(alloc, false, 8)?;
     marks[0] = is_marked;
-    Primary::new(alloc, Settings::STANDARD, disk, ALIKE, marks)
+    let tuple = Tuple::new(1, 0, 0, 0);
+    Primary::new(alloc, Settings::STANDARD, disk, tuple, marks)
 }
 
-/// A secondary of so many blocks.
+/// A secondary of this many blocks.
 pub(super) fn peer<R: Wait + Drop>(
     alloc: Global,
     disk: FaultStore,
@@ -56,7 +49,7 @@ pub(super) fn peer<R: Wait + Drop>(
         blocks,
         ..Settings::STANDARD
     };
-    Secondary::new(alloc, settings, disk, ALIKE)
+    Secondary::new(alloc, settings, disk, Tuple::new(1, 0, 0, 0))
 }
 
 /// Both nodes open over a new link, with two fresh words, and do what there is to do.

@@ -9,14 +9,6 @@ use secondary::Secondary;
 use std::alloc::Global;
 use std::sync::Wait;
 
-/// The generation identifiers of two disks that begin alike.
-pub(crate) const ALIKE: Tuple = Tuple {
-    current: 1,
-    bitmap: 0,
-    first_historical: 0,
-    second_historical: 0,
-};
-
 /// A secondary over a link between threads.
 pub(crate) type Peer<R> = Secondary<RuledOut<R>, RuledIn<R>, MemStore>;
 
@@ -32,7 +24,7 @@ pub(crate) fn open_peer<R: Wait + Copy + Drop>(
     let (outward, inward) = row(rt, alloc, 8)?;
     let inward = RuledIn::new(alloc, inward)?;
     let disk = MemStore::zeroed(alloc, 8)?;
-    let mut peer = Secondary::new(alloc, Settings::STANDARD, disk, ALIKE)?;
+    let mut peer = Secondary::new(alloc, Settings::STANDARD, disk, Tuple::new(1, 0, 0, 0))?;
     match connect(&mut peer, back, inward) {
         Ok(()) => Ok((outward, peer)),
         Err(refusal) => Err(refusal),

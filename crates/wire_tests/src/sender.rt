@@ -3,8 +3,8 @@ ghost use Rattle.endpoint.specs.Calls.{IsNewIn, IsNewOut};
 ghost use Rattle.ruled_link.specs.Inward.{taking};
 ghost use Rattle.ruled_link.specs.Outward.{sending};
 
-use crate::receiver::{ALIKE, Peer, open_peer};
-use blocks::{MemStore, Refusal, Settings};
+use crate::receiver::{Peer, open_peer};
+use blocks::{MemStore, Refusal, Settings, Tuple};
 use bytes::Bytes;
 use primary::Primary;
 use ruled_link::{Piece, PieceIn, PieceOut, RuledIn, RuledOut, row, ruled};
@@ -29,7 +29,8 @@ fn open_local<R: Wait + Copy + Drop>(
     let (outward, sent) = row(rt, alloc, 8)?;
     let disk = MemStore::zeroed(alloc, 8)?;
     let marks = Vec::from_elem(alloc, false, 8)?;
-    let mut local = Primary::new(alloc, Settings::STANDARD, disk, ALIKE, marks)?;
+    let tuple = Tuple::new(1, 0, 0, 0);
+    let mut local = Primary::new(alloc, Settings::STANDARD, disk, tuple, marks)?;
     match local.open(RuledOut::new(outward), inward, 5, 7) {
         Ok(()) => Ok((sent, local)),
         Err(refusal) => Err(refusal),

@@ -55,13 +55,8 @@ const HEARD: [Part; 1] = [Part::Rows(&[
 ])];
 
 fn tuple_of(words: [u64; 4]) -> Tuple {
-    let [current, bitmap, first_historical, second_historical] = words;
-    Tuple {
-        current,
-        bitmap,
-        first_historical,
-        second_historical,
-    }
+    let [current, bitmap, first, second] = words;
+    Tuple::new(current, bitmap, first, second)
 }
 
 // Block 4 is marked before.

@@ -1,7 +1,8 @@
 //! What a primary refuses, and in which state: writes, connections and receipts.
 use crate::cores::cases::{Case, passes};
 use crate::cores::primary_tables::{
-    BARRIER, CONNECTED, DONE, Fact, Frame, Part, RELEASED, Row, SETTINGS, START, Said, Start, Step,
+    BARRIER, COMPLETES_1, CONNECTED, DONE, Fact, Frame, Part, RELEASED, Row, SETTINGS, START, Said,
+    Start, Step,
 };
 use crate::tuples::{OWN, PARTED, RESYNCING};
 use blocks::{Block, Command, Decision, Refusal, Settings, What};
@@ -45,15 +46,7 @@ const ONE_SLOT: [Row; 9] = [
         Step::Send(Frame::Data(0, 1, 0, 0xAA)),
         Ok(Said::Went(Command::Data, Some(0))),
     ),
-    (
-        Step::Take(Frame::WriteAck(0, 1, 0)),
-        Ok(Said::More(
-            What::Frame(Command::WriteAck, None),
-            Some(1),
-            Some(1),
-            false,
-        )),
-    ),
+    (Step::Take(Frame::WriteAck(0, 1, 0)), COMPLETES_1),
     (Step::Submit(1024, 1, 0xBB), Err(Refusal::ActivityFull)),
     BARRIER,
     RELEASED,

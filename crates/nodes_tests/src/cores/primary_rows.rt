@@ -1,8 +1,8 @@
 //! The primary's half of the worked rows: writes, from their acceptance to their release.
 use crate::cores::cases::{Case, passes};
 use crate::cores::primary_tables::{
-    ACCEPTED, ANSWERED, BARRIER, CONNECTED, DONE, Fact, Frame, OF_ONE, Part, RELEASED, Row, SENT,
-    SETTINGS, START, Said, Start, Step,
+    ACCEPTED, ANSWERED, BARRIER, COMPLETES_1, CONNECTED, DONE, Fact, Frame, OF_ONE, Part, RELEASED,
+    Row, SENT, SETTINGS, START, Said, Start, Step,
 };
 use crate::tuples::{OWN, PARTED};
 use blocks::{Command, Protocol, Refusal, Settings, What};
@@ -114,15 +114,7 @@ const FOLLOWED: [Row; 8] = [
         Step::Send(Frame::TwoBlocks(3, 1, 0, 0x11)),
         Ok(Said::Went(Command::Data, Some(0))),
     ),
-    (
-        Step::Take(Frame::WideAck(3, 1, 0)),
-        Ok(Said::More(
-            What::Frame(Command::WriteAck, None),
-            Some(1),
-            Some(1),
-            false,
-        )),
-    ),
+    (Step::Take(Frame::WideAck(3, 1, 0)), COMPLETES_1),
     (Step::Submit(4, 2, 0x22), Ok(Said::Accepted(2))),
     BARRIER,
     (

@@ -40,7 +40,7 @@ pub(crate) enum Step {
     SubmitPart,
     /// Which write the local disk does next.
     Next,
-    /// The write of this number is given to the local disk, and has so many blocks, filled with this byte.
+    /// The write of this number is given to the local disk, and has this many blocks, filled with this byte.
     Given(u64, u8, u8),
     Local(u64),
     LocalFail(u64),
@@ -166,16 +166,16 @@ pub(crate) const SENT: Row = (
     Ok(Said::Went(Command::Data, Some(0))),
 );
 
+/// An acknowledgement completes write 1, and ends its epoch.
+pub(crate) const COMPLETES_1: Answer = Ok(Said::More(
+    What::Frame(Command::WriteAck, None),
+    Some(1),
+    Some(1),
+    false,
+));
+
 /// The local disk has it, and the peer's disk too: that completes it, and ends its epoch.
-pub(crate) const ANSWERED: Row = (
-    Step::Take(Frame::WriteAck(2, 1, 0)),
-    Ok(Said::More(
-        What::Frame(Command::WriteAck, None),
-        Some(1),
-        Some(1),
-        false,
-    )),
-);
+pub(crate) const ANSWERED: Row = (Step::Take(Frame::WriteAck(2, 1, 0)), COMPLETES_1);
 
 /// The barrier behind it is sent.
 pub(crate) const BARRIER: Row = (

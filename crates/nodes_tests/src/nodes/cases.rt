@@ -58,7 +58,7 @@ pub(crate) struct After<S: 'static, T, L> {
     pub(crate) left: L,
 }
 
-/// Frames each of which is answered so, in a node of its own, with what comes before and after.
+/// Frames, each with the answer of a node of its own, and what comes before and after.
 pub(crate) struct Case<S: 'static, T: 'static, L: 'static>(
     pub(crate) &'static Before<S>,
     pub(crate) &'static [(Spelled, Answer)],

@@ -1,9 +1,10 @@
 //! A write that the local disk fails is marked, and its receipt says so once.
-use crate::nodes::answers::{NOTHING, PROTOCOL_WENT, SIZES_WENT, UUIDS_WENT};
+use crate::nodes::answers::NOTHING;
 use crate::nodes::cases;
 use crate::nodes::cases::passes;
 use crate::nodes::frames::{PROTOCOL_C, SIZES_8, UUIDS_1};
 use crate::nodes::linked_primary::{After, Before, Case, LinkedPrimary, State, Step};
+use crate::nodes::primary_frames::HELLO;
 use crate::tuples::OWN;
 use blocks::{Decision, Done, Refusal, Settings, What};
 use std::test::Fail;
@@ -12,13 +13,7 @@ use std::test::Fail;
 const GREETING: Before = Before {
     settings: Settings::STANDARD,
     heard: &[PROTOCOL_C, SIZES_8],
-    rows: &[&[
-        (Step::Send, PROTOCOL_WENT),
-        (Step::Send, SIZES_WENT),
-        (Step::Send, UUIDS_WENT),
-        (Step::AckIn, PROTOCOL_WENT),
-        (Step::AckIn, SIZES_WENT),
-    ]],
+    rows: &[&HELLO],
 };
 
 /// The end is open, and its stream stands. Nothing was written.

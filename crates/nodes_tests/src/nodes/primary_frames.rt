@@ -84,15 +84,17 @@ const DECIDED: Answer = Ok(Done {
     ..NOTHING
 });
 
-/// A hello.
-const GREETED: [Row; 6] = [
+/// All of a hello but its last frame.
+pub(super) const HELLO: [Row; 5] = [
     (Step::Send, PROTOCOL_WENT),
     (Step::Send, SIZES_WENT),
     (Step::Send, UUIDS_WENT),
     (Step::AckIn, PROTOCOL_WENT),
     (Step::AckIn, SIZES_WENT),
-    (Step::AckIn, DECIDED),
 ];
+
+/// Its last frame.
+const GREETED: [Row; 1] = [(Step::AckIn, DECIDED)];
 
 /// Write 1 of block 2 is sent, at place 0.
 const SENT: [Row; 2] = [
@@ -152,13 +154,13 @@ const ANSWERED: [Row; 2] = [(Step::AckIn, ACKNOWLEDGED), (Step::Send, BARRIER_WE
 const WRITE_SENT: Before = Before {
     settings: Settings::STANDARD,
     heard: &[PROTOCOL_C, SIZES_8, UUIDS_1],
-    rows: &[&GREETED, &SENT],
+    rows: &[&HELLO, &GREETED, &SENT],
 };
 
 const WRITE_SENT_AND_WRITTEN: Before = Before {
     settings: Settings::STANDARD,
     heard: &[PROTOCOL_C, SIZES_8, UUIDS_1],
-    rows: &[&GREETED, &SENT, &WRITTEN],
+    rows: &[&HELLO, &GREETED, &SENT, &WRITTEN],
 };
 
 const EPOCH_SENT: Before = Before {
@@ -167,13 +169,13 @@ const EPOCH_SENT: Before = Before {
         ..Settings::STANDARD
     },
     heard: &[PROTOCOL_C, SIZES_8, UUIDS_1],
-    rows: &[&GREETED, &SENT_AS_EPOCH],
+    rows: &[&HELLO, &GREETED, &SENT_AS_EPOCH],
 };
 
 const EPOCH_ANSWERED: Before = Before {
     settings: Settings::STANDARD,
     heard: &[PROTOCOL_C, SIZES_8, UUIDS_1, WRITE_ACK],
-    rows: &[&GREETED, &SENT, &WRITTEN, &ANSWERED],
+    rows: &[&HELLO, &GREETED, &SENT, &WRITTEN, &ANSWERED],
 };
 
 /// The end is closed, block 2 is marked and no other, and the disk goes on under the word for a loss.

@@ -43,7 +43,7 @@ pub(crate) enum Said {
     /// What it was about, the write that it completed, the barrier that it appended, and whether a resync
     /// is over.
     More(What, Option<u64>, Option<u32>, bool),
-    /// The primary closed its end, and so many writes were completed by that.
+    /// The primary closed its end, which completed this many writes.
     Closed(u32),
     Refused(Refusal),
 }
@@ -76,7 +76,7 @@ impl Given {
     }
 }
 
-/// So many blocks filled with a byte.
+/// This many blocks, filled with a byte.
 fn filled(alloc: Global, blocks: u8, byte: u8) -> Result<Bytes, AllocError> {
     let bytes = Vec::from_elem(alloc, byte, usize::from(blocks) * BLOCK_BYTES)?;
     Ok(Bytes::from_vec(bytes)?)

@@ -52,7 +52,7 @@ pub(crate) fn barrier(rt: &impl Abort, alloc: Global, number: u32) -> Frame
     spelled(alloc, &Packet::Barrier { number }).expect(rt, "a barrier has a frame")
 }
 
-/// The two ends of a link with a row for so many pieces.
+/// The two ends of a link with a row for this many pieces.
 fn ends<R: Wait + Abort + Copy>(rt: R, alloc: Global, pieces: usize) -> (RuledOut<R>, RuledIn<R>)
     requires { 0 < pieces }
     ensures partly { result.0.partly ≡ None }

@@ -11,7 +11,7 @@ use std::alloc::Global;
 use std::process::Abort;
 use std::sync::Wait;
 
-/// A row for so many pieces, and the end of a link that takes them.
+/// A row for this many pieces, and the end of a link that takes them.
 fn taker<R: Wait + Abort + Copy>(rt: R, alloc: Global, pieces: usize) -> (PieceOut<R>, RuledIn<R>)
     requires { 0 < pieces }
 {
@@ -76,7 +76,7 @@ fn popped_write<R: Wait + Abort + Copy>(rt: R, alloc: Global) -> PieceIn<R> {
     inward
 }
 
-/// A piece of so many bytes goes from one row to another.
+/// A piece of this many bytes goes from one row to another.
 fn passes_on<R: Wait>(
     rt: &impl Abort,
     popped: &mut PieceIn<R>,

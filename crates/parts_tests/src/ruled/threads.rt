@@ -17,7 +17,7 @@ use std::thread::{self, Threads};
 /// Frames of a run.
 const FRAMES: u32 = 20_000;
 
-/// A write of so many blocks, whose bytes are those of its place.
+/// A write of this many blocks, whose bytes are those of its place.
 fn data(alloc: Global, place: u32, blocks: usize) -> Result<Packet, Refusal>
     requires some { 0 < blocks }
     requires few { blocks < 33 }
