@@ -31,7 +31,7 @@ pub struct HelpTexts {
 }
 
 impl HelpTexts {
-    /// The texts; the system's error if there is no memory for them.
+    /// Writes the texts. `AllocError` if there is no memory for them.
     pub fn new(alloc: Global) -> Result<HelpTexts, AllocError> {
         Ok(HelpTexts {
             script: format!(in alloc; "{ScriptHelp}")?,
@@ -42,8 +42,9 @@ impl HelpTexts {
     }
 }
 
-/// The order of these words, the first of which is the program's name. `progress` says whether a long run is to show how
-/// far it is.
+/// Reads the program's words; the first one is its name. `progress` says whether a long run shows how far it is.
+///
+/// `Fault::Words` if they ask for help or are wrong, `Fault::Address` if a server is to listen at no address with a port.
 pub fn parse<'a, S: AsStr>(
     alloc: Global,
     helps: &'a HelpTexts,

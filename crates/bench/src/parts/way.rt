@@ -139,7 +139,7 @@ fn end(activity: &mut ActivityLog, extent: Extent) -> Result<(), Refusal> {
     Ok(())
 }
 
-/// The bitmap of a device of this many blocks, none of which is marked.
+/// A bitmap without marks, for a device of this many blocks.
 fn unmarked(alloc: Global, blocks: u32) -> Result<Bitmap, Refusal>
     requires { blocks ≤ 262144 }
 {
