@@ -1,14 +1,12 @@
 //! The program's words.
 use crate::program::run_on;
 use session_run::Host;
-use std::alloc::Global;
 use std::fs::File;
 use std::io::{IsTerminal, Write};
 use std::net::{Net, TcpListener, TcpStream};
 use std::process::Abort;
 use std::random::RandomSource;
 use std::rt::Files;
-use std::test::Fail;
 use std::{fs, io};
 
 const ONE_WRITE: &str = "\
@@ -40,20 +38,10 @@ cs:Connected ro:Primary/Secondary ds:UpToDate/UpToDate pr:C pe:0 ap:0 ep:1 oos:0
 cs:Connected ro:Secondary/Primary ds:UpToDate/UpToDate pr:C pending:0 use:Yes whole:0
 ";
 
-/// A standard error that keeps what is written.
+/// A standard error that keeps what is written, and is no terminal.
 #[derive(Drop)]
 struct Said {
     bytes: Vec<u8>,
-    is_terminal: bool,
-}
-
-impl Said {
-    fn new(alloc: Global) -> Said {
-        Said {
-            bytes: Vec::new(alloc),
-            is_terminal: false,
-        }
-    }
 }
 
 impl Write for Said {
@@ -68,7 +56,31 @@ impl Write for Said {
 
 impl IsTerminal for Said {
     fn is_terminal(&self) -> bool {
-        self.is_terminal
+        false
+    }
+}
+
+/// What the program writes and says, and its status.
+#[derive(Drop)]
+struct Outcome {
+    status: u8,
+    written: Vec<u8>,
+    said: Said,
+}
+
+/// Runs the program over these words, with this on its standard input.
+fn outcome_of<
+    H: Host + Files<File = File> + Net<Listener = TcpListener, Stream = TcpStream> + RandomSource,
+>(rt: &H, words: &[&str], input: &'static str) -> Outcome {
+    let mut written = Vec::new(rt.alloc());
+    let mut said = Said {
+        bytes: Vec::new(rt.alloc()),
+    };
+    let status = run_on(rt, words, input.as_bytes(), &mut written, &mut said);
+    Outcome {
+        status,
+        written,
+        said,
     }
 }
 
@@ -79,73 +91,94 @@ fn runs<
         + Files<File = File>
         + Net<Listener = TcpListener, Stream = TcpStream>
         + RandomSource,
->(rt: &H, words: &[&str], out: &str, status: u8) -> Result<(), Fail> {
-    let alloc = rt.alloc();
-    let mut written = Vec::new(alloc);
-    let mut said = Said::new(alloc);
-    let answer = run_on(rt, words, ONE_WRITE.as_bytes(), &mut written, &mut said);
-    assert_eq!(rt; answer, status);
-    assert_eq!(rt; written.as_slice(), out.as_bytes());
-    assert_eq!(rt; said.bytes.is_empty(), status == 0);
-    Ok(())
+>(rt: &H, words: &[&str], out: &str, status: u8) {
+    let outcome = outcome_of(rt, words, ONE_WRITE);
+    assert_eq!(rt; outcome.status, status);
+    assert_eq!(rt; outcome.written.as_slice(), out.as_bytes());
+    assert_eq!(rt; outcome.said.bytes.is_empty(), status == 0);
+}
+
+/// Puts an image of so many bytes, all of them this one, where the program looks for it.
+fn put_image(rt: &(impl Abort + AllocGlobal + Files), name: &str, byte: u8, count: usize) {
+    let image = Vec::from_elem(rt.alloc(), byte, count).expect(rt, "memory");
+    fs::write(rt, name, image.as_slice()).expect(rt, "an image");
+}
+
+/// An image as the program left it, which goes.
+fn take_image(rt: &(impl Abort + AllocGlobal + Files), name: &str) -> Vec<u8> {
+    let image = fs::read(rt, name).expect(rt, "an image");
+    fs::remove_file(rt, name).expect(rt, "an image");
+    image
+}
+
+/// The program left an image of so many bytes, all of them this one.
+fn is_left(rt: &(impl Abort + AllocGlobal + Files), name: &str, byte: u8, count: usize) {
+    let wanted = Vec::from_elem(rt.alloc(), byte, count).expect(rt, "memory");
+    assert!(rt; take_image(rt, name) == wanted, "{name}");
 }
 
 #[test]
-fn words_choose_the_script(rt: HostRuntime) -> Result<(), Fail> {
-    runs(&rt, &["drbdpair"], ONE_WRITE_OUT, 0)?;
-    runs(&rt, &["drbdpair", "script", "-"], ONE_WRITE_OUT, 0)?;
-    runs(&rt, &["drbdpair", "script", "no/such/file"], "", 1)?;
-    runs(&rt, &["drbdpair", "script"], "", 2)?;
-    runs(&rt, &["drbdpair", "print"], "", 2)
+fn words_choose_the_script(rt: HostRuntime) {
+    runs(&rt, &["drbdpair"], ONE_WRITE_OUT, 0);
+    runs(&rt, &["drbdpair", "script", "-"], ONE_WRITE_OUT, 0);
+    runs(&rt, &["drbdpair", "script", "no/such/file"], "", 1);
+    runs(&rt, &["drbdpair", "script"], "", 2);
+    runs(&rt, &["drbdpair", "print"], "", 2);
 }
 
 /// A script is read from a file that is there; of one that is not, one line tells.
 #[test]
-fn a_file_is_run(rt: HostRuntime) -> Result<(), Fail> {
-    fs::write(&rt, "one_write", ONE_WRITE)?;
-    runs(&rt, &["drbdpair", "script", "one_write"], ONE_WRITE_OUT, 0)?;
-    runs(&rt, &["drbdpair", "script", "one_write", "-"], "", 2)?;
-    fs::remove_file(&rt, "one_write")?;
-    let mut written = Vec::new(rt.alloc());
-    let mut said = Said::new(rt.alloc());
-    let words = ["drbdpair", "script", "one_write"];
-    let status = run_on(&rt, &words, b"".as_slice(), &mut written, &mut said);
-    let lines = said.bytes.iter().filter(|byte| **byte == b'\n').count();
-    assert_eq!(rt; (status, lines, written.is_empty()), (1, 1, true));
-    Ok(())
+fn a_file_is_run(rt: HostRuntime) {
+    fs::write(&rt, "one_write", ONE_WRITE).expect(&rt, "a script");
+    runs(&rt, &["drbdpair", "script", "one_write"], ONE_WRITE_OUT, 0);
+    runs(&rt, &["drbdpair", "script", "one_write", "-"], "", 2);
+    fs::remove_file(&rt, "one_write").expect(&rt, "a script");
+    let outcome = outcome_of(&rt, &["drbdpair", "script", "one_write"], "");
+    let lines = outcome
+        .said
+        .bytes
+        .iter()
+        .filter(|byte| **byte == b'\n')
+        .count();
+    assert_eq!(rt;
+        (outcome.status, lines, outcome.written.is_empty()),
+        (1, 1, true)
+    );
 }
 
-// Help is printed under the program's own name, whatever it is called by: commands, keys, refusals, statuses.
+/// Parts of the help: commands, keys, refusals, statuses.
+const HELP: [&str; 8] = [
+    "Usage: drbdpair",
+    "\n  status               both nodes' status lines",
+    "\n  protocol=C           A, B or C\n",
+    "\n   1  not 1 to 32 whole blocks inside the device",
+    "\n *20  the frame does not begin with the magic number\n",
+    "\n  12  this end is closed, or the stream has not begun",
+    "\n  36  an end is still open, or items are left to apply\n",
+    "\nExit statuses: 0 done",
+];
+
+// Help is printed under the program's own name, whatever it is called by.
 #[test]
-fn help_is_asked_for(rt: HostRuntime) -> Result<(), Fail> {
-    let alloc = rt.alloc();
+fn help_is_asked_for(rt: HostRuntime) {
     for words in [
         ["./program", "--help"].as_slice(),
         ["./program", "script", "--help"].as_slice(),
     ] {
-        let mut written = Vec::new(alloc);
-        let mut said = Said::new(alloc);
-        let status = run_on(&rt, words, b"".as_slice(), &mut written, &mut said);
-        assert_eq!(rt; status, 0);
-        assert!(rt; said.bytes.is_empty());
-        let text = std::str::from_utf8(&written).unwrap_or("");
-        assert!(rt; text.contains("Usage: drbdpair"));
-        assert!(rt; text.contains("\n  status               both nodes' status lines"));
-        assert!(rt; text.contains("\n  protocol=C           A, B or C\n"));
-        assert!(rt; text.contains("\n   1  not 1 to 32 whole blocks inside the device"));
-        assert!(rt; text.contains("\n *20  the frame does not begin with the magic number\n"));
-        assert!(rt; text.contains("\n  12  this end is closed, or the stream has not begun"));
-        assert!(rt; text.contains("\n  36  an end is still open, or items are left to apply\n"));
-        assert!(rt; text.contains("\nExit statuses: 0 done"));
+        let outcome = outcome_of(&rt, words, "");
+        assert_eq!(rt; (outcome.status, outcome.said.bytes.is_empty()), (0, true));
+        let text = std::str::from_utf8(&outcome.written).unwrap_or("");
+        for part in HELP {
+            assert!(rt; text.contains(part), "{part}");
+        }
     }
-    Ok(())
 }
 
 /// The same over sockets, which are not cut.
 #[test]
-fn a_session_is_run_over_sockets(rt: HostRuntime) -> Result<(), Fail> {
+fn a_session_is_run_over_sockets(rt: HostRuntime) {
     let words = ["drbdpair", "tcp", "--writers", "4", "--writes", "50"];
-    runs(&rt, &words, "completed 200\nsettled 200\nunmarked 0\n", 0)?;
+    runs(&rt, &words, "completed 200\nsettled 200\nunmarked 0\n", 0);
     for protocol in ["A", "B", "C"] {
         for writers in ["1", "16"] {
             let words = [
@@ -162,23 +195,23 @@ fn a_session_is_run_over_sockets(rt: HostRuntime) -> Result<(), Fail> {
                 "1" => "completed 10\nsettled 10\nunmarked 0\n",
                 _ => "completed 160\nsettled 160\nunmarked 0\n",
             };
-            runs(&rt, &words, out, 0)?;
+            runs(&rt, &words, out, 0);
         }
     }
-    runs(&rt, &["drbdpair", "tcp", "--cuts", "1"], "", 2)
+    runs(&rt, &["drbdpair", "tcp", "--cuts", "1"], "", 2);
 }
 
 /// Writers in threads of their own: all writes are completed and settled, also while the link is cut.
 #[test]
-fn a_session_is_run(rt: HostRuntime) -> Result<(), Fail> {
+fn a_session_is_run(rt: HostRuntime) {
     let words = ["drbdpair", "run", "--writers", "4", "--writes", "50"];
-    runs(&rt, &words, "completed 200\nsettled 200\nunmarked 0\n", 0)?;
+    runs(&rt, &words, "completed 200\nsettled 200\nunmarked 0\n", 0);
     runs(
         &rt,
         &["drbdpair", "run"],
         "completed 20\nsettled 20\nunmarked 0\n",
         0,
-    )?;
+    );
     let words = [
         "drbdpair",
         "run",
@@ -189,22 +222,21 @@ fn a_session_is_run(rt: HostRuntime) -> Result<(), Fail> {
         "--cuts",
         "20",
     ];
-    runs(&rt, &words, "completed 4000\nsettled 4000\nunmarked 0\n", 0)
+    runs(&rt, &words, "completed 4000\nsettled 4000\nunmarked 0\n", 0);
 }
 
 /// Both protocols that complete a write before the peer has it settle alike.
 #[test]
-fn a_session_is_run_under_each_protocol(rt: HostRuntime) -> Result<(), Fail> {
+fn a_session_is_run_under_each_protocol(rt: HostRuntime) {
     for protocol in ["A", "B"] {
         let words = ["drbdpair", "run", "--protocol", protocol, "--blocks", "1"];
-        runs(&rt, &words, "completed 20\nsettled 20\nunmarked 0\n", 0)?;
+        runs(&rt, &words, "completed 20\nsettled 20\nunmarked 0\n", 0);
     }
-    Ok(())
 }
 
 /// Values outside their ranges are wrong usage, before any file is read.
 #[test]
-fn a_run_has_ranges(rt: HostRuntime) -> Result<(), Fail> {
+fn a_run_has_ranges(rt: HostRuntime) {
     for (name, value) in [
         ("--writers", "17"),
         ("--writers", "0"),
@@ -222,17 +254,15 @@ fn a_run_has_ranges(rt: HostRuntime) -> Result<(), Fail> {
             &["drbdpair", "run", "--local", "no/such/file", name, value],
             "",
             2,
-        )?;
+        );
     }
-    Ok(())
 }
 
 /// Both images hold what was written, and nothing is left beside them.
 #[test]
-fn images_are_saved(rt: HostRuntime) -> Result<(), Fail> {
-    let zeros = Vec::from_elem(rt.alloc(), 0u8, 32_768)?;
-    fs::write(&rt, "saved_local", zeros.as_slice())?;
-    fs::write(&rt, "saved_peer", zeros.as_slice())?;
+fn images_are_saved(rt: HostRuntime) {
+    put_image(&rt, "saved_local", 0, 32_768);
+    put_image(&rt, "saved_peer", 0, 32_768);
     let words = [
         "drbdpair",
         "run",
@@ -243,29 +273,29 @@ fn images_are_saved(rt: HostRuntime) -> Result<(), Fail> {
         "--peer",
         "saved_peer",
     ];
-    runs(&rt, &words, "completed 10\nsettled 10\nunmarked 0\n", 0)?;
+    runs(&rt, &words, "completed 10\nsettled 10\nunmarked 0\n", 0);
     for name in ["saved_local", "saved_peer"] {
-        let image = fs::read(&rt, name)?;
-        assert_eq!(rt; image.len(), 32_768);
-        let wanted = [9u8, 10, 3, 4, 5, 6, 7, 8];
-        for (place, byte) in image.iter().enumerate() {
-            assert_eq!(rt; Some(byte), wanted.get(place / 4096));
-        }
-        fs::remove_file(&rt, name)?;
+        is_written(&rt, &take_image(&rt, name));
     }
     assert!(rt; fs::metadata(&rt, "saved_local.local-new").is_err());
     assert!(rt; fs::metadata(&rt, "saved_peer.peer-new").is_err());
-    Ok(())
+}
+
+/// An image holds what one writer wrote.
+fn is_written(rt: &impl Abort, image: &[u8]) {
+    assert_eq!(rt; image.len(), 32_768);
+    let wanted = [9u8, 10, 3, 4, 5, 6, 7, 8];
+    for (place, byte) in image.iter().enumerate() {
+        assert_eq!(rt; Some(byte), wanted.get(place / 4096));
+    }
 }
 
 /// An image of another length is refused, and stays as it was; so is one that is not there. The local one is first.
 #[test]
-fn images_have_the_length_of_their_blocks(rt: HostRuntime) -> Result<(), Fail> {
-    let zeros = Vec::from_elem(rt.alloc(), 0u8, 32_767)?;
-    fs::write(&rt, "short_image", zeros.as_slice())?;
+fn images_have_the_length_of_their_blocks(rt: HostRuntime) {
+    put_image(&rt, "short_image", 0, 32_767);
     let words = ["drbdpair", "run", "--peer", "short_image"];
-    runs(&rt, &words, "", 1)?;
-    let mut said = Said::new(rt.alloc());
+    runs(&rt, &words, "", 1);
     let words = [
         "drbdpair",
         "run",
@@ -274,28 +304,18 @@ fn images_have_the_length_of_their_blocks(rt: HostRuntime) -> Result<(), Fail> {
         "--peer",
         "no/such/file",
     ];
-    let status = run_on(
-        &rt,
-        &words,
-        b"".as_slice(),
-        &mut Vec::new(rt.alloc()),
-        &mut said,
-    );
-    assert_eq!(rt; status, 1);
+    let outcome = outcome_of(&rt, &words, "");
+    assert_eq!(rt; outcome.status, 1);
     let line = "short_image has 32767 bytes: an image of this device has 32768\n";
-    assert_eq!(rt; said.bytes.as_slice(), line.as_bytes());
-    assert_eq!(rt; fs::read(&rt, "short_image")?.as_slice(), zeros.as_slice());
-    fs::remove_file(&rt, "short_image")?;
-    Ok(())
+    assert_eq!(rt; outcome.said.bytes.as_slice(), line.as_bytes());
+    is_left(&rt, "short_image", 0, 32_767);
 }
 
 /// Images that differ are alike after a run: every block is copied, and those that are written hold what was written.
 #[test]
-fn images_that_differ_become_alike(rt: HostRuntime) -> Result<(), Fail> {
-    let ones = Vec::from_elem(rt.alloc(), 1u8, 65_536)?;
-    let twos = Vec::from_elem(rt.alloc(), 2u8, 65_536)?;
-    fs::write(&rt, "differs_local", ones.as_slice())?;
-    fs::write(&rt, "differs_peer", twos.as_slice())?;
+fn images_that_differ_become_alike(rt: HostRuntime) {
+    put_image(&rt, "differs_local", 1, 65_536);
+    put_image(&rt, "differs_peer", 2, 65_536);
     let words = [
         "drbdpair",
         "run",
@@ -308,24 +328,20 @@ fn images_that_differ_become_alike(rt: HostRuntime) -> Result<(), Fail> {
         "--peer",
         "differs_peer",
     ];
-    runs(&rt, &words, "completed 10\nsettled 10\nunmarked 0\n", 0)?;
-    let local = fs::read(&rt, "differs_local")?;
-    let peer = fs::read(&rt, "differs_peer")?;
+    runs(&rt, &words, "completed 10\nsettled 10\nunmarked 0\n", 0);
+    let local = take_image(&rt, "differs_local");
+    let peer = take_image(&rt, "differs_peer");
     assert_eq!(rt; local.get(40_960), Some(&1));
     assert!(rt; local == peer);
-    fs::remove_file(&rt, "differs_local")?;
-    fs::remove_file(&rt, "differs_peer")?;
-    Ok(())
 }
 
 /// A disk that cannot be saved is status 1, and both images are as they were.
 #[test]
-fn a_failed_save_loses_nothing(rt: HostRuntime) -> Result<(), Fail> {
-    let zeros = Vec::from_elem(rt.alloc(), 0u8, 32_768)?;
-    fs::write(&rt, "unsaved_local", zeros.as_slice())?;
-    fs::write(&rt, "unsaved_peer", zeros.as_slice())?;
+fn a_failed_save_loses_nothing(rt: HostRuntime) {
+    put_image(&rt, "unsaved_local", 0, 32_768);
+    put_image(&rt, "unsaved_peer", 0, 32_768);
     // A folder stands where the peer's disk is written first.
-    fs::create_dir(&rt, "unsaved_peer.peer-new")?;
+    fs::create_dir(&rt, "unsaved_peer.peer-new").expect(&rt, "a folder");
     let words = [
         "drbdpair",
         "run",
@@ -334,29 +350,23 @@ fn a_failed_save_loses_nothing(rt: HostRuntime) -> Result<(), Fail> {
         "--peer",
         "unsaved_peer",
     ];
-    runs(&rt, &words, "", 1)?;
-    for name in ["unsaved_local", "unsaved_peer"] {
-        assert!(rt; fs::read(&rt, name)? == zeros);
-        fs::remove_file(&rt, name)?;
-    }
+    runs(&rt, &words, "", 1);
+    is_left(&rt, "unsaved_local", 0, 32_768);
+    is_left(&rt, "unsaved_peer", 0, 32_768);
     assert!(rt; fs::metadata(&rt, "unsaved_local.local-new").is_err());
-    fs::remove_dir(&rt, "unsaved_peer.peer-new")?;
-    Ok(())
+    fs::remove_dir(&rt, "unsaved_peer.peer-new").expect(&rt, "a folder");
 }
 
 /// The status lines come on standard error, the last two at the end; standard output has the three lines alone.
 #[test]
-fn status_lines_are_shown(rt: HostRuntime) -> Result<(), Fail> {
-    let mut written = Vec::new(rt.alloc());
-    let mut said = Said::new(rt.alloc());
-    let words = ["drbdpair", "run", "--status"];
-    let status = run_on(&rt, &words, b"".as_slice(), &mut written, &mut said);
-    assert_eq!(rt; status, 0);
+fn status_lines_are_shown(rt: HostRuntime) {
+    let outcome = outcome_of(&rt, &["drbdpair", "run", "--status"], "");
+    assert_eq!(rt; outcome.status, 0);
     assert_eq!(rt;
-        written.as_slice(),
+        outcome.written.as_slice(),
         b"completed 20\nsettled 20\nunmarked 0\n".as_slice()
     );
-    let text = str::from_utf8(said.bytes.as_slice())?;
+    let text = str::from_utf8(outcome.said.bytes.as_slice()).unwrap_or("");
     assert!(rt;
         text.contains(
             "cs:StandAlone ro:Primary/Unknown ds:UpToDate/DUnknown pr:C pe:0 ap:0 ep:0 oos:0\n"
@@ -367,5 +377,4 @@ fn status_lines_are_shown(rt: HostRuntime) -> Result<(), Fail> {
             "cs:StandAlone ro:Secondary/Unknown ds:Consistent/DUnknown pr:C pending:0 use:Yes"
         )
     );
-    Ok(())
 }

@@ -1,25 +1,32 @@
 //! Whole calls, over files of the tests' own. No contract says what a file holds.
 use crate::{ImageStore, OpenFault};
 use blocks::{BLOCK_BYTES, Block, MemStore, Range, Refusal, Store, StoreFault};
+use std::alloc::{AllocError, Global};
 use std::cell::Cell;
-use std::fs::{File, OpenFile};
+use std::fs::{File, Files, OpenFile};
 use std::os::unix::fs::FileExt;
+use std::process::Abort;
 use std::sync::Arc;
-use std::test::Fail;
 use std::{fs, io, thread};
 
-// Makes an image of `blocks` blocks, block `n` filled with `n + 1`, with `more` zeros after them.
-fn make_image(rt: &HostRuntime, path: &str, blocks: u8, more: usize) -> io::Result<()> {
-    let mut bytes = Vec::new(rt.alloc());
+// An image of this length: `blocks` blocks, block `n` filled with `n + 1`, and zeros after them.
+fn image(alloc: Global, blocks: u8, length: usize) -> Result<Vec<u8>, AllocError> {
+    let mut bytes = Vec::new(alloc);
     for block in 0..blocks {
         bytes.extend_from_slice(&[block.wrapping_add(1); BLOCK_BYTES])?;
     }
-    bytes.extend_from_slice(Vec::from_elem(rt.alloc(), 0u8, more)?.as_slice())?;
-    fs::write(rt, path, bytes.as_slice())
+    bytes.resize(length, 0)?;
+    Ok(bytes)
+}
+
+// Makes a file of such an image.
+fn make_image(rt: &(impl Abort + Files + AllocGlobal), path: &str, blocks: u8, length: usize) {
+    let bytes = image(rt.alloc(), blocks, length).expect(rt, "memory");
+    fs::write(rt, path, bytes.as_slice()).expect(rt, "a file");
 }
 
 // Whether the file has one block for each of these bytes, filled with it.
-fn is_image(rt: &HostRuntime, path: &str, fills: &[u8]) -> io::Result<bool> {
+fn is_image(rt: &(impl Files + AllocGlobal), path: &str, fills: &[u8]) -> io::Result<bool> {
     let image = fs::read(rt, path)?;
     let mut is_alike = image.len() / BLOCK_BYTES == fills.len() && image.len() % BLOCK_BYTES == 0;
     for (place, byte) in image.iter().enumerate() {
@@ -61,50 +68,65 @@ fn put_two<F: FileExt>(
     Ok(store.write(range, &bytes))
 }
 
+// The store answers a write of two blocks so.
+fn puts<F: FileExt>(
+    rt: &impl Abort,
+    store: &mut ImageStore<F>,
+    (first, fills): (u64, [u8; 2]),
+    wanted: Result<(), StoreFault>,
+) {
+    assert_eq!(rt; put_two(store, first, fills), Ok(wanted));
+}
+
 // What a write changes is read back, and stands in the file as soon as the write has returned.
 #[test]
-fn a_write_is_in_the_file(rt: HostRuntime) -> Result<(), Fail> {
-    make_image(&rt, "written", 4, 0)?;
-    let (mut store, sync) = ImageStore::open(&rt, "written", 4)?;
+fn a_write_is_in_the_file(rt: HostRuntime) {
+    make_image(&rt, "written", 4, 16_384);
+    let (mut store, sync) = ImageStore::open(&rt, "written", 4).expect(&rt, "a store");
     assert!(rt; is_held(&mut store, &[1, 2, 3, 4]));
-    put_two(&mut store, 1, [170, 187])??;
+    puts(&rt, &mut store, (1, [170, 187]), Ok(()));
     assert!(rt; is_held(&mut store, &[1, 170, 187, 4]));
-    assert!(rt; is_image(&rt, "written", &[1, 170, 187, 4])?);
-    sync.sync()?;
-    let (mut again, _) = ImageStore::open(&rt, "written", 4)?;
+    assert!(rt; is_image(&rt, "written", &[1, 170, 187, 4]).expect(&rt, "an image"));
+    sync.sync().expect(&rt, "a flush");
+    let (mut again, _) = ImageStore::open(&rt, "written", 4).expect(&rt, "a store");
     assert!(rt; is_held(&mut again, &[1, 170, 187, 4]));
-    fs::remove_file(&rt, "written")?;
-    Ok(())
+    fs::remove_file(&rt, "written").expect(&rt, "a file");
+}
+
+// A device of five blocks refuses an image of this length.
+fn refuses(rt: &(impl Abort + Files<File = File> + AllocGlobal), blocks: u8, length: usize) {
+    make_image(rt, "other_length", blocks, length);
+    let length = length as u64;
+    let fault = match ImageStore::open(rt, "other_length", 5) {
+        Ok(_) => None,
+        Err(fault) => Some(fault),
+    };
+    assert!(rt;
+        matches!(&fault, Some(OpenFault::WrongLength { found, wanted: 20_480 }) if *found == length)
+    );
+    let file = fs::metadata(rt, "other_length").expect(rt, "a file");
+    assert_eq!(rt; file.len(), length);
 }
 
 // A file that is shorter or longer than the device is refused, with both lengths, and stays as it was.
 #[test]
-fn another_length_is_refused(rt: HostRuntime) -> Result<(), Fail> {
-    for (blocks, more, length) in [(3, 1, 12_289), (4, 0, 16_384), (6, 0, 24_576)] {
-        make_image(&rt, "other_length", blocks, more)?;
-        let fault = match ImageStore::open(&rt, "other_length", 5) {
-            Ok(_) => None,
-            Err(fault) => Some(fault),
-        };
-        assert!(rt;
-            matches!(&fault, Some(OpenFault::WrongLength { found, wanted: 20_480 }) if *found == length)
-        );
-        assert_eq!(rt; fs::metadata(&rt, "other_length")?.len(), length);
+fn another_length_is_refused(rt: HostRuntime) {
+    for (blocks, length) in [(3, 12_289), (4, 16_384), (6, 24_576)] {
+        refuses(&rt, blocks, length);
     }
     let fault = OpenFault::WrongLength {
         found: 12_289,
         wanted: 16_384,
     };
-    let told = format!(in rt.alloc(); "{fault}")?;
+    let told = format!(in rt.alloc(); "{fault}").expect(&rt, "memory");
     let wanted = "the image has 12289 bytes, and an image of this device has 16384";
     assert_eq!(rt; told.as_str(), wanted);
-    fs::remove_file(&rt, "other_length")?;
-    Ok(())
+    fs::remove_file(&rt, "other_length").expect(&rt, "a file");
 }
 
 // A file that is not there is not made.
 #[test]
-fn a_missing_file_is_unread(rt: HostRuntime) -> Result<(), Fail> {
+fn a_missing_file_is_unread(rt: HostRuntime) {
     let fault = match ImageStore::open(&rt, "no_image", 4) {
         Ok(_) => None,
         Err(fault) => Some(fault),
@@ -113,40 +135,45 @@ fn a_missing_file_is_unread(rt: HostRuntime) -> Result<(), Fail> {
         matches!(&fault, Some(OpenFault::Unread(error)) if error.kind() == io::ErrorKind::NotFound)
     );
     assert!(rt; fs::metadata(&rt, "no_image").is_err());
-    Ok(())
+}
+
+// Makes a file of 16 MiB of zeros.
+fn make_large(rt: &(impl Abort + Files<File = File>)) {
+    let file = fs::create(rt, "large").expect(rt, "a file");
+    file.set_len(16_777_216).expect(rt, "a file of 16 MiB");
 }
 
 // A device of 16 MiB opens, and its last blocks are written.
 #[test]
-fn a_large_image_opens(rt: HostRuntime) -> Result<(), Fail> {
-    fs::create(&rt, "large")?.set_len(16_777_216)?;
-    let (mut store, _) = ImageStore::open(&rt, "large", 4096)?;
-    put_two(&mut store, 4094, [5, 6])??;
+fn a_large_image_opens(rt: HostRuntime) {
+    make_large(&rt);
+    let (mut store, _) = ImageStore::open(&rt, "large", 4096).expect(&rt, "a store");
+    puts(&rt, &mut store, (4094, [5, 6]), Ok(()));
     for (block, fill) in [(0, 0), (4093, 0), (4094, 5), (4095, 6)] {
         assert_eq!(rt; fill_of(&mut store, block), Some(fill));
     }
-    assert_eq!(rt; fs::metadata(&rt, "large")?.len(), 16_777_216);
-    fs::remove_file(&rt, "large")?;
-    Ok(())
+    let file = fs::metadata(&rt, "large").expect(&rt, "a file");
+    assert_eq!(rt; file.len(), 16_777_216);
+    fs::remove_file(&rt, "large").expect(&rt, "a file");
 }
 
 // A thread has the store while others make the file durable.
 #[test]
-fn a_flush_needs_no_store(rt: HostRuntime) -> Result<(), Fail> {
-    make_image(&rt, "flushed", 4, 0)?;
-    let (store, sync) = ImageStore::open(&rt, "flushed", 4)?;
-    let sync = Arc::new(rt.alloc(), sync)?;
-    let theirs = Arc::try_clone(&sync)?;
+fn a_flush_needs_no_store(rt: HostRuntime) {
+    make_image(&rt, "flushed", 4, 16_384);
+    let (store, sync) = ImageStore::open(&rt, "flushed", 4).expect(&rt, "a store");
+    let sync = Arc::new(rt.alloc(), sync).expect(&rt, "memory");
+    let theirs = Arc::try_clone(&sync).expect(&rt, "a second handle");
     let child = thread::spawn(&rt, move || {
         let mut store = store;
         let is_put = put_two(&mut store, 2, [51, 68]) == Ok(Ok(()));
         is_put && theirs.sync().is_ok()
-    })?;
-    sync.sync()?;
+    })
+    .expect(&rt, "a thread");
+    sync.sync().expect(&rt, "a flush");
     assert!(rt; child.join(&rt));
-    assert!(rt; is_image(&rt, "flushed", &[1, 2, 51, 68])?);
-    fs::remove_file(&rt, "flushed")?;
-    Ok(())
+    assert!(rt; is_image(&rt, "flushed", &[1, 2, 51, 68]).expect(&rt, "an image"));
+    fs::remove_file(&rt, "flushed").expect(&rt, "a file");
 }
 
 // A file of which one write puts a third of its bytes. Those after it fail, until so many writes were asked for.
@@ -179,46 +206,55 @@ impl FileExt for FailingFile {
 // A store of four blocks of zeros whose second write fails in the middle, over a file that passes again from this write
 // on.
 fn failing_store(
-    rt: &HostRuntime,
+    rt: &(impl Abort + Files<File = File> + AllocGlobal),
     path: &str,
     passes_from: u32,
-) -> Result<ImageStore<FailingFile>, Fail> {
-    make_image(rt, path, 0, 4 * BLOCK_BYTES)?;
+) -> ImageStore<FailingFile> {
+    make_image(rt, path, 0, 16_384);
+    let memory = MemStore::zeroed(rt.alloc(), 4).expect(rt, "memory");
+    let file = fs::OpenOptions::new().write(true).open(rt, path);
     let file = FailingFile {
-        file: fs::OpenOptions::new().write(true).open(rt, path)?,
+        file: file.expect(rt, "a file"),
         writes: Cell::new(0),
         short_write: 1,
         passes_from,
     };
-    let memory = MemStore::zeroed(rt.alloc(), 4)?;
-    Ok(ImageStore::over(file, memory))
+    ImageStore::over(file, memory)
+}
+
+// The file at this path has one block for each of these bytes, or not.
+fn has(rt: &(impl Abort + Files + AllocGlobal), path: &str, fills: &[u8], wanted: bool) {
+    let found = is_image(rt, path, fills).expect(rt, "an image");
+    assert_eq!(rt; found, wanted);
+}
+
+// A write that fails in the middle changes no memory, and the file has the old bytes or not. The next write changes
+// both.
+fn fails_and_is_mended(
+    rt: &(impl Abort + Files<File = File> + AllocGlobal),
+    path: &str,
+    passes_from: u32,
+    is_taken_back: bool,
+) {
+    let mut store = failing_store(rt, path, passes_from);
+    puts(rt, &mut store, (0, [7, 8]), Ok(()));
+    puts(rt, &mut store, (1, [170, 187]), Err(StoreFault));
+    assert!(rt; is_held(&mut store, &[7, 8, 0, 0]));
+    has(rt, path, &[7, 8, 0, 0], is_taken_back);
+    puts(rt, &mut store, (1, [170, 187]), Ok(()));
+    assert!(rt; is_held(&mut store, &[7, 170, 187, 0]));
+    has(rt, path, &[7, 170, 187, 0], true);
+    fs::remove_file(rt, path).expect(rt, "a file");
 }
 
 // A write that fails in the middle changes neither memory nor the file, where the file takes the old bytes back.
 #[test]
-fn a_failed_write_is_taken_back(rt: HostRuntime) -> Result<(), Fail> {
-    let mut store = failing_store(&rt, "taken_back", 3)?;
-    put_two(&mut store, 0, [7, 8])??;
-    assert_eq!(rt; put_two(&mut store, 1, [170, 187])?, Err(StoreFault));
-    assert!(rt; is_held(&mut store, &[7, 8, 0, 0]));
-    assert!(rt; is_image(&rt, "taken_back", &[7, 8, 0, 0])?);
-    put_two(&mut store, 1, [170, 187])??;
-    assert!(rt; is_held(&mut store, &[7, 170, 187, 0]));
-    assert!(rt; is_image(&rt, "taken_back", &[7, 170, 187, 0])?);
-    fs::remove_file(&rt, "taken_back")?;
-    Ok(())
+fn a_failed_write_is_taken_back(rt: HostRuntime) {
+    fails_and_is_mended(&rt, "taken_back", 3, true);
 }
 
 // Where the file does not take the old bytes back either, memory has them, and the next write mends the file.
 #[test]
-fn a_torn_file_is_mended_by_a_write(rt: HostRuntime) -> Result<(), Fail> {
-    let mut store = failing_store(&rt, "torn", 5)?;
-    put_two(&mut store, 0, [7, 8])??;
-    assert_eq!(rt; put_two(&mut store, 1, [170, 187])?, Err(StoreFault));
-    assert!(rt; is_held(&mut store, &[7, 8, 0, 0]));
-    assert!(rt; !is_image(&rt, "torn", &[7, 8, 0, 0])?);
-    put_two(&mut store, 1, [170, 187])??;
-    assert!(rt; is_image(&rt, "torn", &[7, 170, 187, 0])?);
-    fs::remove_file(&rt, "torn")?;
-    Ok(())
+fn a_torn_file_is_mended_by_a_write(rt: HostRuntime) {
+    fails_and_is_mended(&rt, "torn", 5, false);
 }

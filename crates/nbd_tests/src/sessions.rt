@@ -1,9 +1,7 @@
 //! Whole sessions, with bytes written out by hand from the protocol document.
-use blocks::Refusal;
 use nbd::{Command, Connection, Errno, Export, Output, Reply, Request, RequestHeader, greeting};
 use std::alloc::{AllocError, Global};
 use std::process::Abort;
-use std::test::Fail;
 
 /// A client's flags: fixed newstyle and no zeros.
 const FLAGS: [u8; 4] = [0, 0, 0, 3];
@@ -40,22 +38,32 @@ const DISCONNECT: [u8; 28] = [
 ];
 
 /// A connection for an export `disk` of 16 blocks.
-fn connected(alloc: Global) -> Result<Connection, AllocError> {
-    let name = String::from_str(alloc, "disk")?;
-    Ok(Connection::new(alloc, Export::new(name, 16)))
+fn connected(rt: &impl Abort, alloc: Global) -> Connection {
+    let name = String::from_str(alloc, "disk").expect(rt, "memory");
+    Connection::new(alloc, Export::new(name, 16))
+}
+
+/// Feeds bytes, which the connection takes.
+fn feed(rt: &impl Abort, connection: &mut Connection, bytes: &[u8], out: &mut Output) {
+    connection.feed(bytes, out).expect(rt, "memory");
 }
 
 /// A connection that takes requests.
-fn transmitting(alloc: Global) -> Result<Connection, Refusal> {
-    let mut connection = connected(alloc)?;
+fn transmitting(rt: &impl Abort, alloc: Global) -> Connection {
+    let mut connection = connected(rt, alloc);
     let mut out = Output::new(alloc);
-    connection.feed(&FLAGS, &mut out)?;
-    connection.feed(&GO, &mut out)?;
-    Ok(connection)
+    feed(rt, &mut connection, &FLAGS, &mut out);
+    feed(rt, &mut connection, &GO, &mut out);
+    connection
+}
+
+/// The client is sent these bytes.
+fn is_sent(rt: &impl Abort, out: &Output, bytes: &[u8]) {
+    assert_eq!(rt; out.bytes.as_slice(), bytes);
 }
 
 #[test]
-fn greets(rt: HostRuntime) -> Result<(), Fail> {
+fn greets(rt: HostRuntime) {
     assert_eq!(rt;
         greeting().as_slice(),
         [
@@ -64,47 +72,47 @@ fn greets(rt: HostRuntime) -> Result<(), Fail> {
         ]
         .as_slice()
     );
-    Ok(())
 }
 
 #[test]
-fn answers_go(rt: HostRuntime) -> Result<(), Fail> {
-    let mut connection = connected(rt.alloc())?;
+fn answers_go(rt: HostRuntime) {
+    let mut connection = connected(&rt, rt.alloc());
     let mut out = Output::new(rt.alloc());
-    connection.feed(&FLAGS, &mut out)?;
-    assert!(rt; out.bytes.is_empty());
-    connection.feed(&GO, &mut out)?;
-    assert_eq!(rt; out.bytes.as_slice(), GO_ANSWER.as_slice());
+    feed(&rt, &mut connection, &FLAGS, &mut out);
+    is_sent(&rt, &out, &[]);
+    feed(&rt, &mut connection, &GO, &mut out);
+    is_sent(&rt, &out, &GO_ANSWER);
     assert!(rt; !connection.is_closed());
-    Ok(())
 }
 
-#[test]
-fn gives_a_write(rt: HostRuntime) -> Result<(), Fail> {
-    let mut connection = transmitting(rt.alloc())?;
-    let mut out = Output::new(rt.alloc());
-    connection.feed(&WRITE, &mut out)?;
-    connection.feed(&[0xA5; 4095], &mut out)?;
-    assert!(rt; out.requests.is_empty());
-    connection.feed(&[0x5A], &mut out)?;
-    assert!(rt; out.bytes.is_empty());
-    let request = out.requests.pop().ok_or("no request")?;
-    assert!(rt; request.command == Command::Write);
-    assert!(rt; request.fua);
+/// The request is the WRITE, with its payload, and is answered under its cookie.
+fn is_the_write(rt: &impl Abort, request: Request) {
+    assert!(rt; request.command == Command::Write && request.fua);
     assert_eq!(rt; (request.first_block, request.block_count), (1, 1));
     assert_eq!(rt; request.payload.len(), 4096);
     assert_eq!(rt; request.payload.as_slice().last().copied(), Some(0x5A));
-    let reply = request.reply(None);
+    let reply = request.reply(None).encode();
     assert_eq!(rt;
-        reply.encode().as_slice(),
+        reply.as_slice(),
         [0x67, 0x44, 0x66, 0x98, 0, 0, 0, 0, 1, 2, 3, 4, 5, 6, 7, 8].as_slice()
     );
-    Ok(())
 }
 
 #[test]
-fn takes_byte_after_byte(rt: HostRuntime) -> Result<(), Fail> {
-    let mut stream = Vec::new(rt.alloc());
+fn gives_a_write(rt: HostRuntime) {
+    let mut connection = transmitting(&rt, rt.alloc());
+    let mut out = Output::new(rt.alloc());
+    feed(&rt, &mut connection, &WRITE, &mut out);
+    feed(&rt, &mut connection, &[0xA5; 4095], &mut out);
+    assert!(rt; out.requests.is_empty());
+    feed(&rt, &mut connection, &[0x5A], &mut out);
+    is_sent(&rt, &out, &[]);
+    is_the_write(&rt, out.requests.pop().expect(&rt, "a request"));
+}
+
+/// A whole session: a write, a read that is refused, and the end.
+fn whole_session(alloc: Global) -> Result<Vec<u8>, AllocError> {
+    let mut stream = Vec::new(alloc);
     for part in [
         FLAGS.as_slice(),
         GO.as_slice(),
@@ -115,80 +123,94 @@ fn takes_byte_after_byte(rt: HostRuntime) -> Result<(), Fail> {
     ] {
         stream.extend_from_slice(part)?;
     }
-    let mut connection = connected(rt.alloc())?;
-    let mut out = Output::new(rt.alloc());
-    for byte in stream.iter() {
+    Ok(stream)
+}
+
+/// What a connection puts out that is fed a stream in pieces of this size, and closes with the last of them.
+fn fed_in_pieces(rt: &impl Abort, alloc: Global, stream: &[u8], size: usize) -> Output {
+    let mut connection = connected(rt, alloc);
+    let mut out = Output::new(alloc);
+    for piece in stream.chunks(size.max(1)) {
         assert!(rt; !connection.is_closed());
-        connection.feed(&[*byte], &mut out)?;
+        feed(rt, &mut connection, piece, &mut out);
     }
     assert!(rt; connection.is_closed());
-    let mut whole = connected(rt.alloc())?;
-    let mut at_once = Output::new(rt.alloc());
-    whole.feed(stream.as_slice(), &mut at_once)?;
-    assert_eq!(rt; out.bytes.as_slice(), at_once.bytes.as_slice());
-    assert_eq!(rt; out.requests.len(), 1);
-    assert_eq!(rt; at_once.requests.len(), 1);
+    out
+}
+
+#[test]
+fn takes_byte_after_byte(rt: HostRuntime) {
+    let stream = whole_session(rt.alloc()).expect(&rt, "memory");
+    let out = fed_in_pieces(&rt, rt.alloc(), &stream, 1);
+    let at_once = fed_in_pieces(&rt, rt.alloc(), &stream, stream.len());
+    is_sent(&rt, &out, &at_once.bytes);
+    assert_eq!(rt; (out.requests.len(), at_once.requests.len()), (1, 1));
     // After the answer to GO the READ is refused with EINVAL, under its cookie.
     assert_eq!(rt; out.bytes.len(), 102);
     assert_eq!(rt;
         &out.bytes.as_slice()[86..],
         [0x67, 0x44, 0x66, 0x98, 0, 0, 0, 22, 0, 0, 0, 0, 0, 0, 0, 9].as_slice()
     );
-    Ok(())
+}
+
+/// The connection closes at these bytes, and puts out nothing, not at a GO after them either.
+fn closes_at(rt: &impl Abort, alloc: Global, connection: &mut Connection, garbage: &[u8]) {
+    let mut out = Output::new(alloc);
+    feed(rt, connection, garbage, &mut out);
+    assert!(rt; connection.is_closed());
+    feed(rt, connection, &GO, &mut out);
+    is_sent(rt, &out, &[]);
+    assert!(rt; out.requests.is_empty());
 }
 
 #[test]
-fn closes_at_garbage(rt: HostRuntime) -> Result<(), Fail> {
-    let mut flags = connected(rt.alloc())?;
-    let mut out = Output::new(rt.alloc());
-    flags.feed(&[0, 0, 0, 4], &mut out)?;
-    assert!(rt; flags.is_closed());
-    flags.feed(&GO, &mut out)?;
-    let mut request = transmitting(rt.alloc())?;
-    request.feed(&[0x67; 100], &mut out)?;
-    assert!(rt; request.is_closed());
-    assert!(rt; out.bytes.is_empty());
-    assert!(rt; out.requests.is_empty());
-    Ok(())
+fn closes_at_garbage(rt: HostRuntime) {
+    let mut flags = connected(&rt, rt.alloc());
+    closes_at(&rt, rt.alloc(), &mut flags, &[0, 0, 0, 4]);
+    let mut request = transmitting(&rt, rt.alloc());
+    closes_at(&rt, rt.alloc(), &mut request, &[0x67; 100]);
 }
 
-/// Feeds zeros, in pieces of 64 KiB.
-fn feed_zeros(connection: &mut Connection, count: u64, out: &mut Output) -> Result<(), Refusal> {
+/// Feeds zeros, in pieces of 64 KiB, at which nothing is sent, and then one more.
+fn feed_zeros(rt: &impl Abort, connection: &mut Connection, count: u64, out: &mut Output) {
     let zeros = [0; 65536];
     for _ in 0..count / 65536 {
-        connection.feed(&zeros, out)?;
+        feed(rt, connection, &zeros, out);
     }
-    connection.feed(&zeros[..(count % 65536) as usize], out)
+    feed(rt, connection, &zeros[..(count % 65536) as usize], out);
+    is_sent(rt, out, &[]);
+    feed(rt, connection, &[0], out);
 }
 
 #[test]
-fn skips_a_long_option(rt: HostRuntime) -> Result<(), Fail> {
-    let mut connection = connected(rt.alloc())?;
+fn skips_a_long_option(rt: HostRuntime) {
+    let mut connection = connected(&rt, rt.alloc());
     let mut out = Output::new(rt.alloc());
-    connection.feed(&FLAGS, &mut out)?;
-    connection.feed(
-        &[
-            0x49, 0x48, 0x41, 0x56, 0x45, 0x4F, 0x50, 0x54, 0, 0, 0, 99, 0xFF, 0xFF, 0xFF, 0xFF,
-        ],
-        &mut out,
-    )?;
-    feed_zeros(&mut connection, 0xFFFF_FFFE, &mut out)?;
-    assert!(rt; out.bytes.is_empty());
-    connection.feed(&[0], &mut out)?;
-    assert_eq!(rt;
-        out.bytes.as_slice(),
-        [
-            0x00, 0x03, 0xE8, 0x89, 0x04, 0x55, 0x65, 0xA9, 0, 0, 0, 99, 0x80, 0, 0, 9, 0, 0, 0, 0
-        ]
-        .as_slice()
-    );
+    feed(&rt, &mut connection, &FLAGS, &mut out);
+    let option = [
+        0x49, 0x48, 0x41, 0x56, 0x45, 0x4F, 0x50, 0x54, 0, 0, 0, 99, 0xFF, 0xFF, 0xFF, 0xFF,
+    ];
+    feed(&rt, &mut connection, &option, &mut out);
+    feed_zeros(&rt, &mut connection, 0xFFFF_FFFE, &mut out);
+    let unsupported = [
+        0x00, 0x03, 0xE8, 0x89, 0x04, 0x55, 0x65, 0xA9, 0, 0, 0, 99, 0x80, 0, 0, 9, 0, 0, 0, 0,
+    ];
+    is_sent(&rt, &out, &unsupported);
     assert!(rt; !connection.is_closed());
-    Ok(())
+}
+
+/// The client is sent a reply, with a cookie and an error, and nothing more.
+fn is_answered(rt: &impl Abort, out: &Output, cookie: u64, error: Errno) {
+    assert_eq!(rt; out.bytes.len(), 16);
+    let reply = Reply::decode(out.bytes.as_slice()).expect(rt, "a reply");
+    assert_eq!(rt; reply.cookie, cookie);
+    assert!(rt; reply.error == Some(error));
+    assert!(rt; out.requests.is_empty());
 }
 
 #[test]
-fn skips_a_long_write(rt: HostRuntime) -> Result<(), Fail> {
-    let mut connection = transmitting(rt.alloc())?;
+fn skips_a_long_write(rt: HostRuntime) {
+    let mut connection = transmitting(&rt, rt.alloc());
     let mut out = Output::new(rt.alloc());
     let header = RequestHeader {
         flags: 0,
@@ -197,42 +219,29 @@ fn skips_a_long_write(rt: HostRuntime) -> Result<(), Fail> {
         offset: 0,
         length: 0xFFFF_F000,
     };
-    connection.feed(header.encode().as_slice(), &mut out)?;
-    feed_zeros(&mut connection, 0xFFFF_EFFF, &mut out)?;
-    assert!(rt; out.bytes.is_empty());
-    connection.feed(&[0], &mut out)?;
-    assert_eq!(rt; out.bytes.len(), 16);
-    let reply = Reply::decode(out.bytes.as_slice())?;
-    assert_eq!(rt; reply.cookie, 11);
-    assert!(rt; reply.error == Some(Errno::Overflow));
-    assert!(rt; out.requests.is_empty());
-    Ok(())
+    feed(&rt, &mut connection, header.encode().as_slice(), &mut out);
+    feed_zeros(&rt, &mut connection, 0xFFFF_EFFF, &mut out);
+    is_answered(&rt, &out, 11, Errno::Overflow);
 }
 
 /// What EXPORT_NAME with an empty name is answered by a client with these flags.
-fn export_name(alloc: Global, flags: u8) -> Result<Output, Refusal> {
-    let mut connection = connected(alloc)?;
+fn export_name(rt: &impl Abort, alloc: Global, flags: u8) -> Output {
+    let mut connection = connected(rt, alloc);
     let mut out = Output::new(alloc);
-    connection.feed(&[0, 0, 0, flags], &mut out)?;
-    connection.feed(
-        &[
-            0x49, 0x48, 0x41, 0x56, 0x45, 0x4F, 0x50, 0x54, 0, 0, 0, 1, 0, 0, 0, 0,
-        ],
-        &mut out,
-    )?;
-    Ok(out)
+    feed(rt, &mut connection, &[0, 0, 0, flags], &mut out);
+    let option = [
+        0x49, 0x48, 0x41, 0x56, 0x45, 0x4F, 0x50, 0x54, 0, 0, 0, 1, 0, 0, 0, 0,
+    ];
+    feed(rt, &mut connection, &option, &mut out);
+    out
 }
 
 #[test]
-fn answers_export_name(rt: HostRuntime) -> Result<(), Fail> {
-    let short = export_name(rt.alloc(), 3)?;
-    assert_eq!(rt;
-        short.bytes.as_slice(),
-        [0, 0, 0, 0, 0, 1, 0, 0, 0x01, 0x4D].as_slice()
-    );
-    let long = export_name(rt.alloc(), 1)?;
+fn answers_export_name(rt: HostRuntime) {
+    let short = export_name(&rt, rt.alloc(), 3);
+    is_sent(&rt, &short, &[0, 0, 0, 0, 0, 1, 0, 0, 0x01, 0x4D]);
+    let long = export_name(&rt, rt.alloc(), 1);
     assert_eq!(rt; long.bytes.len(), 134);
     assert_eq!(rt; &long.bytes.as_slice()[..10], short.bytes.as_slice());
     assert!(rt; long.bytes.iter().skip(10).all(|byte| *byte == 0));
-    Ok(())
 }

@@ -1,8 +1,9 @@
 //! The frames of the packets, byte by byte, as the format's vectors have them.
-use blocks::{BLOCK_BYTES, Refusal};
+use blocks::BLOCK_BYTES;
 use bytes::Bytes;
 use packets::Frame;
-use std::alloc::Global;
+use std::alloc::{AllocError, Global};
+use std::process::Abort;
 
 /// A header and the numbers of a DATA frame: block 2, write 1, place 0.
 pub(crate) const WRITE: [u8; 32] = [
@@ -64,18 +65,28 @@ pub(crate) const RS_WRITE_ACK: [u8; 32] = [
 
 pub(crate) const OTHER_MAGIC: [u8; 8] = [0x83, 0x5B, 0, 3, 0, 0, 0, 8];
 
-/// The front of a frame, and then so many blocks of one byte.
-pub(crate) fn with_blocks(
+fn with_blocks_in(
     alloc: Global,
     front: &[u8],
     blocks: u8,
     byte: u8,
-) -> Result<Vec<u8>, Refusal> {
+) -> Result<Vec<u8>, AllocError> {
     let mut frame = Vec::from_slice(alloc, front)?;
     frame.resize(front.len() + usize::from(blocks) * BLOCK_BYTES, byte)?;
     Ok(frame)
 }
 
-pub(crate) fn frame_of(alloc: Global, bytes: &[u8]) -> Result<Frame, Refusal> {
-    Ok(Frame::new(Bytes::copy_from_slice(alloc, bytes)?))
+/// The front of a frame, and then so many blocks of one byte.
+pub(crate) fn with_blocks(
+    rt: &impl Abort,
+    alloc: Global,
+    front: &[u8],
+    blocks: u8,
+    byte: u8,
+) -> Vec<u8> {
+    with_blocks_in(alloc, front, blocks, byte).expect(rt, "memory")
+}
+
+pub(crate) fn frame_of(rt: &impl Abort, alloc: Global, bytes: &[u8]) -> Frame {
+    Frame::new(Bytes::copy_from_slice(alloc, bytes).expect(rt, "memory"))
 }

@@ -2,7 +2,6 @@
 
 use crate::{Buffer, PumpEnd, pump_in, pump_out};
 use bell::Bell;
-use blocks::Refusal;
 use ruled_link::{Piece, PieceIn, PieceOut, row};
 use std::alloc::Global;
 use std::io;
@@ -76,12 +75,12 @@ impl Read for Drip<'_> {
 }
 
 /// `len` bytes that count up and begin again after 251.
-fn counted(alloc: Global, len: usize) -> Result<Vec<u8>, Refusal> {
-    let mut bytes = Vec::with_capacity(alloc, len)?;
+fn counted(rt: &impl Abort, alloc: Global, len: usize) -> Vec<u8> {
+    let mut bytes = Vec::with_capacity(alloc, len).expect(rt, "memory");
     for at in 0..len {
-        bytes.push((at % 251) as u8)?;
+        bytes.push((at % 251) as u8).expect(rt, "memory");
     }
-    Ok(bytes)
+    bytes
 }
 
 /// Pushes pieces of 1,000 bytes.
@@ -92,15 +91,15 @@ fn push_each<R: Wait>(rt: &impl Abort, outward: &mut PieceOut<R>, bytes: &[u8]) 
 }
 
 /// Takes all pieces of a row, and returns their bytes.
-fn drain<R: Wait>(alloc: Global, inward: &mut PieceIn<R>) -> Result<Vec<u8>, Refusal> {
+fn drain<R: Wait>(rt: &impl Abort, alloc: Global, inward: &mut PieceIn<R>) -> Vec<u8> {
     let mut bytes = Vec::new(alloc);
     for _ in 0..u64::MAX {
         let Some(piece) = inward.pop() else {
-            return Ok(bytes);
+            return bytes;
         };
-        bytes.extend_from_slice(piece.bytes())?;
+        bytes.extend_from_slice(piece.bytes()).expect(rt, "memory");
     }
-    Ok(bytes)
+    bytes
 }
 
 /// Whether a part is the first `count` bytes.
@@ -111,7 +110,9 @@ fn is_front(bytes: &[u8], part: &[u8], count: usize) -> bool {
 /// The bytes that a write takes at most, and that a writer takes until it fails; why the pump ends, and the
 /// bytes that the writer then has of 70 pieces of 1,000 bytes. A buffer is full with 65 of them, and a stop
 /// leaves the others in the row.
-const WRITERS: [(usize, usize, PumpEnd, usize); 6] = [
+type Writer = (usize, usize, PumpEnd, usize);
+
+const WRITERS: [Writer; 6] = [
     (1, usize::MAX, PumpEnd::Stopped, 65_000),
     (7, usize::MAX, PumpEnd::Stopped, 65_000),
     (1_400, usize::MAX, PumpEnd::Stopped, 65_000),
@@ -120,17 +121,15 @@ const WRITERS: [(usize, usize, PumpEnd, usize); 6] = [
     (1_400, 3_001, PumpEnd::Failed, 3_001),
 ];
 
-/// A writer gets the bytes of the row's pieces in order, and what it got comes out of the other pump.
-fn carries<R: Wait + Clock + Copy + Drop + Abort>(
-    rt: R,
+/// Writes what is in a row, and says why the pump ended and what the writer got.
+fn written<R: Wait + Clock>(
+    rt: &R,
     alloc: Global,
-    writer: (usize, usize, PumpEnd, usize),
-) -> Result<(), Refusal> {
-    let (step, left, end, count) = writer;
-    let bytes = counted(alloc, 70_000)?;
+    inward: &mut PieceIn<R>,
+    buffer: &mut Buffer,
+    (step, left): (usize, usize),
+) -> (PumpEnd, Vec<u8>) {
     let stop = AtomicBool::new(false);
-    let work = Bell::new();
-    let mut buffer = Buffer::new(alloc)?;
     let mut writer = Trickle {
         stop: &stop,
         step,
@@ -138,33 +137,64 @@ fn carries<R: Wait + Clock + Copy + Drop + Abort>(
         interrupts: false,
         got: Vec::new(alloc),
     };
-    let (mut outward, mut inward) = row(rt, alloc, 80)?;
-    push_each(&rt, &mut outward, &bytes);
-    let ended = pump_out(&rt, &mut inward, &mut writer, &mut buffer, &stop, &work);
-    assert_eq!(rt; ended, end, "a writer of {step} bytes");
-    assert!(rt; is_front(&bytes, &writer.got, count));
-    let kept = drain(alloc, &mut inward)?;
-    assert!(rt; kept.len() == 5_000 && bytes.as_slice().ends_with(&kept));
+    let ended = pump_out(rt, inward, &mut writer, buffer, &stop, &Bell::new());
+    (ended, writer.got)
+}
 
-    stop.store(false, Ordering::SeqCst);
-    let mut reader = writer.got.as_slice();
-    let ended = pump_in(&rt, &mut outward, &mut reader, &mut buffer, &stop, &work);
+/// A writer gets the bytes of the row's pieces in order, which are these. Gives what it got.
+fn is_written<R: Wait + Clock + Abort>(
+    rt: &R,
+    alloc: Global,
+    inward: &mut PieceIn<R>,
+    buffer: &mut Buffer,
+    (step, left, end, count): Writer,
+    bytes: &[u8],
+) -> Vec<u8> {
+    let (ended, got) = written(rt, alloc, inward, buffer, (step, left));
+    assert_eq!(rt; ended, end, "a writer of {step} bytes");
+    assert!(rt; is_front(bytes, &got, count));
+    let kept = drain(rt, alloc, inward);
+    assert!(rt; kept.len() == 5_000 && bytes.ends_with(&kept));
+    got
+}
+
+/// These bytes come out of the other pump.
+fn comes_in<R: Wait + Clock + Abort>(
+    rt: &R,
+    alloc: Global,
+    (outward, inward): (&mut PieceOut<R>, &mut PieceIn<R>),
+    buffer: &mut Buffer,
+    bytes: &[u8],
+) {
+    let stop = AtomicBool::new(false);
+    let mut reader = bytes;
+    let ended = pump_in(rt, outward, &mut reader, buffer, &stop, &Bell::new());
     assert_eq!(rt; ended, PumpEnd::EndOfInput);
-    assert!(rt; drain(alloc, &mut inward)?.as_slice() == writer.got.as_slice());
-    Ok(())
+    assert!(rt; drain(rt, alloc, inward).as_slice() == bytes);
+}
+
+/// A writer gets the bytes of the row's pieces in order, and what it got comes out of the other pump.
+fn carries<R: Wait + Clock + Copy + Drop + Abort>(rt: R, alloc: Global, writer: Writer) {
+    let bytes = counted(&rt, alloc, 70_000);
+    let mut buffer = Buffer::new(alloc).expect(&rt, "memory");
+    let (mut outward, mut inward) = row(rt, alloc, 80).expect(&rt, "a row");
+    push_each(&rt, &mut outward, &bytes);
+    let got = is_written(&rt, alloc, &mut inward, &mut buffer, writer, &bytes);
+    comes_in(&rt, alloc, (&mut outward, &mut inward), &mut buffer, &got);
 }
 
 #[test]
-fn a_writer_gets_the_pieces_in_order(rt: HostRuntime) -> Result<(), Refusal> {
+fn a_writer_gets_the_pieces_in_order(rt: HostRuntime) {
     for writer in WRITERS {
-        carries(rt, rt.alloc(), writer)?;
+        carries(rt, rt.alloc(), writer);
     }
-    Ok(())
 }
 
 /// The bytes that a read gives at most, and that a reader gives until it fails; whether it asks for a stop,
 /// and the row's room in pieces. Why the pump ends, and the bytes that it pushed of 3,000.
-const READERS: [(usize, usize, bool, usize, PumpEnd, usize); 6] = [
+type Reader = (usize, usize, bool, usize, PumpEnd, usize);
+
+const READERS: [Reader; 6] = [
     (1, usize::MAX, false, 3_000, PumpEnd::EndOfInput, 3_000),
     (7, usize::MAX, false, 3_000, PumpEnd::EndOfInput, 3_000),
     (usize::MAX, usize::MAX, false, 3, PumpEnd::EndOfInput, 3_000),
@@ -173,37 +203,46 @@ const READERS: [(usize, usize, bool, usize, PumpEnd, usize); 6] = [
     (usize::MAX, usize::MAX, true, 2, PumpEnd::Stopped, 2_800),
 ];
 
-/// What a reader gives comes out of the row in order.
-fn takes<R: Wait + Clock + Copy + Drop + Abort>(
-    rt: R,
-    alloc: Global,
-    reader: (usize, usize, bool, usize, PumpEnd, usize),
-) -> Result<(), Refusal> {
-    let (step, left, stops, room, end, count) = reader;
-    let bytes = counted(alloc, 3_000)?;
+/// Pushes what a reader gives of these bytes into a row, and says why the pump ended.
+fn pushed<R: Wait + Clock>(
+    rt: &R,
+    outward: &mut PieceOut<R>,
+    buffer: &mut Buffer,
+    bytes: &[u8],
+    (step, left, stops): (usize, usize, bool),
+) -> PumpEnd {
     let stop = AtomicBool::new(false);
-    let work = Bell::new();
-    let mut buffer = Buffer::new(alloc)?;
     let mut reader = Drip {
         stop: &stop,
         stops,
         step,
         left,
         interrupts: false,
-        rest: &bytes,
+        rest: bytes,
     };
+    pump_in(rt, outward, &mut reader, buffer, &stop, &Bell::new())
+}
+
+/// What a reader gives comes out of the row in order.
+fn takes<R: Wait + Clock + Copy + Drop + Abort>(
+    rt: R,
+    alloc: Global,
+    (step, left, stops, room, end, count): Reader,
+) {
+    let bytes = counted(&rt, alloc, 3_000);
+    let mut buffer = Buffer::new(alloc).expect(&rt, "memory");
     assert!(rt; room > 0);
-    let (mut outward, mut inward) = row(rt, alloc, room)?;
-    let ended = pump_in(&rt, &mut outward, &mut reader, &mut buffer, &stop, &work);
+    let (mut outward, mut inward) = row(rt, alloc, room).expect(&rt, "a row");
+    let reader = (step, left, stops);
+    let ended = pushed(&rt, &mut outward, &mut buffer, &bytes, reader);
     assert_eq!(rt; ended, end, "a reader of {step} bytes");
-    assert!(rt; is_front(&bytes, &drain(alloc, &mut inward)?, count));
-    Ok(())
+    let taken = drain(&rt, alloc, &mut inward);
+    assert!(rt; is_front(&bytes, &taken, count));
 }
 
 #[test]
-fn a_row_gets_the_bytes_in_order(rt: HostRuntime) -> Result<(), Refusal> {
+fn a_row_gets_the_bytes_in_order(rt: HostRuntime) {
     for reader in READERS {
-        takes(rt, rt.alloc(), reader)?;
+        takes(rt, rt.alloc(), reader);
     }
-    Ok(())
 }

@@ -65,12 +65,12 @@ fn writes<R: Wait + Drop>(
     local: &mut Local<R>,
     peer: &mut Peer<R>,
     receipts: &mut Vec<Receipt>,
-) -> Result<(), Refusal> {
+) {
     for block in 0..4 {
-        write(alloc, local, peer, block, receipts)?;
+        write(rt, alloc, local, peer, block, receipts);
     }
     is(rt, local, peer, receipts, Err(Refusal::NotDrained));
-    close(local, peer)?;
+    close(rt, local, peer);
     let wanted = Settled {
         sent: 8,
         taken: 8,
@@ -79,7 +79,25 @@ fn writes<R: Wait + Drop>(
         unmarked: 0,
     };
     is_twice(rt, local, peer, receipts, wanted);
-    Ok(())
+}
+
+/// Two writes are sent, of which the peer takes one.
+fn takes_one<R: Wait + Drop>(
+    rt: &impl Abort,
+    alloc: Global,
+    local: &mut Local<R>,
+    peer: &mut Peer<R>,
+) {
+    for block in 0..2 {
+        submit(rt, alloc, local, block);
+        local.send().expect(rt, "a frame");
+    }
+    peer.receive().expect(rt, "a frame");
+}
+
+/// There is something in the way.
+fn is_not_drained<R: Wait + Drop>(rt: &impl Abort, local: &mut Local<R>, peer: &mut Peer<R>) {
+    is(rt, local, peer, &[], Err(Refusal::NotDrained));
 }
 
 /// Each of the items is in the way until it is done. What the peer did not take is marked.
@@ -88,21 +106,16 @@ fn unfinished<R: Wait + Drop>(
     alloc: Global,
     local: &mut Local<R>,
     peer: &mut Peer<R>,
-) -> Result<(), Refusal> {
-    let wanted = Err(Refusal::NotDrained);
-    for block in 0..2 {
-        submit(alloc, local, block)?;
-        local.send()?;
-    }
-    peer.receive()?;
-    local.close()?;
-    is(rt, local, peer, &[], wanted);
-    peer.close()?;
-    is(rt, local, peer, &[], wanted);
-    peer.peer(0)?;
+) {
+    takes_one(rt, alloc, local, peer);
+    local.close().expect(rt, "a primary that was open");
+    is_not_drained(rt, local, peer);
+    peer.close().expect(rt, "a secondary that was open");
+    is_not_drained(rt, local, peer);
+    peer.peer(0).expect(rt, "an item");
     for number in 1..3 {
-        is(rt, local, peer, &[], wanted);
-        local.local(number)?;
+        is_not_drained(rt, local, peer);
+        local.local(number).expect(rt, "a write");
     }
     let wanted = Settled {
         sent: 2,
@@ -111,7 +124,6 @@ fn unfinished<R: Wait + Drop>(
         ..NOTHING
     };
     is_twice(rt, local, peer, &[], wanted);
-    Ok(())
 }
 
 /// The second connection begins with a resync of nothing, which is two items.
@@ -120,12 +132,12 @@ fn connections<R: Wait + Copy + Drop>(
     local: &mut Local<R>,
     peer: &mut Peer<R>,
     receipts: &mut Vec<Receipt>,
-) -> Result<(), Refusal> {
-    write(alloc, local, peer, 2, receipts)?;
-    close(local, peer)?;
-    connect(rt, alloc, local, peer, (4, 5))?;
-    write(alloc, local, peer, 3, receipts)?;
-    close(local, peer)?;
+) {
+    write(out, alloc, local, peer, 2, receipts);
+    close(out, local, peer);
+    connect((rt, out, alloc), local, peer, (4, 5));
+    write(out, alloc, local, peer, 3, receipts);
+    close(out, local, peer);
     let wanted = Settled {
         sent: 4,
         taken: 4,
@@ -134,15 +146,45 @@ fn connections<R: Wait + Copy + Drop>(
         unmarked: 0,
     };
     is_twice(out, local, peer, receipts, wanted);
-    open_alone(rt, alloc, local, (6, 7))?;
-    local.close()?;
+    open_alone((rt, out, alloc), local, (6, 7));
+    local.close().expect(out, "a primary that was open");
     // Nothing went over a third connection, which the secondary did not open.
     let wanted = Settled {
         confirmed: 2,
         ..NOTHING
     };
     is_twice(out, local, peer, receipts, wanted);
-    Ok(())
+}
+
+/// The receipts are refused after a write.
+fn strange<R: Wait + Drop>(
+    rt: &impl Abort,
+    alloc: Global,
+    local: &mut Local<R>,
+    peer: &mut Peer<R>,
+    receipts: &mut Vec<Receipt>,
+) {
+    write(rt, alloc, local, peer, 2, receipts);
+    close(rt, local, peer);
+    is(rt, local, peer, receipts, Err(Refusal::StrangeReceipt));
+}
+
+/// Has nodes that are connected settle.
+fn goes_connected<R: Wait + Copy + Drop>(
+    (rt, out, alloc): (R, &impl Abort, Global),
+    local: &mut Local<R>,
+    peer: &mut Peer<R>,
+    receipts: &mut Vec<Receipt>,
+    case: Case,
+) {
+    connect((rt, out, alloc), local, peer, (2, 3));
+    match case {
+        Case::Write(block) => write(out, alloc, local, peer, block, receipts),
+        Case::Writes => writes(out, alloc, local, peer, receipts),
+        Case::Unfinished => unfinished(out, alloc, local, peer),
+        Case::Connections => connections((rt, out, alloc), local, peer, receipts),
+        _ => strange(out, alloc, local, peer, receipts),
+    }
 }
 
 /// Has the nodes settle. Receipts come to those that are given.
@@ -152,39 +194,19 @@ pub(super) fn goes<R: Wait + Copy + Drop>(
     peer: &mut Peer<R>,
     receipts: &mut Vec<Receipt>,
     case: Case,
-) -> Result<(), Refusal> {
+) {
     match case {
         Case::Unopened(unmarked) => {
-            is_twice(
-                out,
-                local,
-                peer,
-                receipts,
-                Settled {
-                    unmarked,
-                    ..NOTHING
-                },
-            );
-            return Ok(());
+            let wanted = Settled {
+                unmarked,
+                ..NOTHING
+            };
+            is_twice(out, local, peer, receipts, wanted);
         }
         Case::Failing => {
             is(out, local, peer, receipts, Err(Refusal::ReadFault));
             is(out, local, peer, receipts, Ok(NOTHING));
-            return Ok(());
         }
-        _ => {}
-    }
-    connect(rt, alloc, local, peer, (2, 3))?;
-    match case {
-        Case::Write(block) => write(alloc, local, peer, block, receipts),
-        Case::Writes => writes(out, alloc, local, peer, receipts),
-        Case::Unfinished => unfinished(out, alloc, local, peer),
-        Case::Connections => connections((rt, out, alloc), local, peer, receipts),
-        _ => {
-            write(alloc, local, peer, 2, receipts)?;
-            close(local, peer)?;
-            is(out, local, peer, receipts, Err(Refusal::StrangeReceipt));
-            Ok(())
-        }
+        _ => goes_connected((rt, out, alloc), local, peer, receipts, case),
     }
 }

@@ -1,11 +1,11 @@
 //! A secondary takes the frames that arrived as a whole, wherever the connection is lost.
 use crate::ends::{LostReader, LostWriter};
-use crate::receiver::{Peer, open_peer, take_frames};
+use crate::receiver::{Peer, new_peer, open_peer, take_frames};
 use crate::sender::sent_bytes;
 use bell::Bell;
 use blocks::Refusal;
 use pumps::{Buffer, PumpEnd, pump_in, pump_out};
-use ruled_link::{PieceOut, RuledOut, row};
+use ruled_link::{PieceIn, PieceOut, RuledOut, row};
 use std::alloc::Global;
 use std::io::Read;
 use std::process::Abort;
@@ -28,113 +28,117 @@ fn whole_frames(count: usize) -> u32 {
     }
 }
 
-/// What a secondary takes of what a reader gives: how the pump ends, and how many frames come.
-fn taken<R: Wait + Clock + Copy + Drop, D: Read>(
-    rt: R,
+/// How a pump ends, and how many frames come.
+type Taken = (PumpEnd, Result<u32, Refusal>);
+
+/// What a secondary takes of what a reader gives.
+fn taken<R: Wait + Clock + Drop, D: Read>(
+    rt: &R,
     buffer: &mut Buffer,
     reader: &mut D,
     outward: &mut PieceOut<R>,
     peer: &mut Peer<R>,
-) -> (PumpEnd, Result<u32, Refusal>) {
+) -> Taken {
     let stop = AtomicBool::new(false);
-    let end = pump_in(&rt, outward, reader, buffer, &stop, &Bell::new());
+    let end = pump_in(rt, outward, reader, buffer, &stop, &Bell::new());
     (end, take_frames(peer))
 }
 
 /// A secondary that gets what a reader gives takes so many frames, and there is no more.
 fn takes<R: Wait + Clock + Copy + Drop + Abort, D: Read>(
     rt: R,
-    buffer: &mut Buffer,
     alloc: Global,
+    buffer: &mut Buffer,
     reader: &mut D,
-    wanted: (PumpEnd, Result<u32, Refusal>),
-) -> Result<(), Refusal> {
-    let (back, _) = row(rt, alloc, 1)?;
-    let (mut outward, mut peer) = open_peer(rt, alloc, RuledOut::new(back))?;
-    let found = taken(rt, buffer, reader, &mut outward, &mut peer);
-    is(rt, found, wanted);
-    Ok(())
-}
-
-fn is<R: Abort + Drop>(
-    rt: R,
-    found: (PumpEnd, Result<u32, Refusal>),
-    wanted: (PumpEnd, Result<u32, Refusal>),
+    wanted: Taken,
 ) {
-    assert_eq!(&rt; found, wanted);
+    let (back, _) = row(rt, alloc, 1).expect(&rt, "a row");
+    let mut peer = new_peer(&rt, alloc);
+    let mut outward = open_peer(rt, alloc, &mut peer, RuledOut::new(back));
+    let found = taken(&rt, buffer, reader, &mut outward, &mut peer);
+    is(&rt, found, wanted);
 }
 
-/// What arrives of these bytes over a connection that is lost after so many.
-fn arrived<R: Wait + Clock + Copy + Drop + Abort>(
-    rt: R,
-    buffer: &mut Buffer,
+fn is(rt: &impl Abort, found: Taken, wanted: Taken) {
+    assert_eq!(rt; found, wanted);
+}
+
+/// What a writer gets of these bytes that fails after so many.
+fn written<R: Wait + Clock>(
+    rt: &R,
     alloc: Global,
+    buffer: &mut Buffer,
+    (outward, inward): (&mut PieceOut<R>, &mut PieceIn<R>),
     bytes: &[u8],
     left: usize,
-) -> Result<Vec<u8>, Refusal> {
-    let (mut outward, mut inward) = row(rt, alloc, 8)?;
+) -> Vec<u8> {
     let stop = AtomicBool::new(false);
-    let work = Bell::new();
     let mut all = bytes;
-    let _ = pump_in(&rt, &mut outward, &mut all, buffer, &stop, &work);
+    let _ = pump_in(rt, outward, &mut all, buffer, &stop, &Bell::new());
     let mut writer = LostWriter {
         stop: &stop,
         left,
         got: Vec::new(alloc),
     };
-    let _ = pump_out(&rt, &mut inward, &mut writer, buffer, &stop, &work);
-    assert!(&rt; writer.got.len() == left && bytes.starts_with(&writer.got));
-    Ok(writer.got)
+    let _ = pump_out(rt, inward, &mut writer, buffer, &stop, &Bell::new());
+    writer.got
+}
+
+/// What arrives of these bytes over a connection that is lost after so many.
+fn arrived<R: Wait + Clock + Copy + Drop + Abort>(
+    rt: R,
+    alloc: Global,
+    buffer: &mut Buffer,
+    bytes: &[u8],
+    left: usize,
+) -> Vec<u8> {
+    let (mut outward, mut inward) = row(rt, alloc, 8).expect(&rt, "a row");
+    let ends = (&mut outward, &mut inward);
+    let got = written(&rt, alloc, buffer, ends, bytes, left);
+    assert!(&rt; got.len() == left && bytes.starts_with(&got));
+    got
 }
 
 /// What the primary sends: all of these bytes.
-fn all_bytes<R: Wait + Copy + Drop + Abort>(rt: R, alloc: Global) -> Result<Vec<u8>, Refusal> {
-    let sent = sent_bytes(rt, alloc)?;
+fn all_bytes<R: Wait + Copy + Drop + Abort>(rt: R, alloc: Global) -> Vec<u8> {
+    let sent = sent_bytes(rt, alloc);
     assert_eq!(&rt; sent.len(), ALL_BYTES);
-    Ok(sent)
+    sent
 }
 
 /// The reader of the secondary's pump fails after each byte.
-fn reading_is_lost<R: Wait + Clock + Copy + Drop + Abort>(
-    rt: R,
-    alloc: Global,
-) -> Result<(), Refusal> {
-    let sent = all_bytes(rt, alloc)?;
+fn reading_is_lost<R: Wait + Clock + Copy + Drop + Abort>(rt: R, alloc: Global) {
+    let sent = all_bytes(rt, alloc);
     let bytes = sent.as_slice();
-    let mut buffer = Buffer::new(alloc)?;
+    let mut buffer = Buffer::new(alloc).expect(&rt, "memory");
     for count in 0..=bytes.len() {
         let mut reader = LostReader {
             rest: &bytes[..count],
         };
         let wanted = (PumpEnd::Failed, Ok(whole_frames(count)));
-        takes(rt, &mut buffer, alloc, &mut reader, wanted)?;
+        takes(rt, alloc, &mut buffer, &mut reader, wanted);
     }
-    Ok(())
 }
 
 /// The writer of the primary's pump fails after each byte.
-fn writing_is_lost<R: Wait + Clock + Copy + Drop + Abort>(
-    rt: R,
-    alloc: Global,
-) -> Result<(), Refusal> {
-    let sent = all_bytes(rt, alloc)?;
+fn writing_is_lost<R: Wait + Clock + Copy + Drop + Abort>(rt: R, alloc: Global) {
+    let sent = all_bytes(rt, alloc);
     let bytes = sent.as_slice();
-    let mut buffer = Buffer::new(alloc)?;
+    let mut buffer = Buffer::new(alloc).expect(&rt, "memory");
     for count in 0..=bytes.len() {
-        let got = arrived(rt, &mut buffer, alloc, bytes, count)?;
+        let got = arrived(rt, alloc, &mut buffer, bytes, count);
         let mut reader = got.as_slice();
         let wanted = (PumpEnd::EndOfInput, Ok(whole_frames(count)));
-        takes(rt, &mut buffer, alloc, &mut reader, wanted)?;
+        takes(rt, alloc, &mut buffer, &mut reader, wanted);
     }
-    Ok(())
 }
 
 #[test]
-fn a_read_fails_after_each_byte(rt: HostRuntime) -> Result<(), Refusal> {
-    reading_is_lost(rt, rt.alloc())
+fn a_read_fails_after_each_byte(rt: HostRuntime) {
+    reading_is_lost(rt, rt.alloc());
 }
 
 #[test]
-fn a_write_fails_after_each_byte(rt: HostRuntime) -> Result<(), Refusal> {
-    writing_is_lost(rt, rt.alloc())
+fn a_write_fails_after_each_byte(rt: HostRuntime) {
+    writing_is_lost(rt, rt.alloc());
 }

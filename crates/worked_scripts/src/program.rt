@@ -37,7 +37,16 @@ fn run<H: Files + AllocGlobal, R: Read, W: Write>(
 ) -> Result<Status, Stop> {
     let mut bytes = Vec::new(rt.alloc());
     input.read_to_end(&mut bytes).map_err(Stop::Unread)?;
-    let Ok(text) = std::str::from_utf8(&bytes) else {
+    run_named(rt, &bytes, out)
+}
+
+/// Runs the scripts of these names, one a line.
+fn run_named<H: Files + AllocGlobal, W: Write>(
+    rt: &H,
+    names: &[u8],
+    out: &mut W,
+) -> Result<Status, Stop> {
+    let Ok(text) = std::str::from_utf8(names) else {
         return Err(Stop::NotUtf8);
     };
     names::check(text)?;

@@ -22,13 +22,7 @@ impl WorkedScript {
         name: &'a str,
     ) -> Result<WorkedScript, Fault<'a>> {
         let commands = required(rt, name, "script")?;
-        let out = required(rt, name, "out")?;
-        let err = optional(rt, name, "err")?.unwrap_or_else(|| Vec::new(rt.alloc()));
-        let status = match optional(rt, name, "status")? {
-            Some(digits) => number(&digits).ok_or(Fault::NoStatus(name))?,
-            None => 0,
-        };
-        let expected = Outcome { out, err, status };
+        let expected = expected(rt, name)?;
         Ok(WorkedScript { commands, expected })
     }
 
@@ -40,6 +34,22 @@ impl WorkedScript {
     /// The outcome that its files expect.
     pub(crate) fn expected(&self) -> &Outcome {
         &self.expected
+    }
+}
+
+/// The outcome that the files of a script expect.
+fn expected<'a, H: Files + AllocGlobal>(rt: &H, name: &'a str) -> Result<Outcome, Fault<'a>> {
+    let out = required(rt, name, "out")?;
+    let err = optional(rt, name, "err")?.unwrap_or_else(|| Vec::new(rt.alloc()));
+    let status = status(rt, name)?;
+    Ok(Outcome { out, err, status })
+}
+
+/// The exit status that they expect.
+fn status<'a, H: Files + AllocGlobal>(rt: &H, name: &'a str) -> Result<u8, Fault<'a>> {
+    match optional(rt, name, "status")? {
+        Some(digits) => number(&digits).ok_or(Fault::NoStatus(name)),
+        None => Ok(0),
     }
 }
 

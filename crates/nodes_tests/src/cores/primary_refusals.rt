@@ -8,7 +8,6 @@ use crate::tuples::{OWN, PARTED, RESYNCING};
 use blocks::{Block, Command, Decision, Refusal, Settings, What};
 use primary_core::PrimaryCore;
 use std::alloc::Global;
-use std::test::Fail;
 
 /// Where the bitmap records no generation a write needs a stream.
 const UNOPENED: [Row; 6] = [
@@ -209,8 +208,8 @@ static REFUSALS: [Case<Start, Part>; 8] = [
 ];
 
 #[test]
-fn steps_that_are_refused(rt: HostRuntime) -> Result<(), Fail> {
-    passes::<PrimaryCore, _>(&rt, &REFUSALS)
+fn steps_that_are_refused(rt: HostRuntime) {
+    passes::<PrimaryCore, _>(&rt, &REFUSALS);
 }
 
 // Why there is no primary of 8 blocks with these marks.
@@ -219,7 +218,6 @@ fn refused(alloc: Global, marks: &[bool]) -> Option<Refusal> {
 }
 
 #[test]
-fn seven_marks_are_too_few(rt: HostRuntime) -> Result<(), Fail> {
+fn seven_marks_are_too_few(rt: HostRuntime) {
     assert_eq!(rt; refused(rt.alloc(), &[false; 7]), Some(Refusal::BadSetting));
-    Ok(())
 }

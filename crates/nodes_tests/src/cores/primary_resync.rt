@@ -6,7 +6,6 @@ use crate::cores::primary_tables::{
 use crate::tuples::{OWN, PARTED, RESYNCING, SYNCED, TARGET};
 use blocks::{Block, Command, Decision, Refusal, Tuple, What};
 use primary_core::PrimaryCore;
-use std::test::Fail;
 
 /// The link is lost, and writes without it are completed by the local disk and marked.
 const ALONE: [Row; 8] = [
@@ -314,6 +313,6 @@ static RESYNCS: [Case<Start, Part>; 7] = [
 ];
 
 #[test]
-fn resyncs_and_their_marks(rt: HostRuntime) -> Result<(), Fail> {
-    passes::<PrimaryCore, _>(&rt, &RESYNCS)
+fn resyncs_and_their_marks(rt: HostRuntime) {
+    passes::<PrimaryCore, _>(&rt, &RESYNCS);
 }

@@ -7,7 +7,6 @@ use crate::cores::primary_tables::{
 use crate::tuples::{OWN, PARTED};
 use blocks::{Command, Protocol, Refusal, Settings, What};
 use primary_core::PrimaryCore;
-use std::test::Fail;
 
 /// Under C a write is completed once both disks have it, and released by its epoch's acknowledgement.
 const WRITTEN: [Row; 13] = [
@@ -269,6 +268,6 @@ static WRITES: [Case<Start, Part>; 7] = [
 ];
 
 #[test]
-fn writes_from_acceptance_to_release(rt: HostRuntime) -> Result<(), Fail> {
-    passes::<PrimaryCore, _>(&rt, &WRITES)
+fn writes_from_acceptance_to_release(rt: HostRuntime) {
+    passes::<PrimaryCore, _>(&rt, &WRITES);
 }

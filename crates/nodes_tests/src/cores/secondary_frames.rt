@@ -6,7 +6,6 @@ use crate::cores::secondary_calls::{
 use crate::tuples::{OWN, SYNCED};
 use blocks::{Command, Protocol, Refusal, Settings};
 use secondary_core::SecondaryCore;
-use std::test::Fail;
 
 /// Each comes after write 1 of block 2, at place 0.
 const FOREIGN: [(Frame, Refusal); 11] = [
@@ -82,6 +81,6 @@ static FOREIGN_FRAMES: [Foreign<Settings, Part, Frame>; 3] = [
 ];
 
 #[test]
-fn foreign_frames_close_the_end(rt: HostRuntime) -> Result<(), Fail> {
-    are_foreign::<SecondaryCore, _>(&rt, &FOREIGN_FRAMES)
+fn foreign_frames_close_the_end(rt: HostRuntime) {
+    are_foreign::<SecondaryCore, _>(&rt, &FOREIGN_FRAMES);
 }

@@ -6,7 +6,6 @@ use crate::cores::secondary_calls::{
 use crate::tuples::{SYNCED, TARGET};
 use blocks::{Command, Protocol, Refusal, Settings};
 use secondary_core::{SecondaryCore, Usage};
-use std::test::Fail;
 
 const UNOPENED: [Row; 4] = [
     (Step::Take(Frame::Sizes(8)), Err(Refusal::NotConnected)),
@@ -204,6 +203,6 @@ static STEPS: [Case<Settings, Part>; 7] = [
 ];
 
 #[test]
-fn steps_of_a_secondary(rt: HostRuntime) -> Result<(), Fail> {
-    passes::<SecondaryCore, _>(&rt, &STEPS)
+fn steps_of_a_secondary(rt: HostRuntime) {
+    passes::<SecondaryCore, _>(&rt, &STEPS);
 }

@@ -7,7 +7,6 @@ use blocks::{Refusal, Settings};
 use std::alloc::Global;
 use std::fmt::Debug;
 use std::process::Abort;
-use std::test::Fail;
 
 /// A node over a link. What it sends stays in the queue of its link, and what the peer sends was laid in.
 pub(crate) trait Node: Drop + Sized {
@@ -95,14 +94,14 @@ fn goes<N: Node>(
     spot: Spot,
     case: &'static Case<N::Step, N::State, N::Left>,
     (frame, wanted): (Spelled, Answer),
-) -> Result<(), Refusal> {
+) {
     let Case(before, _, after) = case;
     let frames = Frames {
         before: before.heard,
         tested: frame,
         behind: after.behind,
     };
-    node.connect(alloc, frames)?;
+    node.connect(alloc, frames).expect(rt, "a connection");
     for rows in before.rows {
         run(rt, (node, alloc), spot, "before", rows);
     }
@@ -111,7 +110,6 @@ fn goes<N: Node>(
     run(rt, (node, alloc), spot, "after", after.rows);
     is(rt, node, spot, &after.end);
     node.leaves(rt, spot, &after.left);
-    Ok(())
 }
 
 fn takes<N: Node, R: Abort + AllocGlobal>(
@@ -119,20 +117,19 @@ fn takes<N: Node, R: Abort + AllocGlobal>(
     spot: Spot,
     case: &'static Case<N::Step, N::State, N::Left>,
     frame: (Spelled, Answer),
-) -> Result<(), Refusal> {
-    let mut node = N::fresh(rt.alloc(), case.0.settings)?;
-    goes(rt, (&mut node, rt.alloc()), spot, case, frame)
+) {
+    let mut node = N::fresh(rt.alloc(), case.0.settings).expect(rt, "a node");
+    goes(rt, (&mut node, rt.alloc()), spot, case, frame);
 }
 
 /// Goes through the cases.
 pub(crate) fn passes<N: Node, R: Abort + AllocGlobal>(
     rt: &R,
     cases: &'static [Case<N::Step, N::State, N::Left>],
-) -> Result<(), Fail> {
+) {
     for (i, case) in cases.iter().enumerate() {
         for (j, frame) in case.1.iter().enumerate() {
-            takes::<N, R>(rt, Spot { case: i, frame: j }, case, *frame)?;
+            takes::<N, R>(rt, Spot { case: i, frame: j }, case, *frame);
         }
     }
-    Ok(())
 }

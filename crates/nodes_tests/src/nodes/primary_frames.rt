@@ -14,7 +14,6 @@ use crate::tuples;
 use crate::tuples::OWN;
 use blocks::{Command, Decision, Done, Refusal, Settings, What};
 use primary::Kind;
-use std::test::Fail;
 
 /// Each comes once write 1 was sent.
 const FOREIGN: [(Spelled, Answer); 7] = [
@@ -247,8 +246,8 @@ static FOREIGN_FRAMES: [Case; 5] = [
 ];
 
 #[test]
-fn foreign_frames_close_the_end(rt: HostRuntime) -> Result<(), Fail> {
-    passes::<LinkedPrimary, _>(&rt, &FOREIGN_FRAMES)
+fn foreign_frames_close_the_end(rt: HostRuntime) {
+    passes::<LinkedPrimary, _>(&rt, &FOREIGN_FRAMES);
 }
 
 /// The end is open, and its stream stands. Write 1 is completed, and its epoch is not acknowledged.
@@ -336,6 +335,6 @@ static RIGHT_FRAMES: [Case; 4] = [
 ];
 
 #[test]
-fn frames_in_their_turn_are_taken(rt: HostRuntime) -> Result<(), Fail> {
-    passes::<LinkedPrimary, _>(&rt, &RIGHT_FRAMES)
+fn frames_in_their_turn_are_taken(rt: HostRuntime) {
+    passes::<LinkedPrimary, _>(&rt, &RIGHT_FRAMES);
 }

@@ -13,7 +13,6 @@ use crate::nodes::linked_secondary::{After, Before, Case, LinkedSecondary, State
 use crate::tuples::OWN;
 use blocks::{Command, Done, Refusal, Settings, What};
 use secondary_core::Usage;
-use std::test::Fail;
 
 /// Each comes after write 1 of block 2, at place 0.
 const FOREIGN: [(Spelled, Answer); 10] = [
@@ -169,8 +168,8 @@ static FOREIGN_FRAMES: [Case; 2] = [
 ];
 
 #[test]
-fn foreign_frames_close_the_end(rt: HostRuntime) -> Result<(), Fail> {
-    passes::<LinkedSecondary, _>(&rt, &FOREIGN_FRAMES)
+fn foreign_frames_close_the_end(rt: HostRuntime) {
+    passes::<LinkedSecondary, _>(&rt, &FOREIGN_FRAMES);
 }
 
 static HELLOS: [Case; 3] = [
@@ -180,8 +179,8 @@ static HELLOS: [Case; 3] = [
 ];
 
 #[test]
-fn a_refused_hello_closes_the_end(rt: HostRuntime) -> Result<(), Fail> {
-    passes::<LinkedSecondary, _>(&rt, &HELLOS)
+fn a_refused_hello_closes_the_end(rt: HostRuntime) {
+    passes::<LinkedSecondary, _>(&rt, &HELLOS);
 }
 
 /// The end is open, its hello is done, and nothing is pending.
@@ -275,6 +274,6 @@ static RIGHT_FRAMES: [Case; 3] = [
 ];
 
 #[test]
-fn frames_in_their_turn_are_taken(rt: HostRuntime) -> Result<(), Fail> {
-    passes::<LinkedSecondary, _>(&rt, &RIGHT_FRAMES)
+fn frames_in_their_turn_are_taken(rt: HostRuntime) {
+    passes::<LinkedSecondary, _>(&rt, &RIGHT_FRAMES);
 }

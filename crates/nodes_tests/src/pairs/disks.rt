@@ -6,9 +6,7 @@ use crate::pairs::rows::{BLOCKS, EPOCHS, Part};
 use crate::pairs::seen::let_go;
 use blocks::{Block, Refusal, Reply, Settings};
 use pair::{Event, Pair, run};
-use std::alloc::{AllocError, Global};
 use std::process::Abort;
-use std::test::Fail;
 
 /// How many blocks each write and each item of these rows has.
 const COUNT: u64 = 1;
@@ -49,41 +47,36 @@ static RESYNC_FAULTS: [Trial; 10] = [
 ];
 
 /// Fails each call of a disk in turn, after each number of blocks. The trials name them all, in their order.
-fn fails_each(
-    rt: &(impl Abort + AllocGlobal),
-    row: &'static [Part],
-    trials: &'static [Trial],
-) -> Result<(), Fail> {
-    let lines = lines_of(rt.alloc(), row)?;
-    let faults = faults_of(rt.alloc(), &lines)?;
+fn fails_each(rt: &(impl Abort + AllocGlobal), row: &'static [Part], trials: &'static [Trial]) {
+    let lines = lines_of(rt, row);
+    let faults = faults_of(rt, &lines);
     assert_eq!(rt; faults.len(), trials.len());
     for (fault, trial) in faults.iter().zip(trials) {
         assert_eq!(rt; fault.1, trial.0);
-        fails(rt, &lines, *fault, trial.1)?;
+        fails(rt, &lines, *fault, trial.1);
     }
-    Ok(())
 }
 
 /// All lines of a row.
-fn lines_of(alloc: Global, row: &[Part]) -> Result<Vec<Line>, AllocError> {
-    let mut lines = Vec::new(alloc);
+fn lines_of(rt: &(impl Abort + AllocGlobal), row: &[Part]) -> Vec<Line> {
+    let mut lines = Vec::new(rt.alloc());
     for part in row {
-        lines.extend_from_slice(part.lines)?;
+        lines.extend_from_slice(part.lines).expect(rt, "memory");
     }
-    Ok(lines)
+    lines
 }
 
 /// The faults of a row, each with the index of the line whose place it takes.
-fn faults_of(alloc: Global, lines: &[Line]) -> Result<Vec<(usize, Given)>, AllocError> {
-    let mut faults = Vec::new(alloc);
+fn faults_of(rt: &(impl Abort + AllocGlobal), lines: &[Line]) -> Vec<(usize, Given)> {
+    let mut faults = Vec::new(rt.alloc());
     for (index, line) in lines.iter().enumerate() {
         for kept in 0..=COUNT {
             if let Some(fault) = fault_of(*line, kept) {
-                faults.push((index, fault))?;
+                faults.push((index, fault)).expect(rt, "memory");
             }
         }
     }
-    Ok(faults)
+    faults
 }
 
 /// The fault in the place of a line, if the line has a disk do something. A failed read leaves no block.
@@ -99,16 +92,17 @@ fn fault_of(line: Line, kept: u64) -> Option<Given> {
 
 /// The events of a row with a fault at one line.
 fn events_of(
-    alloc: Global,
+    rt: &(impl Abort + AllocGlobal),
     lines: &[Line],
     (at, fault): (usize, Given),
-) -> Result<Vec<Event>, AllocError> {
-    let mut events = Vec::new(alloc);
+) -> Vec<Event> {
+    let mut events = Vec::new(rt.alloc());
     for (index, (given, _)) in lines.iter().enumerate() {
         let given = if index == at { fault } else { *given };
-        events.push(given.event(alloc)?)?;
+        let event = given.event(rt.alloc()).expect(rt, "memory");
+        events.push(event).expect(rt, "memory");
     }
-    Ok(events)
+    events
 }
 
 /// Fails one call of a disk, in a pair of its own.
@@ -117,26 +111,15 @@ fn fails(
     lines: &[Line],
     fault: (usize, Given),
     differing: &'static [u64],
-) -> Result<(), Fail> {
-    let events = events_of(rt.alloc(), lines, fault)?;
-    let replies = replies_of(rt, &events, fault.1, differing)?;
+) {
+    let events = events_of(rt, lines, fault);
+    let pair = Pair::fresh(rt.alloc(), Settings::STANDARD).expect(rt, "a pair");
+    let replies = replies_of(rt, pair, &events, fault.1, differing).expect(rt, "replies");
     replies_are_due(rt, &replies, lines, fault);
-    Ok(())
 }
 
-/// The replies of a new pair that is taken through events, to its end.
+/// The replies of a pair that is taken through events, to its end. What is left of it is looked at.
 fn replies_of(
-    rt: &(impl Abort + AllocGlobal),
-    events: &[Event],
-    fault: Given,
-    differing: &'static [u64],
-) -> Result<Vec<Reply>, Refusal> {
-    let pair = Pair::fresh(rt.alloc(), Settings::STANDARD)?;
-    taken(rt, pair, events, fault, differing)
-}
-
-/// Takes the pair through the events, and looks at what is left of it.
-fn taken(
     rt: &(impl Abort + AllocGlobal),
     pair: Pair,
     events: &[Event],
@@ -238,11 +221,11 @@ fn differs_on(rt: &impl Abort, pair: &mut Pair, fault: Given, differing: &'stati
 }
 
 #[test]
-fn a_write_that_a_disk_fails_leaves_its_marks(rt: HostRuntime) -> Result<(), Fail> {
-    fails_each(&rt, &EPOCHS, &EPOCH_FAULTS)
+fn a_write_that_a_disk_fails_leaves_its_marks(rt: HostRuntime) {
+    fails_each(&rt, &EPOCHS, &EPOCH_FAULTS);
 }
 
 #[test]
-fn a_resync_that_a_disk_fails_leaves_its_marks(rt: HostRuntime) -> Result<(), Fail> {
-    fails_each(&rt, &RESYNC, &RESYNC_FAULTS)
+fn a_resync_that_a_disk_fails_leaves_its_marks(rt: HostRuntime) {
+    fails_each(&rt, &RESYNC, &RESYNC_FAULTS);
 }

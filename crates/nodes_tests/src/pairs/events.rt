@@ -1,6 +1,6 @@
 //! Events of a pair and the replies to them, as tables have them.
-use blocks::{BLOCK_BYTES, Block, Command, Decision, Done, Refusal, Reply, What};
-use bytes::Bytes;
+use crate::contents::filled;
+use blocks::{Block, Command, Decision, Done, Refusal, Reply, What};
 use pair::Event;
 use std::alloc::{AllocError, Global};
 
@@ -74,12 +74,6 @@ impl Given {
             Given::CloseSecondary => Event::CloseSecondary,
         })
     }
-}
-
-/// This many blocks, filled with a byte.
-fn filled(alloc: Global, blocks: u8, byte: u8) -> Result<Bytes, AllocError> {
-    let bytes = Vec::from_elem(alloc, byte, usize::from(blocks) * BLOCK_BYTES)?;
-    Ok(Bytes::from_vec(bytes)?)
 }
 
 impl Said {

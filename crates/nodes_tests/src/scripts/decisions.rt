@@ -1,6 +1,5 @@
 //! The decision over the generation identifiers of a new pair.
 use crate::scripts::rows::decides;
-use std::test::Fail;
 
 /// Identifiers of a new pair, and what its first connection answers: one case each, in the order in which they are
 /// tried.
@@ -17,9 +16,8 @@ const DECISIONS: &[(&str, &str)] = &[
 ];
 
 #[test]
-fn identifiers_decide_the_resync(rt: HostRuntime) -> Result<(), Fail> {
+fn identifiers_decide_the_resync(rt: HostRuntime) {
     for (identifiers, answer) in DECISIONS {
-        decides(&rt, identifiers, answer)?;
+        decides(&rt, identifiers, answer);
     }
-    Ok(())
 }

@@ -3,7 +3,6 @@ use crate::scripts::rows::{is_no_script, is_one_line};
 use script::script_on;
 use std::io;
 use std::io::Read;
-use std::test::Fail;
 
 /// An input that fails after its bytes.
 #[derive(Drop)]
@@ -32,7 +31,7 @@ fn an_input_that_fails_runs_nothing(rt: HostRuntime) {
 }
 
 #[test]
-fn an_output_that_fails_stops_a_script(rt: HostRuntime) -> Result<(), Fail> {
+fn an_output_that_fails_stops_a_script(rt: HostRuntime) {
     let alloc = rt.alloc();
     let mut room = [0u8; 8];
     let mut written = room.as_mut_slice();
@@ -42,5 +41,4 @@ fn an_output_that_fails_stops_a_script(rt: HostRuntime) -> Result<(), Fail> {
     assert_eq!(rt; status, 1);
     assert_eq!(rt; room.as_slice(), b"pair ok\n".as_slice());
     is_one_line(&rt, &said);
-    Ok(())
 }

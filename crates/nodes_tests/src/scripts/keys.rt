@@ -1,28 +1,25 @@
 //! The keys of a pair, and their values.
 use crate::scripts::rows::{pair_line, prints};
 use std::process::Abort;
-use std::test::Fail;
 
 /// After `pair`, none of these are keys.
-fn are_no_keys(rt: &(impl Abort + AllocGlobal), keys: &[&str]) -> Result<(), Fail> {
+fn are_no_keys(rt: &(impl Abort + AllocGlobal), keys: &[&str]) {
     for words in keys {
-        let script = pair_line(rt, words)?;
-        prints(rt, script.as_str(), "", "line 1: not a command\n", 2)?;
+        let script = pair_line(rt, words);
+        prints(rt, script.as_str(), "", "line 1: not a command\n", 2);
     }
-    Ok(())
 }
 
 /// No pair can be made with these keys.
-fn are_refused(rt: &(impl Abort + AllocGlobal), keys: &[&str]) -> Result<(), Fail> {
+fn are_refused(rt: &(impl Abort + AllocGlobal), keys: &[&str]) {
     for words in keys {
-        let script = pair_line(rt, words)?;
-        prints(rt, script.as_str(), "pair refused 15\n", "", 0)?;
+        let script = pair_line(rt, words);
+        prints(rt, script.as_str(), "pair refused 15\n", "", 0);
     }
-    Ok(())
 }
 
 #[test]
-fn settings_have_ranges(rt: HostRuntime) -> Result<(), Fail> {
+fn settings_have_ranges(rt: HostRuntime) {
     are_refused(
         &rt,
         &[
@@ -45,11 +42,11 @@ fn settings_have_ranges(rt: HostRuntime) -> Result<(), Fail> {
             "own=0,1,2,3",
             "protocol=A blocks=8 own=0,0,0,0 peer=0,0,0,0",
         ],
-    )
+    );
 }
 
 #[test]
-fn a_key_stands_once(rt: HostRuntime) -> Result<(), Fail> {
+fn a_key_stands_once(rt: HostRuntime) {
     are_no_keys(
         &rt,
         &[
@@ -64,11 +61,11 @@ fn a_key_stands_once(rt: HostRuntime) -> Result<(), Fail> {
             "peer=1,0,0,0 own=1,0,0,0 peer=2,0,0,0",
             "blocks=0 blocks=8",
         ],
-    )
+    );
 }
 
 #[test]
-fn a_key_has_a_name_and_a_value(rt: HostRuntime) -> Result<(), Fail> {
+fn a_key_has_a_name_and_a_value(rt: HostRuntime) {
     are_no_keys(
         &rt,
         &[
@@ -106,5 +103,5 @@ fn a_key_has_a_name_and_a_value(rt: HostRuntime) -> Result<(), Fail> {
             "own=1, 0,0,0",
             "peer=18446744073709551616,0,0,0",
         ],
-    )
+    );
 }

@@ -1,7 +1,7 @@
 //! How output is written: in large pieces, and all of it.
 use script::script_on;
 use std::io::{self, Write};
-use std::test::Fail;
+use std::process::Abort;
 
 /// An output that counts how often it is written to.
 #[derive(Drop)]
@@ -22,31 +22,35 @@ impl Write for Output {
 }
 
 /// A pair, 300 commands that are refused, and a last line.
-fn long_script(rt: &impl AllocGlobal, last: &str) -> Result<String, Fail> {
-    let mut script = String::from_str(rt.alloc(), "pair\n")?;
+fn long_script(rt: &(impl Abort + AllocGlobal), last: &str) -> String {
+    let mut script = String::from_str(rt.alloc(), "pair\n").expect(rt, "memory");
     for _ in 0..300 {
-        script.push_str("send\n")?;
+        script.push_str("send\n").expect(rt, "memory");
     }
-    script.push_str(last)?;
-    Ok(script)
+    script.push_str(last).expect(rt, "memory");
+    script
+}
+
+/// Runs the script, which ends with this status. All 301 lines are printed, in so many calls of the output.
+fn is_printed(rt: &(impl Abort + AllocGlobal), script: &str, wanted: u8, calls: u32) {
+    let alloc = rt.alloc();
+    let mut out = Output {
+        bytes: Vec::new(alloc),
+        calls: 0,
+    };
+    let mut said = Vec::new(alloc);
+    let mut input = script.as_bytes();
+    let status = script_on(alloc, &mut input, &mut out, &mut said);
+    let lines = out.bytes.iter().filter(|byte| **byte == b'\n').count();
+    assert_eq!(rt; (status, lines, out.calls), (wanted, 301, calls));
+    assert!(rt; out.bytes.ends_with(b"send refused 12\n"));
 }
 
 #[test]
-fn output_is_written_in_large_pieces(rt: HostRuntime) -> Result<(), Fail> {
-    let alloc = rt.alloc();
+fn output_is_written_in_large_pieces(rt: HostRuntime) {
     // The last line stops the second script. What was printed before is all there.
     for (last, wanted, calls) in [("", 0, 1), ("sent\n", 2, 1)] {
-        let script = long_script(&rt, last)?;
-        let mut out = Output {
-            bytes: Vec::new(alloc),
-            calls: 0,
-        };
-        let mut said = Vec::new(alloc);
-        let mut input = script.as_str().as_bytes();
-        let status = script_on(alloc, &mut input, &mut out, &mut said);
-        let lines = out.bytes.iter().filter(|byte| **byte == b'\n').count();
-        assert_eq!(rt; (status, lines, out.calls), (wanted, 301, calls));
-        assert!(rt; out.bytes.ends_with(b"send refused 12\n"));
+        let script = long_script(&rt, last);
+        is_printed(&rt, script.as_str(), wanted, calls);
     }
-    Ok(())
 }

@@ -2,7 +2,6 @@
 use script::script_on;
 use std::io::Read;
 use std::process::Abort;
-use std::test::Fail;
 
 /// Runs a script and compares what it prints, what it says on standard error, and its status.
 pub(crate) fn prints(
@@ -11,14 +10,13 @@ pub(crate) fn prints(
     out: &str,
     err: &str,
     status: u8,
-) -> Result<(), Fail> {
+) {
     let alloc = rt.alloc();
     let mut written = Vec::new(alloc);
     let mut said = Vec::new(alloc);
     let mut input = script.as_bytes();
     let answer = script_on(alloc, &mut input, &mut written, &mut said);
     assert_eq!(rt; (text(&written), text(&said), answer), (out, err, status));
-    Ok(())
 }
 
 /// What was said on standard error is one line.
@@ -45,26 +43,22 @@ fn text(written: &[u8]) -> &str {
 }
 
 /// A text of these parts.
-pub(crate) fn joined(rt: &impl AllocGlobal, parts: &[&str]) -> Result<String, Fail> {
+pub(crate) fn joined(rt: &(impl Abort + AllocGlobal), parts: &[&str]) -> String {
     let mut text = String::new(rt.alloc());
     for part in parts {
-        text.push_str(part)?;
+        text.push_str(part).expect(rt, "memory");
     }
-    Ok(text)
+    text
 }
 
 /// A script of one line, `pair` with some keys.
-pub(crate) fn pair_line(rt: &impl AllocGlobal, keys: &str) -> Result<String, Fail> {
+pub(crate) fn pair_line(rt: &(impl Abort + AllocGlobal), keys: &str) -> String {
     joined(rt, &["pair ", keys, "\n"])
 }
 
 /// What a connection of a pair with these identifiers answers to two new words.
-pub(crate) fn decides(
-    rt: &(impl Abort + AllocGlobal),
-    identifiers: &str,
-    answer: &str,
-) -> Result<(), Fail> {
-    let script = joined(rt, &["pair ", identifiers, "\nconnect 97 98\n"])?;
-    let out = joined(rt, &["pair ok\nconnect ", answer, "\n"])?;
-    prints(rt, script.as_str(), out.as_str(), "", 0)
+pub(crate) fn decides(rt: &(impl Abort + AllocGlobal), identifiers: &str, answer: &str) {
+    let script = joined(rt, &["pair ", identifiers, "\nconnect 97 98\n"]);
+    let out = joined(rt, &["pair ok\nconnect ", answer, "\n"]);
+    prints(rt, script.as_str(), out.as_str(), "", 0);
 }

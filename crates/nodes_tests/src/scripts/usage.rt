@@ -1,31 +1,29 @@
 //! What is a script, and which lines stop one.
 use crate::scripts::rows::{is_no_script, joined, prints};
 use std::process::Abort;
-use std::test::Fail;
 
 /// After a pair, none of these lines is a command.
-fn are_no_commands(rt: &(impl Abort + AllocGlobal), lines: &[&str]) -> Result<(), Fail> {
+fn are_no_commands(rt: &(impl Abort + AllocGlobal), lines: &[&str]) {
     for line in lines {
-        let script = joined(rt, &["pair\n", line, "\nmarks\n"])?;
+        let script = joined(rt, &["pair\n", line, "\nmarks\n"]);
         prints(
             rt,
             script.as_str(),
             "pair ok\n",
             "line 2: not a command\n",
             2,
-        )?;
+        );
     }
-    Ok(())
 }
 
 #[test]
-fn a_thousand_empty_lines_are_counted(rt: HostRuntime) -> Result<(), Fail> {
+fn a_thousand_empty_lines_are_counted(rt: HostRuntime) {
     let mut script = String::new(rt.alloc());
     for _ in 0..1000 {
-        script.push_str("\n")?;
+        script.push_str("\n").expect(&rt, "memory");
     }
-    script.push_str("marks")?;
-    prints(&rt, script.as_str(), "", "line 1001: no pair\n", 2)
+    script.push_str("marks").expect(&rt, "memory");
+    prints(&rt, script.as_str(), "", "line 1001: no pair\n", 2);
 }
 
 /// Each command but `pair`.
@@ -53,28 +51,22 @@ const COMMANDS: [&str; 20] = [
 ];
 
 /// No command can stand here: after these lines, each stops the script, which goes on with a pair.
-fn have_no_pair(
-    rt: &(impl Abort + AllocGlobal),
-    before: &str,
-    out: &str,
-    err: &str,
-) -> Result<(), Fail> {
+fn have_no_pair(rt: &(impl Abort + AllocGlobal), before: &str, out: &str, err: &str) {
     for command in COMMANDS {
-        let script = joined(rt, &[before, command, "\npair\n"])?;
-        prints(rt, script.as_str(), out, err, 2)?;
+        let script = joined(rt, &[before, command, "\npair\n"]);
+        prints(rt, script.as_str(), out, err, 2);
     }
-    Ok(())
 }
 
 #[test]
-fn a_pair_comes_first(rt: HostRuntime) -> Result<(), Fail> {
-    have_no_pair(&rt, "#\n", "", "line 2: no pair\n")?;
+fn a_pair_comes_first(rt: HostRuntime) {
+    have_no_pair(&rt, "#\n", "", "line 2: no pair\n");
     have_no_pair(
         &rt,
         "pair slots=0\n\n",
         "pair refused 15\n",
         "line 3: no pair\n",
-    )
+    );
 }
 
 /// Words are parted by one space.
@@ -199,7 +191,7 @@ const OTHER_BYTES: &[&str] = &[
 ];
 
 #[test]
-fn these_are_no_commands(rt: HostRuntime) -> Result<(), Fail> {
+fn these_are_no_commands(rt: HostRuntime) {
     for lines in [
         PARTED_OTHERWISE,
         OTHER_WORDS,
@@ -207,9 +199,8 @@ fn these_are_no_commands(rt: HostRuntime) -> Result<(), Fail> {
         TOO_MANY_BLOCKS,
         OTHER_BYTES,
     ] {
-        are_no_commands(&rt, lines)?;
+        are_no_commands(&rt, lines);
     }
-    Ok(())
 }
 
 /// Bytes that are no text.

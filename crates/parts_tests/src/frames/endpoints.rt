@@ -2,7 +2,7 @@
 ghost use Rattle.std.specs.Prelude.{◌≡◌, ◌-◌, [], length, take, unwrap_or, None, Some, IfOk};
 
 use crate::frames::links::direction;
-use crate::frames::samples::{Sample, is_read, packet_of};
+use crate::frames::samples::{Sample, is_read, sampled};
 use blocks::{Protocol, Refusal};
 use endpoint::{Incoming, Outgoing, joined};
 use link::{PlainIn, PlainOut};
@@ -48,48 +48,42 @@ impl Direction {
 }
 
 // A direction with this packet in it.
-fn pushed(alloc: Global, sample: &'static Sample) -> Result<Direction, Refusal>
-    ensures first { IfOk result (λ d. (d.sender.number ≡ 1) × (d.taker.number ≡ 1)) }
-    ensures whole { IfOk result (λ d. d.sender.partly ≡ None) }
+fn pushed(rt: &impl Abort, alloc: Global, sample: &'static Sample) -> Direction
+    ensures first { (result.sender.number ≡ 1) × (result.taker.number ≡ 1) }
+    ensures whole { result.sender.partly ≡ None }
 {
-    let mut direction = Direction::new(alloc)?;
-    direction.sender.push(alloc, packet_of(alloc, sample)?)?;
-    Ok(direction)
+    let packet = sampled(rt, alloc, sample);
+    let mut direction = Direction::new(alloc).expect(rt, "a link");
+    let pushed = direction.sender.push(alloc, packet);
+    pushed.expect(rt, "an accepted packet");
+    direction
 }
 
-fn goes_through(rt: &(impl Abort + AllocGlobal), sample: &'static Sample) -> Result<(), Refusal> {
-    let alloc = rt.alloc();
-    let mut direction = pushed(alloc, sample)?;
+fn goes_through(rt: &impl Abort, alloc: Global, sample: &'static Sample) {
+    let mut direction = pushed(rt, alloc, sample);
     let read = direction.carry();
     joined(&direction.sender, &direction.taker);
-    is_read(rt, alloc, 0, &read, Ok(sample))
+    is_read(rt, alloc, 0, &read, Ok(sample));
 }
 
 // Run with each request for memory refused in turn, this fails only where the link is made.
 #[test]
-fn a_short_frame_takes_no_memory(rt: HostRuntime) -> Result<(), Refusal> {
-    goes_through(&rt, &Sample::Protocol(Protocol::C))
+fn a_short_frame_takes_no_memory(rt: HostRuntime) {
+    goes_through(&rt, rt.alloc(), &Sample::Protocol(Protocol::C));
 }
 
 #[test]
-fn a_block_goes_through_a_link(rt: HostRuntime) -> Result<(), Refusal> {
-    goes_through(&rt, &Sample::Write)
+fn a_block_goes_through_a_link(rt: HostRuntime) {
+    goes_through(&rt, rt.alloc(), &Sample::Write);
 }
 
 #[test]
-fn a_connection_drops_the_packets_of_the_one_before(rt: HostRuntime) -> Result<(), Refusal> {
-    let alloc = rt.alloc();
-    let mut direction = pushed(alloc, &Sample::Sizes(8))?;
+fn a_connection_drops_the_packets_of_the_one_before(rt: HostRuntime) {
+    let mut direction = pushed(&rt, rt.alloc(), &Sample::Sizes(8));
     direction.sender.restart(2);
     direction.taker.restart(2);
-    is_read(
-        &rt,
-        alloc,
-        0,
-        &direction.carry(),
-        Err(Refusal::NothingThere),
-    )?;
-    Ok(())
+    let read = direction.carry();
+    is_read(&rt, rt.alloc(), 0, &read, Err(Refusal::NothingThere));
 }
 
 // The sender is full, and refuses a packet.
@@ -101,33 +95,29 @@ fn is_full(rt: &impl Abort, alloc: Global, sender: &mut Outgoing<PlainOut>, bloc
 }
 
 #[test]
-fn a_full_link_refuses_a_packet(rt: HostRuntime) -> Result<(), Refusal> {
-    let alloc = rt.alloc();
-    let Direction { mut sender, taker } = pushed(alloc, &Sample::Sizes(8))?;
-    is_full(&rt, alloc, &mut sender, 16);
+fn a_full_link_refuses_a_packet(rt: HostRuntime) {
+    let Direction { mut sender, taker } = pushed(&rt, rt.alloc(), &Sample::Sizes(8));
+    is_full(&rt, rt.alloc(), &mut sender, 16);
     joined(&sender, &taker);
-    Ok(())
 }
 
 // The taker has no queue, and finds nothing.
-fn is_empty(rt: &impl Abort, taker: &mut Incoming<PlainIn>) -> Result<(), Refusal> {
-    taker.ready()?;
+fn is_empty(rt: &impl Abort, taker: &mut Incoming<PlainIn>) {
+    taker.ready().expect(rt, "an open end");
     let taken = taker.take().err();
     let is_there = taker.give_queue().is_some();
     assert_eq!(rt; (taken, is_there), (Some(Refusal::NothingThere), false));
-    Ok(())
 }
 
 #[test]
-fn a_side_without_its_queue_is_full_or_empty(rt: HostRuntime) -> Result<(), Refusal> {
-    let alloc = rt.alloc();
+fn a_side_without_its_queue_is_full_or_empty(rt: HostRuntime) {
+    let direction = Direction::new(rt.alloc()).expect(&rt, "a link");
     let Direction {
         mut sender,
         mut taker,
-    } = Direction::new(alloc)?;
-    is_empty(&rt, &mut taker)?;
+    } = direction;
+    is_empty(&rt, &mut taker);
     let is_there = (sender.give_queue().is_some(), sender.give_queue().is_some());
     assert_eq!(rt; is_there, (true, false));
-    is_full(&rt, alloc, &mut sender, 8);
-    Ok(())
+    is_full(&rt, rt.alloc(), &mut sender, 8);
 }

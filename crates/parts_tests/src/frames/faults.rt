@@ -50,40 +50,30 @@ static FAULTS: [Row; 15] = [
 ];
 
 // The bytes of a row.
-fn bytes_of(rt: &impl Abort, alloc: Global, row: &Row) -> Result<Vec<u8>, Refusal> {
+fn bytes_of(rt: &impl Abort, alloc: Global, row: &Row) -> Vec<u8> {
     let (front, blocks, changes, _) = row;
-    let mut bytes = with_blocks(alloc, front, *blocks, 0xAA)?;
+    let mut bytes = with_blocks(rt, alloc, front, *blocks, 0xAA);
     for (at, byte) in *changes {
         assert!(rt; *at < bytes.len());
         bytes[*at] = *byte;
     }
-    Ok(bytes)
+    bytes
 }
 
 // As one frame, the bytes are refused for this.
-fn is_refused(
-    rt: &impl Abort,
-    alloc: Global,
-    row: usize,
-    bytes: &[u8],
-    refusal: Refusal,
-) -> Result<(), Refusal> {
-    let read = decode(frame_of(alloc, bytes)?);
-    is_read(rt, alloc, row, &read, Err(refusal))
-}
-
-fn is_fault(rt: &impl Abort, alloc: Global, i: usize, row: &'static Row) -> Result<(), Refusal> {
-    let bytes = bytes_of(rt, alloc, row)?;
-    is_one_frame(rt, alloc, i, &bytes, Err(row.3), &[]);
-    is_refused(rt, alloc, i, &bytes, row.3)
+fn is_refused(rt: &impl Abort, alloc: Global, row: usize, bytes: &[u8], refusal: Refusal) {
+    let read = decode(frame_of(rt, alloc, bytes));
+    is_read(rt, alloc, row, &read, Err(refusal));
 }
 
 #[test]
-fn a_fault_comes_with_its_last_byte(rt: HostRuntime) -> Result<(), Refusal> {
+fn a_fault_comes_with_its_last_byte(rt: HostRuntime) {
+    let alloc = rt.alloc();
     for (i, row) in FAULTS.iter().enumerate() {
-        is_fault(&rt, rt.alloc(), i, row)?;
+        let bytes = bytes_of(&rt, alloc, row);
+        is_one_frame(&rt, alloc, i, &bytes, Err(row.3), &[]);
+        is_refused(&rt, alloc, i, &bytes, row.3);
     }
-    Ok(())
 }
 
 /// Frames that end early or go on. They are refused for that, whatever their fields say.
@@ -98,11 +88,10 @@ static BROKEN: [&[u8]; 6] = [
 ];
 
 #[test]
-fn a_frame_is_whole(rt: HostRuntime) -> Result<(), Refusal> {
+fn a_frame_is_whole(rt: HostRuntime) {
     for (row, bytes) in BROKEN.iter().enumerate() {
-        is_refused(&rt, rt.alloc(), row, bytes, Refusal::BadLength)?;
+        is_refused(&rt, rt.alloc(), row, bytes, Refusal::BadLength);
     }
-    Ok(())
 }
 
 /// A frame, the command that a hello expects, and what the frame is read as.
@@ -130,11 +119,10 @@ static HELLOS: [Expected; 6] = [
 ];
 
 #[test]
-fn a_hello_wants_its_next_frame(rt: HostRuntime) -> Result<(), Refusal> {
+fn a_hello_wants_its_next_frame(rt: HostRuntime) {
     let alloc = rt.alloc();
     for (row, (bytes, hello, wanted)) in HELLOS.iter().enumerate() {
-        let packet = read(frame_of(alloc, bytes)?, *hello);
-        is_read(&rt, alloc, row, &packet, *wanted)?;
+        let packet = read(frame_of(&rt, alloc, bytes), *hello);
+        is_read(&rt, alloc, row, &packet, *wanted);
     }
-    Ok(())
 }

@@ -68,17 +68,11 @@ impl Frames {
 type Row = (&'static [u8], Result<&'static Sample, Refusal>);
 
 // Frames of these bytes are read so, one after the other.
-fn are_read(
-    rt: &impl Abort,
-    alloc: Global,
-    frames: &mut Frames,
-    rows: &'static [Row],
-) -> Result<(), Refusal> {
+fn are_read(rt: &impl Abort, alloc: Global, frames: &mut Frames, rows: &'static [Row]) {
     for (row, (bytes, wanted)) in rows.iter().enumerate() {
         assert!(rt; bytes.len() <= 40);
-        is_read(rt, alloc, row, &frames.receive(bytes), *wanted)?;
+        is_read(rt, alloc, row, &frames.receive(bytes), *wanted);
     }
-    Ok(())
 }
 
 /// A hello has three frames.
@@ -90,13 +84,13 @@ static HELLO: [Row; 4] = [
 ];
 
 #[test]
-fn a_hello_refuses_another_command_first(rt: HostRuntime) -> Result<(), Refusal> {
+fn a_hello_refuses_another_command_first(rt: HostRuntime) {
     let alloc = rt.alloc();
-    let mut frames = Frames::new(alloc)?;
-    are_read(&rt, alloc, &mut frames, &HELLO)?;
+    let mut frames = Frames::new(alloc).expect(&rt, "a link");
+    are_read(&rt, alloc, &mut frames, &HELLO);
     // The next connection begins with a hello.
-    frames.restart()?;
-    are_read(&rt, alloc, &mut frames, &HELLO)
+    frames.restart().expect(&rt, "a connection");
+    are_read(&rt, alloc, &mut frames, &HELLO);
 }
 
 static FRAMES: [Row; 4] = [
@@ -107,7 +101,8 @@ static FRAMES: [Row; 4] = [
 ];
 
 #[test]
-fn frames_are_read_or_refused(rt: HostRuntime) -> Result<(), Refusal> {
+fn frames_are_read_or_refused(rt: HostRuntime) {
     let alloc = rt.alloc();
-    are_read(&rt, alloc, &mut Frames::new(alloc)?, &FRAMES)
+    let mut frames = Frames::new(alloc).expect(&rt, "a link");
+    are_read(&rt, alloc, &mut frames, &FRAMES);
 }

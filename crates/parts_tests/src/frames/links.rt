@@ -58,29 +58,27 @@ fn is_accepted(rt: &impl Abort, sender: &mut PlainOut, frame: Frame)
 }
 
 #[test]
-fn a_link_for_one_frame_carries_two(rt: HostRuntime) -> Result<(), Refusal> {
-    let (mut sender, mut taker) = direction(rt.alloc())?;
+fn a_link_for_one_frame_carries_two(rt: HostRuntime) {
+    let (mut sender, mut taker) = direction(rt.alloc()).expect(&rt, "a link");
     is_accepted(&rt, &mut sender, Frame::inline(&PROTOCOL_C));
-    let Err(second) = sender.offer(Frame::inline(&BARRIER)) else {
-        panic!(rt; "a full link accepted a frame");
-    };
+    let second = sender
+        .offer(Frame::inline(&BARRIER))
+        .expect_err(&rt, "a full link");
     let refused = (second.refusal().number(), taker.take().err());
     assert_eq!(rt; refused, (11, Some(Refusal::NothingThere)));
     is_brought(&rt, &mut sender, &mut taker, &PROTOCOL_C);
     is_accepted(&rt, &mut sender, second.frame);
     is_brought(&rt, &mut sender, &mut taker, &BARRIER);
     is_brought(&rt, &mut sender, &mut taker, &[]);
-    Ok(())
 }
 
 #[test]
-fn a_connection_drops_the_frames_of_the_one_before(rt: HostRuntime) -> Result<(), Refusal> {
-    let (mut sender, mut taker) = direction(rt.alloc())?;
+fn a_connection_drops_the_frames_of_the_one_before(rt: HostRuntime) {
+    let (mut sender, mut taker) = direction(rt.alloc()).expect(&rt, "a link");
     is_accepted(&rt, &mut sender, Frame::inline(&PROTOCOL_C));
     sender.restart(2);
     taker.restart(2);
     is_brought(&rt, &mut sender, &mut taker, &[]);
     is_accepted(&rt, &mut sender, Frame::inline(&BARRIER));
     is_brought(&rt, &mut sender, &mut taker, &BARRIER);
-    Ok(())
 }

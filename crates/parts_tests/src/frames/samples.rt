@@ -44,7 +44,7 @@ const RESYNCED: Acknowledgement = Acknowledgement {
     place: 1,
 };
 
-pub(crate) fn packet_of(alloc: Global, sample: &Sample) -> Result<Packet, Refusal>
+fn packet_of(alloc: Global, sample: &Sample) -> Result<Packet, Refusal>
     ensures { IfOk result IsSpellable }
 {
     match sample {
@@ -80,6 +80,13 @@ pub(crate) fn packet_of(alloc: Global, sample: &Sample) -> Result<Packet, Refusa
     }
 }
 
+/// The packet of a sample, where there is memory for it.
+pub(crate) fn sampled(rt: &impl Abort, alloc: Global, sample: &Sample) -> Packet
+    ensures { IsSpellable result }
+{
+    packet_of(alloc, sample).expect(rt, "memory")
+}
+
 /// A frame was read as a row of a table has it.
 pub(crate) fn is_read(
     rt: &impl Abort,
@@ -87,11 +94,10 @@ pub(crate) fn is_read(
     row: usize,
     read: &Result<Packet, Refusal>,
     wanted: Result<&'static Sample, Refusal>,
-) -> Result<(), Refusal> {
+) {
     let wanted = match wanted {
-        Ok(sample) => Ok(packet_of(alloc, sample)?),
+        Ok(sample) => Ok(sampled(rt, alloc, sample)),
         Err(refusal) => Err(refusal),
     };
     assert!(rt; *read == wanted, "row {row}");
-    Ok(())
 }

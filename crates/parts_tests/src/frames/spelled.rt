@@ -1,7 +1,7 @@
 //! Each packet has one frame: its bytes are what the packet is spelled as, and are read as the packet.
 ghost use Rattle.packets.specs.Spelling.{IsSpellable};
 
-use crate::frames::samples::{Sample, is_read, packet_of};
+use crate::frames::samples::{Sample, is_read, sampled};
 use crate::frames::streams::is_one_frame;
 use crate::vectors::{
     BARRIER, BARRIER_ACK, LARGEST_WRITE, PROTOCOL_C, RECV_ACK, RESYNC, RS_WRITE_ACK, SIZES,
@@ -49,7 +49,7 @@ fn respelled(
 ) -> Result<Packet, Refusal>
     requires { IsSpellable packet.now }
 {
-    let frame = encode(alloc, packet)?;
+    let frame = encode(alloc, packet).expect(rt, "a frame");
     assert!(rt; frame.as_slice() == bytes, "row {row}");
     decode(frame)
 }
@@ -61,22 +61,21 @@ fn goes_both_ways(
     row: usize,
     sample: &'static Sample,
     bytes: &[u8],
-) -> Result<(), Refusal> {
-    let packet = packet_of(alloc, sample)?;
+) {
+    let packet = sampled(rt, alloc, sample);
     let read = respelled(rt, alloc, row, &packet, bytes);
     is_one_frame(rt, alloc, row, bytes, Ok(()), &[packet]);
-    is_read(rt, alloc, row, &read, Ok(sample))
+    is_read(rt, alloc, row, &read, Ok(sample));
 }
 
 #[test]
-fn each_packet_has_its_frame(rt: HostRuntime) -> Result<(), Refusal> {
+fn each_packet_has_its_frame(rt: HostRuntime) {
     let alloc = rt.alloc();
     for (row, (sample, front, blocks, byte, length)) in FRAMES.iter().enumerate() {
-        let bytes = with_blocks(alloc, front, *blocks, *byte)?;
+        let bytes = with_blocks(&rt, alloc, front, *blocks, *byte);
         assert_eq!(rt; bytes.len(), *length);
-        goes_both_ways(&rt, alloc, row, sample, &bytes)?;
+        goes_both_ways(&rt, alloc, row, sample, &bytes);
     }
-    Ok(())
 }
 
 // A frame of more than 40 bytes gives them back.
@@ -86,12 +85,11 @@ fn is_long(rt: &impl Abort, frame: Frame, bytes: &[u8]) {
 }
 
 #[test]
-fn a_short_frame_stands_inline(rt: HostRuntime) -> Result<(), Refusal> {
+fn a_short_frame_stands_inline(rt: HostRuntime) {
     let alloc = rt.alloc();
     let frame = Frame::inline(&BARRIER);
     assert!(rt; frame.as_slice() == BARRIER.as_slice());
-    is_read(&rt, alloc, 0, &decode(frame), Ok(&Sample::Barrier(1)))?;
-    let long = with_blocks(alloc, &WRITE, 1, 0xAA)?;
-    is_long(&rt, frame_of(alloc, &long)?, &long);
-    Ok(())
+    is_read(&rt, alloc, 0, &decode(frame), Ok(&Sample::Barrier(1)));
+    let long = with_blocks(&rt, alloc, &WRITE, 1, 0xAA);
+    is_long(&rt, frame_of(&rt, alloc, &long), &long);
 }

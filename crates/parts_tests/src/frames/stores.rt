@@ -37,16 +37,15 @@ static IMAGES: [(usize, Result<u32, Refusal>); 4] = [
 ];
 
 #[test]
-fn an_image_is_whole_blocks(rt: HostRuntime) -> Result<(), Refusal> {
+fn an_image_is_whole_blocks(rt: HostRuntime) {
     for (length, wanted) in &IMAGES {
-        let image = Vec::from_elem(rt.alloc(), 7u8, *length)?;
+        let image = Vec::from_elem(rt.alloc(), 7u8, *length).expect(&rt, "memory");
         let blocks = match MemStore::from_image(image) {
             Ok(disk) => Ok(disk.blocks()),
             Err(refusal) => Err(refusal),
         };
         assert_eq!(rt; blocks, *wanted, "{length} bytes");
     }
-    Ok(())
 }
 
 #[test]
@@ -71,47 +70,42 @@ enum Step {
 type Row = (Step, Result<bool, StoreFault>);
 
 fn write(
-    disk: &mut impl Store,
+    rt: &impl Abort,
     alloc: Global,
+    disk: &mut impl Store,
     (first, count, byte): (u64, u64, u8),
-) -> Result<Result<bool, StoreFault>, Refusal> {
-    let range = Range::new(first, count, disk.blocks())?;
-    let bytes = Vec::from_elem(alloc, byte, range.count as usize * BLOCK_BYTES)?;
+) -> Result<bool, StoreFault> {
+    let range = Range::new(first, count, disk.blocks()).expect(rt, "a range");
+    let length = range.count as usize * BLOCK_BYTES;
+    let bytes = Vec::from_elem(alloc, byte, length).expect(rt, "memory");
     match disk.write(range, &bytes) {
-        Ok(()) => Ok(Ok(true)),
-        Err(fault) => Ok(Err(fault)),
+        Ok(()) => Ok(true),
+        Err(fault) => Err(fault),
     }
 }
 
 fn read(
-    disk: &mut impl Store,
+    rt: &impl Abort,
     alloc: Global,
+    disk: &mut impl Store,
     (block, byte): (u64, u8),
-) -> Result<Result<bool, StoreFault>, Refusal> {
-    if block >= u64::from(disk.blocks()) {
-        return Err(Refusal::BadRange);
-    }
-    let mut bytes = Vec::from_elem(alloc, 1u8, BLOCK_BYTES)?;
+) -> Result<bool, StoreFault> {
+    assert!(rt; block < u64::from(disk.blocks()));
+    let mut bytes = Vec::from_elem(alloc, 1u8, BLOCK_BYTES).expect(rt, "memory");
     match disk.read(Block(block), &mut bytes) {
-        Ok(()) => Ok(Ok(bytes.iter().all(|x| *x == byte))),
-        Err(fault) => Ok(Err(fault)),
+        Ok(()) => Ok(bytes.iter().all(|x| *x == byte)),
+        Err(fault) => Err(fault),
     }
 }
 
-fn goes(
-    rt: &(impl Abort + AllocGlobal),
-    disk: &mut impl Store,
-    rows: &'static [Row],
-) -> Result<(), Refusal> {
-    let alloc = rt.alloc();
+fn goes(rt: &impl Abort, alloc: Global, disk: &mut impl Store, rows: &'static [Row]) {
     for (i, (step, wanted)) in rows.iter().enumerate() {
         let answer = match step {
-            Step::Write(first, count, byte) => write(disk, alloc, (*first, *count, *byte))?,
-            Step::Read(block, byte) => read(disk, alloc, (*block, *byte))?,
+            Step::Write(first, count, byte) => write(rt, alloc, disk, (*first, *count, *byte)),
+            Step::Read(block, byte) => read(rt, alloc, disk, (*block, *byte)),
         };
         assert_eq!(rt; answer, *wanted, "step {i}");
     }
-    Ok(())
 }
 
 static KEPT: [Row; 4] = [
@@ -122,10 +116,10 @@ static KEPT: [Row; 4] = [
 ];
 
 #[test]
-fn a_disk_keeps_what_was_written(rt: HostRuntime) -> Result<(), Refusal> {
-    let mut disk = MemStore::zeroed(rt.alloc(), 8)?;
+fn a_disk_keeps_what_was_written(rt: HostRuntime) {
+    let mut disk = MemStore::zeroed(rt.alloc(), 8).expect(&rt, "memory");
     assert_eq!(rt; disk.blocks(), 8);
-    goes(&rt, &mut disk, &KEPT)
+    goes(&rt, rt.alloc(), &mut disk, &KEPT);
 }
 
 /// The first read fails, and the second write, which keeps its first block.
@@ -138,11 +132,16 @@ static ARMED: [Row; 6] = [
     (Step::Write(2, 2, 0xAA), Ok(true)),
 ];
 
-#[test]
-fn a_disk_fails_where_it_is_armed(rt: HostRuntime) -> Result<(), Refusal> {
-    let mut disk = FaultStore::new(MemStore::zeroed(rt.alloc(), 8)?);
+/// The disk is armed, and fails so.
+fn fails_where_it_is_armed(rt: &impl Abort, alloc: Global, disk: &mut FaultStore) {
     disk.arm_after(1, 1);
     disk.arm_read();
     assert_eq!(rt; disk.blocks(), 8);
-    goes(&rt, &mut disk, &ARMED)
+    goes(rt, alloc, disk, &ARMED);
+}
+
+#[test]
+fn a_disk_fails_where_it_is_armed(rt: HostRuntime) {
+    let disk = MemStore::zeroed(rt.alloc(), 8).expect(&rt, "memory");
+    fails_where_it_is_armed(&rt, rt.alloc(), &mut FaultStore::new(disk));
 }

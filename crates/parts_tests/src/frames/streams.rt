@@ -1,5 +1,5 @@
 //! What a decoder makes of a stream: pieces that end inside a frame, pieces of several frames, and a fault.
-use crate::frames::samples::{Sample, packet_of};
+use crate::frames::samples::{Sample, sampled};
 use crate::vectors::{BARRIER, BARRIER_ACK, OTHER_MAGIC, WRITE, with_blocks};
 use blocks::Refusal;
 use packets::{Decoder, Packet, decode_all};
@@ -121,29 +121,41 @@ static STREAMS: [Stream; 5] = [
     ),
 ];
 
-#[test]
-fn a_stream_comes_in_any_pieces(rt: HostRuntime) -> Result<(), Refusal> {
-    let alloc = rt.alloc();
-    for (row, (is_byte_by_byte, pieces, samples)) in STREAMS.iter().enumerate() {
-        let mut wanted = Vec::new(alloc);
-        for sample in *samples {
-            wanted.push(packet_of(alloc, sample)?)?;
-        }
-        is_decoded(&rt, alloc, row, *is_byte_by_byte, pieces, &wanted);
+// The packets of these samples.
+fn all_of(rt: &impl Abort, alloc: Global, samples: &[Sample]) -> Vec<Packet> {
+    let mut packets = Vec::new(alloc);
+    for sample in samples {
+        packets
+            .push(sampled(rt, alloc, sample))
+            .expect(rt, "memory");
     }
-    Ok(())
+    packets
 }
 
 #[test]
-fn a_write_comes_in_two_pieces(rt: HostRuntime) -> Result<(), Refusal> {
+fn a_stream_comes_in_any_pieces(rt: HostRuntime) {
     let alloc = rt.alloc();
-    let write = with_blocks(alloc, &WRITE, 1, 0xAA)?;
-    let wanted = vec![in alloc; packet_of(alloc, &Sample::Write)?]?;
-    for cut in 0..=write.len() {
-        let (front, end) = write.split_at(cut);
-        let transcript = decode_all(alloc, &[front, end])?;
-        let is_read = transcript.packets == wanted && transcript.fault.is_none();
-        assert!(rt; is_read, "cut at {cut}");
+    for (row, (is_byte_by_byte, pieces, samples)) in STREAMS.iter().enumerate() {
+        let wanted = all_of(&rt, alloc, samples);
+        is_decoded(&rt, alloc, row, *is_byte_by_byte, pieces, &wanted);
     }
-    Ok(())
+}
+
+// In two pieces, cut here, the bytes are read as these packets.
+fn is_read_in_two(rt: &impl Abort, alloc: Global, bytes: &[u8], cut: usize, wanted: &[Packet]) {
+    assert!(rt; cut <= bytes.len());
+    let (front, end) = bytes.split_at(cut);
+    let transcript = decode_all(alloc, &[front, end]).expect(rt, "memory");
+    let is_read = transcript.packets.as_slice() == wanted && transcript.fault.is_none();
+    assert!(rt; is_read, "cut at {cut}");
+}
+
+#[test]
+fn a_write_comes_in_two_pieces(rt: HostRuntime) {
+    let alloc = rt.alloc();
+    let write = with_blocks(&rt, alloc, &WRITE, 1, 0xAA);
+    let wanted = [sampled(&rt, alloc, &Sample::Write)];
+    for cut in 0..=write.len() {
+        is_read_in_two(&rt, alloc, &write, cut, &wanted);
+    }
 }

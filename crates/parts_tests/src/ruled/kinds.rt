@@ -3,7 +3,6 @@ use crate::vectors::{
     BARRIER, BARRIER_ACK, PROTOCOL_C, RESYNC, RS_WRITE_ACK, SIZES, SYNC_UUID, TWO_WRITES_ACK,
     UUIDS, WRITE, WRITE_ACK, with_blocks,
 };
-use blocks::Refusal;
 use std::alloc::Global;
 use std::process::Abort;
 
@@ -24,18 +23,15 @@ const KINDS: [(&[u8], u8); 11] = [
 
 /// The DATA frame of block 2.
 pub(crate) fn write(rt: &impl Abort, alloc: Global) -> Vec<u8> {
-    with_blocks(alloc, &WRITE, 1, 0xAA).expect(rt, "there is memory")
-}
-
-fn frames_in(alloc: Global) -> Result<Vec<Vec<u8>>, Refusal> {
-    let mut frames = Vec::new(alloc);
-    for (front, blocks) in KINDS {
-        frames.push(with_blocks(alloc, front, blocks, 0xAA)?)?;
-    }
-    Ok(frames)
+    with_blocks(rt, alloc, &WRITE, 1, 0xAA)
 }
 
 /// A frame of each kind.
 pub(crate) fn frames(rt: &impl Abort, alloc: Global) -> Vec<Vec<u8>> {
-    frames_in(alloc).expect(rt, "there is memory")
+    let mut frames = Vec::new(alloc);
+    for (front, blocks) in KINDS {
+        let frame = with_blocks(rt, alloc, front, blocks, 0xAA);
+        frames.push(frame).expect(rt, "memory");
+    }
+    frames
 }

@@ -16,6 +16,14 @@ fn pops<R: Wait, M: Moment>(abort: &impl Abort, row: &mut PieceIn<R, M>, bytes: 
     assert_eq!(abort; piece.bytes(), bytes);
 }
 
+/// A row that has one piece hands a second one back.
+fn hands_back<R: Wait, M: Moment>(abort: &impl Abort, row: &mut PieceOut<R, M>) -> Piece {
+    let second = row.push(Piece::new(b"second"));
+    let second = second.expect_err(abort, "a row for one piece");
+    assert_eq!(abort; second.bytes(), b"second".as_slice());
+    second
+}
+
 /// A row for one piece is empty and then full.
 fn holds_one_piece<R: Wait, M: Moment>(
     abort: &impl Abort,
@@ -24,10 +32,7 @@ fn holds_one_piece<R: Wait, M: Moment>(
 ) {
     assert!(abort; inward.pop().is_none());
     assert!(abort; outward.push(Piece::new(b"first")).is_ok());
-    let Err(second) = outward.push(Piece::new(b"second")) else {
-        panic!(abort; "two pieces stand in a row for one");
-    };
-    assert_eq!(abort; second.bytes(), b"second".as_slice());
+    let second = hands_back(abort, outward);
     pops(abort, inward, b"first");
     assert!(abort; inward.pop().is_none());
     assert!(abort; outward.push(second).is_ok());
