@@ -5,7 +5,7 @@ use crate::nodes::{
 use bell::Bell;
 use blocks::{Done, Refusal};
 use pumps::{Buffer, PumpEnd, pump_in};
-use ruled_link::PIECE_BYTES;
+use ruled_link::PieceOut;
 use std::alloc::Global;
 use std::sync::Wait;
 use std::sync::atomic::AtomicBool;
@@ -28,6 +28,14 @@ impl Fed {
             self.frames = self.frames.saturating_add(1);
         }
         came == Came::Taken
+    }
+
+    /// What came of both streams.
+    pub(crate) fn and(self, other: Fed) -> Fed {
+        Fed {
+            frames: self.frames.saturating_add(other.frames),
+            is_sound: self.is_sound && other.is_sound,
+        }
     }
 }
 
@@ -63,13 +71,20 @@ pub(crate) fn feed_secondary<R: Wait + Clock + Copy + Drop>(
     stream: &Vec<u8>,
 ) -> Result<Fed, Refusal> {
     match open_peer(rt, alloc) {
-        Ok(opened) => {
-            let (mut peer, mut rows) = opened;
-            let is_whole = pump(rt, alloc, &mut rows, stream)?;
-            Ok(take_all(&mut peer, &mut rows, stream.len(), is_whole))
-        }
+        Ok((mut peer, mut rows)) => feed_peer(rt, alloc, &mut peer, &mut rows, stream),
         Err(refusal) => Err(refusal),
     }
+}
+
+fn feed_peer<R: Wait + Clock + Drop>(
+    rt: R,
+    alloc: Global,
+    peer: &mut RowPeer<R>,
+    rows: &mut RowEnds<R>,
+    stream: &Vec<u8>,
+) -> Result<Fed, Refusal> {
+    let is_whole = pump(rt, alloc, rows, stream)?;
+    Ok(take_all(peer, rows, stream.len(), is_whole))
 }
 
 // Has a secondary take frames as long as there are any: each has a byte at least.
@@ -105,13 +120,20 @@ pub(crate) fn feed_primary<R: Wait + Clock + Copy + Drop>(
     stream: &Vec<u8>,
 ) -> Result<Fed, Refusal> {
     match open_local(rt, alloc) {
-        Ok(opened) => {
-            let (mut local, mut rows) = opened;
-            let is_whole = pump(rt, alloc, &mut rows, stream)?;
-            take_acks(alloc, &mut local, &mut rows, stream.len(), is_whole)
-        }
+        Ok((mut local, mut rows)) => feed_local(rt, alloc, &mut local, &mut rows, stream),
         Err(refusal) => Err(refusal),
     }
+}
+
+fn feed_local<R: Wait + Clock + Drop>(
+    rt: R,
+    alloc: Global,
+    local: &mut RowLocal<R>,
+    rows: &mut RowEnds<R>,
+    stream: &Vec<u8>,
+) -> Result<Fed, Refusal> {
+    let is_whole = pump(rt, alloc, rows, stream)?;
+    take_acks(alloc, local, rows, stream.len(), is_whole)
 }
 
 // Has a primary write, and take frames as long as there are any.
@@ -159,16 +181,20 @@ fn pump<R: Wait + Clock + Drop>(
     rows: &mut RowEnds<R>,
     stream: &Vec<u8>,
 ) -> Result<bool, Refusal> {
-    let mut buffer = Buffer::new(alloc)?;
+    match Buffer::new(alloc) {
+        Ok(mut buffer) => Ok(pump_through(rt, &mut rows.to_take, stream, &mut buffer)),
+        Err(refusal) => Err(refusal),
+    }
+}
+
+fn pump_through<R: Wait + Clock + Drop>(
+    rt: R,
+    to_take: &mut PieceOut<R>,
+    stream: &Vec<u8>,
+    buffer: &mut Buffer,
+) -> bool {
     let mut reader = stream.as_slice();
     let stop = AtomicBool::new(false);
-    let end = pump_in(
-        &rt,
-        &mut rows.to_take,
-        &mut reader,
-        &mut buffer,
-        &stop,
-        &Bell::new(),
-    );
-    Ok(end == PumpEnd::EndOfInput)
+    let end = pump_in(&rt, to_take, &mut reader, buffer, &stop, &Bell::new());
+    end == PumpEnd::EndOfInput
 }

@@ -10,7 +10,9 @@ mod feed;
 mod nodes;
 mod record;
 
-use feed::{feed_primary, feed_secondary};
+use blocks::Refusal;
+use damage::damaged;
+use feed::{Fed, feed_primary, feed_secondary};
 use rand_core::SeedableRng;
 use rand_xoshiro::Xoshiro256PlusPlus;
 use record::Recorded;
@@ -24,13 +26,21 @@ const SEED: u64 = 1;
 const FRAMES: u64 = 1_000;
 
 fn main(rt: HostRuntime) -> anyhow::Result<()> {
-    let words = env::args(&rt)?.collect::<Vec<String>>(rt.alloc())?;
-    let seed = number(words.get(1), SEED)?;
-    let frames = number(words.get(2), FRAMES)?;
+    let (seed, frames) = asked(&rt)?;
     let taken = feed_all(rt, rt.alloc(), seed, frames)?;
     println!(rt; "seed {seed}: {frames} frames or more, each with a reply that it may have")?;
     eprintln!(rt; "{taken} frames")?;
     Ok(())
+}
+
+// The seed and the number of frames that the program's words give.
+fn asked(rt: &HostRuntime) -> anyhow::Result<(u64, u64)> {
+    let words = env::args(rt)?.collect::<Vec<String>>(rt.alloc())?;
+    read(words.get(1), words.get(2))
+}
+
+fn read(seed: Option<&String>, frames: Option<&String>) -> anyhow::Result<(u64, u64)> {
+    Ok((number(seed, SEED)?, number(frames, FRAMES)?))
 }
 
 fn number(word: Option<&String>, standard: u64) -> anyhow::Result<u64> {
@@ -47,23 +57,56 @@ fn feed_all<R: Wait + Clock + Copy + Drop>(
     seed: u64,
     frames: u64,
 ) -> anyhow::Result<u64> {
-    let recorded = Recorded::new(rt, alloc)?;
+    match Recorded::new(rt, alloc) {
+        Ok(recorded) => feed_recorded(rt, alloc, &recorded, seed, frames),
+        Err(refusal) => Err(refusal.into()),
+    }
+}
+
+fn feed_recorded<R: Wait + Clock + Copy + Drop>(
+    rt: R,
+    alloc: Global,
+    recorded: &Recorded,
+    seed: u64,
+    frames: u64,
+) -> anyhow::Result<u64> {
     let mut random = Xoshiro256PlusPlus::seed_from_u64(seed);
     let mut taken = 0u64;
     for _ in 0..frames {
         if taken >= frames {
             break;
         }
-        let there = damage::damaged(alloc, &recorded.there, &mut random, seed != 0)?;
-        let back = damage::damaged(alloc, &recorded.back, &mut random, seed != 0)?;
-        let fed = feed_secondary(rt, alloc, &there)?;
-        let fed_too = feed_primary(rt, alloc, &back)?;
-        if !fed.is_sound || !fed_too.is_sound {
+        let fed = feed_both(rt, alloc, recorded, &mut random, seed != 0)?;
+        if !fed.is_sound {
             anyhow::bail!("a reply that no frame may have, after {taken} frames of seed {seed}");
         }
-        taken = taken
-            .saturating_add(fed.frames)
-            .saturating_add(fed_too.frames);
+        taken = taken.saturating_add(fed.frames);
     }
     Ok(taken)
+}
+
+// Feeds each node once. Both streams are damaged before the first one is fed.
+fn feed_both<R: Wait + Clock + Copy + Drop>(
+    rt: R,
+    alloc: Global,
+    recorded: &Recorded,
+    random: &mut Xoshiro256PlusPlus,
+    is_damaged: bool,
+) -> Result<Fed, Refusal> {
+    let there = damaged(alloc, &recorded.there, random, is_damaged)?;
+    match damaged(alloc, &recorded.back, random, is_damaged) {
+        Ok(back) => feed_streams(rt, alloc, &there, &back),
+        Err(error) => Err(error.into()),
+    }
+}
+
+fn feed_streams<R: Wait + Clock + Copy + Drop>(
+    rt: R,
+    alloc: Global,
+    there: &Vec<u8>,
+    back: &Vec<u8>,
+) -> Result<Fed, Refusal> {
+    let secondary = feed_secondary(rt, alloc, there)?;
+    let primary = feed_primary(rt, alloc, back)?;
+    Ok(secondary.and(primary))
 }

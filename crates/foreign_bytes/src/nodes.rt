@@ -1,5 +1,5 @@
 //! The two nodes, each at the ends of two rows.
-ghost use Rattle.std.specs.Prelude.{IfOk};
+ghost use Rattle.std.specs.Prelude.{◌<◌, IfOk};
 ghost use Rattle.endpoint.specs.Calls.{IsNewIn, IsNewOut};
 ghost use Rattle.ruled_link.specs.Inward.{taking};
 ghost use Rattle.ruled_link.specs.Outward.{sending};
@@ -97,13 +97,22 @@ pub(crate) fn submit<R: Wait + Drop>(
     if write >= WRITES {
         return Ok(write);
     }
+    match contents(alloc, write) {
+        Ok(bytes) => match node.submit(write * 5 % 12, &bytes) {
+            Ok(_) => Ok(write + 1),
+            Err(_) => Ok(write),
+        },
+        Err(refusal) => Err(refusal),
+    }
+}
+
+// The contents of a write: one to four blocks.
+fn contents(alloc: Global, write: u64) -> Result<Bytes, Refusal>
+    requires { write < 24 }
+{
     let blocks = (write % 4 + 1) as usize;
     let bytes = Vec::from_elem(alloc, write as u8, blocks * BLOCK_BYTES)?;
-    let bytes = Bytes::copy_from_slice(alloc, bytes.as_slice())?;
-    match node.submit(write * 5 % 12, &bytes) {
-        Ok(_) => Ok(write + 1),
-        Err(_) => Ok(write),
-    }
+    Ok(Bytes::from_vec(bytes)?)
 }
 
 /// Does what a primary can do without a frame. What has nothing to do is refused, and changes nothing.

@@ -3,7 +3,7 @@ use crate::nodes::{
     RowEnds, RowLocal, RowPeer, open_local, open_peer, submit, work_local, work_peer,
 };
 use blocks::Refusal;
-use ruled_link::Piece;
+use ruled_link::{Piece, PieceIn, PieceOut};
 use std::alloc::Global;
 use std::sync::Wait;
 
@@ -20,54 +20,73 @@ pub(crate) struct Recorded {
 impl Recorded {
     /// Records a session in which all blocks are copied while writes go on.
     pub(crate) fn new<R: Wait + Copy + Drop>(rt: R, alloc: Global) -> Result<Recorded, Refusal> {
-        let mut local = open_local(rt, alloc)?;
-        match open_peer(rt, alloc) {
-            Ok(peer) => {
-                let mut peer = peer;
-                record(alloc, &mut local, &mut peer)
-            }
+        match open_local(rt, alloc) {
+            Ok(mut local) => Recorded::of(rt, alloc, &mut local),
             Err(refusal) => Err(refusal),
         }
     }
-}
 
-// Has both nodes do what they can, and notes what goes over the link.
-fn record<R: Wait + Drop>(
-    alloc: Global,
-    local: &mut (RowLocal<R>, RowEnds<R>),
-    peer: &mut (RowPeer<R>, RowEnds<R>),
-) -> Result<Recorded, Refusal> {
-    let mut recorded = Recorded {
-        there: Vec::new(alloc),
-        back: Vec::new(alloc),
-    };
-    let mut write = 0u64;
-    for _ in 0..TURNS {
-        write = submit(alloc, &mut local.0, write)?;
-        work_local(&mut local.0);
-        carry(&mut local.1, &mut peer.1, &mut recorded.there)?;
-        let _ = peer.0.receive();
-        work_peer(&mut peer.0);
-        carry(&mut peer.1, &mut local.1, &mut recorded.back)?;
-        let _ = local.0.ack_in();
+    // Records a session of this primary.
+    fn of<R: Wait + Copy + Drop>(
+        rt: R,
+        alloc: Global,
+        local: &mut (RowLocal<R>, RowEnds<R>),
+    ) -> Result<Recorded, Refusal> {
+        let mut recorded = Recorded {
+            there: Vec::new(alloc),
+            back: Vec::new(alloc),
+        };
+        match open_peer(rt, alloc) {
+            Ok(mut peer) => recorded.record(alloc, local, &mut peer)?,
+            Err(refusal) => return Err(refusal),
+        }
+        Ok(recorded)
     }
-    Ok(recorded)
+
+    // Has both nodes do what they can, and notes what goes over the link.
+    fn record<R: Wait + Drop>(
+        &mut self,
+        alloc: Global,
+        local: &mut (RowLocal<R>, RowEnds<R>),
+        peer: &mut (RowPeer<R>, RowEnds<R>),
+    ) -> Result<(), Refusal> {
+        let mut write = 0u64;
+        for _ in 0..TURNS {
+            write = submit(alloc, &mut local.0, write)?;
+            work_local(&mut local.0);
+            carry(&mut local.1.sent, &mut peer.1.to_take, &mut self.there)?;
+            let _ = peer.0.receive();
+            work_peer(&mut peer.0);
+            carry(&mut peer.1.sent, &mut local.1.to_take, &mut self.back)?;
+            let _ = local.0.ack_in();
+        }
+        Ok(())
+    }
 }
 
 // Carries what one node sent to where the other one takes it, and adds its bytes to those that went.
 fn carry<R: Wait + Drop>(
-    from: &mut RowEnds<R>,
-    to: &mut RowEnds<R>,
+    sent: &mut PieceIn<R>,
+    to_take: &mut PieceOut<R>,
     went: &mut Vec<u8>,
 ) -> Result<(), Refusal> {
     for _ in 0..u32::MAX {
-        let Some(piece) = from.sent.pop() else {
-            break;
-        };
-        went.extend_from_slice(piece.bytes())?;
-        if to.to_take.push(Piece::new(piece.bytes())).is_err() {
-            return Err(Refusal::LinkFull);
+        match sent.pop() {
+            Some(piece) => pass_on(piece, to_take, went)?,
+            None => break,
         }
     }
     Ok(())
+}
+
+fn pass_on<R: Wait + Drop>(
+    piece: Piece,
+    to_take: &mut PieceOut<R>,
+    went: &mut Vec<u8>,
+) -> Result<(), Refusal> {
+    went.extend_from_slice(piece.bytes())?;
+    match to_take.push(piece) {
+        Ok(()) => Ok(()),
+        Err(_) => Err(Refusal::LinkFull),
+    }
 }
