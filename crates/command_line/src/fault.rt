@@ -1,6 +1,4 @@
 //! Words that are no order.
-ghost use Rattle.std.specs.Prelude.{◌≤◌};
-
 use clap::Error;
 use clap::error::ErrorKind;
 use numbers::Status;
@@ -16,36 +14,32 @@ pub enum Fault<'a> {
 }
 
 impl Fault<'_> {
-    /// Prints help on `out` where it was asked for, and else what is wrong with the words on `err`. Returns the exit status:
-    /// 0 for help, 1 if it could not be written or there was no memory, and else 2.
-    pub fn tell<W: Write, E: Write>(&self, out: &mut W, err: &mut E) -> u8
-        ensures { result ≤ 2 }
-    {
+    /// Prints help on `out` where it was asked for, and else what is wrong with the words on `err`. The program then ends
+    /// `Done` for help, `Failed` if it could not be written or there was no memory, and else `Misused`.
+    pub fn tell<W: Write, E: Write>(&self, out: &mut W, err: &mut E) -> Status {
         match self {
             Fault::Words(error) => tell_words(error, out, err),
             Fault::Address(address) => {
                 let _ = writeln!(err, "error: {address} is no address with a port");
-                Status::Misused.code()
+                Status::Misused
             }
         }
     }
 }
 
-fn tell_words<W: Write, E: Write>(error: &Error, out: &mut W, err: &mut E) -> u8
-    ensures { result ≤ 2 }
-{
+fn tell_words<W: Write, E: Write>(error: &Error, out: &mut W, err: &mut E) -> Status {
     if !error.use_stderr() {
         return match write!(out, "{error}") {
-            Ok(()) => Status::Done.code(),
+            Ok(()) => Status::Done,
             Err(fault) => {
                 let _ = writeln!(err, "the output could not be written: {fault}");
-                Status::Failed.code()
+                Status::Failed
             }
         };
     }
     let _ = write!(err, "{error}");
     match error.kind() {
-        ErrorKind::OutOfMemory => Status::Failed.code(),
-        _ => Status::Misused.code(),
+        ErrorKind::OutOfMemory => Status::Failed,
+        _ => Status::Misused,
     }
 }

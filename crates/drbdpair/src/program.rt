@@ -39,7 +39,7 @@ pub fn run_on<
     };
     match parse(alloc, &helps, words, err.is_terminal()) {
         Ok(order) => carry_out(rt, &order, input, out, err),
-        Err(fault) => fault.tell(out, err),
+        Err(fault) => fault.tell(out, err).code(),
     }
 }
 
@@ -54,8 +54,8 @@ fn carry_out<
 {
     match order {
         Order::Script(file) => run_script(rt, *file, input, out, err),
-        Order::Run(options, images) => session_run::run(rt, options, images, out, err),
-        Order::Serve(options) => serving::serve(rt, options, input, out, err),
+        Order::Run(options, images) => session_run::run(rt, options, images, out, err).code(),
+        Order::Serve(options) => serving::serve(rt, options, input, out, err).code(),
     }
 }
 

@@ -23,7 +23,7 @@ use Rattle.primary_steps.specs.Steps as primary
 use Rattle.secondary_steps.specs.Node as secondary
 use Rattle.settle.proofs.Settling.{reached_from, of-runs, sound-opening}
 use Rattle.settle.specs.Settled.{WereHonest}
-use Rattle.volume.specs.declared.session.Parts.{Parts}
+use Rattle.halves.specs.declared.parts.Parts.{Parts}
 
 -- both ends are closed, nothing is pending, and the local disk has done or failed every write
 pub at-rest : (p : PrimaryHistory) (s : SecondaryHistory) → (outward p).closed ≡ true → (inward s).closed ≡ true → is_drained s ≡ true

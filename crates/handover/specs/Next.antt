@@ -6,7 +6,7 @@ use Rattle.model.specs.Headline.{is_marked}
 use Rattle.model.specs.Primary.{PrimaryHistory}
 use Rattle.model.specs.Secondary.{SecondaryHistory}
 use Rattle.model.specs.Theorems.{Opening}
-use Rattle.volume.specs.declared.session.Parts.{Parts}
+use Rattle.halves.specs.declared.parts.Parts.{Parts}
 
 -- the opening of a session of these parts over these two disks
 abbrev pub opening_of : Parts → BlockMap → BlockMap → Opening

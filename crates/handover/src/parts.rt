@@ -15,11 +15,11 @@ ghost use Rattle.secondary_steps.specs.Node.{NodeHas as SecondaryHas};
 ghost use Rattle.settle.specs.Settled.{WereHonest};
 
 use blocks::{Block, Refusal, Store, Tuple};
+use halves::Parts;
 use link::{FrameIn, FrameOut};
 use primary::Primary;
 use secondary::Secondary;
 use std::alloc::Global;
-use volume::Parts;
 
 /// The identifiers of a disk that nobody knows.
 const UNKNOWN: Tuple = Tuple {

@@ -7,9 +7,9 @@ use blocks::{Done, Refusal, Settings, Store, Tuple};
 use bytes::Bytes;
 use halves::PrimaryHalf;
 use link::{FrameIn, FrameOut};
+use node_lines::primary_line;
 use primary::{Primary, Receipt};
 use session_nodes::{Local, LocalRole, Turn};
-use status::primary_line;
 use std::alloc::Global;
 use std::sync::{Mutex, Wait};
 

@@ -6,9 +6,9 @@ use bell::Bell;
 use blocks::{Done, Refusal, Settings, Store, Tuple};
 use halves::SecondaryHalf;
 use link::{FrameIn, FrameOut};
+use node_lines::secondary_line;
 use secondary::Secondary;
 use session_nodes::{Peer, PeerRole, Turn};
-use status::secondary_line;
 use std::alloc::Global;
 use std::sync::{Mutex, Wait};
 

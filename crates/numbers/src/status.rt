@@ -1,8 +1,10 @@
-//! How a run of a script ends.
+//! How a run of a script ends, and how a session does.
 ghost use Rattle.std.specs.Prelude.{◌≡◌};
-ghost use Rattle.numbers.specs.Statuses.{code_of};
+ghost use Rattle.numbers.specs.Statuses.{code_of, session_code_of, status_of};
 
-/// How a run ends, which its exit status tells (this project's rule).
+use blocks::Refusal;
+
+/// How a run of a script ends, or the reading of the program's words, which the exit status tells (this project's rule).
 #[derive(Clone, Copy)]
 pub enum Status {
     /// It did all that it was to do, though some of it may have been refused.
@@ -22,6 +24,40 @@ impl Status {
             Status::Done => 0,
             Status::Failed => 1,
             Status::Misused => 2,
+        }
+    }
+}
+
+/// How a session ends, or one after another, which the exit status tells (this project's rule).
+#[derive(Clone, Copy)]
+pub enum SessionStatus {
+    /// It did all that it was to do.
+    Done,
+    /// A file, a socket, a thread, the output or memory failed.
+    Failed,
+    /// It was refused.
+    Refused,
+}
+
+impl SessionStatus {
+    /// How a session ends that this refusal ended: `Failed` for want of memory (7), else `Refused`.
+    pub fn of(refusal: Refusal) -> SessionStatus
+        ensures { result ≡ status_of refusal }
+    {
+        match refusal {
+            Refusal::NoMemory => SessionStatus::Failed,
+            _ => SessionStatus::Refused,
+        }
+    }
+
+    /// The exit status: 0, 1 or 3.
+    pub fn code(&self) -> u8
+        ensures { result ≡ session_code_of self.now }
+    {
+        match self {
+            SessionStatus::Done => 0,
+            SessionStatus::Failed => 1,
+            SessionStatus::Refused => 3,
         }
     }
 }

@@ -1,8 +1,10 @@
-//! What the program may be asked to do, in plain values: a run of a session, or a server.
+//! What the program may be asked to do, in plain values: a run of a session, with the plan of its writes, or a server.
 #![tactic(auto)]
 
+mod plan;
 mod run;
 mod serve;
 
+pub use plan::{byte, words};
 pub use run::{Images, Path, RunOptions, Telling};
 pub use serve::ServeOptions;

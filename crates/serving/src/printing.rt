@@ -4,11 +4,12 @@ ghost use Rattle.std.specs.Prelude.{◌<◌, ◌≤◌, IfOk};
 use crate::doors::Doors;
 use crate::fault::Fault;
 use crate::rest::{Disks, Tally};
-use crate::service::Service;
 use crate::sessions::run_sessions;
 use crate::threads::start_threads;
 use blocks::{BLOCK_BYTES, MAX_BLOCKS, Refusal};
+use client_threads::Service;
 use image_store::{ImageStore, OpenFault, SyncHandle};
+use numbers::SessionStatus;
 use options::ServeOptions;
 use requests::Requests;
 use std::alloc::{AllocError, Global};
@@ -25,23 +26,21 @@ use volume::{Host, Runtime};
 type Opened = (ImageStore<File>, SyncHandle<File>);
 
 /// Serves both images to block clients until `input` has a line `quit`, and prints `completed X`, `settled X` and
-/// `unmarked 0`, X being the number of ranges that clients wrote. Returns the exit status: 0 if all is done; 1 if a
-/// file, an address, the output, memory or a thread failed; 3 for any other refusal. Then a line on `err` tells of
-/// it. The end of `input` is no order to end.
+/// `unmarked 0`, X being the number of ranges that clients wrote. Returns how it ended: `Done` if all is done;
+/// `Failed` if a file, an address, the output, memory or a thread failed; `Refused` for any other refusal. Then a line on
+/// `err` tells of it. The end of `input` is no order to end.
 pub fn serve<
     H: Host + Files<File = File> + Net<Listener = TcpListener, Stream = TcpStream> + RandomSource,
     I: Read + Drop + Send + 'static,
     W: Write,
     E: Write,
->(rt: &H, options: &ServeOptions<'_>, input: I, out: &mut W, err: &mut E) -> u8
-    ensures { result ≤ 3 }
-{
+>(rt: &H, options: &ServeOptions<'_>, input: I, out: &mut W, err: &mut E) -> SessionStatus {
     let served = match serve_images(rt, options, input, err) {
         Ok(tally) => print(&tally, out),
         Err(fault) => Err(fault),
     };
     match served {
-        Ok(()) => 0,
+        Ok(()) => SessionStatus::Done,
         Err(fault) => {
             let _ = writeln!(err, "{fault}");
             fault.status()

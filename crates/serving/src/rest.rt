@@ -1,6 +1,6 @@
 //! The parts that a session leaves for the next one.
-use crate::service::Service;
 use blocks::{Refusal, Store};
+use client_threads::Service;
 use handover::parts_after;
 use image_store::ImageStore;
 use link::{FrameIn, FrameOut};

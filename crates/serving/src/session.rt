@@ -5,9 +5,8 @@ ghost use Rattle.std.specs.Prelude.{IfOk};
 ghost use Rattle.volume.specs.Links.{AreEndsOf};
 
 use crate::rest::{Disks, Rest, Tally, bring_together};
-use crate::service::Service;
-use crate::workers::work;
 use blocks::{Refusal, Settings};
+use client_threads::{Service, work};
 use image_store::ImageStore;
 use ruled_link::{RuledIn, RuledOut, ruled};
 use std::alloc::Global;

@@ -1,8 +1,8 @@
 //! One session after another, over the same disks.
 use crate::rest::{Disks, Rest, Tally};
-use crate::service::Service;
 use crate::session::run_session;
 use blocks::{BLOCK_BYTES, Block, Refusal, Settings, Store, Tuple};
+use client_threads::Service;
 use volume::{Parts, Runtime};
 
 /// Runs sessions over these disks until the server ends, and returns what the last one leaves. If the disks differ at

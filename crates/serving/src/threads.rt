@@ -1,9 +1,7 @@
 //! The threads of a server that outlast its sessions.
 use crate::doors::{Door, Doors};
 use crate::fault::Fault;
-use crate::page::serve_page;
-use crate::service::Service;
-use crate::waiter::{let_in, wait_for_quit};
+use client_threads::{Service, let_in, serve_page, wait_for_quit};
 use std::alloc::Global;
 use std::hash::RandomState;
 use std::io::Read;

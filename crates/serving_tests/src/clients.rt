@@ -1,15 +1,15 @@
 //! A client over a socket. Its bytes and the server's are written out by hand from the protocol document.
 use blocks::Protocol;
 use serving::{Host, ServeOptions, serve};
-use std::alloc::Global;
+use std::alloc::{AllocError, Global};
 use std::fs::File;
 use std::io::{Read, Write};
 use std::net::{Ipv4Addr, Net, SocketAddr, TcpListener, TcpStream};
+use std::process::Abort;
 use std::random::RandomSource;
 use std::rt::Files;
 use std::sync::atomic::{AtomicBool, Ordering};
 use std::sync::{Arc, Wait};
-use std::test::Fail;
 use std::time::{Clock, Duration};
 use std::{fs, io, thread};
 
@@ -89,13 +89,18 @@ fn exchange(
         stream.write_all(bytes)?;
     }
     for bytes in wanted {
-        let mut came = Vec::from_elem(alloc, 0u8, bytes.len())?;
-        stream.read_exact(&mut came)?;
-        if came.as_slice() != *bytes {
+        if !comes(alloc, stream, bytes)? {
             return Ok(false);
         }
     }
     Ok(true)
+}
+
+// Whether these bytes come.
+fn comes(alloc: Global, stream: &mut TcpStream, wanted: &[u8]) -> io::Result<bool> {
+    let mut came = Vec::from_elem(alloc, 0u8, wanted.len())?;
+    stream.read_exact(&mut came)?;
+    Ok(came.as_slice() == wanted)
 }
 
 // Connects to the server, once it listens.
@@ -112,24 +117,10 @@ fn connect<R: Net<Stream = TcpStream> + Clock>(
     TcpStream::connect(rt, address)
 }
 
-// What a client does: it writes, zeroes, flushes and reads, and asks for what is refused. Returns whether each answer is
-// the right one.
+// What a client does. Returns whether each answer is the right one.
 fn talk(alloc: Global, stream: &mut TcpStream) -> io::Result<bool> {
     let is_open = exchange(alloc, stream, &[&FLAGS, &GO], &[&GREETING, &GO_ANSWER])?;
-    let write = ask(1, 1, [0x10, 0], [0x20, 0]);
-    let is_written = exchange(
-        alloc,
-        stream,
-        &[&write, &AB_BLOCK, &AB_BLOCK],
-        &[&told(0, 1)],
-    )?;
-    let is_zeroed = exchange(
-        alloc,
-        stream,
-        &[&ask(6, 2, [0x20, 0], [0x10, 0])],
-        &[&told(0, 2)],
-    )?;
-    let is_flushed = exchange(alloc, stream, &[&ask(3, 3, [0, 0], [0, 0])], &[&told(0, 3)])?;
+    let is_changed = change(alloc, stream)?;
     let is_read = exchange(
         alloc,
         stream,
@@ -137,54 +128,77 @@ fn talk(alloc: Global, stream: &mut TcpStream) -> io::Result<bool> {
         &[&told(0, 4), &AB_BLOCK, &ZERO_BLOCK],
     )?;
     let is_done_at_once = burst(alloc, stream)?;
-    // A part of a block is EINVAL, a write past the end ENOSPC.
-    let is_part_refused = exchange(
+    let is_refused = overstep(alloc, stream)?;
+    exchange(alloc, stream, &[&ask(2, 7, [0, 0], [0, 0])], &[])?;
+    Ok(is_open && is_changed && is_read && is_done_at_once && is_refused)
+}
+
+// Writes, zeroes and flushes.
+fn change(alloc: Global, stream: &mut TcpStream) -> io::Result<bool> {
+    let write = ask(1, 1, [0x10, 0], [0x20, 0]);
+    let zero = ask(6, 2, [0x20, 0], [0x10, 0]);
+    let flush = ask(3, 3, [0, 0], [0, 0]);
+    let is_written = exchange(
         alloc,
         stream,
-        &[&ask(0, 5, [0, 1], [0x10, 0])],
-        &[&told(22, 5)],
+        &[&write, &AB_BLOCK, &AB_BLOCK],
+        &[&told(0, 1)],
     )?;
+    let is_zeroed = exchange(alloc, stream, &[&zero], &[&told(0, 2)])?;
+    let is_flushed = exchange(alloc, stream, &[&flush], &[&told(0, 3)])?;
+    Ok(is_written && is_zeroed && is_flushed)
+}
+
+// Asks for what is refused: a part of a block is EINVAL, a write past the end ENOSPC.
+fn overstep(alloc: Global, stream: &mut TcpStream) -> io::Result<bool> {
+    let part = ask(0, 5, [0, 1], [0x10, 0]);
     let past = ask(1, 6, [0x80, 0], [0x10, 0]);
+    let is_part_refused = exchange(alloc, stream, &[&part], &[&told(22, 5)])?;
     let is_end_refused = exchange(alloc, stream, &[&past, &AB_BLOCK], &[&told(28, 6)])?;
-    exchange(alloc, stream, &[&ask(2, 7, [0, 0], [0, 0])], &[])?;
-    Ok(
-        is_open
-            && is_written
-            && is_zeroed
-            && is_flushed
-            && is_read
-            && is_done_at_once
-            && is_part_refused
-            && is_end_refused,
-    )
+    Ok(is_part_refused && is_end_refused)
 }
 
 // Asks for two writes of the same block and a read of another before any reply has come. Returns whether each is answered
 // once, in whatever order.
 fn burst(alloc: Global, stream: &mut TcpStream) -> io::Result<bool> {
-    let mut asked = Vec::new(alloc);
-    for cookie in [8, 9] {
-        asked.extend_from_slice(&ask(1, cookie, [0x40, 0], [0x10, 0]))?;
-        asked.extend_from_slice(&ZERO_BLOCK)?;
-    }
-    asked.extend_from_slice(&ask(0, 10, [0x10, 0], [0x10, 0]))?;
+    let asked = asked_at_once(alloc)?;
     stream.write_all(asked.as_slice())?;
     let mut seen = [false; 3];
     for _ in 0..3 {
-        let mut header = [0u8; 16];
-        stream.read_exact(&mut header)?;
-        let cookie = header[15];
-        if header != told(0, cookie) || !(8..=10).contains(&cookie) {
+        if !is_one_told(alloc, stream, &mut seen)? {
             return Ok(false);
         }
-        let place = usize::from(cookie) - 8;
-        if seen[place] {
-            return Ok(false);
-        }
-        seen[place] = true;
-        if cookie == 10 && !exchange(alloc, stream, &[], &[&AB_BLOCK])? {
-            return Ok(false);
-        }
+    }
+    Ok(true)
+}
+
+// The requests 8 to 10, in one piece.
+fn asked_at_once(alloc: Global) -> Result<Vec<u8>, AllocError> {
+    [
+        ask(1, 8, [0x40, 0], [0x10, 0]).as_slice(),
+        &ZERO_BLOCK,
+        &ask(1, 9, [0x40, 0], [0x10, 0]),
+        &ZERO_BLOCK,
+        &ask(0, 10, [0x10, 0], [0x10, 0]),
+    ]
+    .concat(alloc)
+}
+
+// Whether the next reply is the right one to one of these requests, none of whose replies was seen before.
+fn is_one_told(alloc: Global, stream: &mut TcpStream, seen: &mut [bool; 3]) -> io::Result<bool> {
+    let mut header = [0u8; 16];
+    stream.read_exact(&mut header)?;
+    let cookie = header[15];
+    if header != told(0, cookie) || !(8..=10).contains(&cookie) {
+        return Ok(false);
+    }
+    let place = usize::from(cookie) - 8;
+    if seen[place] {
+        return Ok(false);
+    }
+    seen[place] = true;
+    if cookie == 10 {
+        return comes(alloc, stream, &AB_BLOCK);
     }
     Ok(true)
 }
@@ -209,76 +223,115 @@ fn is_told(alloc: Global, stream: &mut TcpStream) -> io::Result<bool> {
     Ok(came.starts_with(PAGE_ANSWER) && is_line)
 }
 
-// Serves two images to one client, under this protocol. Returns the server's status, and whether the client had the right
-// answers.
-fn serve_one<
-    H: Host + Files<File = File> + Net<Listener = TcpListener, Stream = TcpStream> + RandomSource,
->(rt: H, protocol: Protocol, out: &mut Vec<u8>) -> io::Result<(u8, bool)> {
-    let alloc = rt.alloc();
-    let free = TcpListener::bind(&rt, (Ipv4Addr::LOCALHOST, 0))?;
-    let other = TcpListener::bind(&rt, (Ipv4Addr::LOCALHOST, 0))?;
-    let (address, page) = (free.local_addr()?, other.local_addr()?);
-    drop(free);
-    drop(other);
-    let is_done = Arc::new(alloc, AtomicBool::new(false))?;
-    let order = Order {
-        rt,
-        is_done: Arc::try_clone(&is_done)?,
-        is_given: false,
-    };
-    let options = ServeOptions {
+// Whether a client has the right answers at this address.
+fn is_served<R: Net<Stream = TcpStream> + Clock>(
+    rt: &R,
+    alloc: Global,
+    address: SocketAddr,
+) -> io::Result<bool> {
+    let mut stream = connect(rt, address)?;
+    talk(alloc, &mut stream)
+}
+
+// Whether the page at this address tells that both nodes are connected.
+fn is_shown<R: Net<Stream = TcpStream> + Clock>(
+    rt: &R,
+    alloc: Global,
+    page: SocketAddr,
+) -> io::Result<bool> {
+    let mut stream = connect(rt, page)?;
+    is_told(alloc, &mut stream)
+}
+
+// Two addresses at which nothing listens.
+fn free_addresses<R: Abort + Net<Listener = TcpListener, Stream = TcpStream>>(
+    rt: &R,
+) -> (SocketAddr, SocketAddr) {
+    let one = TcpListener::bind(rt, (Ipv4Addr::LOCALHOST, 0)).expect(rt, "a listener");
+    let other = TcpListener::bind(rt, (Ipv4Addr::LOCALHOST, 0)).expect(rt, "a listener");
+    (
+        one.local_addr().expect(rt, "an address"),
+        other.local_addr().expect(rt, "an address"),
+    )
+}
+
+// How the images are served.
+fn options_of(protocol: Protocol, listen: SocketAddr, page: SocketAddr) -> ServeOptions<'static> {
+    ServeOptions {
         local: "serving_local",
         peer: "serving_peer",
         blocks: None,
         protocol,
-        listen: address,
+        listen,
         status: Some(page.port()),
         cut_every: None,
+    }
+}
+
+// Serves two images to one client, under this protocol. Returns the server's status, and whether the client had the right
+// answers.
+fn serve_one<
+    H: Abort
+        + Host
+        + Files<File = File>
+        + Net<Listener = TcpListener, Stream = TcpStream>
+        + RandomSource,
+>(rt: H, protocol: Protocol, out: &mut Vec<u8>) -> (u8, bool) {
+    let alloc = rt.alloc();
+    let (address, page) = free_addresses(&rt);
+    let is_done = Arc::new(alloc, AtomicBool::new(false)).expect(&rt, "memory");
+    let order = Order {
+        rt,
+        is_done: Arc::try_clone(&is_done).expect(&rt, "memory"),
+        is_given: false,
     };
+    let options = options_of(protocol, address, page);
     let mut err = Vec::new(alloc);
     let (is_right, status) = thread::join(
         &rt,
-        || -> io::Result<bool> {
-            let answer = match connect(&rt, address) {
-                Ok(mut stream) => talk(alloc, &mut stream),
-                Err(error) => Err(error),
-            };
-            let told = match connect(&rt, page) {
-                Ok(mut stream) => is_told(alloc, &mut stream),
-                Err(error) => Err(error),
-            };
+        || -> bool {
+            let answer = is_served(&rt, alloc, address);
+            let shown = is_shown(&rt, alloc, page);
             is_done.store(true, Ordering::SeqCst);
-            Ok(answer? && told?)
+            answer.expect(&rt, "answers") && shown.expect(&rt, "a page")
         },
-        || -> u8 { serve(&rt, &options, order, out, &mut err) },
+        || -> u8 { serve(&rt, &options, order, out, &mut err).code() },
     );
-    Ok((status, is_right?))
+    (status, is_right)
+}
+
+// Puts two images of zeros where the server looks for them.
+fn put_images(rt: &(impl Abort + AllocGlobal + Files)) {
+    let zeros = Vec::from_elem(rt.alloc(), 0u8, IMAGE_BYTES).expect(rt, "memory");
+    for file in ["serving_local", "serving_peer"] {
+        fs::write(rt, file, zeros.as_slice()).expect(rt, "an image");
+    }
+}
+
+// The image that is left, which goes, has what the client wrote.
+fn is_written(rt: &(impl Abort + AllocGlobal + Files), protocol: Protocol, file: &str) {
+    let mut wanted = Vec::new(rt.alloc());
+    for block in 0..8 {
+        let bytes = if block == 1 { &AB_BLOCK } else { &ZERO_BLOCK };
+        wanted.extend_from_slice(bytes).expect(rt, "memory");
+    }
+    let image = fs::read(rt, file).expect(rt, "an image");
+    assert_eq!(rt; image.as_slice(), wanted.as_slice(), "{protocol:?} {file}");
+    fs::remove_file(rt, file).expect(rt, "an image");
 }
 
 #[test]
-fn a_client_reads_what_it_wrote(rt: HostRuntime) -> Result<(), Fail> {
+fn a_client_reads_what_it_wrote(rt: HostRuntime) {
     for protocol in [Protocol::A, Protocol::B, Protocol::C] {
-        let zeros = Vec::from_elem(rt.alloc(), 0u8, IMAGE_BYTES)?;
-        fs::write(&rt, "serving_local", zeros.as_slice())?;
-        fs::write(&rt, "serving_peer", zeros.as_slice())?;
+        put_images(&rt);
         let mut out = Vec::new(rt.alloc());
-        let (status, is_right) = serve_one(rt, protocol, &mut out)?;
+        let (status, is_right) = serve_one(rt, protocol, &mut out);
         assert!(rt; is_right, "{protocol:?}");
         assert_eq!(rt; status, 0, "{protocol:?}");
         let lines = "completed 4\nsettled 4\nunmarked 0\n";
         assert_eq!(rt; out.as_slice(), lines.as_bytes(), "{protocol:?}");
-        let mut wanted = Vec::new(rt.alloc());
-        for block in 0..8 {
-            wanted.extend_from_slice(if block == 1 { &AB_BLOCK } else { &ZERO_BLOCK })?;
-        }
         for file in ["serving_local", "serving_peer"] {
-            assert_eq!(rt;
-                fs::read(&rt, file)?.as_slice(),
-                wanted.as_slice(),
-                "{protocol:?} {file}"
-            );
-            fs::remove_file(&rt, file)?;
+            is_written(&rt, protocol, file);
         }
     }
-    Ok(())
 }

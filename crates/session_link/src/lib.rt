@@ -5,7 +5,11 @@
 mod direction;
 mod join;
 mod names;
+mod naming;
+mod numbers;
 
 pub use direction::join_direction;
 pub use join::{SessionPrimary, SessionSecondary, join_nodes};
 pub use names::{Back, Linked, There};
+pub use naming::{LocalEnds, PeerEnds, named_ends};
+pub use numbers::check_numbers;

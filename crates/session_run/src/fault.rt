@@ -1,7 +1,6 @@
 //! Failures of a run.
-ghost use Rattle.std.specs.Prelude.{◌≡◌, ◌⊎◌};
-
 use blocks::Refusal;
+use numbers::SessionStatus;
 use std::alloc::AllocError;
 use std::{fmt, io};
 
@@ -23,14 +22,11 @@ pub(crate) enum Fault<'a> {
 }
 
 impl Fault<'_> {
-    /// The exit status: 3 for a refusal other than `NoMemory` (7), else 1.
-    pub(crate) fn status(&self) -> u8
-        ensures { (result ≡ 1) ⊎ (result ≡ 3) }
-    {
+    /// How the session ends with it.
+    pub(crate) fn status(&self) -> SessionStatus {
         match self {
-            Fault::Refused(Refusal::NoMemory) => 1,
-            Fault::Refused(_) => 3,
-            _ => 1,
+            Fault::Refused(refusal) => SessionStatus::of(*refusal),
+            _ => SessionStatus::Failed,
         }
     }
 }

@@ -5,7 +5,6 @@
 mod fault;
 mod images;
 mod parts;
-mod plan;
 mod report;
 mod saving;
 mod session;

@@ -2,7 +2,6 @@
 ghost use Rattle.std.specs.Prelude.{◌≡◌, ◌<◌, IfOk};
 ghost use Rattle.blocks.specs.SettingsRange.{standard};
 
-use crate::plan::settings;
 use blocks::{MemStore, Refusal, Tuple};
 use options::RunOptions;
 use std::alloc::Global;
@@ -22,7 +21,7 @@ pub(crate) fn parts(
     ensures settings { IfOk result (λ made. made.0.settings ≡ record standard { protocol = options.now.protocol; blocks = options.now.blocks }) }
     ensures some_blocks { IfOk result (λ _. 0 < options.now.blocks) }
 {
-    let settings = settings(options);
+    let settings = options.settings();
     settings.check()?;
     let first = Tuple::new(1, 0, 0, 0);
     let unknown = Tuple::new(0, 0, 0, 0);

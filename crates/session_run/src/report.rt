@@ -3,11 +3,11 @@ ghost use Rattle.std.specs.Prelude.{◌≡◌, ◌*◌, length, vec_len, IfOk};
 
 use blocks::{MemStore, Refusal};
 use link::{FrameIn, FrameOut};
+use node_lines::{primary_line, secondary_line};
 use options::RunOptions;
 use primary::{Primary, Receipt};
 use secondary::Secondary;
 use settle::settle;
-use status::{primary_line, secondary_line};
 use std::alloc::Global;
 
 /// What a session came to, with both disks.

@@ -1,5 +1,4 @@
 //! Progress lines of a run.
-use crate::plan::all_writes;
 use options::RunOptions;
 use std::io;
 use std::io::Write;
@@ -92,7 +91,7 @@ fn tell_once<R: Wait + Clock + Drop, A: PrimaryHalf + Drop, B: SecondaryHalf + D
     }
     if options.telling.progress {
         let completed = course.completed.load(Ordering::SeqCst);
-        let all = all_writes(options);
+        let all = options.all_writes();
         let marks = mirror.marks();
         write!(
             err,

@@ -1,14 +1,12 @@
 //! A run, from its images to its lines.
-ghost use Rattle.std.specs.Prelude.{◌≡◌, ◌≤◌};
-
 use crate::fault::Fault;
 use crate::images::load;
-use crate::plan::settings;
 use crate::report::Report;
 use crate::saving::save;
 use crate::session::run_session;
 use crate::sockets::run_over;
 use crate::telling::tell_status;
+use numbers::SessionStatus;
 use options::{Images, Path, RunOptions};
 use std::io::Write;
 use std::net::{Net, TcpListener, TcpStream};
@@ -16,8 +14,8 @@ use std::rt::Files;
 use volume::{Host, loopback};
 
 /// Runs a session with these options over these images, saves both disks, and prints `completed X`, `settled X`
-/// and `unmarked 0`, X being the number of writes. Returns the exit status: 0 if all is done; 1 if a file, the
-/// output or memory failed, or an image has not as many bytes as its blocks; 3 for any other refusal.
+/// and `unmarked 0`, X being the number of writes. Returns how it ended: `Done` if all is done; `Failed` if a
+/// file, the output or memory failed, or an image has not as many bytes as its blocks; `Refused` for any other refusal.
 ///
 /// Faults are found in this order: options out of their ranges (15), the local image, the peer's, the sockets, the
 /// start, the writes, saving. Then a line on `err` tells of the first, which for a refusal R is `refused R`; nothing is
@@ -26,11 +24,9 @@ pub fn run<
     H: Host + Files + Net<Listener = TcpListener, Stream = TcpStream>,
     W: Write,
     E: Write + Send,
->(rt: &H, options: &RunOptions, images: &Images<'_>, out: &mut W, err: &mut E) -> u8
-    ensures { result ≤ 3 }
-{
+>(rt: &H, options: &RunOptions, images: &Images<'_>, out: &mut W, err: &mut E) -> SessionStatus {
     match run_images(rt, options, images, out, err) {
-        Ok(()) => 0,
+        Ok(()) => SessionStatus::Done,
         Err(fault) => {
             let _ = writeln!(err, "{fault}");
             fault.status()
@@ -50,7 +46,7 @@ fn run_images<
     out: &mut W,
     err: &mut E,
 ) -> Result<(), Fault<'a>> {
-    settings(options).check()?;
+    options.settings().check()?;
     let local = load(rt, images.local, options.blocks)?;
     let peer = load(rt, images.peer, options.blocks)?;
     let mut report = run_disks(rt, options, (local, peer), err)?;

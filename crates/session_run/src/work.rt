@@ -2,11 +2,10 @@
 ghost use Rattle.std.specs.Prelude.{◌≡◌, ◌*◌, ◌<◌, vec_len, IfOk};
 ghost use Rattle.std.specs.Thread.{IsSend, IsSync};
 
-use crate::plan::{all_writes, block, byte, words};
 use crate::telling::{Course, tell};
 use blocks::{BLOCK_BYTES, Refusal};
 use bytes::Bytes;
-use options::RunOptions;
+use options::{RunOptions, byte, words};
 use primary::Receipt;
 use std::alloc::Global;
 use std::io::Write;
@@ -123,7 +122,7 @@ fn write_all<
         all.append(&mut receipts?)?;
     }
     // Each writer that was not refused has all of its receipts.
-    if all.len() as u64 != all_writes(options) {
+    if all.len() as u64 != options.all_writes() {
         return Err(Refusal::UnknownJob);
     }
     Ok(all)
@@ -143,7 +142,7 @@ fn write_turns<R: Wait + Clock + Drop, A: PrimaryHalf + Drop, B: SecondaryHalf +
     let mut receipts = Vec::with_capacity(alloc, options.writes as usize)?;
     for turn in 0..options.writes {
         let bytes = Bytes::copy_from_slice(alloc, &[byte(writer, turn); BLOCK_BYTES])?;
-        receipts.push(mirror.write(block(options, writer, turn), &bytes)?)?;
+        receipts.push(mirror.write(options.block(writer, turn), &bytes)?)?;
         course.count();
     }
     Ok(receipts)

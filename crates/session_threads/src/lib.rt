@@ -4,6 +4,7 @@
 
 mod carriers;
 mod hello;
+mod host;
 mod mirror;
 mod observed;
 mod running;
@@ -12,6 +13,8 @@ mod way;
 mod workers;
 
 pub use carriers::{PumpEnds, half_rows};
-pub use mirror::{Begun, Mirror};
+pub use halves::Begun;
+pub use host::{Host, Runtime};
+pub use mirror::Mirror;
 pub use running::Running;
 pub use way::Way;

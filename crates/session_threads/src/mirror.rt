@@ -4,20 +4,12 @@ ghost use Rattle.std.specs.Prelude.{◌≡◌, ◌*◌, length, true, IfOk};
 use crate::shared::{Path, Shared};
 use blocks::{BLOCK_BYTES, Refusal};
 use bytes::Bytes;
-use halves::{PrimaryHalf, SecondaryHalf};
+use halves::{Begun, PrimaryHalf, SecondaryHalf};
 use primary::Receipt;
 use session_nodes::LocalRole;
 use std::alloc::Global;
 use std::sync::{Arc, Wait};
 use std::time::Clock;
-
-/// A write that was begun, and whose receipt is not yet had.
-#[derive(Debug, Drop)]
-pub struct Begun {
-    number: u64,
-    first: u64,
-    count: u64,
-}
 
 /// A running session over these two halves, as any number of threads may share it.
 #[derive(Drop)]
@@ -54,11 +46,7 @@ impl<R: Wait + Clock + Drop, A: PrimaryHalf + Drop, B: SecondaryHalf + Drop> Mir
         }
         let number = self.submit(first, bytes)?;
         self.shared.send_next();
-        Ok(Begun {
-            number,
-            first,
-            count: (bytes.len() / BLOCK_BYTES) as u64,
-        })
+        Ok(Begun::new(number, first, bytes))
     }
 
     /// Waits until a write that was begun is completed as the protocol says, and returns its receipt.
@@ -68,10 +56,8 @@ impl<R: Wait + Clock + Drop, A: PrimaryHalf + Drop, B: SecondaryHalf + Drop> Mir
     pub fn complete(&self, begun: Begun) -> Result<Receipt, Refusal>
         ensures own { IfOk result (λ receipt. (receipt.first ≡ begun.first) × (receipt.count ≡ begun.count)) }
     {
-        let receipt = self.completed(begun.number)?;
-        if receipt.first().0 != begun.first || receipt.count() != begun.count {
-            return Err(Refusal::UnknownJob);
-        }
+        let receipt = self.completed(begun.number())?;
+        begun.check(&receipt)?;
         Ok(receipt)
     }
 

@@ -1,8 +1,7 @@
-//! The status lines of both nodes.
+//! The status lines of a pair, over those of its nodes.
 #![tactic(auto)]
 
 mod lines;
-mod nodes;
-mod words;
 
-pub use nodes::{line, primary_line, secondary_line};
+pub use lines::line;
+pub use node_lines::{primary_line, secondary_line};

@@ -1,2 +1,2 @@
 -- Which ends a session begins with.
-pub mod Links
+pub use Rattle.session_link.specs.Links

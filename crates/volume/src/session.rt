@@ -8,10 +8,13 @@ ghost use Rattle.session_nodes.specs.Primaries.{PrimaryHas, PrimaryIsHad};
 ghost use Rattle.session_nodes.specs.Secondaries.{SecondaryHas, SecondaryIsHad};
 ghost use Rattle.volume.specs.Links.{AreEndsOf};
 
-use blocks::{Refusal, Settings, Store, Tuple};
+use blocks::{Refusal, Store};
+use halves::Parts;
 use locked_halves::{LocalHalf, PeerHalf};
 use ruled_link::{NamedIn, NamedOut, RuledIn, RuledOut};
-use session_link::{Back, Linked, SessionPrimary, SessionSecondary, There, join_nodes};
+use session_link::{
+    Back, Linked, SessionPrimary, SessionSecondary, There, check_numbers, join_nodes, named_ends,
+};
 use session_threads::{Mirror, Running};
 use std::alloc::Global;
 use std::sync::Wait;
@@ -26,18 +29,6 @@ pub type SessionPeer<R, L, T> = PeerHalf<R, NamedOut<R, Back<L>>, NamedIn<R, The
 
 /// What any number of threads may share of a session over a link.
 pub type SessionMirror<R, L, S, T> = Mirror<R, SessionLocal<R, L, S>, SessionPeer<R, L, T>>;
-
-/// What a session starts from: the settings of both nodes, the generation identifiers of each disk, the marks
-/// of the local one, a truth value for each block, and the first connection's two words.
-#[derive(Drop)]
-pub struct Parts {
-    pub settings: Settings,
-    pub own: Tuple,
-    pub peer: Tuple,
-    pub marks: Vec<bool>,
-    pub sync: u64,
-    pub loss: u64,
-}
 
 /// A running session over a link.
 #[derive(Drop)]
@@ -69,8 +60,7 @@ impl<
         requires there { AreEndsOf L.link names.There there }
         requires back { AreEndsOf L.link names.Back back }
     {
-        let (out, taken) = there;
-        let (answers, acks) = back;
+        let (local_ends, peer_ends) = named_ends::<R, L>(there, back);
         let local = LocalHalf::open(
             rt,
             alloc,
@@ -78,17 +68,10 @@ impl<
             local,
             parts.own,
             parts.marks,
-            (out.named::<There<L>>(), acks.named::<Back<L>>()),
+            local_ends,
             (parts.sync, parts.loss),
         )?;
-        match PeerHalf::open(
-            rt,
-            alloc,
-            parts.settings,
-            peer,
-            parts.peer,
-            (answers.named::<Back<L>>(), taken.named::<There<L>>()),
-        ) {
+        match PeerHalf::open(rt, alloc, parts.settings, peer, parts.peer, peer_ends) {
             Ok(peer) => Session::over(rt, alloc, local, peer),
             Err(refusal) => Err(refusal),
         }
@@ -134,10 +117,10 @@ impl<R: Threads + Wait + Clock + Drop, L: Linked, S: Store + Drop, T: Store + Dr
         let Session { running } = self;
         let (local, peer) = running.finish()?;
         let (primary, secondary) = into_nodes(local, peer);
-        if secondary.number() > primary.connections() {
-            return Err(Refusal::NotDrained);
+        match check_numbers(&primary, &secondary) {
+            Ok(()) => Ok((primary, secondary)),
+            Err(refusal) => Err(refusal),
         }
-        Ok((primary, secondary))
     }
 }
 

@@ -3,12 +3,13 @@ ghost use Rattle.std.specs.Prelude.{◌<◌, ◌≤◌, IfOk};
 ghost use Rattle.session_nodes.specs.Primaries.{PrimaryIsHad};
 ghost use Rattle.session_nodes.specs.Secondaries.{SecondaryIsHad};
 
-use crate::session::Parts;
 use blocks::{Refusal, Settings, Store, Tuple};
+use halves::Parts;
 use locked_halves::{LocalHalf, PeerHalf};
 use primary::Primary;
 use ruled_link::{RuledIn, RuledOut};
 use secondary::Secondary;
+use session_link::check_numbers;
 use session_threads::{Mirror, PumpEnds, Running, Way, half_rows};
 use std::alloc::Global;
 use std::io::{Read, Write};
@@ -159,10 +160,10 @@ impl<R: Threads + Wait + Clock + Drop, S: Store + Drop, T: Store + Drop> WireSes
         let WireSession { running } = self;
         let (local, peer) = running.finish()?;
         let (primary, secondary) = apart(local, peer);
-        if secondary.number() > primary.connections() {
-            return Err(Refusal::NotDrained);
+        match check_numbers(&primary, &secondary) {
+            Ok(()) => Ok((primary, secondary)),
+            Err(refusal) => Err(refusal),
         }
-        Ok((primary, secondary))
     }
 }
 

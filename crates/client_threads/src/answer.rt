@@ -1,0 +1,110 @@
+//! Doing requests together.
+use crate::client::Client;
+use crate::request::Job;
+use crate::service::Service;
+use halves::{PrimaryHalf, SecondaryHalf};
+use nbd::Command;
+use primary::Receipt;
+use requests::UnderWay;
+use session_threads::Mirror;
+use std::alloc::Global;
+use std::sync::{Arc, Wait};
+use std::time::Clock;
+
+/// How many requests a thread does together at most.
+const TOGETHER: usize = 16;
+
+/// A request that was begun, and the client that waits for its reply.
+#[derive(Drop)]
+struct Pending {
+    under_way: UnderWay,
+    client: Arc<Client, Global>,
+    // Whether it waits for stable storage.
+    syncs: bool,
+}
+
+/// Does a request, and those that wait behind it by now: begins all of them, then ends one after another, and then sends their
+/// replies. The receipts of their writes are appended.
+pub(crate) fn answer<R: Wait + Clock + Drop, A: PrimaryHalf + Drop, B: SecondaryHalf + Drop>(
+    rt: &R,
+    service: &Service,
+    mirror: &Mirror<R, A, B>,
+    job: Job,
+    receipts: &mut Vec<Receipt>,
+) {
+    let mut begun = Vec::new(service.alloc);
+    let mut answered = Vec::new(service.alloc);
+    let first = begin(rt, service, mirror, job);
+    if begun.try_reserve(TOGETHER).is_err() || answered.try_reserve(TOGETHER).is_err() {
+        release(rt, &end(rt, service, mirror, first, receipts));
+        return;
+    }
+    // There is room for all that is pushed here.
+    let _ = begun.push(first);
+    for _ in 1..TOGETHER {
+        let Ok(job) = service.queue.try_recv(rt) else {
+            break;
+        };
+        let _ = begun.push(begin(rt, service, mirror, job));
+    }
+    for pending in begun {
+        if pending.syncs {
+            release_all(rt, &mut answered);
+        }
+        let _ = answered.push(end(rt, service, mirror, pending, receipts));
+    }
+    release_all(rt, &mut answered);
+}
+
+// Begins a request.
+fn begin<R: Wait + Clock + Drop, A: PrimaryHalf + Drop, B: SecondaryHalf + Drop>(
+    rt: &R,
+    service: &Service,
+    mirror: &Mirror<R, A, B>,
+    job: Job,
+) -> Pending {
+    let Job { request, client } = job;
+    let syncs = request.fua || request.command == Command::Flush;
+    Pending {
+        under_way: service.requests.begin(rt, mirror, request),
+        client,
+        syncs,
+    }
+}
+
+// Ends a request, and has its client's connection hold the reply.
+fn end<R: Wait + Clock + Drop, A: PrimaryHalf + Drop, B: SecondaryHalf + Drop>(
+    rt: &R,
+    service: &Service,
+    mirror: &Mirror<R, A, B>,
+    pending: Pending,
+    receipts: &mut Vec<Receipt>,
+) -> Arc<Client, Global> {
+    let Pending {
+        under_way,
+        client,
+        ..
+    } = pending;
+    let (request, done) = service.requests.end(rt, mirror, under_way, receipts);
+    match done {
+        Ok(data) => client.reply(rt, &request.reply(None), data.as_slice()),
+        Err(errno) => client.reply(rt, &request.reply(Some(errno)), &[]),
+    }
+    client
+}
+
+// Sends the replies that these clients wait for, and frees the places of their requests.
+fn release_all<R: Wait>(rt: &R, answered: &mut Vec<Arc<Client, Global>>) {
+    for _ in 0..answered.len() {
+        let Some(client) = answered.pop() else {
+            break;
+        };
+        release(rt, &client);
+    }
+}
+
+// Sends the replies that a client waits for, and frees the place of a request.
+fn release<R: Wait>(rt: &R, client: &Client) {
+    client.send_held(rt);
+    client.places.free(rt);
+}

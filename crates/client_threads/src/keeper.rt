@@ -1,0 +1,79 @@
+//! The thread that keeps the link up.
+use crate::service::Service;
+use blocks::Refusal;
+use halves::{PrimaryHalf, SecondaryHalf};
+use session_threads::Mirror;
+use status_page::{Report, Resync};
+use std::sync::Wait;
+use std::sync::atomic::{AtomicBool, Ordering};
+use std::thread;
+use std::time::{Clock, Duration};
+
+/// How often it looks, in milliseconds.
+const LOOK_MS: u64 = 20;
+
+/// How many looks make a second.
+const LOOKS_A_SECOND: u64 = 50;
+
+/// Reconnects the link whenever it is down, cuts it every `cut_every` seconds if that is set, and gives reports, until the
+/// session is over.
+pub(crate) fn keep<R: Wait + Clock + Drop, A: PrimaryHalf + Drop, B: SecondaryHalf + Drop>(
+    rt: &R,
+    service: &Service,
+    mirror: &Mirror<R, A, B>,
+    cut_every: Option<u32>,
+    over: &AtomicBool,
+) {
+    let mut looks = 0u64;
+    let mut most = 0u32;
+    let mut words = service.words();
+    for _ in rt.forever() {
+        if over.load(Ordering::SeqCst) {
+            break;
+        }
+        if let Some(seconds) = cut_every
+            && looks >= u64::from(seconds).saturating_mul(LOOKS_A_SECOND)
+        {
+            mirror.cut();
+            looks = 0;
+        }
+        // An end that is open, or a disk that has items to do, refuses this and changes nothing.
+        if mirror.reconnect(words.0, words.1).is_ok() {
+            words = service.words();
+        }
+        most = most_since(most, mirror.marks());
+        if service.reports.is_asked(rt)
+            && let Ok(report) = report(mirror, most)
+        {
+            service.reports.give(rt, report);
+        }
+        thread::sleep(rt, Duration::from_millis(LOOK_MS));
+        looks = looks.saturating_add(1);
+    }
+}
+
+// The most blocks that were marked since none was.
+fn most_since(most: u32, marks: u32) -> u32 {
+    if marks == 0 { 0 } else { most.max(marks) }
+}
+
+// What the session tells of its nodes. While blocks are marked and the link is up, a resync goes on.
+fn report<R: Wait + Clock + Drop, A: PrimaryHalf + Drop, B: SecondaryHalf + Drop>(
+    mirror: &Mirror<R, A, B>,
+    most: u32,
+) -> Result<Report, Refusal> {
+    let (primary, secondary) = mirror.status()?;
+    let resync = if primary.as_str().starts_with("cs:SyncSource ") {
+        Some(Resync {
+            left: mirror.marks(),
+            all: most,
+        })
+    } else {
+        None
+    };
+    Ok(Report {
+        primary,
+        secondary,
+        resync,
+    })
+}

@@ -1,0 +1,56 @@
+//! The thread of the status page.
+use crate::service::Service;
+use status_page::answer_one;
+use std::hash::RandomState;
+use std::net::{TcpListener, TcpStream};
+use std::sync::Wait;
+use std::time::{Clock, Duration};
+use std::{io, thread};
+
+/// How long a client of the page may take to ask, or to read the answer, in seconds.
+const PATIENCE_S: u64 = 2;
+
+/// How long the thread waits after a failure, in milliseconds.
+const PAUSE_MS: u64 = 100;
+
+/// Answers the clients of the page, one after another, until the server ends.
+pub fn serve_page<R: Wait + Clock>(
+    rt: &R,
+    service: &Service,
+    keys: RandomState,
+    listener: &TcpListener,
+) {
+    for _ in rt.forever() {
+        let accepted = listener.accept();
+        if service.is_over() {
+            break;
+        }
+        match accepted {
+            Ok((stream, _)) => {
+                let _ = tell(rt, service, keys, &stream);
+            }
+            Err(_) => thread::sleep(rt, Duration::from_millis(PAUSE_MS)),
+        }
+    }
+}
+
+// Tells one client.
+fn tell<R: Wait + Clock>(
+    rt: &R,
+    service: &Service,
+    keys: RandomState,
+    stream: &TcpStream,
+) -> io::Result<()> {
+    let patience = Some(Duration::from_secs(PATIENCE_S));
+    stream.set_read_timeout(patience)?;
+    stream.set_write_timeout(patience)?;
+    let report = service.reports.ask(rt);
+    let (mut reader, mut writer) = (stream, stream);
+    answer_one(
+        service.alloc,
+        keys,
+        report.as_ref(),
+        &mut reader,
+        &mut writer,
+    )
+}

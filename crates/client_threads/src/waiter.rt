@@ -1,0 +1,88 @@
+//! The thread that lets clients in, and the one that waits for the order to end.
+use crate::client::Client;
+use crate::reader::serve_client;
+use crate::service::Service;
+use blocks::Refusal;
+use session_threads::Runtime;
+use std::alloc::Global;
+use std::io::{BufRead, BufReader, Read};
+use std::net::{Net, SocketAddr, TcpListener, TcpStream};
+use std::sync::{Arc, Wait};
+use std::thread;
+use std::time::Duration;
+
+/// How many clients there may be at a time. Further ones are closed at once.
+const MAX_CLIENTS: u32 = 256;
+
+/// How long the thread that lets clients in waits after a failure, in milliseconds.
+const PAUSE_MS: u64 = 100;
+
+/// The order to end.
+const QUIT: &str = "quit";
+
+/// Lets clients in, each with a thread of its own, until the server ends.
+pub fn let_in<R: Runtime>(rt: R, service: &Arc<Service, Global>, listener: &TcpListener) {
+    for _ in rt.forever() {
+        let accepted = listener.accept();
+        if service.is_over() {
+            break;
+        }
+        match accepted {
+            Ok((stream, _)) => {
+                let _ = welcome(rt, service, stream);
+            }
+            Err(_) => thread::sleep(&rt, Duration::from_millis(PAUSE_MS)),
+        }
+    }
+}
+
+// Starts the thread of a client.
+fn welcome<R: Runtime>(
+    rt: R,
+    service: &Arc<Service, Global>,
+    stream: TcpStream,
+) -> Result<(), Refusal> {
+    let client = Arc::new(service.alloc, Client::new(service.alloc, stream)?)?;
+    let shared = Arc::try_clone(service)?;
+    if shared.enter() >= MAX_CLIENTS || client.prepare().is_err() {
+        shared.leave();
+        return Ok(());
+    }
+    let started = thread::spawn(&rt, move || {
+        let _ = serve_client(&rt, &shared, &client);
+        client.close();
+        shared.leave();
+    });
+    if started.is_err() {
+        service.leave();
+        return Err(Refusal::NoMemory);
+    }
+    Ok(())
+}
+
+/// Waits for a line that says `quit`, and ends the server then, which listens at these addresses. The end of the input is no such line.
+pub fn wait_for_quit<R: Wait + Net<Stream = TcpStream>, I: Read + Drop>(
+    rt: &R,
+    service: &Service,
+    input: I,
+    addresses: (SocketAddr, Option<SocketAddr>),
+) {
+    let Ok(lines) = BufReader::new(service.alloc, input) else {
+        return;
+    };
+    for line in lines.lines(service.alloc) {
+        match line {
+            Ok(line) if line.as_str().trim() == QUIT => {
+                service.end();
+                // The threads that wait for clients look at each of them, and so at these, whether the server ends.
+                let _ = TcpStream::connect(rt, addresses.0);
+                if let Some(page) = addresses.1 {
+                    let _ = TcpStream::connect(rt, page);
+                }
+                return;
+            }
+            Ok(_) => {}
+            Err(_) => return,
+        }
+    }
+}

@@ -1,0 +1,2 @@
+-- What callers of a half see.
+pub mod Begun

@@ -1,0 +1,59 @@
+//! A write between its acceptance and its receipt.
+ghost use Rattle.std.specs.Prelude.{◌≡◌, ◌*◌, ◌%◌, length, OnErr, OnOk, IfErr};
+ghost use Rattle.blocks.specs.declared.refusal.Refusal.TheVariants.{UnknownJob};
+
+use blocks::{BLOCK_BYTES, Refusal};
+use bytes::Bytes;
+use primary::Receipt;
+use std::marker::Model;
+
+/// A write that was begun, and whose receipt is not yet had.
+#[derive(Debug, Drop)]
+pub struct Begun {
+    number: u64,
+    first: u64,
+    count: u64,
+}
+
+impl Model for Begun {
+    ghost use Rattle.halves.specs.Begun.{BegunState};
+
+    ghost Value = { BegunState };
+
+    ghost view = { λ b. record { number = b.number; first = b.first; count = b.count } };
+}
+
+impl Begun {
+    /// The write that was accepted under this number, of these whole blocks from the first one on.
+    pub fn new(number: u64, first: u64, bytes: &Bytes) -> Begun
+        requires whole { length bytes.now % 4096 ≡ 0 }
+        ensures number { result.number ≡ number }
+        ensures blocks { (result.first ≡ first) × (result.count * 4096 ≡ length bytes.now) }
+    {
+        Begun {
+            number,
+            first,
+            count: (bytes.len() / BLOCK_BYTES) as u64,
+        }
+    }
+
+    /// Its number.
+    pub fn number(&self) -> u64
+        ensures { result ≡ self.now.number }
+    {
+        self.number
+    }
+
+    /// `UnknownJob` (16) if the receipt is of other blocks than were written.
+    pub fn check(&self, receipt: &Receipt) -> Result<(), Refusal>
+        ensures own { OnOk result ((receipt.now.first ≡ self.now.first) × (receipt.now.count ≡ self.now.count)) }
+        ensures other { OnErr result ((receipt.now.first ≡ self.now.first) × (receipt.now.count ≡ self.now.count) → ⊥) }
+        ensures refused { IfErr result (λ refusal. refusal ≡ UnknownJob) }
+    {
+        if receipt.first().0 == self.first && receipt.count() == self.count {
+            Ok(())
+        } else {
+            Err(Refusal::UnknownJob)
+        }
+    }
+}

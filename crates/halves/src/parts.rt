@@ -1,0 +1,14 @@
+//! The beginning of a session.
+use blocks::{Settings, Tuple};
+
+/// What a session starts from: the settings of both nodes, the generation identifiers of each disk, the marks
+/// of the local one, a truth value for each block, and the first connection's two words.
+#[derive(Drop)]
+pub struct Parts {
+    pub settings: Settings,
+    pub own: Tuple,
+    pub peer: Tuple,
+    pub marks: Vec<bool>,
+    pub sync: u64,
+    pub loss: u64,
+}

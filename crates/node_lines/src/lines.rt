@@ -1,0 +1,109 @@
+//! A node's line: its words and numbers, and how they are printed.
+ghost use Rattle.std.specs.Prelude.{◌≡◌, Some};
+ghost use Rattle.node_lines.specs.Text.{counts_text, primary_text, protocol_text, secondary_text, usable_text, usage_text};
+ghost use Rattle.node_lines.specs.Lines.{primary_line_of, secondary_line_of};
+
+use crate::words::Words;
+use blocks::Protocol;
+use std::fmt;
+
+/// The primary's line: `pe` writes wait for the peer's answer, `ap` are neither completed nor failed, `ep`
+/// epochs are not acknowledged, and `oos` KiB are out of sync (DRBD User's Guide, "Performance indicators").
+#[derive(Clone, Copy)]
+pub(crate) struct PrimaryLine {
+    pub(crate) words: Words,
+    pub(crate) protocol: Protocol,
+    pub(crate) pe: u64,
+    pub(crate) ap: u64,
+    pub(crate) ep: u64,
+    pub(crate) oos: u64,
+}
+
+/// The secondary's line: how many items are pending, whether the data may be used as they are, and up to which
+/// epoch of the connection they are whole.
+#[derive(Clone, Copy)]
+pub(crate) struct SecondaryLine {
+    pub(crate) words: Words,
+    pub(crate) protocol: Protocol,
+    pub(crate) pending: u64,
+    pub(crate) usable: bool,
+    pub(crate) whole: u64,
+}
+
+impl fmt::Display for PrimaryLine {
+    ghost output = { λ line. Some (primary_text (primary_line_of line)) };
+
+    fn fmt<W: fmt::Write>(&self, f: &mut fmt::Formatter<W>) -> fmt::Result {
+        let words = self.words;
+        let protocol = protocol_word(self.protocol);
+        let counts = Counts(*self);
+        write!(f, "{words} pr:{protocol}{counts}")
+    }
+}
+
+impl fmt::Display for SecondaryLine {
+    ghost output = { λ line. Some (secondary_text (secondary_line_of line)) };
+
+    fn fmt<W: fmt::Write>(&self, f: &mut fmt::Formatter<W>) -> fmt::Result {
+        let words = self.words;
+        let protocol = protocol_word(self.protocol);
+        let usage = Usage(*self);
+        write!(f, "{words} pr:{protocol}{usage}")
+    }
+}
+
+/// The numbers of the primary's line.
+#[derive(Clone, Copy)]
+struct Counts(PrimaryLine);
+
+impl fmt::Display for Counts {
+    ghost output = { λ counts. Some (counts_text (primary_line_of counts.0)) };
+
+    fn fmt<W: fmt::Write>(&self, f: &mut fmt::Formatter<W>) -> fmt::Result {
+        let PrimaryLine {
+            pe,
+            ap,
+            ep,
+            oos,
+            ..
+        } = self.0;
+        write!(f, " pe:{pe} ap:{ap} ep:{ep} oos:{oos}")
+    }
+}
+
+/// The numbers of the secondary's line, and whether its data may be used.
+#[derive(Clone, Copy)]
+struct Usage(SecondaryLine);
+
+impl fmt::Display for Usage {
+    ghost output = { λ usage. Some (usage_text (secondary_line_of usage.0)) };
+
+    fn fmt<W: fmt::Write>(&self, f: &mut fmt::Formatter<W>) -> fmt::Result {
+        let SecondaryLine {
+            pending,
+            usable,
+            whole,
+            ..
+        } = self.0;
+        let usable = usable_word(usable);
+        write!(f, " pending:{pending} use:{usable} whole:{whole}")
+    }
+}
+
+// The letter of a replication protocol.
+fn protocol_word(protocol: Protocol) -> &'static str
+    ensures { result.now ≡ protocol_text protocol }
+{
+    match protocol {
+        Protocol::A => "A",
+        Protocol::B => "B",
+        Protocol::C => "C",
+    }
+}
+
+// Whether the data may be used.
+fn usable_word(usable: bool) -> &'static str
+    ensures { result.now ≡ usable_text usable }
+{
+    if usable { "Yes" } else { "No" }
+}

@@ -1,0 +1,2 @@
+-- Which ends a session begins with.
+pub mod Links

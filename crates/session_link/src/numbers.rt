@@ -1,0 +1,30 @@
+//! The numbers of the connections of both nodes.
+ghost use Rattle.std.specs.Prelude.{◌<◌, ◌≤◌, ◌≡◌, OnErr, OnOk, IfErr};
+ghost use Rattle.blocks.specs.declared.refusal.Refusal.TheVariants.{NotDrained};
+ghost use Rattle.session_nodes.specs.Primaries.{PrimaryIsHad};
+
+use blocks::{Refusal, Store};
+use link::{FrameIn, FrameOut};
+use primary::Primary;
+use secondary::Secondary;
+
+/// `NotDrained` (36) if a connection of the secondary has a number above the primary's last one, which no session brings
+/// about.
+pub fn check_numbers<
+    O: FrameOut + Drop,
+    I: FrameIn + Drop,
+    S: Store + Drop,
+    P: FrameOut + Drop,
+    J: FrameIn + Drop,
+    T: Store + Drop,
+>(primary: &Primary<O, I, S>, secondary: &Secondary<P, J, T>) -> Result<(), Refusal>
+    requires { PrimaryIsHad primary.now }
+    ensures numbered { OnOk result (secondary.now.core.number ≤ primary.now.core.connections) }
+    ensures above { OnErr result (primary.now.core.connections < secondary.now.core.number) }
+    ensures refused { IfErr result (λ refusal. refusal ≡ NotDrained) }
+{
+    if secondary.number() > primary.connections() {
+        return Err(Refusal::NotDrained);
+    }
+    Ok(())
+}

@@ -1,8 +1,0 @@
-use Rattle.std.proofs.Common.{rules}
-use Rattle.status.proofs.nodes.primary_state.Goals as goal
-
-pub overflow_mul-result : goal.overflow_mul-result
-overflow_mul-result g c = search rules
-
-pub returns : goal.returns
-returns g c = search rules
