@@ -5,6 +5,7 @@ use blocks::{BLOCK_BYTES, Refusal};
 use bytes::Bytes;
 use primary::{Kind, Receipt};
 use std::alloc::Global;
+use std::process::Abort;
 use std::sync::Wait;
 use std::sync::atomic::Ordering;
 use std::thread;
@@ -44,13 +45,13 @@ pub(crate) enum Work {
 }
 
 /// Does it, and returns what the callers have then.
-pub(crate) fn carry_out<R: Runtime, A: SharedPrimary, B: SharedSecondary>(
+pub(crate) fn carry_out<R: Abort + Runtime, A: SharedPrimary, B: SharedSecondary>(
     rt: &R,
     alloc: Global,
     mirror: &Mirror<R, A, B>,
     signals: &Signals,
     work: Work,
-) -> Result<Answers, Refusal> {
+) -> Answers {
     match work {
         Work::Writers { cuts } => all_writers(rt, alloc, mirror, cuts, false),
         Work::SharedBlocks => all_writers(rt, alloc, mirror, 0, true),
@@ -58,9 +59,9 @@ pub(crate) fn carry_out<R: Runtime, A: SharedPrimary, B: SharedSecondary>(
         Work::Gate { receipt_opens } => gate(rt, alloc, mirror, signals, receipt_opens),
         Work::Resync { writes } => resync(alloc, signals, writes),
         Work::TwoConnections => two_connections(rt, alloc, mirror),
-        Work::OneWrite => one_write(alloc, mirror),
+        Work::OneWrite => one_write(rt, alloc, mirror),
         Work::OneConnection => one_connection(alloc, mirror),
-        Work::Refused => refused(alloc, mirror),
+        Work::Refused => refused(rt, alloc, mirror),
     }
 }
 
@@ -74,15 +75,23 @@ fn nothing(alloc: Global) -> Answers {
 }
 
 // Notes the answer of a write.
-fn note(answers: &mut Answers, answer: Result<Receipt, Refusal>) -> Result<(), Refusal> {
+fn note(rt: &impl Abort, answers: &mut Answers, answer: Result<Receipt, Refusal>) {
     match answer {
-        Ok(receipt) => answers.receipts.push(receipt)?,
+        Ok(receipt) => answers.receipts.push(receipt).expect(rt, "memory"),
         Err(Refusal::LocalFault) => {
             answers.local_faults = answers.local_faults.saturating_add(1);
         }
         Err(_) => answers.complaints = answers.complaints.saturating_add(1),
     }
-    Ok(())
+}
+
+// Adds the answers that one caller has to those of all.
+fn add(rt: &impl Abort, all: &mut Answers, answers: &mut Answers) {
+    all.receipts
+        .append(&mut answers.receipts)
+        .expect(rt, "memory");
+    all.local_faults = all.local_faults.saturating_add(answers.local_faults);
+    all.complaints = all.complaints.saturating_add(answers.complaints);
 }
 
 // Writes a block filled with a byte.
@@ -97,117 +106,124 @@ fn write<R: Wait + Clock + Drop, A: PrimaryHalf + Drop, B: SecondaryHalf + Drop>
 }
 
 // All writers, each in a thread of its own, and the one that cuts.
-fn all_writers<R: Runtime, A: SharedPrimary, B: SharedSecondary>(
+fn all_writers<R: Abort + Runtime, A: SharedPrimary, B: SharedSecondary>(
     rt: &R,
     alloc: Global,
     mirror: &Mirror<R, A, B>,
     cuts: u32,
     shared: bool,
-) -> Result<Answers, Refusal> {
+) -> Answers {
     let each = thread::map_indices(
         rt,
         alloc,
         WRITERS + 1,
         &|thread| {
             if thread < WRITERS {
-                write_some(alloc, mirror, thread as u64, shared)
+                write_some(rt, alloc, mirror, thread as u64, shared)
             } else {
-                cut_some(rt, alloc, mirror, cuts)
+                cut_some(rt, mirror, cuts);
+                nothing(alloc)
             }
         },
-    )?;
+    )
+    .expect(rt, "memory");
     let mut all = nothing(alloc);
-    for answers in each {
-        let mut answers = answers?;
-        all.receipts.append(&mut answers.receipts)?;
-        all.local_faults = all.local_faults.saturating_add(answers.local_faults);
-        all.complaints = all.complaints.saturating_add(answers.complaints);
+    for mut answers in each {
+        add(rt, &mut all, &mut answers);
     }
-    Ok(all)
+    all
 }
 
 // The writes of one writer, which reads back the last of them if its blocks are its own.
 fn write_some<R: Wait + Clock + Drop, A: PrimaryHalf + Drop, B: SecondaryHalf + Drop>(
+    rt: &impl Abort,
     alloc: Global,
     mirror: &Mirror<R, A, B>,
     writer: u64,
     shared: bool,
-) -> Result<Answers, Refusal> {
+) -> Answers {
     let mut answers = nothing(alloc);
     let first = if shared { 0 } else { writer % 4 * 2 };
     for turn in 0..WRITES {
         let byte = (writer % 4 * 50 + turn) as u8;
         let answer = write(alloc, mirror, first + turn % 2, byte);
-        note(&mut answers, answer)?;
+        note(rt, &mut answers, answer);
     }
     let last = (writer % 4 * 50 + 49) as u8;
-    let read = mirror.read(first + 1, 1);
-    let is_back = match &read {
-        Ok(bytes) => bytes.as_slice() == [last; BLOCK_BYTES].as_slice(),
-        Err(_) => false,
-    };
-    if !shared && !is_back {
+    if !shared && !holds(mirror, first + 1, last) {
         answers.complaints = answers.complaints.saturating_add(1);
     }
-    Ok(answers)
+    answers
+}
+
+// Whether a block is read that this byte fills.
+fn holds<R: Wait + Clock + Drop, A: PrimaryHalf + Drop, B: SecondaryHalf + Drop>(
+    mirror: &Mirror<R, A, B>,
+    block: u64,
+    byte: u8,
+) -> bool {
+    match mirror.read(block, 1) {
+        Ok(bytes) => bytes.as_slice() == [byte; BLOCK_BYTES].as_slice(),
+        Err(_) => false,
+    }
 }
 
 // Cuts the link and reconnects it, so often.
-fn cut_some<R: Wait + Clock + Drop, A: PrimaryHalf + Drop, B: SecondaryHalf + Drop>(
+fn cut_some<R: Abort + Wait + Clock + Drop, A: PrimaryHalf + Drop, B: SecondaryHalf + Drop>(
     rt: &R,
-    alloc: Global,
     mirror: &Mirror<R, A, B>,
     cuts: u32,
-) -> Result<Answers, Refusal> {
+) {
     for round in 1..=cuts {
         mirror.cut();
-        reconnect(rt, mirror, round)?;
+        reconnect(rt, mirror, round);
     }
-    Ok(nothing(alloc))
 }
 
 // Reconnects under the words of this round, once the secondary's disk has done its items.
-fn reconnect<R: Wait + Clock + Drop, A: PrimaryHalf + Drop, B: SecondaryHalf + Drop>(
+fn reconnect<R: Abort + Wait + Clock + Drop, A: PrimaryHalf + Drop, B: SecondaryHalf + Drop>(
     rt: &R,
     mirror: &Mirror<R, A, B>,
     round: u32,
-) -> Result<u32, Refusal> {
+) {
     let sync = 2 * u64::from(round) + 2;
     for _ in rt.forever() {
         match mirror.reconnect(sync, sync + 1) {
             Err(Refusal::NotDrained) => thread::yield_now(),
-            answer => return answer,
+            answer => {
+                answer.expect(rt, "a connection");
+                break;
+            }
         }
     }
-    unreachable!()
 }
 
 // A thousand writes of one caller, and a cut after every tenth.
-fn cut_every_tenth<R: Wait + Clock + Drop, A: PrimaryHalf + Drop, B: SecondaryHalf + Drop>(
+fn cut_every_tenth<R: Abort + Wait + Clock + Drop, A: PrimaryHalf + Drop, B: SecondaryHalf + Drop>(
     rt: &R,
     alloc: Global,
     mirror: &Mirror<R, A, B>,
-) -> Result<Answers, Refusal> {
+) -> Answers {
     let mut answers = nothing(alloc);
     for round in 1..=100u32 {
         for turn in 0..10u32 {
             let answer = write(alloc, mirror, u64::from(turn % 8), (round + turn) as u8);
-            note(&mut answers, answer)?;
+            note(rt, &mut answers, answer);
         }
         mirror.cut();
-        reconnect(rt, mirror, round)?;
+        reconnect(rt, mirror, round);
     }
-    Ok(answers)
+    answers
 }
 
 // Two callers, whose writes are under way at one time.
-fn gate<R: Runtime, A: SharedPrimary, B: SharedSecondary>(
+fn gate<R: Abort + Runtime, A: SharedPrimary, B: SharedSecondary>(
     rt: &R,
     alloc: Global,
     mirror: &Mirror<R, A, B>,
     signals: &Signals,
     receipt_opens: bool,
-) -> Result<Answers, Refusal> {
+) -> Answers {
     let both = thread::map_indices(
         rt,
         alloc,
@@ -223,15 +239,16 @@ fn gate<R: Runtime, A: SharedPrimary, B: SharedSecondary>(
             }
             receipt
         },
-    )?;
+    )
+    .expect(rt, "memory");
     let mut answers = nothing(alloc);
     for answer in both {
-        note(&mut answers, answer)?;
+        note(rt, &mut answers, answer);
     }
     if signals.gave_up.load(Ordering::SeqCst) {
         answers.complaints = answers.complaints.saturating_add(1);
     }
-    Ok(answers)
+    answers
 }
 
 // Looks until the peer's disk has begun the write of block 0.
@@ -244,31 +261,38 @@ fn wait_until_begun(signals: &Signals) {
     }
 }
 
-// Looks until the peer's disk was written so often.
-fn resync(alloc: Global, signals: &Signals, writes: u64) -> Result<Answers, Refusal> {
-    let mut answers = nothing(alloc);
+// Whether the peer's disk is written so often, within as many looks.
+fn is_copied(signals: &Signals, writes: u64) -> bool {
     for _ in 0..LOOKS {
         if signals.peer_writes.load(Ordering::SeqCst) >= writes {
-            return Ok(answers);
+            return true;
         }
         thread::yield_now();
     }
-    answers.complaints = 1;
-    Ok(answers)
+    false
+}
+
+// Waits until the peer's disk was written so often.
+fn resync(alloc: Global, signals: &Signals, writes: u64) -> Answers {
+    let mut answers = nothing(alloc);
+    if !is_copied(signals, writes) {
+        answers.complaints = 1;
+    }
+    answers
 }
 
 // Writes until the link has answered one, on each of two connections.
-fn two_connections<R: Wait + Clock + Drop, A: PrimaryHalf + Drop, B: SecondaryHalf + Drop>(
+fn two_connections<R: Abort + Wait + Clock + Drop, A: PrimaryHalf + Drop, B: SecondaryHalf + Drop>(
     rt: &R,
     alloc: Global,
     mirror: &Mirror<R, A, B>,
-) -> Result<Answers, Refusal> {
+) -> Answers {
     let mut answers = nothing(alloc);
-    answers.receipts.push(linked(alloc, mirror, 1)?)?;
+    note(rt, &mut answers, linked(alloc, mirror, 1));
     mirror.cut();
-    reconnect(rt, mirror, 1)?;
-    answers.receipts.push(linked(alloc, mirror, 2)?)?;
-    Ok(answers)
+    reconnect(rt, mirror, 1);
+    note(rt, &mut answers, linked(alloc, mirror, 2));
+    answers
 }
 
 // The first linked receipt of this connection.
@@ -290,57 +314,68 @@ fn linked<R: Wait + Clock + Drop, A: PrimaryHalf + Drop, B: SecondaryHalf + Drop
 
 // One write of block 2.
 fn one_write<R: Wait + Clock + Drop, A: PrimaryHalf + Drop, B: SecondaryHalf + Drop>(
+    rt: &impl Abort,
     alloc: Global,
     mirror: &Mirror<R, A, B>,
-) -> Result<Answers, Refusal> {
+) -> Answers {
     let mut answers = nothing(alloc);
-    let answer = write(alloc, mirror, 2, 0xAA);
-    note(&mut answers, answer)?;
-    Ok(answers)
+    note(rt, &mut answers, write(alloc, mirror, 2, 0xAA));
+    answers
 }
 
 // Whether a second connection is refused 12, whatever the words, before and after a cut.
 fn one_connection<R: Wait + Clock + Drop, A: PrimaryHalf + Drop, B: SecondaryHalf + Drop>(
     alloc: Global,
     mirror: &Mirror<R, A, B>,
-) -> Result<Answers, Refusal> {
-    let mut answers = nothing(alloc);
+) -> Answers {
     let before = number(mirror.reconnect(90, 91));
     mirror.cut();
     let after = number(mirror.reconnect(0, 0));
+    let mut answers = nothing(alloc);
     answers.complaints = u32::from(before != 12 || after != 12);
-    Ok(answers)
+    answers
 }
 
-// Whether a session refuses what it should: writes and reads past the device, a write of part of a block, words that
-// are used, and a reconnection over an open link.
+// Whether a session refuses what it should.
 fn refused<R: Wait + Clock + Drop, A: PrimaryHalf + Drop, B: SecondaryHalf + Drop>(
+    rt: &impl Abort,
     alloc: Global,
     mirror: &Mirror<R, A, B>,
-) -> Result<Answers, Refusal> {
+) -> Answers {
     let mut answers = nothing(alloc);
-    let part = Bytes::copy_from_slice(alloc, &[0u8; 100])?;
-    complain(
-        &mut answers,
-        &[
-            (number(write(alloc, mirror, 8, 0)), 1),
-            (number(mirror.write(0, &part)), 1),
-            (number(mirror.read(8, 1)), 1),
-            (number(mirror.read(0, 0)), 1),
-            (number(mirror.reconnect(90, 91)), 36),
-        ],
-    );
+    let part = Bytes::copy_from_slice(alloc, &[0u8; 100]).expect(rt, "memory");
+    complain(&mut answers, &refused_while_open(alloc, mirror, &part));
     mirror.cut();
-    complain(
-        &mut answers,
-        &[
-            (number(mirror.reconnect(90, 90)), 33),
-            (number(mirror.reconnect(1, 91)), 33),
-            (number(mirror.reconnect(0, 91)), 33),
-            (number(mirror.reconnect(90, 91)), 0),
-        ],
-    );
-    Ok(answers)
+    complain(&mut answers, &refused_after_a_cut(mirror));
+    answers
+}
+
+// Writes and reads past the device, a write of part of a block, and a reconnection over an open link: the number of
+// each refusal, and the wanted one.
+fn refused_while_open<R: Wait + Clock + Drop, A: PrimaryHalf + Drop, B: SecondaryHalf + Drop>(
+    alloc: Global,
+    mirror: &Mirror<R, A, B>,
+    part: &Bytes,
+) -> [(u8, u8); 5] {
+    [
+        (number(write(alloc, mirror, 8, 0)), 1),
+        (number(mirror.write(0, part)), 1),
+        (number(mirror.read(8, 1)), 1),
+        (number(mirror.read(0, 0)), 1),
+        (number(mirror.reconnect(90, 91)), 36),
+    ]
+}
+
+// The same of words that are used, and of a reconnection that is not refused.
+fn refused_after_a_cut<R: Wait + Clock + Drop, A: PrimaryHalf + Drop, B: SecondaryHalf + Drop>(
+    mirror: &Mirror<R, A, B>,
+) -> [(u8, u8); 4] {
+    [
+        (number(mirror.reconnect(90, 90)), 33),
+        (number(mirror.reconnect(1, 91)), 33),
+        (number(mirror.reconnect(0, 91)), 33),
+        (number(mirror.reconnect(90, 91)), 0),
+    ]
 }
 
 // Complains of each number of a refusal that is another one than the wanted.

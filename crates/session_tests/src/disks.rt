@@ -1,8 +1,9 @@
 //! Disks of the tests' own, which threads of a test watch.
 ghost use Rattle.std.specs.Prelude.{◌+◌, if◌then◌else◌, is_some};
 
-use blocks::{BLOCK_BYTES, Block, MemStore, Range, Refusal, Store, StoreFault};
+use blocks::{BLOCK_BYTES, Block, MemStore, Range, Store, StoreFault};
 use std::alloc::Global;
+use std::process::Abort;
 use std::sync::Arc;
 use std::sync::atomic::{AtomicBool, AtomicU64, Ordering};
 use std::thread;
@@ -32,6 +33,11 @@ impl Signals {
             gave_up: AtomicBool::new(false),
             peer_writes: AtomicU64::new(0),
         }
+    }
+
+    /// The same, for threads to share.
+    pub(crate) fn shared(rt: &impl Abort, alloc: Global) -> Arc<Signals, Global> {
+        Arc::new(alloc, Signals::new()).expect(rt, "memory")
     }
 }
 
@@ -109,10 +115,15 @@ pub(crate) struct TellingDisk {
 
 impl TellingDisk {
     /// A disk over this memory.
-    pub(crate) fn new(memory: MemStore, signals: Arc<Signals, Global>, opens: bool) -> TellingDisk {
+    pub(crate) fn new(
+        rt: &impl Abort,
+        memory: MemStore,
+        signals: &Arc<Signals, Global>,
+        opens: bool,
+    ) -> TellingDisk {
         TellingDisk {
             memory,
-            signals,
+            signals: Arc::try_clone(signals).expect(rt, "signals"),
             opens,
         }
     }
@@ -152,10 +163,15 @@ pub(crate) struct GatedDisk {
 
 impl GatedDisk {
     /// A disk over this memory.
-    pub(crate) fn new(memory: MemStore, signals: Arc<Signals, Global>, waits: bool) -> GatedDisk {
+    pub(crate) fn new(
+        rt: &impl Abort,
+        memory: MemStore,
+        signals: &Arc<Signals, Global>,
+        waits: bool,
+    ) -> GatedDisk {
         GatedDisk {
             memory,
-            signals,
+            signals: Arc::try_clone(signals).expect(rt, "signals"),
             waits: if waits { Some(()) } else { None },
         }
     }
@@ -199,11 +215,13 @@ impl Store for GatedDisk {
 }
 
 /// A disk in memory of eight blocks, block `n` filled with `n + 1` if it is numbered, else all zeros.
-pub(crate) fn memory(alloc: Global, is_numbered: bool) -> Result<MemStore, Refusal> {
-    let mut bytes = Vec::with_capacity(alloc, 8 * BLOCK_BYTES)?;
+pub(crate) fn memory(rt: &impl Abort, alloc: Global, is_numbered: bool) -> MemStore {
+    let mut bytes = Vec::with_capacity(alloc, 8 * BLOCK_BYTES).expect(rt, "memory");
     for block in 0..8u8 {
         let byte = if is_numbered { block + 1 } else { 0 };
-        bytes.extend_from_slice(&[byte; BLOCK_BYTES])?;
+        bytes
+            .extend_from_slice(&[byte; BLOCK_BYTES])
+            .expect(rt, "memory");
     }
-    MemStore::from_image(bytes)
+    MemStore::from_image(bytes).expect(rt, "a disk")
 }

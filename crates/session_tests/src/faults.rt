@@ -3,10 +3,9 @@ use crate::callers::Work;
 use crate::disks::{FailingDisk, GatedDisk, Signals, memory};
 use crate::outcome::Outcome;
 use crate::session::{Case, UNKNOWN, run};
-use blocks::{Protocol, Refusal};
+use blocks::Protocol;
 use std::alloc::Global;
-use std::sync::Arc;
-use std::test::*;
+use std::process::Abort;
 use volume::Runtime;
 
 /// Which call of which disk fails.
@@ -20,44 +19,44 @@ enum Fault {
 
 // A session of four writers over disks one of which fails once. A write that fails is on the disk all the same, if its
 // number is odd.
-fn over_failing<R: Runtime>(
+fn over_failing<R: Abort + Runtime>(
     rt: R,
     alloc: Global,
     protocol: Protocol,
     fault: Fault,
-) -> Result<Outcome, Refusal> {
-    let signals = Arc::new(alloc, Signals::new())?;
+) -> Outcome {
+    let signals = Signals::shared(&rt, alloc);
     let (local, peer) = match fault {
         Fault::LocalWrite(passes) => (Some((passes, passes % 2 == 1)), None),
         Fault::PeerWrite(passes) => (None, Some((passes, passes % 2 == 1))),
     };
     let disks = (
-        FailingDisk::new(memory(alloc, false)?, local, None),
-        FailingDisk::new(memory(alloc, false)?, peer, None),
+        FailingDisk::new(memory(&rt, alloc, false), local, None),
+        FailingDisk::new(memory(&rt, alloc, false), peer, None),
     );
     let case = Case::of(protocol, Work::Writers { cuts: 0 });
-    run(rt, alloc, case, disks, &signals)
+    run(rt, alloc, case, disks, &signals).expect(&rt, "a session")
 }
 
 // A session without writes that copies all eight blocks to its peer, over a local disk that fails one read of them.
-fn over_failing_reads<R: Runtime>(rt: R, alloc: Global, passes: u64) -> Result<Outcome, Refusal> {
-    let signals = Arc::new(alloc, Signals::new())?;
+fn over_failing_reads<R: Abort + Runtime>(rt: R, alloc: Global, passes: u64) -> Outcome {
+    let signals = Signals::shared(&rt, alloc);
     let disks = (
-        FailingDisk::new(memory(alloc, true)?, None, Some(passes)),
-        GatedDisk::new(memory(alloc, false)?, Arc::try_clone(&signals)?, false),
+        FailingDisk::new(memory(&rt, alloc, true), None, Some(passes)),
+        GatedDisk::new(&rt, memory(&rt, alloc, false), &signals, false),
     );
     let case = Case {
         peer: UNKNOWN,
         ..Case::of(Protocol::C, Work::Resync { writes: 8 })
     };
-    run(rt, alloc, case, disks, &signals)
+    run(rt, alloc, case, disks, &signals).expect(&rt, "a session")
 }
 
 #[test]
-fn a_local_fault_is_its_callers_alone(rt: HostRuntime) -> Result<(), Fail> {
+fn a_local_fault_is_its_callers_alone(rt: HostRuntime) {
     for protocol in [Protocol::A, Protocol::B, Protocol::C] {
         for passes in 0..10u64 {
-            let outcome = over_failing(rt, rt.alloc(), protocol, Fault::LocalWrite(passes))?;
+            let outcome = over_failing(rt, rt.alloc(), protocol, Fault::LocalWrite(passes));
             assert_eq!(rt;
                 (outcome.receipts, outcome.local_faults),
                 (199, 1),
@@ -66,14 +65,13 @@ fn a_local_fault_is_its_callers_alone(rt: HostRuntime) -> Result<(), Fail> {
             outcome.is_settled(&rt, 199, &(protocol, passes));
         }
     }
-    Ok(())
 }
 
 #[test]
-fn a_peer_fault_leaves_no_difference_unmarked(rt: HostRuntime) -> Result<(), Fail> {
+fn a_peer_fault_leaves_no_difference_unmarked(rt: HostRuntime) {
     for protocol in [Protocol::A, Protocol::B, Protocol::C] {
         for passes in 0..10u64 {
-            let outcome = over_failing(rt, rt.alloc(), protocol, Fault::PeerWrite(passes))?;
+            let outcome = over_failing(rt, rt.alloc(), protocol, Fault::PeerWrite(passes));
             assert_eq!(rt;
                 (outcome.receipts, outcome.local_faults),
                 (200, 0),
@@ -82,17 +80,15 @@ fn a_peer_fault_leaves_no_difference_unmarked(rt: HostRuntime) -> Result<(), Fai
             outcome.is_settled(&rt, 200, &(protocol, passes));
         }
     }
-    Ok(())
 }
 
 #[test]
-fn a_failed_read_of_a_resync_is_tried_again(rt: HostRuntime) -> Result<(), Fail> {
+fn a_failed_read_of_a_resync_is_tried_again(rt: HostRuntime) {
     // The resync reads each of the eight blocks once.
     for passes in 0..8u64 {
-        let outcome = over_failing_reads(rt, rt.alloc(), passes)?;
+        let outcome = over_failing_reads(rt, rt.alloc(), passes);
         assert_eq!(rt; (outcome.complaints, outcome.alike), (0, true), "{passes}");
         assert_eq!(rt; outcome.peer_bytes, [1, 2, 3, 4, 5, 6, 7, 8], "{passes}");
         assert_eq!(rt; outcome.settled.unmarked, 0, "{passes}");
     }
-    Ok(())
 }

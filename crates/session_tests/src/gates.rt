@@ -3,27 +3,26 @@ use crate::callers::Work;
 use crate::disks::{GatedDisk, Signals, TellingDisk, memory};
 use crate::outcome::Outcome;
 use crate::session::{Case, UNKNOWN, run};
-use blocks::{Protocol, Refusal};
+use blocks::Protocol;
 use std::alloc::Global;
-use std::sync::Arc;
-use std::test::*;
+use std::process::Abort;
 use volume::Runtime;
 
 // A session over disks that tell of what they do. The peer's disk waits where the callers' work says so.
-fn over_watched<R: Runtime>(rt: R, alloc: Global, case: Case) -> Result<Outcome, Refusal> {
-    let signals = Arc::new(alloc, Signals::new())?;
+fn over_watched<R: Abort + Runtime>(rt: R, alloc: Global, case: Case) -> Outcome {
+    let signals = Signals::shared(&rt, alloc);
     let (waits, opens) = match case.work {
         Work::Gate { receipt_opens } => (true, !receipt_opens),
         _ => (false, false),
     };
     let is_resync = !waits;
-    let local = TellingDisk::new(memory(alloc, is_resync)?, Arc::try_clone(&signals)?, opens);
-    let peer = GatedDisk::new(memory(alloc, false)?, Arc::try_clone(&signals)?, waits);
-    run(rt, alloc, case, (local, peer), &signals)
+    let local = TellingDisk::new(&rt, memory(&rt, alloc, is_resync), &signals, opens);
+    let peer = GatedDisk::new(&rt, memory(&rt, alloc, false), &signals, waits);
+    run(rt, alloc, case, (local, peer), &signals).expect(&rt, "a session")
 }
 
 #[test]
-fn a_write_ends_on_the_local_disk_while_the_peer_writes(rt: HostRuntime) -> Result<(), Fail> {
+fn a_write_ends_on_the_local_disk_while_the_peer_writes(rt: HostRuntime) {
     let under_c = Case::of(
         Protocol::C,
         Work::Gate {
@@ -38,27 +37,25 @@ fn a_write_ends_on_the_local_disk_while_the_peer_writes(rt: HostRuntime) -> Resu
     );
     for wide in [under_c, under_a] {
         for case in [wide, wide.over_one_frame()] {
-            let outcome = over_watched(rt, rt.alloc(), case)?;
+            let outcome = over_watched(rt, rt.alloc(), case);
             outcome.is_without_complaints(&rt, 2, &case);
             assert_eq!(rt; outcome.linked, 2, "{case:?}");
             outcome.is_settled(&rt, 2, &case);
         }
     }
-    Ok(())
 }
 
 #[test]
-fn every_block_of_an_unknown_peer_is_copied(rt: HostRuntime) -> Result<(), Fail> {
+fn every_block_of_an_unknown_peer_is_copied(rt: HostRuntime) {
     let wide = Case {
         peer: UNKNOWN,
         ..Case::of(Protocol::C, Work::Resync { writes: 8 })
     };
     for case in [wide, wide.over_one_frame()] {
-        let outcome = over_watched(rt, rt.alloc(), case)?;
+        let outcome = over_watched(rt, rt.alloc(), case);
         assert_eq!(rt; outcome.complaints, 0, "{case:?}");
         assert_eq!(rt; outcome.peer_bytes, [1, 2, 3, 4, 5, 6, 7, 8], "{case:?}");
         assert!(rt; outcome.alike, "{case:?}");
         assert_eq!(rt; outcome.settled.unmarked, 0, "{case:?}");
     }
-    Ok(())
 }

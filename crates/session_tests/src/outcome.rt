@@ -64,25 +64,24 @@ impl Outcome {
     }
 }
 
-/// Settles two nodes at rest with the receipts that callers have, and compares their disks. If the callers failed, so
-/// does it.
+/// Settles two nodes at rest with the receipts that callers have, and compares their disks.
 pub(crate) fn bring_together(
+    rt: &impl Abort,
     nodes: (
         Primary<impl FrameOut + Drop, impl FrameIn + Drop, impl Store + Drop>,
         Secondary<impl FrameOut + Drop, impl FrameIn + Drop, impl Store + Drop>,
     ),
-    answers: Result<Answers, Refusal>,
-) -> Result<Outcome, Refusal> {
+    answers: &Answers,
+) -> Outcome {
     let (mut primary, mut secondary) = nodes;
-    compare(&mut primary, &mut secondary, answers)
+    compare(&mut primary, &mut secondary, answers).expect(rt, "a settlement")
 }
 
 fn compare(
     primary: &mut Primary<impl FrameOut + Drop, impl FrameIn + Drop, impl Store + Drop>,
     secondary: &mut Secondary<impl FrameOut + Drop, impl FrameIn + Drop, impl Store + Drop>,
-    answers: Result<Answers, Refusal>,
+    answers: &Answers,
 ) -> Result<Outcome, Refusal> {
-    let answers = answers?;
     let settled = settle(primary, secondary, answers.receipts.as_slice())?;
     let (alike, peer_bytes) = read_disks(primary, secondary)?;
     Ok(Outcome {

@@ -5,8 +5,8 @@ use crate::outcome::Outcome;
 use crate::session::{ALIKE, Case, run};
 use blocks::{MemStore, Protocol, Refusal, Tuple};
 use std::alloc::Global;
+use std::process::Abort;
 use std::sync::Arc;
-use std::test::*;
 use volume::Runtime;
 
 const fn tuple(current: u64, bitmap: u64, first_historical: u64, second_historical: u64) -> Tuple {
@@ -20,25 +20,23 @@ const fn tuple(current: u64, bitmap: u64, first_historical: u64, second_historic
 
 // What a session answers whose callers only ask for what it refuses, and whether its disks are gone then. The peer's
 // disk may be a block short.
-fn answer<R: Runtime>(
+fn answer<R: Abort + Runtime>(
     rt: R,
     alloc: Global,
     case: Case,
     is_short: bool,
-) -> Result<(Result<Outcome, Refusal>, bool), Refusal> {
-    let signals = Arc::new(alloc, Signals::new())?;
-    let local = TellingDisk::new(memory(alloc, false)?, Arc::try_clone(&signals)?, false);
-    let peer = GatedDisk::new(
-        MemStore::zeroed(alloc, if is_short { 7 } else { 8 })?,
-        Arc::try_clone(&signals)?,
-        false,
-    );
+) -> (Result<Outcome, Refusal>, bool) {
+    let signals = Signals::shared(&rt, alloc);
+    let blocks = if is_short { 7 } else { 8 };
+    let zeroed = MemStore::zeroed(alloc, blocks).expect(&rt, "a disk");
+    let local = TellingDisk::new(&rt, memory(&rt, alloc, false), &signals, false);
+    let peer = GatedDisk::new(&rt, zeroed, &signals, false);
     let answer = run(rt, alloc, case, (local, peer), &signals);
-    Ok((answer, Arc::into_inner(signals).is_some()))
+    (answer, Arc::into_inner(signals).is_some())
 }
 
 #[test]
-fn a_refused_start_leaves_nothing(rt: HostRuntime) -> Result<(), Fail> {
+fn a_refused_start_leaves_nothing(rt: HostRuntime) {
     let plain = Case::of(Protocol::C, Work::Refused);
     let with = |own: Tuple, peer: Tuple| Case { own, peer, ..plain };
     let words = |sync: u64, loss: u64| Case {
@@ -57,22 +55,20 @@ fn a_refused_start_leaves_nothing(rt: HostRuntime) -> Result<(), Fail> {
         (with(tuple(7, 1, 0, 0), tuple(20, 21, 22, 23)), false, 32),
     ];
     for (case, is_short, number) in cases {
-        let (answer, is_gone) = answer(rt, rt.alloc(), case, is_short)?;
+        let (answer, is_gone) = answer(rt, rt.alloc(), case, is_short);
         let found = match answer {
             Ok(_) => 0,
             Err(refusal) => refusal.number(),
         };
         assert_eq!(rt; (found, is_gone), (number, true), "{case:?}");
     }
-    Ok(())
 }
 
 #[test]
-fn a_running_session_refuses_what_it_should(rt: HostRuntime) -> Result<(), Fail> {
+fn a_running_session_refuses_what_it_should(rt: HostRuntime) {
     let case = Case::of(Protocol::C, Work::Refused);
-    let (answer, is_gone) = answer(rt, rt.alloc(), case, false)?;
-    let outcome = answer?;
+    let (answer, is_gone) = answer(rt, rt.alloc(), case, false);
+    let outcome = answer.expect(&rt, "a session");
     assert_eq!(rt; (outcome.complaints, outcome.settled.unmarked), (0, 0));
     assert!(rt; is_gone);
-    Ok(())
 }

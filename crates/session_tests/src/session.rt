@@ -10,6 +10,7 @@ use blocks::{Protocol, Refusal, Settings, Store, Tuple};
 use ruled_link::{RuledIn, RuledOut, ruled};
 use std::alloc::Global;
 use std::marker::Brand;
+use std::process::Abort;
 use std::sync::Arc;
 use volume::{Linked, Parts, Runtime, Session};
 
@@ -81,24 +82,28 @@ impl Case {
     }
 }
 
-/// Runs a session over these disks, whose threads and callers share the signals.
-pub(crate) fn run<R: Runtime, S: Store + Drop + Send + 'static, T: Store + Drop + Send + 'static>(
+/// Runs a session over these disks, whose threads and callers share the signals. Its start may be refused.
+pub(crate) fn run<
+    R: Abort + Runtime,
+    S: Store + Drop + Send + 'static,
+    T: Store + Drop + Send + 'static,
+>(
     rt: R,
     alloc: Global,
     case: Case,
     disks: (S, T),
     signals: &Arc<Signals, Global>,
 ) -> Result<Outcome, Refusal> {
-    let parts = case.parts(alloc)?;
-    let there = ruled(rt, alloc, parts.settings.link)?;
-    let back = ruled(rt, alloc, parts.settings.link)?;
+    let parts = case.parts(alloc).expect(&rt, "settings");
+    let there = ruled(rt, alloc, parts.settings.link).expect(&rt, "a link");
+    let back = ruled(rt, alloc, parts.settings.link).expect(&rt, "a link");
     run_named::<Brand, _, _, _>(rt, alloc, case.work, there, back, disks, parts, signals)
 }
 
 // Everything that a session is used for stands in one function over its link's name, which the caller picks.
 fn run_named<
     L: Linked + Send + Sync + 'static,
-    R: Runtime,
+    R: Abort + Runtime,
     S: Store + Drop + Send + 'static,
     T: Store + Drop + Send + 'static,
 >(
@@ -116,7 +121,7 @@ fn run_named<
 {
     let (local, peer) = disks;
     match Session::<R, L, S, T>::start(rt, alloc, there, back, local, peer, parts) {
-        Ok(session) => use_session(rt, alloc, work, session, signals),
+        Ok(session) => Ok(use_session(rt, alloc, work, session, signals)),
         Err(refusal) => Err(refusal),
     }
 }
@@ -124,7 +129,7 @@ fn run_named<
 // Lets the callers do their work, ends the session, and settles.
 fn use_session<
     L: Linked + Send + Sync + 'static,
-    R: Runtime,
+    R: Abort + Runtime,
     S: Store + Drop + Send + 'static,
     T: Store + Drop + Send + 'static,
 >(
@@ -133,7 +138,8 @@ fn use_session<
     work: Work,
     session: Session<R, L, S, T>,
     signals: &Arc<Signals, Global>,
-) -> Result<Outcome, Refusal> {
+) -> Outcome {
     let answers = carry_out(&rt, alloc, session.mirror(), signals, work);
-    bring_together(session.finish()?, answers)
+    let nodes = session.finish().expect(&rt, "both nodes");
+    bring_together(&rt, nodes, &answers)
 }

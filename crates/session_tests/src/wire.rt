@@ -2,18 +2,14 @@
 use crate::callers::{Work, carry_out};
 use crate::disks::{Signals, memory};
 use crate::outcome::{Outcome, bring_together};
-use crate::pipes::{Fixed, pipe};
+use crate::pipes::{Fixed, PipeReader, PipeWriter, pipe};
 use crate::session::Case;
 use blocks::{MemStore, Protocol, Refusal};
 use std::alloc::Global;
 use std::io::{Read, Write};
 use std::ops::Range;
 use std::process::Abort;
-use std::sync::Wait;
-use std::test::*;
 use std::thread;
-use std::thread::Threads;
-use std::time::Clock;
 use volume::{Runtime, Way, WireSession};
 
 /// No bytes at which a stream fails.
@@ -55,71 +51,74 @@ const WHOLE: Failing = Failing {
 };
 
 // A session over pipes.
-fn over_pipes<R: Runtime>(
+fn over_pipes<R: Abort + Runtime>(
     rt: R,
     alloc: Global,
     case: Case,
     failing: Failing,
 ) -> Result<Outcome, Refusal> {
-    let (writer, reader) = pipe(rt, alloc, failing.writer, failing.reader)?;
+    let (writer, reader) = pipe(rt, alloc, failing.writer, failing.reader).expect(&rt, "a pipe");
     let there = Way { writer, reader };
-    let (writer, reader) = pipe(rt, alloc, NEVER, NEVER)?;
-    let back = Way { writer, reader };
-    over_ways(rt, alloc, case, (there, back))
+    over_ways(rt, alloc, case, (there, whole_way(rt, alloc)))
 }
 
-// A session over two ways.
+// A way that does not fail.
+fn whole_way<R: Abort + Runtime>(rt: R, alloc: Global) -> Way<PipeWriter<R>, PipeReader<R>> {
+    let (writer, reader) = pipe(rt, alloc, NEVER, NEVER).expect(&rt, "a pipe");
+    Way { writer, reader }
+}
+
+// A session over two ways, whose start may be refused.
 fn over_ways<
-    R: Runtime,
+    R: Abort + Runtime,
     W: Write + Drop + Send + 'static,
     D: Read + Drop + Send + 'static,
     V: Write + Drop + Send + 'static,
     E: Read + Drop + Send + 'static,
 >(rt: R, alloc: Global, case: Case, ways: (Way<W, D>, Way<V, E>)) -> Result<Outcome, Refusal> {
-    let parts = case.parts(alloc)?;
-    let (local, peer) = (memory(alloc, false)?, memory(alloc, false)?);
+    let parts = case.parts(alloc).expect(&rt, "settings");
+    let (local, peer) = (memory(&rt, alloc, false), memory(&rt, alloc, false));
     match WireSession::start_over(rt, alloc, local, peer, parts, ways) {
-        Ok(session) => use_session(rt, alloc, case.work, session),
+        Ok(session) => Ok(use_session(rt, alloc, case.work, session)),
         Err(refusal) => Err(refusal),
     }
 }
 
 // Lets the callers do their work, ends the session, and settles.
-fn use_session<R: Runtime>(
+fn use_session<R: Abort + Runtime>(
     rt: R,
     alloc: Global,
     work: Work,
     session: WireSession<R, MemStore, MemStore>,
-) -> Result<Outcome, Refusal> {
+) -> Outcome {
     let answers = carry_out(&rt, alloc, session.mirror(), &Signals::new(), work);
-    bring_together(session.finish()?, answers)
+    let nodes = session.finish().expect(&rt, "both nodes");
+    bring_together(&rt, nodes, &answers)
 }
 
 #[test]
-fn each_write_over_streams_has_its_receipt(rt: HostRuntime) -> Result<(), Fail> {
+fn each_write_over_streams_has_its_receipt(rt: HostRuntime) {
     for protocol in [Protocol::A, Protocol::B, Protocol::C] {
         let wide = Case::of(protocol, Work::Writers { cuts: 0 });
         for case in [wide, wide.over_one_frame()] {
-            let outcome = over_pipes(rt, rt.alloc(), case, WHOLE)?;
+            let outcome = over_pipes(rt, rt.alloc(), case, WHOLE).expect(&rt, "a session");
             outcome.is_without_complaints(&rt, 200, &case);
             assert_eq!(rt; outcome.linked, 200, "{case:?}");
             outcome.is_settled(&rt, 200, &case);
         }
     }
-    Ok(())
 }
 
 #[test]
-fn a_session_over_streams_has_one_connection(rt: HostRuntime) -> Result<(), Fail> {
+fn a_session_over_streams_has_one_connection(rt: HostRuntime) {
     let case = Case::of(Protocol::C, Work::OneConnection);
-    let outcome = over_pipes(rt, rt.alloc(), case, WHOLE)?;
+    let outcome = over_pipes(rt, rt.alloc(), case, WHOLE).expect(&rt, "a session");
     assert_eq!(rt; (outcome.complaints, outcome.settled.unmarked), (0, 0));
-    Ok(())
 }
 
 // What a session comes to in which a stream fails: its hello ends with 12, or its one write has its receipt and no
 // difference is without a mark.
-fn is_sound<R: Runtime>(rt: R, alloc: Global, failing: Failing) -> bool {
+fn is_sound<R: Abort + Runtime>(rt: R, alloc: Global, failing: Failing) -> bool {
     match over_pipes(rt, alloc, Case::of(Protocol::C, Work::OneWrite), failing) {
         Ok(outcome) => {
             outcome.receipts == 1
@@ -135,12 +134,7 @@ fn is_sound<R: Runtime>(rt: R, alloc: Global, failing: Failing) -> bool {
 const LANES: usize = 16;
 
 // For how many of these numbers of bytes a session is sound in which a stream fails after so many.
-fn count_sound<R: Runtime>(
-    rt: R,
-    alloc: Global,
-    bytes: Range<u64>,
-    end: End,
-) -> Result<u32, Refusal> {
+fn count_sound<R: Abort + Runtime>(rt: R, alloc: Global, bytes: Range<u64>, end: End) -> u32 {
     let each = thread::map_indices(
         &rt,
         alloc,
@@ -154,91 +148,85 @@ fn count_sound<R: Runtime>(
             }
             sound
         },
-    )?;
+    )
+    .expect(&rt, "memory");
     let mut all = 0u32;
     for sound in each {
         all = all.saturating_add(sound);
     }
-    Ok(all)
+    all
 }
 
 // Each of these sessions is sound.
-fn loses_nothing<R: Abort + Threads + Wait + Clock + Copy + Drop + Send + Sync + 'static>(
+fn loses_nothing<R: Abort + Runtime>(
     rt: R,
     alloc: Global,
     bytes: Range<u64>,
     end: End,
     wanted: u32,
-) -> Result<(), Fail> {
-    let sound = count_sound(rt, alloc, bytes, end)?;
+) {
+    let sound = count_sound(rt, alloc, bytes, end);
     assert_eq!(&rt; sound, wanted);
-    Ok(())
 }
 
 // The hello, the DATA frame of one block and a barrier are 4,212 bytes. A stream fails after each number of them, by quarters.
 
 #[test]
-fn a_reader_that_fails_in_the_first_quarter_loses_nothing(rt: HostRuntime) -> Result<(), Fail> {
-    loses_nothing(rt, rt.alloc(), 0..1054, End::Reader, 1054)
+fn a_reader_that_fails_in_the_first_quarter_loses_nothing(rt: HostRuntime) {
+    loses_nothing(rt, rt.alloc(), 0..1054, End::Reader, 1054);
 }
 
 #[test]
-fn a_reader_that_fails_in_the_second_quarter_loses_nothing(rt: HostRuntime) -> Result<(), Fail> {
-    loses_nothing(rt, rt.alloc(), 1054..2108, End::Reader, 1054)
+fn a_reader_that_fails_in_the_second_quarter_loses_nothing(rt: HostRuntime) {
+    loses_nothing(rt, rt.alloc(), 1054..2108, End::Reader, 1054);
 }
 
 #[test]
-fn a_reader_that_fails_in_the_third_quarter_loses_nothing(rt: HostRuntime) -> Result<(), Fail> {
-    loses_nothing(rt, rt.alloc(), 2108..3162, End::Reader, 1054)
+fn a_reader_that_fails_in_the_third_quarter_loses_nothing(rt: HostRuntime) {
+    loses_nothing(rt, rt.alloc(), 2108..3162, End::Reader, 1054);
 }
 
 #[test]
-fn a_reader_that_fails_in_the_last_quarter_loses_nothing(rt: HostRuntime) -> Result<(), Fail> {
-    loses_nothing(rt, rt.alloc(), 3162..4213, End::Reader, 1051)
+fn a_reader_that_fails_in_the_last_quarter_loses_nothing(rt: HostRuntime) {
+    loses_nothing(rt, rt.alloc(), 3162..4213, End::Reader, 1051);
 }
 
 #[test]
-fn a_writer_that_fails_in_the_first_quarter_loses_nothing(rt: HostRuntime) -> Result<(), Fail> {
-    loses_nothing(rt, rt.alloc(), 0..1054, End::Writer, 1054)
+fn a_writer_that_fails_in_the_first_quarter_loses_nothing(rt: HostRuntime) {
+    loses_nothing(rt, rt.alloc(), 0..1054, End::Writer, 1054);
 }
 
 #[test]
-fn a_writer_that_fails_in_the_second_quarter_loses_nothing(rt: HostRuntime) -> Result<(), Fail> {
-    loses_nothing(rt, rt.alloc(), 1054..2108, End::Writer, 1054)
+fn a_writer_that_fails_in_the_second_quarter_loses_nothing(rt: HostRuntime) {
+    loses_nothing(rt, rt.alloc(), 1054..2108, End::Writer, 1054);
 }
 
 #[test]
-fn a_writer_that_fails_in_the_third_quarter_loses_nothing(rt: HostRuntime) -> Result<(), Fail> {
-    loses_nothing(rt, rt.alloc(), 2108..3162, End::Writer, 1054)
+fn a_writer_that_fails_in_the_third_quarter_loses_nothing(rt: HostRuntime) {
+    loses_nothing(rt, rt.alloc(), 2108..3162, End::Writer, 1054);
 }
 
 #[test]
-fn a_writer_that_fails_in_the_last_quarter_loses_nothing(rt: HostRuntime) -> Result<(), Fail> {
-    loses_nothing(rt, rt.alloc(), 3162..4213, End::Writer, 1051)
+fn a_writer_that_fails_in_the_last_quarter_loses_nothing(rt: HostRuntime) {
+    loses_nothing(rt, rt.alloc(), 3162..4213, End::Writer, 1051);
 }
 
 // The refusal of a start during whose hello these bytes come to the secondary.
-fn foreign<R: Runtime>(rt: R, alloc: Global, bytes: &'static [u8]) -> Result<u8, Refusal> {
-    let (writer, _) = pipe(rt, alloc, NEVER, NEVER)?;
+fn foreign<R: Abort + Runtime>(rt: R, alloc: Global, bytes: &'static [u8]) -> u8 {
+    let (writer, _) = pipe(rt, alloc, NEVER, NEVER).expect(&rt, "a pipe");
     let there = Way {
         writer,
         reader: Fixed::new(bytes),
     };
-    let (writer, reader) = pipe(rt, alloc, NEVER, NEVER)?;
-    let back = Way { writer, reader };
-    match over_ways(
-        rt,
-        alloc,
-        Case::of(Protocol::C, Work::OneWrite),
-        (there, back),
-    ) {
-        Ok(_) => Ok(0),
-        Err(refusal) => Ok(refusal.number()),
+    let case = Case::of(Protocol::C, Work::OneWrite);
+    match over_ways(rt, alloc, case, (there, whole_way(rt, alloc))) {
+        Ok(_) => 0,
+        Err(refusal) => refusal.number(),
     }
 }
 
 #[test]
-fn foreign_bytes_in_the_hello_are_refused(rt: HostRuntime) -> Result<(), Fail> {
+fn foreign_bytes_in_the_hello_are_refused(rt: HostRuntime) {
     let cases: [(&'static [u8], u8); 7] = [
         (b"", 12),
         (b"\x83\x5B\x00\x03\x00\x00\x00\x08", 20),
@@ -252,9 +240,8 @@ fn foreign_bytes_in_the_hello_are_refused(rt: HostRuntime) -> Result<(), Fail> {
         ),
     ];
     for (bytes, number) in cases {
-        let found = foreign(rt, rt.alloc(), bytes)?;
+        let found = foreign(rt, rt.alloc(), bytes);
         // The input that ends after these bytes may close the end before it takes them.
         assert!(rt; found == number || found == 12, "{number}: {found}");
     }
-    Ok(())
 }
