@@ -98,7 +98,7 @@ fn runs<
     assert_eq!(rt; outcome.said.bytes.is_empty(), status == 0);
 }
 
-/// Puts an image of so many bytes, all of them this one, where the program looks for it.
+/// Puts an image of `count` bytes, each this one, where the program looks for it.
 fn put_image(rt: &(impl Abort + AllocGlobal + Files), name: &str, byte: u8, count: usize) {
     let image = Vec::from_elem(rt.alloc(), byte, count).expect(rt, "memory");
     fs::write(rt, name, image.as_slice()).expect(rt, "an image");
@@ -111,7 +111,7 @@ fn take_image(rt: &(impl Abort + AllocGlobal + Files), name: &str) -> Vec<u8> {
     image
 }
 
-/// The program left an image of so many bytes, all of them this one.
+/// The program left an image of `count` bytes, each this one.
 fn is_left(rt: &(impl Abort + AllocGlobal + Files), name: &str, byte: u8, count: usize) {
     let wanted = Vec::from_elem(rt.alloc(), byte, count).expect(rt, "memory");
     assert!(rt; take_image(rt, name) == wanted, "{name}");

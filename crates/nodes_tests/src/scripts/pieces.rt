@@ -31,7 +31,7 @@ fn long_script(rt: &(impl Abort + AllocGlobal), last: &str) -> String {
     script
 }
 
-/// Runs the script, which ends with this status. All 301 lines are printed, in so many calls of the output.
+/// Runs the script, which ends with this status. All 301 lines are printed, in this many calls of the output.
 fn is_printed(rt: &(impl Abort + AllocGlobal), script: &str, wanted: u8, calls: u32) {
     let alloc = rt.alloc();
     let mut out = Output {

@@ -19,7 +19,7 @@ fn mark_last(rt: &impl Abort, bitmap: &mut Bitmap) {
     bitmap.mark(range);
 }
 
-/// So many blocks are marked, of which this is the first.
+/// This many blocks are marked, and this is the first.
 fn has(rt: &impl Abort, bitmap: &Bitmap, count: u32, first: u64) {
     let found = (bitmap.count(), bitmap.first_from(Block(0)));
     assert_eq!(rt; found, (count, Some(Block(first))));
