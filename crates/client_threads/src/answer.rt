@@ -2,11 +2,10 @@
 use crate::client::Client;
 use crate::request::Job;
 use crate::service::Service;
-use halves::{PrimaryHalf, SecondaryHalf};
+use halves::Device;
 use nbd::Command;
 use primary::Receipt;
 use requests::UnderWay;
-use session_threads::Mirror;
 use std::alloc::Global;
 use std::sync::{Arc, Wait};
 use std::time::Clock;
@@ -25,10 +24,10 @@ struct Pending {
 
 /// Does a request, and those that wait behind it by now: begins all of them, then ends one after another, and then sends their
 /// replies. The receipts of their writes are appended.
-pub(crate) fn answer<R: Wait + Clock + Drop, A: PrimaryHalf + Drop, B: SecondaryHalf + Drop>(
+pub(crate) fn answer<R: Wait + Clock>(
     rt: &R,
     service: &Service,
-    mirror: &Mirror<R, A, B>,
+    mirror: &impl Device,
     job: Job,
     receipts: &mut Vec<Receipt>,
 ) {
@@ -57,12 +56,7 @@ pub(crate) fn answer<R: Wait + Clock + Drop, A: PrimaryHalf + Drop, B: Secondary
 }
 
 // Begins a request.
-fn begin<R: Wait + Clock + Drop, A: PrimaryHalf + Drop, B: SecondaryHalf + Drop>(
-    rt: &R,
-    service: &Service,
-    mirror: &Mirror<R, A, B>,
-    job: Job,
-) -> Pending {
+fn begin<R: Wait + Clock>(rt: &R, service: &Service, mirror: &impl Device, job: Job) -> Pending {
     let Job { request, client } = job;
     let syncs = request.fua || request.command == Command::Flush;
     Pending {
@@ -73,10 +67,10 @@ fn begin<R: Wait + Clock + Drop, A: PrimaryHalf + Drop, B: SecondaryHalf + Drop>
 }
 
 // Ends a request, and has its client's connection hold the reply.
-fn end<R: Wait + Clock + Drop, A: PrimaryHalf + Drop, B: SecondaryHalf + Drop>(
+fn end<R: Wait + Clock>(
     rt: &R,
     service: &Service,
-    mirror: &Mirror<R, A, B>,
+    mirror: &impl Device,
     pending: Pending,
     receipts: &mut Vec<Receipt>,
 ) -> Arc<Client, Global> {

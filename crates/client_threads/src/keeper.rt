@@ -1,8 +1,7 @@
 //! The thread that keeps the link up.
 use crate::service::Service;
 use blocks::Refusal;
-use halves::{PrimaryHalf, SecondaryHalf};
-use session_threads::Mirror;
+use halves::Device;
 use status_page::{Report, Resync};
 use std::sync::Wait;
 use std::sync::atomic::{AtomicBool, Ordering};
@@ -17,10 +16,10 @@ const LOOKS_A_SECOND: u64 = 50;
 
 /// Reconnects the link whenever it is down, cuts it every `cut_every` seconds if that is set, and gives reports, until the
 /// session is over.
-pub(crate) fn keep<R: Wait + Clock + Drop, A: PrimaryHalf + Drop, B: SecondaryHalf + Drop>(
+pub(crate) fn keep<R: Wait + Clock>(
     rt: &R,
     service: &Service,
-    mirror: &Mirror<R, A, B>,
+    mirror: &impl Device,
     cut_every: Option<u32>,
     over: &AtomicBool,
 ) {
@@ -58,10 +57,7 @@ fn most_since(most: u32, marks: u32) -> u32 {
 }
 
 // What the session tells of its nodes. While blocks are marked and the link is up, a resync goes on.
-fn report<R: Wait + Clock + Drop, A: PrimaryHalf + Drop, B: SecondaryHalf + Drop>(
-    mirror: &Mirror<R, A, B>,
-    most: u32,
-) -> Result<Report, Refusal> {
+fn report(mirror: &impl Device, most: u32) -> Result<Report, Refusal> {
     let (primary, secondary) = mirror.status()?;
     let resync = if primary.as_str().starts_with("cs:SyncSource ") {
         Some(Resync {

@@ -4,6 +4,7 @@
 
 mod answer;
 mod client;
+mod doors;
 mod keeper;
 mod page;
 mod places;
@@ -11,10 +12,11 @@ mod reader;
 mod reports;
 mod request;
 mod service;
+mod threads;
 mod waiter;
 mod workers;
 
-pub use page::serve_page;
+pub use doors::{Doors, Unbound};
 pub use service::Service;
-pub use waiter::{let_in, wait_for_quit};
+pub use threads::{Unstarted, start_threads};
 pub use workers::work;

@@ -14,7 +14,7 @@ const PATIENCE_S: u64 = 2;
 const PAUSE_MS: u64 = 100;
 
 /// Answers the clients of the page, one after another, until the server ends.
-pub fn serve_page<R: Wait + Clock>(
+pub(crate) fn serve_page<R: Wait + Clock>(
     rt: &R,
     service: &Service,
     keys: RandomState,

@@ -3,7 +3,7 @@ use crate::client::Client;
 use crate::reader::serve_client;
 use crate::service::Service;
 use blocks::Refusal;
-use session_threads::Runtime;
+use halves::Runtime;
 use std::alloc::Global;
 use std::io::{BufRead, BufReader, Read};
 use std::net::{Net, SocketAddr, TcpListener, TcpStream};
@@ -21,7 +21,7 @@ const PAUSE_MS: u64 = 100;
 const QUIT: &str = "quit";
 
 /// Lets clients in, each with a thread of its own, until the server ends.
-pub fn let_in<R: Runtime>(rt: R, service: &Arc<Service, Global>, listener: &TcpListener) {
+pub(crate) fn let_in<R: Runtime>(rt: R, service: &Arc<Service, Global>, listener: &TcpListener) {
     for _ in rt.forever() {
         let accepted = listener.accept();
         if service.is_over() {
@@ -61,7 +61,7 @@ fn welcome<R: Runtime>(
 }
 
 /// Waits for a line that says `quit`, and ends the server then, which listens at these addresses. The end of the input is no such line.
-pub fn wait_for_quit<R: Wait + Net<Stream = TcpStream>, I: Read + Drop>(
+pub(crate) fn wait_for_quit<R: Wait + Net<Stream = TcpStream>, I: Read + Drop>(
     rt: &R,
     service: &Service,
     input: I,

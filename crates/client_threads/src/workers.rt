@@ -3,9 +3,8 @@ use crate::answer::answer;
 use crate::keeper::keep;
 use crate::service::Service;
 use blocks::Refusal;
-use halves::{PrimaryHalf, SecondaryHalf, SharedPrimary, SharedSecondary};
+use halves::{Device, Runtime};
 use primary::Receipt;
-use session_threads::{Mirror, Runtime};
 use std::sync::atomic::{AtomicBool, Ordering};
 use std::sync::{Mutex, Wait};
 use std::thread;
@@ -27,10 +26,10 @@ const SESSION_WRITES: u64 = 1_000_000;
 /// Does the requests of clients over this mirror until the server ends or the session has accepted about a million
 /// writes, and returns the receipts of all their writes. When it returns, both disks are alike and the link has
 /// nothing left to do, or the server ends.
-pub fn work<R: Runtime, A: SharedPrimary, B: SharedSecondary>(
+pub fn work<R: Runtime>(
     rt: &R,
     service: &Service,
-    mirror: &Mirror<R, A, B>,
+    mirror: &(impl Device + Sync),
     cut_every: Option<u32>,
 ) -> Result<Vec<Receipt>, Refusal> {
     let over = AtomicBool::new(false);
@@ -49,10 +48,10 @@ pub fn work<R: Runtime, A: SharedPrimary, B: SharedSecondary>(
 
 // Does requests in all threads, and gathers the receipts. Their room is made at once: if it grew, the memory of a session
 // would depend on those before it.
-fn do_requests<R: Runtime, A: SharedPrimary, B: SharedSecondary>(
+fn do_requests<R: Runtime>(
     rt: &R,
     service: &Service,
-    mirror: &Mirror<R, A, B>,
+    mirror: &(impl Device + Sync),
 ) -> Result<Vec<Receipt>, Refusal> {
     let gathered = Mutex::new(Vec::with_capacity(service.alloc, MOST_RECEIPTS)?);
     let left = thread::map_indices(
@@ -70,10 +69,10 @@ fn do_requests<R: Runtime, A: SharedPrimary, B: SharedSecondary>(
 }
 
 // Does requests, as they come. Returns the receipts for which there was no room among those that are gathered.
-fn do_some<R: Wait + Clock + Drop, A: PrimaryHalf + Drop, B: SecondaryHalf + Drop>(
+fn do_some<R: Wait + Clock>(
     rt: &R,
     service: &Service,
-    mirror: &Mirror<R, A, B>,
+    mirror: &impl Device,
     gathered: &Mutex<Vec<Receipt>>,
 ) -> Vec<Receipt> {
     let mut receipts = Vec::new(service.alloc);
@@ -97,11 +96,7 @@ fn do_some<R: Wait + Clock + Drop, A: PrimaryHalf + Drop, B: SecondaryHalf + Dro
 }
 
 // Waits until both disks are alike and the link has nothing left to do, or the server ends and the link is down.
-fn rest<R: Wait + Clock + Drop, A: PrimaryHalf + Drop, B: SecondaryHalf + Drop>(
-    rt: &R,
-    service: &Service,
-    mirror: &Mirror<R, A, B>,
-) {
+fn rest<R: Wait + Clock>(rt: &R, service: &Service, mirror: &impl Device) {
     for _ in rt.forever() {
         if mirror.is_quiet() && (mirror.marks() == 0 || service.is_over()) {
             break;

@@ -3,8 +3,8 @@ use bell::Bell;
 use blocks::{Done, Refusal};
 use bytes::Bytes;
 use primary::Receipt;
-use session_nodes::{LocalRole, Turn};
 use std::alloc::Global;
+use turns::{LocalRole, Turn};
 
 /// The primary's half of a session, over whichever link and disk it has. Each call takes the node's lock, does what
 /// it says, and lets the lock go. Its refusals are those of the node's call of that name.

@@ -1,8 +1,8 @@
 //! The secondary's half.
 use bell::Bell;
 use blocks::{Done, Refusal};
-use session_nodes::{PeerRole, Turn};
 use std::alloc::Global;
+use turns::{PeerRole, Turn};
 
 /// The secondary's half of a session, over whichever link and disk it has. Each call takes the node's lock, does
 /// what it says, and lets the lock go. Its refusals are those of the node's call of that name.

@@ -9,6 +9,3 @@ mod sync_handle;
 pub use open_fault::OpenFault;
 pub use store::ImageStore;
 pub use sync_handle::SyncHandle;
-
-#[cfg(test)]
-mod tests;

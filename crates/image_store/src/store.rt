@@ -32,8 +32,9 @@ impl<F> Model for ImageStore<F> {
 }
 
 impl<F: FileExt> ImageStore<F> {
-    /// A store over a file that holds these blocks.
-    pub(crate) fn over(file: F, memory: MemStore) -> ImageStore<F>
+    /// A disk over a file that holds the blocks which `memory` has, at most 262,144. The file need not be an image: whatever is
+    /// read and written at places will do. It takes no memory.
+    pub fn over(file: F, memory: MemStore) -> ImageStore<F>
         requires { length memory ≤ 262144 }
         ensures { result ≡ record { disk = memory; faults = 0 } }
     {

@@ -9,9 +9,10 @@ use halves::PrimaryHalf;
 use link::{FrameIn, FrameOut};
 use node_lines::primary_line;
 use primary::{Primary, Receipt};
-use session_nodes::{Local, LocalRole, Turn};
+use session_nodes::Local;
 use std::alloc::Global;
 use std::sync::{Mutex, Wait};
+use turns::{LocalRole, Turn};
 
 /// The primary under its lock.
 #[derive(Drop)]

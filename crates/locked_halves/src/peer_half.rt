@@ -8,9 +8,10 @@ use halves::SecondaryHalf;
 use link::{FrameIn, FrameOut};
 use node_lines::secondary_line;
 use secondary::Secondary;
-use session_nodes::{Peer, PeerRole, Turn};
+use session_nodes::Peer;
 use std::alloc::Global;
 use std::sync::{Mutex, Wait};
+use turns::{PeerRole, Turn};
 
 /// The secondary under its lock.
 #[derive(Drop)]

@@ -11,6 +11,3 @@ pub use buffer::{BUFFER_BYTES, Buffer};
 pub use end::PumpEnd;
 pub use inward::pump_in;
 pub use outward::pump_out;
-
-#[cfg(test)]
-mod tests;

@@ -3,17 +3,14 @@ ghost use Rattle.std.specs.Prelude.{◌∷◌, [], map, OnOk};
 ghost use Rattle.requests.specs.Receipts.{HasMore, range_of, span_of};
 
 use crate::perform::errno_of;
-use halves::{PrimaryHalf, SecondaryHalf};
+use halves::{Begun, Device};
 use nbd::Errno;
 use primary::Receipt;
-use session_threads::{Begun, Mirror};
-use std::sync::Wait;
-use std::time::Clock;
 
 /// Waits for all writes that were begun, one after another, and keeps their receipts. If any fails, the others are waited
 /// for too.
-pub(crate) fn complete_all<R: Wait + Clock + Drop, A: PrimaryHalf + Drop, B: SecondaryHalf + Drop>(
-    mirror: &Mirror<R, A, B>,
+pub(crate) fn complete_all(
+    mirror: &impl Device,
     begun: Vec<Begun>,
     receipts: &mut Vec<Receipt>,
 ) -> Result<(), Errno>
@@ -29,11 +26,7 @@ pub(crate) fn complete_all<R: Wait + Clock + Drop, A: PrimaryHalf + Drop, B: Sec
 }
 
 // Waits for a write, and keeps its receipt.
-fn complete<R: Wait + Clock + Drop, A: PrimaryHalf + Drop, B: SecondaryHalf + Drop>(
-    mirror: &Mirror<R, A, B>,
-    write: Begun,
-    receipts: &mut Vec<Receipt>,
-) -> Result<(), Errno>
+fn complete(mirror: &impl Device, write: Begun, receipts: &mut Vec<Receipt>) -> Result<(), Errno>
     ensures { OnOk result (HasMore range_of (span_of write ∷ []) receipts.old.items receipts.new.items) }
 {
     let receipt = match mirror.complete(write) {

@@ -7,17 +7,16 @@ use crate::payload::{front, zeros};
 use crate::requests::Requests;
 use blocks::{BLOCK_BYTES, Range, Refusal};
 use bytes::Bytes;
-use halves::{PrimaryHalf, SecondaryHalf};
+use halves::{Begun, Device};
 use nbd::{Errno, Ranges};
-use session_threads::{Begun, Mirror};
 use std::alloc::Global;
 use std::sync::Wait;
 use std::time::Clock;
 
 /// Reads these ranges, which have `count` blocks together.
-pub(crate) fn read<R: Wait + Clock + Drop, A: PrimaryHalf + Drop, B: SecondaryHalf + Drop>(
+pub(crate) fn read(
     alloc: Global,
-    mirror: &Mirror<R, A, B>,
+    mirror: &impl Device,
     ranges: Ranges,
     count: u64,
 ) -> Result<Vec<u8>, Errno>
@@ -37,10 +36,10 @@ pub(crate) fn read<R: Wait + Clock + Drop, A: PrimaryHalf + Drop, B: SecondaryHa
 }
 
 /// Begins to write the payload to these ranges, each from where the one before ends in it.
-pub(crate) fn begin_write<R: Wait + Clock + Drop, A: PrimaryHalf + Drop, B: SecondaryHalf + Drop>(
+pub(crate) fn begin_write<R: Wait + Clock>(
     rt: &R,
     requests: &Requests,
-    mirror: &Mirror<R, A, B>,
+    mirror: &impl Device,
     ranges: Ranges,
     payload: Bytes,
     begun: &mut Vec<Begun>,
@@ -56,10 +55,10 @@ pub(crate) fn begin_write<R: Wait + Clock + Drop, A: PrimaryHalf + Drop, B: Seco
 }
 
 /// Begins to write zeros to these ranges.
-pub(crate) fn begin_zeroes<R: Wait + Clock + Drop, A: PrimaryHalf + Drop, B: SecondaryHalf + Drop>(
+pub(crate) fn begin_zeroes<R: Wait + Clock>(
     rt: &R,
     requests: &Requests,
-    mirror: &Mirror<R, A, B>,
+    mirror: &impl Device,
     ranges: Ranges,
     begun: &mut Vec<Begun>,
 ) -> Result<(), Errno>
@@ -73,10 +72,10 @@ pub(crate) fn begin_zeroes<R: Wait + Clock + Drop, A: PrimaryHalf + Drop, B: Sec
 }
 
 // Begins to write one range.
-fn begin_range<R: Wait + Clock + Drop, A: PrimaryHalf + Drop, B: SecondaryHalf + Drop>(
+fn begin_range<R: Wait + Clock>(
     rt: &R,
     requests: &Requests,
-    mirror: &Mirror<R, A, B>,
+    mirror: &impl Device,
     range: Range,
     bytes: &Bytes,
     begun: &mut Vec<Begun>,

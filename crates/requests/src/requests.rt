@@ -9,11 +9,10 @@ use crate::flushes::{Flushes, pause};
 use crate::perform::{begin_write, begin_zeroes, read};
 use crate::under_way::UnderWay;
 use blocks::Protocol;
-use halves::{PrimaryHalf, SecondaryHalf};
+use halves::{Begun, Device};
 use image_store::SyncHandle;
 use nbd::{Command, Errno, Ranges, Request};
 use primary::Receipt;
-use session_threads::{Begun, Mirror};
 use std::alloc::Global;
 use std::fs::File;
 use std::sync::Wait;
@@ -66,12 +65,7 @@ impl Requests {
 
     /// Begins a request: the writes of a WRITE or WRITE_ZEROES, and nothing of any other command. Whoever has many requests
     /// begins them all, and then ends one after another.
-    pub fn begin<R: Wait + Clock + Drop, A: PrimaryHalf + Drop, B: SecondaryHalf + Drop>(
-        &self,
-        rt: &R,
-        mirror: &Mirror<R, A, B>,
-        request: Request,
-    ) -> UnderWay
+    pub fn begin<R: Wait + Clock>(&self, rt: &R, mirror: &impl Device, request: Request) -> UnderWay
         ensures { result ≡ request }
     {
         let mut begun = Vec::new(self.alloc);
@@ -90,10 +84,10 @@ impl Requests {
     /// `Invalid` (EINVAL) for a range that the mirror refuses and for DISC, which is answered by nothing; `NoMemory` (ENOMEM)
     /// if there is no memory; `InputOutput` (EIO) if a disk or a file failed, or the session has no room left. A part of the
     /// ranges may be written then, and have its receipts.
-    pub fn end<R: Wait + Clock + Drop, A: PrimaryHalf + Drop, B: SecondaryHalf + Drop>(
+    pub fn end<R: Wait + Clock>(
         &self,
         rt: &R,
-        mirror: &Mirror<R, A, B>,
+        mirror: &impl Device,
         under_way: UnderWay,
         receipts: &mut Vec<Receipt>,
     ) -> (Request, Result<Vec<u8>, Errno>)
@@ -118,10 +112,10 @@ impl Requests {
     }
 
     // Begins the writes of a request, in order, until one is refused.
-    fn begin_writes<R: Wait + Clock + Drop, A: PrimaryHalf + Drop, B: SecondaryHalf + Drop>(
+    fn begin_writes<R: Wait + Clock>(
         &self,
         rt: &R,
-        mirror: &Mirror<R, A, B>,
+        mirror: &impl Device,
         request: &Request,
         begun: &mut Vec<Begun>,
     ) -> Result<(), Errno>
@@ -140,10 +134,10 @@ impl Requests {
     }
 
     // Does what is left of a request once its writes are completed.
-    fn finish<R: Wait + Clock + Drop, A: PrimaryHalf + Drop, B: SecondaryHalf + Drop>(
+    fn finish<R: Wait + Clock>(
         &self,
         rt: &R,
-        mirror: &Mirror<R, A, B>,
+        mirror: &impl Device,
         request: &Request,
     ) -> Result<Vec<u8>, Errno>
         ensures read { request.now.command ≡ command.Read → IfOk result (λ read. vec_len read ≡ request.now.block_count * 4096) }
@@ -165,11 +159,7 @@ impl Requests {
 
     // Has both images put on stable storage, once the peer has all that was answered before, unless the link is down. Under
     // protocol C it has that already.
-    fn sync<R: Wait + Clock + Drop, A: PrimaryHalf + Drop, B: SecondaryHalf + Drop>(
-        &self,
-        rt: &R,
-        mirror: &Mirror<R, A, B>,
-    ) -> Result<(), Errno> {
+    fn sync<R: Wait + Clock>(&self, rt: &R, mirror: &impl Device) -> Result<(), Errno> {
         if self.protocol != Protocol::C {
             self.flushes.begin();
             for _ in rt.forever() {

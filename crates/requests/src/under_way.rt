@@ -1,6 +1,6 @@
 //! A request whose writes were begun.
+use halves::Begun;
 use nbd::{Errno, Request};
-use session_threads::Begun;
 use std::marker::Model;
 
 /// A request whose writes were begun. Invariant: if none was refused, what was begun is all that it writes.

@@ -1,9 +1,8 @@
 //! Failures of a server.
 use blocks::Refusal;
+use client_threads::{Unbound, Unstarted};
 use image_store::OpenFault;
 use numbers::SessionStatus;
-use std::alloc::AllocError;
-use std::net::SocketAddr;
 use std::{fmt, io};
 
 /// Why a server could not start, or failed.
@@ -12,13 +11,11 @@ pub(crate) enum Fault<'a> {
     /// The image could not be opened.
     Unopened(&'a str, OpenFault),
     /// Nothing can listen at the address.
-    Unbound(SocketAddr, io::Error),
+    Unbound(Unbound),
     /// The session was refused, or there was no memory (7).
     Refused(Refusal),
-    /// The status page could not have secret keys.
-    NoKeys(io::Error),
-    /// A thread could not be started.
-    Unthreaded,
+    /// Its threads could not be started.
+    Unstarted(Unstarted),
     /// The output could not be written.
     Unwritten(io::Error),
 }
@@ -37,13 +34,25 @@ impl fmt::Display for Fault<'_> {
     fn fmt<W: fmt::Write>(&self, f: &mut fmt::Formatter<W>) -> fmt::Result {
         match self {
             Fault::Unopened(file, fault) => write!(f, "{file}: {fault}"),
-            Fault::Unbound(address, error) => {
-                write!(f, "{address} could not be listened at: {error}")
-            }
+            Fault::Unbound(unbound) => write!(f, "{unbound}"),
             Fault::Refused(refusal) => write!(f, "refused {}", refusal.number()),
-            Fault::NoKeys(error) => write!(f, "the system gives no random bytes: {error}"),
-            Fault::Unthreaded => f.write_str("a thread could not be started"),
+            Fault::Unstarted(unstarted) => write!(f, "{unstarted}"),
             Fault::Unwritten(error) => write!(f, "the output could not be written: {error}"),
+        }
+    }
+}
+
+impl<'a> From<Unbound> for Fault<'a> {
+    fn from(unbound: Unbound) -> Fault<'a> {
+        Fault::Unbound(unbound)
+    }
+}
+
+impl<'a> From<Unstarted> for Fault<'a> {
+    fn from(unstarted: Unstarted) -> Fault<'a> {
+        match unstarted {
+            Unstarted::NoMemory => Fault::Refused(Refusal::NoMemory),
+            unstarted => Fault::Unstarted(unstarted),
         }
     }
 }
@@ -51,11 +60,5 @@ impl fmt::Display for Fault<'_> {
 impl<'a> From<Refusal> for Fault<'a> {
     fn from(refusal: Refusal) -> Fault<'a> {
         Fault::Refused(refusal)
-    }
-}
-
-impl<'a> From<AllocError> for Fault<'a> {
-    fn from(_: AllocError) -> Fault<'a> {
-        Fault::Refused(Refusal::NoMemory)
     }
 }

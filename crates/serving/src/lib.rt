@@ -2,13 +2,11 @@
 //! number of clients at a time read and write one export, while the session mirrors it.
 #![tactic(auto)]
 
-mod doors;
 mod fault;
 mod printing;
 mod rest;
 mod session;
 mod sessions;
-mod threads;
 
 pub use options::ServeOptions;
 pub use printing::serve;

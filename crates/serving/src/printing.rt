@@ -1,18 +1,16 @@
 //! A server, from its images to its lines.
 ghost use Rattle.std.specs.Prelude.{◌<◌, ◌≤◌, IfOk};
 
-use crate::doors::Doors;
 use crate::fault::Fault;
 use crate::rest::{Disks, Tally};
 use crate::sessions::run_sessions;
-use crate::threads::start_threads;
 use blocks::{BLOCK_BYTES, MAX_BLOCKS, Refusal};
-use client_threads::Service;
+use client_threads::{Doors, Service, start_threads};
 use image_store::{ImageStore, OpenFault, SyncHandle};
 use numbers::SessionStatus;
 use options::ServeOptions;
 use requests::Requests;
-use std::alloc::{AllocError, Global};
+use std::alloc::Global;
 use std::fs::File;
 use std::io::{Read, Write};
 use std::net::{Net, TcpListener, TcpStream};
@@ -56,7 +54,7 @@ fn serve_images<
     E: Write,
 >(rt: &H, options: &ServeOptions<'a>, input: I, err: &mut E) -> Result<Tally, Fault<'a>> {
     let blocks = blocks_of(rt, options)?;
-    let doors = Doors::open(rt, options)?;
+    let doors = Doors::open(rt, options.listen, options.status)?;
     match open_both(rt, options, blocks) {
         Ok(((local, local_sync), (peer, peer_sync))) => {
             match begin(
@@ -94,7 +92,7 @@ fn begin<
     let (local, peer) = syncs;
     let requests = Requests::new(rt.alloc(), options.protocol, local, peer);
     let service = shared(Service::new(rt.alloc(), blocks, options.protocol, requests)?)?;
-    let (clients, page) = (doors.clients.address, doors.page_address());
+    let (clients, page) = (doors.client_address(), doors.page_address());
     start_threads(rt, &service, doors, input)?;
     let _ = writeln!(err, "{clients} is an export of {blocks} blocks");
     if let Some(page) = page {
@@ -165,10 +163,10 @@ fn open<'a, H: Files<File = File> + AllocGlobal>(
 }
 
 // What all threads share, in memory of its own.
-fn shared(service: Service) -> Result<Arc<Service, Global>, AllocError> {
+fn shared(service: Service) -> Result<Arc<Service, Global>, Refusal> {
     match Arc::new(service.alloc, service) {
         Ok(service) => Ok(service),
-        Err(failed) => Err(AllocError::from(failed)),
+        Err(_) => Err(Refusal::NoMemory),
     }
 }
 

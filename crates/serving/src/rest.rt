@@ -50,19 +50,30 @@ pub(crate) struct Rest {
     pub(crate) tally: Tally,
 }
 
-/// Settles two nodes that are at rest, and takes from them what the next session starts from. The refusals are those of
-/// `settle` and `parts_after`.
+/// Settles two nodes that are at rest with the receipts that their session gave, if none of its writes was refused, and takes
+/// from them what the next session starts from. The refusals are that of a write, and those of `settle` and `parts_after`.
 pub(crate) fn bring_together(
     service: &Service,
     tally: Tally,
     primary: Primary<impl FrameOut + Drop, impl FrameIn + Drop, ImageStore<File>>,
     secondary: Secondary<impl FrameOut + Drop, impl FrameIn + Drop, ImageStore<File>>,
-    receipts: &[Receipt],
+    worked: Result<Vec<Receipt>, Refusal>,
 ) -> Result<Rest, Refusal> {
     let (mut primary, mut secondary) = (primary, secondary);
-    match compare(service, tally, &mut primary, &mut secondary, receipts) {
+    let compared = match worked {
+        Ok(receipts) => compare(
+            service,
+            tally,
+            &mut primary,
+            &mut secondary,
+            receipts.as_slice(),
+        ),
+        Err(refusal) => Err(refusal),
+    };
+    let disks = (primary.into_store(), secondary.into_store());
+    match compared {
         Ok((parts, tally)) => Ok(Rest {
-            disks: (primary.into_store(), secondary.into_store()),
+            disks,
             parts,
             tally,
         }),

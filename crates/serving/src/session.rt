@@ -94,10 +94,7 @@ fn use_session<L: Linked + Send + Sync + 'static, R: Runtime>(
 ) -> Result<Rest, Refusal> {
     let worked = work(&rt, service, session.mirror(), cut_every);
     match session.finish() {
-        Ok((primary, secondary)) => match worked {
-            Ok(receipts) => bring_together(service, tally, primary, secondary, receipts.as_slice()),
-            Err(refusal) => Err(refusal),
-        },
+        Ok((primary, secondary)) => bring_together(service, tally, primary, secondary, worked),
         Err(refusal) => Err(refusal),
     }
 }

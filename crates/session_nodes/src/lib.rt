@@ -6,10 +6,6 @@ mod local;
 mod local_turn;
 mod peer;
 mod peer_turn;
-mod turn;
 
 pub use local::Local;
-pub use local_turn::LocalRole;
 pub use peer::Peer;
-pub use peer_turn::PeerRole;
-pub use turn::{STEPS, Turn};

@@ -54,7 +54,10 @@ impl<O: FrameOut + Drop, I: FrameIn + Drop, S: Store + Drop> Local<O, I, S> {
         let (outward, inward) = link;
         match node.open(outward, inward, words.0, words.1) {
             Ok(()) => Ok(Local { node }),
-            Err(refusal) => Err(refusal),
+            Err(refusal) => {
+                drop(node.into_store());
+                Err(refusal)
+            }
         }
     }
 

@@ -1,22 +1,10 @@
 //! The turns of the primary's threads.
 ghost use Rattle.session_nodes.specs.Primaries.{PrimaryRuns};
 
-use crate::{Local, STEPS, Turn};
+use crate::Local;
 use blocks::{Done, Store};
 use link::{FrameIn, FrameOut};
-
-/// What a thread of the primary's half is there for.
-#[derive(Clone, Copy, Debug, PartialEq, Eq)]
-pub enum LocalRole {
-    /// Sends the stream.
-    Sender,
-    /// Takes acknowledgements.
-    Receiver,
-    /// Has the disk do the writes.
-    Disk,
-    /// Copies marked blocks.
-    Resync,
-}
+use turns::{LocalRole, STEPS, Turn};
 
 impl<O: FrameOut + Drop, I: FrameIn + Drop, S: Store + Drop> Local<O, I, S> {
     /// Does up to `STEPS` steps of the node: those of the role first, and where there are none, any other.

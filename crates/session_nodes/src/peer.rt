@@ -51,7 +51,10 @@ impl<O: FrameOut + Drop, I: FrameIn + Drop, S: Store + Drop> Peer<O, I, S> {
         let (outward, inward) = link;
         match node.open(outward, inward) {
             Ok(()) => Ok(Peer { node }),
-            Err(refusal) => Err(refusal),
+            Err(refusal) => {
+                drop(node.into_store());
+                Err(refusal)
+            }
         }
     }
 

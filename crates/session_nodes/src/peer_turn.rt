@@ -1,20 +1,10 @@
 //! The turns of the secondary's threads.
 ghost use Rattle.session_nodes.specs.Secondaries.{SecondaryRuns};
 
-use crate::{Peer, STEPS, Turn};
+use crate::Peer;
 use blocks::Store;
 use link::{FrameIn, FrameOut};
-
-/// What a thread of the secondary's half is there for.
-#[derive(Clone, Copy, Debug, PartialEq, Eq)]
-pub enum PeerRole {
-    /// Takes the stream.
-    Receiver,
-    /// Sends acknowledgements.
-    Sender,
-    /// Has the disk do what came.
-    Disk,
-}
+use turns::{PeerRole, STEPS, Turn};
 
 impl<O: FrameOut + Drop, I: FrameIn + Drop, S: Store + Drop> Peer<O, I, S> {
     /// Does up to `STEPS` steps of the node: those of the role first, and where there are none, any other.

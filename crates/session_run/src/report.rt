@@ -7,7 +7,7 @@ use node_lines::{primary_line, secondary_line};
 use options::RunOptions;
 use primary::{Primary, Receipt};
 use secondary::Secondary;
-use settle::settle;
+use settle::{Settled, settle};
 use std::alloc::Global;
 
 /// What a session came to, with both disks.
@@ -42,34 +42,51 @@ pub(crate) fn conclude<
     requires { IfOk worked (λ receipts. vec_len receipts ≡ options.now.writers * options.now.writes) }
     ensures { IfOk result (λ report. report.completed ≡ options.now.writers * options.now.writes) }
 {
-    let receipts = worked?;
-    let (primary, secondary) = ended?;
-    bring_together(alloc, options, primary, secondary, receipts.as_slice())
+    match ended {
+        Ok((primary, secondary)) => bring_together(alloc, options, primary, secondary, worked),
+        Err(refusal) => Err(worked.err().unwrap_or(refusal)),
+    }
 }
 
-// Settles both nodes.
+// Settles both nodes, if no write was refused.
 fn bring_together<O: FrameOut + Drop, I: FrameIn + Drop, P: FrameOut + Drop, J: FrameIn + Drop>(
     alloc: Global,
     options: &RunOptions,
     primary: Primary<O, I, MemStore>,
     secondary: Secondary<P, J, MemStore>,
-    receipts: &[Receipt],
+    worked: Result<Vec<Receipt>, Refusal>,
 ) -> Result<Report, Refusal>
-    ensures { IfOk result (λ report. report.completed ≡ length receipts.now) }
+    requires { IfOk worked (λ receipts. vec_len receipts ≡ options.now.writers * options.now.writes) }
+    ensures { IfOk result (λ report. report.completed ≡ options.now.writers * options.now.writes) }
 {
     let (mut primary, mut secondary) = (primary, secondary);
-    let settled = settle(&mut primary, &mut secondary, receipts);
+    let settled = match worked {
+        Ok(receipts) => settled_by(&mut primary, &mut secondary, receipts.as_slice()),
+        Err(refusal) => Err(refusal),
+    };
     let status = status(alloc, options, &primary, &secondary);
     let (local, peer) = (primary.into_store(), secondary.into_store());
-    let settled = settled?;
+    let (completed, settled) = settled?;
     Ok(Report {
-        completed: receipts.len() as u64,
+        completed,
         confirmed: settled.confirmed,
         unmarked: settled.unmarked,
         status: status?,
         local,
         peer,
     })
+}
+
+// How many receipts there are, and what the settlement with them comes to.
+fn settled_by<O: FrameOut + Drop, I: FrameIn + Drop, P: FrameOut + Drop, J: FrameIn + Drop>(
+    primary: &mut Primary<O, I, MemStore>,
+    secondary: &mut Secondary<P, J, MemStore>,
+    receipts: &[Receipt],
+) -> Result<(u64, Settled), Refusal>
+    ensures { IfOk result (λ settled. settled.0 ≡ length receipts.now) }
+{
+    let settled = settle(primary, secondary, receipts)?;
+    Ok((receipts.len() as u64, settled))
 }
 
 // The status lines of both nodes, if they are wanted.

@@ -18,7 +18,7 @@ use volume::{Linked, Parts, Runtime, Session};
 /// settles. On `err` it tells what the options want.
 ///
 /// `BadSetting` (15) if a setting is out of its range or an image has not its blocks; else the refusals of
-/// `Session::start`, of `Mirror::write`, of `Session::finish` and of `settle`, in this order.
+/// `Session::start`, of `Device::write`, of `Session::finish` and of `settle`, in this order.
 pub(crate) fn run_session<R: Runtime, E: Write + Send>(
     rt: R,
     alloc: Global,

@@ -8,13 +8,14 @@ use blocks::{MemStore, Refusal};
 use options::RunOptions;
 use std::alloc::Global;
 use std::io::Write;
-use volume::{Runtime, Socket, WireSession};
+use volume::Runtime;
+use wire_session::{Socket, WireSession};
 
 /// Runs a session over the images of two disks and these sockets: starts it, makes all writes, ends it, and settles. On
 /// `err` it tells what the options want.
 ///
 /// `BadSetting` (15) if a setting is out of its range or an image has not its blocks; else the refusals of
-/// `WireSession::start_over`, of `Mirror::write`, of `WireSession::finish` and of `settle`, in this order.
+/// `WireSession::start_over`, of `Device::write`, of `WireSession::finish` and of `settle`, in this order.
 pub(crate) fn run_over<R: Runtime, E: Write + Send>(
     rt: R,
     alloc: Global,

@@ -5,7 +5,7 @@ use std::io::Write;
 use std::sync::atomic::{AtomicU64, Ordering};
 use std::sync::{Condvar, Mutex, Wait};
 use std::time::{Clock, Duration};
-use volume::{Mirror, PrimaryHalf, SecondaryHalf};
+use volume::Device;
 
 /// How long a run goes on before it tells something again, in seconds.
 const PERIOD_S: u64 = 1;
@@ -56,12 +56,13 @@ impl Course {
 }
 
 /// Tells what the options want, until the end. A failed write to `err` is no fault of the run.
-pub(crate) fn tell<
-    R: Wait + Clock + Drop,
-    A: PrimaryHalf + Drop,
-    B: SecondaryHalf + Drop,
-    E: Write,
->(rt: &R, mirror: &Mirror<R, A, B>, options: &RunOptions, course: &Course, err: &mut E) {
+pub(crate) fn tell<R: Wait + Clock, E: Write>(
+    rt: &R,
+    mirror: &impl Device,
+    options: &RunOptions,
+    course: &Course,
+    err: &mut E,
+) {
     let mut has_line = false;
     for _ in rt.forever() {
         if course.wait(rt) {
@@ -75,8 +76,8 @@ pub(crate) fn tell<
     }
 }
 
-fn tell_once<R: Wait + Clock + Drop, A: PrimaryHalf + Drop, B: SecondaryHalf + Drop, E: Write>(
-    mirror: &Mirror<R, A, B>,
+fn tell_once<E: Write>(
+    mirror: &impl Device,
     options: &RunOptions,
     course: &Course,
     err: &mut E,

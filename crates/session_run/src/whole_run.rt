@@ -11,7 +11,8 @@ use options::{Images, Path, RunOptions};
 use std::io::Write;
 use std::net::{Net, TcpListener, TcpStream};
 use std::rt::Files;
-use volume::{Host, loopback};
+use volume::Host;
+use wire_session::loopback;
 
 /// Runs a session with these options over these images, saves both disks, and prints `completed X`, `settled X`
 /// and `unmarked 0`, X being the number of writes. Returns how it ended: `Done` if all is done; `Failed` if a

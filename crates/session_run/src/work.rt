@@ -13,7 +13,7 @@ use std::sync::Wait;
 use std::thread;
 use std::thread::Threads;
 use std::time::{Clock, Duration};
-use volume::{Mirror, PrimaryHalf, SecondaryHalf};
+use volume::Device;
 
 /// How long a thread waits between two cuts, and before it asks the session again, in milliseconds.
 const PAUSE_MS: u64 = 1;
@@ -22,13 +22,12 @@ const PAUSE_MS: u64 = 1;
 /// writes once the disks are alike or the link is down. The first writer that is refused decides what is refused; every other one still makes its writes.
 pub(crate) fn work<
     R: Threads + Wait + Clock + Copy + Drop + Send + Sync + 'static,
-    A: PrimaryHalf + Drop + Send + Sync + 'static,
-    B: SecondaryHalf + Drop + Send + Sync + 'static,
+    D: Device + Sync,
     E: Write + Send,
 >(
     rt: &R,
     alloc: Global,
-    mirror: &Mirror<R, A, B>,
+    mirror: &D,
     options: &RunOptions,
     err: &mut E,
 ) -> Result<Vec<Receipt>, Refusal>
@@ -43,7 +42,7 @@ pub(crate) fn work<
         rt,
         || { tell(rt, mirror, options, &course, err) },
         || -> Result<Vec<Receipt>, Refusal>
-            requires { IsSend R.row × IsSync R.row × IsSend A.row × IsSync A.row × IsSend B.row × IsSync B.row × (0 < options.now.blocks) }
+            requires { IsSend R.row × IsSync R.row × IsSync D.row × (0 < options.now.blocks) }
         {
             let worked = write_and_cut(rt, alloc, mirror, options, &course);
             course.end(rt);
@@ -54,14 +53,10 @@ pub(crate) fn work<
 }
 
 // Makes all writes while the link is cut, and then waits until the disks are alike, if the link is up.
-fn write_and_cut<
-    R: Threads + Wait + Clock + Copy + Drop + Send + Sync + 'static,
-    A: PrimaryHalf + Drop + Send + Sync + 'static,
-    B: SecondaryHalf + Drop + Send + Sync + 'static,
->(
+fn write_and_cut<R: Threads + Wait + Clock + Copy + Drop + Send + Sync + 'static, D: Device + Sync>(
     rt: &R,
     alloc: Global,
-    mirror: &Mirror<R, A, B>,
+    mirror: &D,
     options: &RunOptions,
     course: &Course,
 ) -> Result<Vec<Receipt>, Refusal>
@@ -72,7 +67,7 @@ fn write_and_cut<
         rt,
         || -> Result<(), Refusal> { cut_all(rt, mirror, options.cuts) },
         || -> Result<Vec<Receipt>, Refusal>
-            requires { IsSend R.row × IsSync R.row × IsSend A.row × IsSync A.row × IsSend B.row × IsSync B.row × (0 < options.now.blocks) }
+            requires { IsSend R.row × IsSync R.row × IsSync D.row × (0 < options.now.blocks) }
         { write_all(rt, alloc, mirror, options, course) },
     );
     rest(rt, mirror);
@@ -82,10 +77,7 @@ fn write_and_cut<
 }
 
 // Waits until the link has nothing left to do.
-fn rest<R: Wait + Clock + Drop, A: PrimaryHalf + Drop, B: SecondaryHalf + Drop>(
-    rt: &R,
-    mirror: &Mirror<R, A, B>,
-) {
+fn rest<R: Wait + Clock>(rt: &R, mirror: &impl Device) {
     for _ in rt.forever() {
         if mirror.is_quiet() {
             break;
@@ -95,14 +87,10 @@ fn rest<R: Wait + Clock + Drop, A: PrimaryHalf + Drop, B: SecondaryHalf + Drop>(
 }
 
 // Lets each writer make its writes in a thread of its own, and gathers the receipts.
-fn write_all<
-    R: Threads + Wait + Clock + Copy + Drop + Send + Sync + 'static,
-    A: PrimaryHalf + Drop + Send + Sync + 'static,
-    B: SecondaryHalf + Drop + Send + Sync + 'static,
->(
+fn write_all<R: Threads + Wait + Clock + Copy + Drop + Send + Sync + 'static>(
     rt: &R,
     alloc: Global,
-    mirror: &Mirror<R, A, B>,
+    mirror: &(impl Device + Sync),
     options: &RunOptions,
     course: &Course,
 ) -> Result<Vec<Receipt>, Refusal>
@@ -129,9 +117,9 @@ fn write_all<
 }
 
 // Makes the writes of one writer, one after another.
-fn write_turns<R: Wait + Clock + Drop, A: PrimaryHalf + Drop, B: SecondaryHalf + Drop>(
+fn write_turns(
     alloc: Global,
-    mirror: &Mirror<R, A, B>,
+    mirror: &impl Device,
     options: &RunOptions,
     writer: u32,
     course: &Course,
@@ -149,11 +137,7 @@ fn write_turns<R: Wait + Clock + Drop, A: PrimaryHalf + Drop, B: SecondaryHalf +
 }
 
 // Cuts the link and reconnects it, so many times.
-fn cut_all<R: Wait + Clock + Drop, A: PrimaryHalf + Drop, B: SecondaryHalf + Drop>(
-    rt: &R,
-    mirror: &Mirror<R, A, B>,
-    cuts: u32,
-) -> Result<(), Refusal> {
+fn cut_all<R: Wait + Clock>(rt: &R, mirror: &impl Device, cuts: u32) -> Result<(), Refusal> {
     for round in 1..=cuts {
         mirror.cut();
         reconnect(rt, mirror, round)?;
@@ -163,11 +147,7 @@ fn cut_all<R: Wait + Clock + Drop, A: PrimaryHalf + Drop, B: SecondaryHalf + Dro
 }
 
 // Reconnects once the secondary's disk has done its items.
-fn reconnect<R: Wait + Clock + Drop, A: PrimaryHalf + Drop, B: SecondaryHalf + Drop>(
-    rt: &R,
-    mirror: &Mirror<R, A, B>,
-    round: u32,
-) -> Result<(), Refusal> {
+fn reconnect<R: Wait + Clock>(rt: &R, mirror: &impl Device, round: u32) -> Result<(), Refusal> {
     let (sync, loss) = words(round);
     for _ in rt.forever() {
         match mirror.reconnect(sync, loss) {

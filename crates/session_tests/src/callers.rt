@@ -10,7 +10,7 @@ use std::sync::Wait;
 use std::sync::atomic::Ordering;
 use std::thread;
 use std::time::Clock;
-use volume::{Mirror, PrimaryHalf, Runtime, SecondaryHalf, SharedPrimary, SharedSecondary};
+use volume::{Device, Runtime};
 
 /// Writers of a session, and the writes of each.
 pub(crate) const WRITERS: usize = 4;
@@ -45,10 +45,10 @@ pub(crate) enum Work {
 }
 
 /// Does it, and returns what the callers have then.
-pub(crate) fn carry_out<R: Abort + Runtime, A: SharedPrimary, B: SharedSecondary>(
+pub(crate) fn carry_out<R: Abort + Runtime>(
     rt: &R,
     alloc: Global,
-    mirror: &Mirror<R, A, B>,
+    mirror: &(impl Device + Sync),
     signals: &Signals,
     work: Work,
 ) -> Answers {
@@ -95,21 +95,16 @@ fn add(rt: &impl Abort, all: &mut Answers, answers: &mut Answers) {
 }
 
 // Writes a block filled with a byte.
-fn write<R: Wait + Clock + Drop, A: PrimaryHalf + Drop, B: SecondaryHalf + Drop>(
-    alloc: Global,
-    mirror: &Mirror<R, A, B>,
-    block: u64,
-    byte: u8,
-) -> Result<Receipt, Refusal> {
+fn write(alloc: Global, mirror: &impl Device, block: u64, byte: u8) -> Result<Receipt, Refusal> {
     let bytes = Bytes::copy_from_slice(alloc, &[byte; BLOCK_BYTES])?;
     mirror.write(block, &bytes)
 }
 
 // All writers, each in a thread of its own, and the one that cuts.
-fn all_writers<R: Abort + Runtime, A: SharedPrimary, B: SharedSecondary>(
+fn all_writers<R: Abort + Runtime>(
     rt: &R,
     alloc: Global,
-    mirror: &Mirror<R, A, B>,
+    mirror: &(impl Device + Sync),
     cuts: u32,
     shared: bool,
 ) -> Answers {
@@ -135,10 +130,10 @@ fn all_writers<R: Abort + Runtime, A: SharedPrimary, B: SharedSecondary>(
 }
 
 // The writes of one writer, which reads back the last of them if its blocks are its own.
-fn write_some<R: Wait + Clock + Drop, A: PrimaryHalf + Drop, B: SecondaryHalf + Drop>(
+fn write_some(
     rt: &impl Abort,
     alloc: Global,
-    mirror: &Mirror<R, A, B>,
+    mirror: &impl Device,
     writer: u64,
     shared: bool,
 ) -> Answers {
@@ -157,11 +152,7 @@ fn write_some<R: Wait + Clock + Drop, A: PrimaryHalf + Drop, B: SecondaryHalf + 
 }
 
 // Whether a block is read that this byte fills.
-fn holds<R: Wait + Clock + Drop, A: PrimaryHalf + Drop, B: SecondaryHalf + Drop>(
-    mirror: &Mirror<R, A, B>,
-    block: u64,
-    byte: u8,
-) -> bool {
+fn holds(mirror: &impl Device, block: u64, byte: u8) -> bool {
     match mirror.read(block, 1) {
         Ok(bytes) => bytes.as_slice() == [byte; BLOCK_BYTES].as_slice(),
         Err(_) => false,
@@ -169,11 +160,7 @@ fn holds<R: Wait + Clock + Drop, A: PrimaryHalf + Drop, B: SecondaryHalf + Drop>
 }
 
 // Cuts the link and reconnects it, so often.
-fn cut_some<R: Abort + Wait + Clock + Drop, A: PrimaryHalf + Drop, B: SecondaryHalf + Drop>(
-    rt: &R,
-    mirror: &Mirror<R, A, B>,
-    cuts: u32,
-) {
+fn cut_some<R: Abort + Wait + Clock>(rt: &R, mirror: &impl Device, cuts: u32) {
     for round in 1..=cuts {
         mirror.cut();
         reconnect(rt, mirror, round);
@@ -181,11 +168,7 @@ fn cut_some<R: Abort + Wait + Clock + Drop, A: PrimaryHalf + Drop, B: SecondaryH
 }
 
 // Reconnects under the words of this round, once the secondary's disk has done its items.
-fn reconnect<R: Abort + Wait + Clock + Drop, A: PrimaryHalf + Drop, B: SecondaryHalf + Drop>(
-    rt: &R,
-    mirror: &Mirror<R, A, B>,
-    round: u32,
-) {
+fn reconnect<R: Abort + Wait + Clock>(rt: &R, mirror: &impl Device, round: u32) {
     let sync = 2 * u64::from(round) + 2;
     for _ in rt.forever() {
         match mirror.reconnect(sync, sync + 1) {
@@ -199,10 +182,10 @@ fn reconnect<R: Abort + Wait + Clock + Drop, A: PrimaryHalf + Drop, B: Secondary
 }
 
 // A thousand writes of one caller, and a cut after every tenth.
-fn cut_every_tenth<R: Abort + Wait + Clock + Drop, A: PrimaryHalf + Drop, B: SecondaryHalf + Drop>(
+fn cut_every_tenth<R: Abort + Wait + Clock>(
     rt: &R,
     alloc: Global,
-    mirror: &Mirror<R, A, B>,
+    mirror: &impl Device,
 ) -> Answers {
     let mut answers = nothing(alloc);
     for round in 1..=100u32 {
@@ -217,10 +200,10 @@ fn cut_every_tenth<R: Abort + Wait + Clock + Drop, A: PrimaryHalf + Drop, B: Sec
 }
 
 // Two callers, whose writes are under way at one time.
-fn gate<R: Abort + Runtime, A: SharedPrimary, B: SharedSecondary>(
+fn gate<R: Abort + Runtime>(
     rt: &R,
     alloc: Global,
-    mirror: &Mirror<R, A, B>,
+    mirror: &(impl Device + Sync),
     signals: &Signals,
     receipt_opens: bool,
 ) -> Answers {
@@ -282,10 +265,10 @@ fn resync(alloc: Global, signals: &Signals, writes: u64) -> Answers {
 }
 
 // Writes until the link has answered one, on each of two connections.
-fn two_connections<R: Abort + Wait + Clock + Drop, A: PrimaryHalf + Drop, B: SecondaryHalf + Drop>(
+fn two_connections<R: Abort + Wait + Clock>(
     rt: &R,
     alloc: Global,
-    mirror: &Mirror<R, A, B>,
+    mirror: &impl Device,
 ) -> Answers {
     let mut answers = nothing(alloc);
     note(rt, &mut answers, linked(alloc, mirror, 1));
@@ -296,11 +279,7 @@ fn two_connections<R: Abort + Wait + Clock + Drop, A: PrimaryHalf + Drop, B: Sec
 }
 
 // The first linked receipt of this connection.
-fn linked<R: Wait + Clock + Drop, A: PrimaryHalf + Drop, B: SecondaryHalf + Drop>(
-    alloc: Global,
-    mirror: &Mirror<R, A, B>,
-    connection: u32,
-) -> Result<Receipt, Refusal> {
+fn linked(alloc: Global, mirror: &impl Device, connection: u32) -> Result<Receipt, Refusal> {
     for _ in 0..100_000u32 {
         let receipt = write(alloc, mirror, 0, 0xAA)?;
         if let (Kind::Linked, Some(home)) = (receipt.kind(), receipt.home())
@@ -313,21 +292,14 @@ fn linked<R: Wait + Clock + Drop, A: PrimaryHalf + Drop, B: SecondaryHalf + Drop
 }
 
 // One write of block 2.
-fn one_write<R: Wait + Clock + Drop, A: PrimaryHalf + Drop, B: SecondaryHalf + Drop>(
-    rt: &impl Abort,
-    alloc: Global,
-    mirror: &Mirror<R, A, B>,
-) -> Answers {
+fn one_write(rt: &impl Abort, alloc: Global, mirror: &impl Device) -> Answers {
     let mut answers = nothing(alloc);
     note(rt, &mut answers, write(alloc, mirror, 2, 0xAA));
     answers
 }
 
 // Whether a second connection is refused 12, whatever the words, before and after a cut.
-fn one_connection<R: Wait + Clock + Drop, A: PrimaryHalf + Drop, B: SecondaryHalf + Drop>(
-    alloc: Global,
-    mirror: &Mirror<R, A, B>,
-) -> Answers {
+fn one_connection(alloc: Global, mirror: &impl Device) -> Answers {
     let before = number(mirror.reconnect(90, 91));
     mirror.cut();
     let after = number(mirror.reconnect(0, 0));
@@ -337,11 +309,7 @@ fn one_connection<R: Wait + Clock + Drop, A: PrimaryHalf + Drop, B: SecondaryHal
 }
 
 // Whether a session refuses what it should.
-fn refused<R: Wait + Clock + Drop, A: PrimaryHalf + Drop, B: SecondaryHalf + Drop>(
-    rt: &impl Abort,
-    alloc: Global,
-    mirror: &Mirror<R, A, B>,
-) -> Answers {
+fn refused(rt: &impl Abort, alloc: Global, mirror: &impl Device) -> Answers {
     let mut answers = nothing(alloc);
     let part = Bytes::copy_from_slice(alloc, &[0u8; 100]).expect(rt, "memory");
     complain(&mut answers, &refused_while_open(alloc, mirror, &part));
@@ -352,11 +320,7 @@ fn refused<R: Wait + Clock + Drop, A: PrimaryHalf + Drop, B: SecondaryHalf + Dro
 
 // Writes and reads past the device, a write of part of a block, and a reconnection over an open link: the number of
 // each refusal, and the wanted one.
-fn refused_while_open<R: Wait + Clock + Drop, A: PrimaryHalf + Drop, B: SecondaryHalf + Drop>(
-    alloc: Global,
-    mirror: &Mirror<R, A, B>,
-    part: &Bytes,
-) -> [(u8, u8); 5] {
+fn refused_while_open(alloc: Global, mirror: &impl Device, part: &Bytes) -> [(u8, u8); 5] {
     [
         (number(write(alloc, mirror, 8, 0)), 1),
         (number(mirror.write(0, part)), 1),
@@ -367,9 +331,7 @@ fn refused_while_open<R: Wait + Clock + Drop, A: PrimaryHalf + Drop, B: Secondar
 }
 
 // The same of words that are used, and of a reconnection that is not refused.
-fn refused_after_a_cut<R: Wait + Clock + Drop, A: PrimaryHalf + Drop, B: SecondaryHalf + Drop>(
-    mirror: &Mirror<R, A, B>,
-) -> [(u8, u8); 4] {
+fn refused_after_a_cut(mirror: &impl Device) -> [(u8, u8); 4] {
     [
         (number(mirror.reconnect(90, 90)), 33),
         (number(mirror.reconnect(1, 91)), 33),

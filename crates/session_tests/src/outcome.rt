@@ -74,7 +74,9 @@ pub(crate) fn bring_together(
     answers: &Answers,
 ) -> Outcome {
     let (mut primary, mut secondary) = nodes;
-    compare(&mut primary, &mut secondary, answers).expect(rt, "a settlement")
+    let outcome = compare(&mut primary, &mut secondary, answers).expect(rt, "a settlement");
+    drop((primary.into_store(), secondary.into_store()));
+    outcome
 }
 
 fn compare(

@@ -6,11 +6,11 @@ use crate::pipes::{Fixed, PipeReader, PipeWriter, pipe};
 use crate::session::Case;
 use blocks::{MemStore, Protocol, Refusal};
 use std::alloc::Global;
-use std::io::{Read, Write};
 use std::ops::Range;
 use std::process::Abort;
 use std::thread;
-use volume::{Runtime, Way, WireSession};
+use volume::Runtime;
+use wire_session::{Sink, Source, Way, WireSession};
 
 /// No bytes at which a stream fails.
 const NEVER: u64 = u64::MAX;
@@ -69,13 +69,12 @@ fn whole_way<R: Abort + Runtime>(rt: R, alloc: Global) -> Way<PipeWriter<R>, Pip
 }
 
 // A session over two ways, whose start may be refused.
-fn over_ways<
-    R: Abort + Runtime,
-    W: Write + Drop + Send + 'static,
-    D: Read + Drop + Send + 'static,
-    V: Write + Drop + Send + 'static,
-    E: Read + Drop + Send + 'static,
->(rt: R, alloc: Global, case: Case, ways: (Way<W, D>, Way<V, E>)) -> Result<Outcome, Refusal> {
+fn over_ways<R: Abort + Runtime, W: Sink, D: Source, V: Sink, E: Source>(
+    rt: R,
+    alloc: Global,
+    case: Case,
+    ways: (Way<W, D>, Way<V, E>),
+) -> Result<Outcome, Refusal> {
     let parts = case.parts(alloc).expect(&rt, "settings");
     let (local, peer) = (memory(&rt, alloc, false), memory(&rt, alloc, false));
     match WireSession::start_over(rt, alloc, local, peer, parts, ways) {
@@ -117,9 +116,10 @@ fn a_session_over_streams_has_one_connection(rt: HostRuntime) {
 }
 
 // What a session comes to in which a stream fails: its hello ends with 12, or its one write has its receipt and no
-// difference is without a mark.
+// difference is without a mark. There are thousands of them, so each is over the smallest link, which takes little memory.
 fn is_sound<R: Abort + Runtime>(rt: R, alloc: Global, failing: Failing) -> bool {
-    match over_pipes(rt, alloc, Case::of(Protocol::C, Work::OneWrite), failing) {
+    let case = Case::of(Protocol::C, Work::OneWrite).over_one_frame();
+    match over_pipes(rt, alloc, case, failing) {
         Ok(outcome) => {
             outcome.receipts == 1
                 && outcome.complaints == 0

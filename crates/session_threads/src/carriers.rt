@@ -5,7 +5,7 @@ ghost use Rattle.ruled_link.specs.Inward.{taking};
 ghost use Rattle.ruled_link.specs.Outward.{sending};
 
 use crate::shared::Shared;
-use crate::way::Way;
+use crate::way::{Sink, Source, Way};
 use crate::workers::Workers;
 use blocks::Refusal;
 use crossbeam_channel::{Receiver, Sender, bounded};
@@ -101,8 +101,8 @@ impl Carrier {
         R: Threads + Wait + Clock + Drop + Send + Sync + 'static,
         A: PrimaryHalf + Drop + Send + Sync + 'static,
         B: SecondaryHalf + Drop + Send + Sync + 'static,
-        W: Write + Drop + Send + 'static,
-        D: Read + Drop + Send + 'static,
+        W: Sink,
+        D: Source,
     >(
         &self,
         workers: &mut Workers,
@@ -122,7 +122,7 @@ impl Carrier {
         R: Threads + Wait + Clock + Drop + Send + Sync + 'static,
         A: PrimaryHalf + Drop + Send + Sync + 'static,
         B: SecondaryHalf + Drop + Send + Sync + 'static,
-        W: Write + Drop + Send + 'static,
+        W: Sink,
     >(
         &self,
         workers: &mut Workers,
@@ -149,7 +149,7 @@ impl Carrier {
         R: Threads + Wait + Clock + Drop + Send + Sync + 'static,
         A: PrimaryHalf + Drop + Send + Sync + 'static,
         B: SecondaryHalf + Drop + Send + Sync + 'static,
-        D: Read + Drop + Send + 'static,
+        D: Source,
     >(
         &self,
         workers: &mut Workers,
@@ -172,7 +172,7 @@ impl Carrier {
     }
 }
 
-impl<R: Wait + Clock + Drop, A: PrimaryHalf + Drop, B: SecondaryHalf + Drop> Shared<R, A, B> {
+impl<R: Wait + Clock + Drop, A: PrimaryHalf, B: SecondaryHalf> Shared<R, A, B> {
     // Closes both ends whenever a pump has ended, until none is left.
     fn listen(&self, notices: &Receiver<PumpEnd, Global>) {
         for _ in notices.iter(&self.rt) {

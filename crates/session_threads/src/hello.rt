@@ -19,7 +19,7 @@ const STEPS: [Step; 4] = [Step::Send, Step::Receive, Step::AckOut, Step::AckIn];
 /// Frames of the hello each way.
 const FRAMES: u32 = 3;
 
-impl<R: Wait + Drop, A: PrimaryHalf + Drop, B: SecondaryHalf + Drop> Shared<R, A, B> {
+impl<R: Wait, A: PrimaryHalf, B: SecondaryHalf> Shared<R, A, B> {
     /// Exchanges the hellos of both ends over a link. Stops at the first refusal.
     pub(crate) fn greet(&self) -> Result<(), Refusal> {
         for _ in 0..FRAMES {
@@ -41,7 +41,7 @@ impl<R: Wait + Drop, A: PrimaryHalf + Drop, B: SecondaryHalf + Drop> Shared<R, A
     }
 }
 
-impl<R: Wait + Clock + Drop, A: PrimaryHalf + Drop, B: SecondaryHalf + Drop> Shared<R, A, B> {
+impl<R: Wait + Clock, A: PrimaryHalf, B: SecondaryHalf> Shared<R, A, B> {
     /// Exchanges the hellos of both ends while pumps carry their frames: waits for each. Stops at the first refusal
     /// other than `LinkFull` (11) and `NothingThere` (13).
     pub(crate) fn greet_over_ways(&self) -> Result<(), Refusal> {

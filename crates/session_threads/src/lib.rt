@@ -4,17 +4,14 @@
 
 mod carriers;
 mod hello;
-mod host;
 mod mirror;
-mod observed;
 mod running;
 mod shared;
 mod way;
 mod workers;
 
 pub use carriers::{PumpEnds, half_rows};
-pub use halves::Begun;
-pub use host::{Host, Runtime};
+pub use halves::{Begun, Device, Host, Runtime};
 pub use mirror::Mirror;
 pub use running::Running;
-pub use way::Way;
+pub use way::{Sink, Source, Way};

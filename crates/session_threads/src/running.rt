@@ -2,12 +2,11 @@
 use crate::Mirror;
 use crate::carriers::{Carrier, LOCAL_TO_PEER, PEER_TO_LOCAL, PumpEnds};
 use crate::shared::{Path, Shared};
-use crate::way::Way;
+use crate::way::{Sink, Source, Way};
 use crate::workers::Workers;
 use blocks::Refusal;
 use halves::{PrimaryHalf, SecondaryHalf};
 use std::alloc::Global;
-use std::io::{Read, Write};
 use std::sync::{Arc, Wait};
 use std::thread::Threads;
 use std::time::Clock;
@@ -45,12 +44,7 @@ impl<
     ///
     /// The refusals are those of `start`, `NotConnected` (12) if a way ends during the hello, and 20 to 25, 34 or 35 if
     /// foreign bytes come in it. Then nothing runs, and all that was handed over is dropped.
-    pub fn start_over<
-        W: Write + Drop + Send + 'static,
-        D: Read + Drop + Send + 'static,
-        V: Write + Drop + Send + 'static,
-        E: Read + Drop + Send + 'static,
-    >(
+    pub fn start_over<W: Sink, D: Source, V: Sink, E: Source>(
         rt: R,
         alloc: Global,
         local: A,
@@ -90,12 +84,7 @@ impl<
     }
 
     // Starts the pumps, does the hello, and starts the threads of both nodes.
-    fn begin_over<
-        W: Write + Drop + Send + 'static,
-        D: Read + Drop + Send + 'static,
-        V: Write + Drop + Send + 'static,
-        E: Read + Drop + Send + 'static,
-    >(
+    fn begin_over<W: Sink, D: Source, V: Sink, E: Source>(
         &mut self,
         rows: (PumpEnds<R>, PumpEnds<R>),
         ways: (Way<W, D>, Way<V, E>),

@@ -1,9 +1,9 @@
 //! The state that both halves of a running session share, and the loop of each thread.
 use halves::{PrimaryHalf, SecondaryHalf};
-use session_nodes::{LocalRole, PeerRole, Turn};
 use std::sync::atomic::{AtomicBool, Ordering};
 use std::sync::{Mutex, Wait};
 use std::time::Clock;
+use turns::{LocalRole, PeerRole, Turn};
 
 /// How the frames of a session go from one half to the other.
 #[derive(Clone, Copy, Debug, PartialEq, Eq)]
@@ -17,7 +17,7 @@ pub(crate) enum Path {
 /// Both halves. No thread holds the locks of both nodes. Whoever opens or closes a connection takes the door
 /// before any node's lock.
 #[derive(Drop)]
-pub(crate) struct Shared<R: Wait + Drop, A: PrimaryHalf + Drop, B: SecondaryHalf + Drop> {
+pub(crate) struct Shared<R: Wait, A: PrimaryHalf, B: SecondaryHalf> {
     pub(crate) rt: R,
     pub(crate) local: A,
     pub(crate) peer: B,
@@ -26,7 +26,7 @@ pub(crate) struct Shared<R: Wait + Drop, A: PrimaryHalf + Drop, B: SecondaryHalf
     pub(crate) stop: AtomicBool,
 }
 
-impl<R: Wait + Drop, A: PrimaryHalf + Drop, B: SecondaryHalf + Drop> Shared<R, A, B> {
+impl<R: Wait, A: PrimaryHalf, B: SecondaryHalf> Shared<R, A, B> {
     /// Two halves whose threads do not run yet.
     pub(crate) fn new(rt: R, local: A, peer: B, path: Path) -> Shared<R, A, B> {
         Shared {
@@ -112,7 +112,7 @@ impl<R: Wait + Drop, A: PrimaryHalf + Drop, B: SecondaryHalf + Drop> Shared<R, A
     }
 }
 
-impl<R: Wait + Clock + Drop, A: PrimaryHalf + Drop, B: SecondaryHalf + Drop> Shared<R, A, B> {
+impl<R: Wait + Clock, A: PrimaryHalf, B: SecondaryHalf> Shared<R, A, B> {
     /// The loop of a thread of the primary's half.
     pub(crate) fn work_local(&self, role: LocalRole) {
         self.local.work().watch();

@@ -2,13 +2,13 @@
 use crate::shared::Shared;
 use blocks::Refusal;
 use halves::{PrimaryHalf, SecondaryHalf};
-use session_nodes::{LocalRole, PeerRole};
 use std::alloc::Global;
 use std::sync::atomic::Ordering;
 use std::sync::{Arc, Wait};
 use std::thread;
 use std::thread::{JoinHandle, Threads};
 use std::time::Clock;
+use turns::{LocalRole, PeerRole};
 
 const LOCAL_ROLES: [LocalRole; 4] = [
     LocalRole::Sender,
@@ -60,7 +60,7 @@ impl Workers {
     }
 
     /// Stops the threads that run, and waits for their ends.
-    pub(crate) fn stop<R: Threads + Wait + Drop, A: PrimaryHalf + Drop, B: SecondaryHalf + Drop>(
+    pub(crate) fn stop<R: Threads + Wait, A: PrimaryHalf, B: SecondaryHalf>(
         &mut self,
         shared: &Shared<R, A, B>,
     ) {

@@ -7,6 +7,3 @@ mod report;
 
 pub use page::answer_one;
 pub use report::{Report, Resync};
-
-#[cfg(test)]
-mod tests;

@@ -30,8 +30,7 @@ pub type SessionPeer<R, L, T> = PeerHalf<R, NamedOut<R, Back<L>>, NamedIn<R, The
 /// What any number of threads may share of a session over a link.
 pub type SessionMirror<R, L, S, T> = Mirror<R, SessionLocal<R, L, S>, SessionPeer<R, L, T>>;
 
-/// A running session over a link.
-#[derive(Drop)]
+/// A running session over a link. It cannot be dropped: whoever starts it has to finish it.
 pub struct Session<R: Threads + Wait + Drop, L: Linked, S: Store + Drop, T: Store + Drop> {
     running: Running<R, SessionLocal<R, L, S>, SessionPeer<R, L, T>>,
 }
@@ -73,7 +72,10 @@ impl<
         )?;
         match PeerHalf::open(rt, alloc, parts.settings, peer, parts.peer, peer_ends) {
             Ok(peer) => Session::over(rt, alloc, local, peer),
-            Err(refusal) => Err(refusal),
+            Err(refusal) => {
+                drop(local.into_node().into_store());
+                Err(refusal)
+            }
         }
     }
 
@@ -119,7 +121,10 @@ impl<R: Threads + Wait + Clock + Drop, L: Linked, S: Store + Drop, T: Store + Dr
         let (primary, secondary) = into_nodes(local, peer);
         match check_numbers(&primary, &secondary) {
             Ok(()) => Ok((primary, secondary)),
-            Err(refusal) => Err(refusal),
+            Err(refusal) => {
+                drop((primary.into_store(), secondary.into_store()));
+                Err(refusal)
+            }
         }
     }
 }

@@ -1,6 +1,9 @@
-//! Tests by calls of what a node sends over pumps, where the connection is lost after each byte.
+//! Tests by calls of what goes over streams: by pumps alone, and by those of a node whose connection is lost after each byte;
+//! and of the bells on which threads wait.
 #![tactic(auto)]
 
+#[cfg(test)]
+mod bells;
 #[cfg(test)]
 mod cuts;
 #[cfg(test)]
@@ -9,3 +12,5 @@ mod ends;
 mod receiver;
 #[cfg(test)]
 mod sender;
+#[cfg(test)]
+mod streams;

@@ -5,17 +5,18 @@ ghost use Rattle.volume.specs.Links.{AreEndsOf};
 use super::measure::{BLOCKS, Report};
 use super::writers::write_all;
 use blocks::{MemStore, Protocol, Refusal, Settings, Tuple};
+use link::{FrameIn, FrameOut};
+use primary::Primary;
 use ruled_link::{RuledIn, RuledOut, ruled};
+use secondary::Secondary;
 use std::alloc::Global;
 use std::fmt::Display;
 use std::marker::Brand;
 use std::net::{Net, TcpListener, TcpStream};
 use std::time::{Duration, Instant};
 use std::{fmt, thread};
-use volume::{
-    Linked, Mirror, Parts, PrimaryHalf, Runtime, SecondaryHalf, Session, SharedPrimary,
-    SharedSecondary, Socket, WireSession, loopback,
-};
+use volume::{Device, Linked, Parts, Runtime, Session};
+use wire_session::{Socket, WireSession, loopback};
 
 /// The disks of both nodes.
 type Disks = (MemStore, MemStore);
@@ -105,7 +106,7 @@ fn run_named<L: Linked + Send + Sync + 'static, R: Runtime>(
         rt, alloc, there, back, local, peer, parts,
     )?;
     let report = measured(&rt, alloc, session.mirror(), plan);
-    session.finish()?;
+    end(session.finish())?;
     report
 }
 
@@ -119,15 +120,24 @@ fn run_over<R: Runtime>(
     let (parts, (local, peer)) = parts(alloc, plan)?;
     let session = WireSession::start_over(rt, alloc, local, peer, parts, ways)?;
     let report = measured(&rt, alloc, session.mirror(), plan);
-    session.finish()?;
+    end(session.finish())?;
     report
 }
 
+// The end of a session, of whose nodes nothing is left.
+fn end<O: FrameOut + Drop, I: FrameIn + Drop, P: FrameOut + Drop, J: FrameIn + Drop>(
+    ended: Result<(Primary<O, I, MemStore>, Secondary<P, J, MemStore>), Refusal>,
+) -> Result<(), Refusal> {
+    let (primary, secondary) = ended?;
+    drop((primary.into_store(), secondary.into_store()));
+    Ok(())
+}
+
 // Makes all writes of a session that runs, and leaves it alone after them.
-fn measured<R: Runtime, A: SharedPrimary, B: SharedSecondary>(
+fn measured<R: Runtime>(
     rt: &R,
     alloc: Global,
-    mirror: &Mirror<R, A, B>,
+    mirror: &(impl Device + Sync),
     plan: Plan,
 ) -> Result<Report, Refusal> {
     let start = Instant::now(rt);

@@ -6,16 +6,16 @@ use std::alloc::Global;
 use std::sync::Wait;
 use std::thread;
 use std::time::{Clock, Instant};
-use volume::{Mirror, PrimaryHalf, Runtime, SecondaryHalf, SharedPrimary, SharedSecondary};
+use volume::{Device, Runtime};
 
 /// Blocks that each writer writes in turn.
 const BLOCKS_OF_A_WRITER: u64 = 512;
 
 /// Lets each writer make its writes in a thread of its own. Returns how long each write waited, in nanoseconds.
-pub(crate) fn write_all<R: Runtime, A: SharedPrimary, B: SharedSecondary>(
+pub(crate) fn write_all<R: Runtime>(
     rt: &R,
     alloc: Global,
-    mirror: &Mirror<R, A, B>,
+    mirror: &(impl Device + Sync),
     plan: Plan,
 ) -> Result<Vec<u64>, Refusal> {
     let bytes = Bytes::copy_from_slice(alloc, &[0x5A; BLOCK_BYTES])?;
@@ -33,10 +33,10 @@ pub(crate) fn write_all<R: Runtime, A: SharedPrimary, B: SharedSecondary>(
 }
 
 // The writes of one writer.
-fn write_some<R: Wait + Clock + Drop, A: PrimaryHalf + Drop, B: SecondaryHalf + Drop>(
+fn write_some<R: Wait + Clock>(
     rt: &R,
     alloc: Global,
-    mirror: &Mirror<R, A, B>,
+    mirror: &impl Device,
     writes: u32,
     writer: u64,
     bytes: &Bytes,

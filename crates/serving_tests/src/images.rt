@@ -1,6 +1,6 @@
-//! Whole calls, over files of the tests' own. No contract says what a file holds.
-use crate::{ImageStore, OpenFault};
+//! A disk over an image file, by whole calls over files of the tests' own. No contract says what a file holds.
 use blocks::{BLOCK_BYTES, Block, MemStore, Range, Refusal, Store, StoreFault};
+use image_store::{ImageStore, OpenFault};
 use std::alloc::{AllocError, Global};
 use std::cell::Cell;
 use std::fs::{File, Files, OpenFile};

@@ -10,9 +10,8 @@ use primary::Primary;
 use ruled_link::{RuledIn, RuledOut};
 use secondary::Secondary;
 use session_link::check_numbers;
-use session_threads::{Mirror, PumpEnds, Running, Way, half_rows};
+use session_threads::{Mirror, PumpEnds, Running, Sink, Source, Way, half_rows};
 use std::alloc::Global;
-use std::io::{Read, Write};
 use std::sync::Wait;
 use std::thread::Threads;
 use std::time::Clock;
@@ -32,8 +31,7 @@ pub type WirePrimary<R, S> = Primary<RuledOut<R>, RuledIn<R>, S>;
 /// The secondary of a session over streams.
 pub type WireSecondary<R, T> = Secondary<RuledOut<R>, RuledIn<R>, T>;
 
-/// A running session over streams. It has one connection.
-#[derive(Drop)]
+/// A running session over streams. It has one connection. It cannot be dropped: whoever starts it has to finish it.
 pub struct WireSession<R: Threads + Wait + Drop, S: Store + Drop, T: Store + Drop> {
     running: Running<R, WireLocal<R, S>, WirePeer<R, T>>,
 }
@@ -51,12 +49,7 @@ impl<
     /// `NotConnected` (12) if a way ends during the hello; 20 to 25, 34 or 35 if foreign bytes come in it;
     /// `NoMemory` (7) if there is no memory, and if a thread cannot be started. Then nothing runs, and all that was
     /// handed over is dropped.
-    pub fn start_over<
-        W: Write + Drop + Send + 'static,
-        D: Read + Drop + Send + 'static,
-        V: Write + Drop + Send + 'static,
-        E: Read + Drop + Send + 'static,
-    >(
+    pub fn start_over<W: Sink, D: Source, V: Sink, E: Source>(
         rt: R,
         alloc: Global,
         local: S,
@@ -80,17 +73,15 @@ impl<
             Ok((peer, peer_rows)) => {
                 WireSession::over(rt, alloc, local, peer, (local_rows, peer_rows), ways)
             }
-            Err(refusal) => Err(refusal),
+            Err(refusal) => {
+                drop(local.into_node().into_store());
+                Err(refusal)
+            }
         }
     }
 
     // The session of two halves that have said nothing yet, and of the rows that their pumps carry.
-    fn over<
-        W: Write + Drop + Send + 'static,
-        D: Read + Drop + Send + 'static,
-        V: Write + Drop + Send + 'static,
-        E: Read + Drop + Send + 'static,
-    >(
+    fn over<W: Sink, D: Source, V: Sink, E: Source>(
         rt: R,
         alloc: Global,
         local: WireLocal<R, S>,
@@ -162,7 +153,10 @@ impl<R: Threads + Wait + Clock + Drop, S: Store + Drop, T: Store + Drop> WireSes
         let (primary, secondary) = apart(local, peer);
         match check_numbers(&primary, &secondary) {
             Ok(()) => Ok((primary, secondary)),
-            Err(refusal) => Err(refusal),
+            Err(refusal) => {
+                drop((primary.into_store(), secondary.into_store()));
+                Err(refusal)
+            }
         }
     }
 }

@@ -1,7 +1,6 @@
 //! Both pumps over readers and writers that give and take little at a time, fail, and ask for a stop.
-
-use crate::{Buffer, PumpEnd, pump_in, pump_out};
 use bell::Bell;
+use pumps::{Buffer, PumpEnd, pump_in, pump_out};
 use ruled_link::{Piece, PieceIn, PieceOut, row};
 use std::alloc::Global;
 use std::io;

@@ -1,0 +1,65 @@
+//! The texts of the status page, written out by hand.
+use status_page::{Report, Resync, answer_one};
+use std::alloc::{AllocError, Global};
+use std::hash::RandomState;
+use std::process::Abort;
+use std::random::RandomSource;
+
+/// Both nodes while a resync has copied one of four blocks.
+fn report(alloc: Global) -> Result<Report, AllocError> {
+    let primary =
+        "cs:SyncSource ro:Primary/Secondary ds:UpToDate/Inconsistent pr:C pe:0 ap:1 ep:2 oos:12";
+    let secondary =
+        "cs:SyncTarget ro:Secondary/Primary ds:Inconsistent/UpToDate pr:C pending:3 use:No whole:1";
+    Ok(Report {
+        primary: String::from_str(alloc, primary)?,
+        secondary: String::from_str(alloc, secondary)?,
+        resync: Some(Resync { left: 3, all: 4 }),
+    })
+}
+
+const LINES: &str =
+    "cs:SyncSource ro:Primary/Secondary ds:UpToDate/Inconsistent pr:C pe:0 ap:1 ep:2 oos:12\ncs:SyncTarget ro:Secondary/Primary ds:Inconsistent/UpToDate pr:C pending:3 use:No whole:1\n";
+
+const JSON: &str =
+    "{\"primary\":{\"connection\":\"SyncSource\",\"disk\":\"UpToDate\",\"open_epochs\":2,\"open_writes\":1,\"out_of_sync_kib\":12,\"peer_disk\":\"Inconsistent\",\"peer_role\":\"Secondary\",\"protocol\":\"C\",\"role\":\"Primary\",\"unanswered_writes\":0},\"resync\":{\"left_kib\":12,\"percent\":25},\"secondary\":{\"connection\":\"SyncTarget\",\"disk\":\"Inconsistent\",\"is_consistent\":false,\"peer_disk\":\"UpToDate\",\"peer_role\":\"Primary\",\"pending_items\":3,\"protocol\":\"C\",\"role\":\"Secondary\",\"whole_epoch\":1}}";
+
+/// A client that asks so gets this status, and this body.
+fn is_told(
+    rt: &(impl Abort + AllocGlobal + RandomSource),
+    asked: &str,
+    report: Option<&Report>,
+    (status, body): (&str, &str),
+) {
+    let alloc = rt.alloc();
+    let request = format!(in alloc; "{asked} HTTP/1.1\r\nHost: localhost\r\n\r\n");
+    let request = request.expect(rt, "memory");
+    let body = format!(in alloc; "\r\n\r\n{body}").expect(rt, "memory");
+    let keys = RandomState::new(rt).expect(rt, "keys");
+    let mut reader = request.as_bytes();
+    let mut writer = Vec::new(alloc);
+    answer_one(alloc, keys, report, &mut reader, &mut writer).expect(rt, "an answer");
+    let answer = writer.as_slice();
+    assert!(rt; answer.starts_with(status.as_bytes()), "{asked}");
+    assert!(rt; answer.ends_with(body.as_bytes()), "{asked}");
+}
+
+#[test]
+fn a_client_is_told(rt: HostRuntime) {
+    let report = report(rt.alloc()).expect(&rt, "memory");
+    let cases: [(&str, &str, &str); 4] = [
+        ("GET /", "HTTP/1.1 200 OK", LINES),
+        ("GET /status.json", "HTTP/1.1 200 OK", JSON),
+        (
+            "GET /else",
+            "HTTP/1.1 404 Not Found",
+            "/ and /status.json\n",
+        ),
+        ("DELETE /", "HTTP/1.1 405 Method Not Allowed", ""),
+    ];
+    for (asked, status, body) in cases {
+        is_told(&rt, asked, Some(&report), (status, body));
+    }
+    let between = ("HTTP/1.1 503 Service Unavailable", "between two sessions\n");
+    is_told(&rt, "GET /", None, between);
+}
