@@ -9,9 +9,7 @@ mod report;
 mod saving;
 mod session;
 mod sockets;
-mod telling;
 mod whole_run;
-mod work;
 
 pub use options::{Images, Path, RunOptions, Telling};
 pub use volume::Host;

@@ -5,10 +5,10 @@ ghost use Rattle.volume.specs.Links.{AreEndsOf};
 
 use crate::parts::{Disks, parts};
 use crate::report::{Report, conclude};
-use crate::work::work;
 use blocks::{MemStore, Refusal};
 use options::RunOptions;
 use ruled_link::{RuledIn, RuledOut, ruled};
+use run_threads::work;
 use std::alloc::Global;
 use std::io::Write;
 use std::marker::Brand;

@@ -3,9 +3,9 @@ ghost use Rattle.std.specs.Prelude.{◌≡◌, ◌*◌, ◌<◌, IfOk};
 
 use crate::parts::parts;
 use crate::report::{Report, conclude};
-use crate::work::work;
 use blocks::{MemStore, Refusal};
 use options::RunOptions;
+use run_threads::work;
 use std::alloc::Global;
 use std::io::Write;
 use volume::Runtime;

@@ -1,11 +1,11 @@
 //! Progress lines of a run.
+use halves::Device;
 use options::RunOptions;
 use std::io;
 use std::io::Write;
 use std::sync::atomic::{AtomicU64, Ordering};
 use std::sync::{Condvar, Mutex, Wait};
 use std::time::{Clock, Duration};
-use volume::Device;
 
 /// How long a run goes on before it tells something again, in seconds.
 const PERIOD_S: u64 = 1;
@@ -102,8 +102,8 @@ fn tell_once<E: Write>(
     err.flush()
 }
 
-/// Writes the status lines of both nodes.
-pub(crate) fn tell_status<E: Write>(lines: &(String, String), err: &mut E) -> io::Result<()> {
+/// Writes the status lines of both nodes, each with a newline.
+pub fn tell_status<E: Write>(lines: &(String, String), err: &mut E) -> io::Result<()> {
     writeln!(err, "{}", lines.0)?;
     writeln!(err, "{}", lines.1)
 }

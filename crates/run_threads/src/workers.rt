@@ -5,6 +5,7 @@ ghost use Rattle.std.specs.Thread.{IsSend, IsSync};
 use crate::telling::{Course, tell};
 use blocks::{BLOCK_BYTES, Refusal};
 use bytes::Bytes;
+use halves::Device;
 use options::{RunOptions, byte, words};
 use primary::Receipt;
 use std::alloc::Global;
@@ -13,14 +14,14 @@ use std::sync::Wait;
 use std::thread;
 use std::thread::Threads;
 use std::time::{Clock, Duration};
-use volume::Device;
 
 /// How long a thread waits between two cuts, and before it asks the session again, in milliseconds.
 const PAUSE_MS: u64 = 1;
 
-/// Makes all writes while the link is cut, tells on `err` what the options want, and returns the receipts of all
-/// writes once the disks are alike or the link is down. The first writer that is refused decides what is refused; every other one still makes its writes.
-pub(crate) fn work<
+/// Makes all writes of a run over a device while its link is cut, tells on `err` what the options want, and returns the
+/// receipts of all writes once the disks are alike or the link is down. The first writer that is refused decides what is
+/// refused; every other one still makes its writes. The caller owes that the device has blocks.
+pub fn work<
     R: Threads + Wait + Clock + Copy + Drop + Send + Sync + 'static,
     D: Device + Sync,
     E: Write + Send,

@@ -1,5 +1,5 @@
 use Rattle.std.proofs.Common.{◌≡◌, vec_len}
-use Rattle.session_run.proofs.work.write_turns.Given as goal
+use Rattle.run_threads.proofs.workers.write_turns.Given as goal
 
 abbrev pub invariant-loop-turn : goal.invariant-loop-turn
 invariant-loop-turn g l = vec_len l.receipts ≡ l.turn
