@@ -1,4 +1,4 @@
-//! The threads between block clients and a mirror, whatever its halves are: who lets clients in, reads their requests and
+//! The threads between block clients and a device, whichever session keeps it: who lets clients in, reads their requests and
 //! answers them, keeps the link up, and serves the status page.
 #![tactic(auto)]
 

@@ -1,4 +1,4 @@
-//! What block clients ask of a mirror: blocks to read, ranges to write, and flushes.
+//! What block clients ask of a device: blocks to read, ranges to write, and flushes.
 #![tactic(auto)]
 
 mod complete;
