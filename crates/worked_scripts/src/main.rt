@@ -2,6 +2,9 @@
 //! commands into `data/NAME.script` and the lines that it is to print into `data/NAME.out`. Add the line `NAME` to
 //! `stdin` and the line `NAME ok` to `stdout`, and raise the count at the end of `stdout`. A script that is to fail also
 //! has `data/NAME.err`, its standard error, and `data/NAME.status`, its exit status.
+//!
+//! The files of the last scripts, `differs_..`, are wrong on purpose: they show how each difference is told. So the stored run
+//! ends with the status 1.
 #![tactic(auto)]
 
 mod difference;
@@ -10,8 +13,6 @@ mod names;
 mod outcome;
 mod program;
 mod stop;
-#[cfg(test)]
-mod tests;
 mod worked_script;
 
 use std::process::ExitCode;
