@@ -79,22 +79,15 @@ fn run_named<L: Linked + Send + Sync + 'static, R: Runtime>(
         peer,
         parts,
     ) {
-        Ok(session) => use_session(rt, service, cut_every, tally, session),
-        Err(refusal) => Err(refusal),
-    }
-}
-
-// Does the requests of clients, ends the session, and settles.
-fn use_session<L: Linked + Send + Sync + 'static, R: Runtime>(
-    rt: R,
-    service: &Service,
-    cut_every: Option<u32>,
-    tally: Tally,
-    session: Session<R, L, ImageStore<File>, ImageStore<File>>,
-) -> Result<Rest, Refusal> {
-    let worked = work(&rt, service, session.mirror(), cut_every);
-    match session.finish() {
-        Ok((primary, secondary)) => bring_together(service, tally, primary, secondary, worked),
+        Ok(session) => {
+            let worked = work(&rt, service, session.mirror(), cut_every);
+            match session.finish() {
+                Ok((primary, secondary)) => {
+                    bring_together(service, tally, primary, secondary, worked)
+                }
+                Err(refusal) => Err(refusal),
+            }
+        }
         Err(refusal) => Err(refusal),
     }
 }

@@ -1,4 +1,4 @@
-//! What the session of a run starts from.
+//! The parts from which the session of a run starts.
 ghost use Rattle.std.specs.Prelude.{◌≡◌, ◌<◌, IfOk};
 ghost use Rattle.blocks.specs.SettingsRange.{standard};
 

@@ -42,24 +42,10 @@ pub(crate) fn conclude<
     requires { IfOk worked (λ receipts. vec_len receipts ≡ options.now.writers * options.now.writes) }
     ensures { IfOk result (λ report. report.completed ≡ options.now.writers * options.now.writes) }
 {
-    match ended {
-        Ok((primary, secondary)) => bring_together(alloc, options, primary, secondary, worked),
-        Err(refusal) => Err(worked.err().unwrap_or(refusal)),
-    }
-}
-
-// Settles both nodes, if no write was refused.
-fn bring_together<O: FrameOut + Drop, I: FrameIn + Drop, P: FrameOut + Drop, J: FrameIn + Drop>(
-    alloc: Global,
-    options: &RunOptions,
-    primary: Primary<O, I, MemStore>,
-    secondary: Secondary<P, J, MemStore>,
-    worked: Result<Vec<Receipt>, Refusal>,
-) -> Result<Report, Refusal>
-    requires { IfOk worked (λ receipts. vec_len receipts ≡ options.now.writers * options.now.writes) }
-    ensures { IfOk result (λ report. report.completed ≡ options.now.writers * options.now.writes) }
-{
-    let (mut primary, mut secondary) = (primary, secondary);
+    let (mut primary, mut secondary) = match ended {
+        Ok(nodes) => nodes,
+        Err(refusal) => return Err(worked.err().unwrap_or(refusal)),
+    };
     let settled = match worked {
         Ok(receipts) => settled_by(&mut primary, &mut secondary, receipts.as_slice()),
         Err(refusal) => Err(refusal),

@@ -52,22 +52,10 @@ fn run_named<L: Linked + Send + Sync + 'static, R: Runtime, E: Write + Send>(
 {
     let (local, peer) = disks;
     match Session::<R, L, MemStore, MemStore>::start(rt, alloc, there, back, local, peer, parts) {
-        Ok(session) => use_session(rt, alloc, options, session, err),
+        Ok(session) => {
+            let worked = work(&rt, alloc, session.mirror(), options, err);
+            conclude(alloc, options, worked, session.finish())
+        }
         Err(refusal) => Err(refusal),
     }
-}
-
-// Makes all writes, ends the session, and settles.
-fn use_session<L: Linked + Send + Sync + 'static, R: Runtime, E: Write + Send>(
-    rt: R,
-    alloc: Global,
-    options: &RunOptions,
-    session: Session<R, L, MemStore, MemStore>,
-    err: &mut E,
-) -> Result<Report, Refusal>
-    requires { 0 < options.now.blocks }
-    ensures { IfOk result (λ report. report.completed ≡ options.now.writers * options.now.writes) }
-{
-    let worked = work(&rt, alloc, session.mirror(), options, err);
-    conclude(alloc, options, worked, session.finish())
 }

@@ -28,22 +28,10 @@ pub(crate) fn run_over<R: Runtime, E: Write + Send>(
 {
     let (parts, (local, peer)) = parts(alloc, options, images)?;
     match WireSession::start_over(rt, alloc, local, peer, parts, ways) {
-        Ok(session) => use_session(rt, alloc, options, session, err),
+        Ok(session) => {
+            let worked = work(&rt, alloc, session.mirror(), options, err);
+            conclude(alloc, options, worked, session.finish())
+        }
         Err(refusal) => Err(refusal),
     }
-}
-
-// Makes all writes, ends the session, and settles.
-fn use_session<R: Runtime, E: Write + Send>(
-    rt: R,
-    alloc: Global,
-    options: &RunOptions,
-    session: WireSession<R, MemStore, MemStore>,
-    err: &mut E,
-) -> Result<Report, Refusal>
-    requires { 0 < options.now.blocks }
-    ensures { IfOk result (λ report. report.completed ≡ options.now.writers * options.now.writes) }
-{
-    let worked = work(&rt, alloc, session.mirror(), options, err);
-    conclude(alloc, options, worked, session.finish())
 }

@@ -71,24 +71,14 @@ impl<
             (parts.sync, parts.loss),
         )?;
         match PeerHalf::open(rt, alloc, parts.settings, peer, parts.peer, peer_ends) {
-            Ok(peer) => Session::over(rt, alloc, local, peer),
+            Ok(peer) => match Running::start(rt, alloc, local, peer) {
+                Ok(running) => Ok(Session { running }),
+                Err(refusal) => Err(refusal),
+            },
             Err(refusal) => {
                 drop(local.into_node().into_store());
                 Err(refusal)
             }
-        }
-    }
-
-    // The session of two halves that have said nothing yet.
-    fn over(
-        rt: R,
-        alloc: Global,
-        local: SessionLocal<R, L, S>,
-        peer: SessionPeer<R, L, T>,
-    ) -> Result<Session<R, L, S, T>, Refusal> {
-        match Running::start(rt, alloc, local, peer) {
-            Ok(running) => Ok(Session { running }),
-            Err(refusal) => Err(refusal),
         }
     }
 }

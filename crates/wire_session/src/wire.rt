@@ -71,27 +71,15 @@ impl<
         )?;
         match open_peer(rt, alloc, settings, peer, parts.peer) {
             Ok((peer, peer_rows)) => {
-                WireSession::over(rt, alloc, local, peer, (local_rows, peer_rows), ways)
+                match Running::start_over(rt, alloc, local, peer, (local_rows, peer_rows), ways) {
+                    Ok(running) => Ok(WireSession { running }),
+                    Err(refusal) => Err(refusal),
+                }
             }
             Err(refusal) => {
                 drop(local.into_node().into_store());
                 Err(refusal)
             }
-        }
-    }
-
-    // The session of two halves that have said nothing yet, and of the rows that their pumps carry.
-    fn over<W: Sink, D: Source, V: Sink, E: Source>(
-        rt: R,
-        alloc: Global,
-        local: WireLocal<R, S>,
-        peer: WirePeer<R, T>,
-        rows: (PumpEnds<R>, PumpEnds<R>),
-        ways: (Way<W, D>, Way<V, E>),
-    ) -> Result<WireSession<R, S, T>, Refusal> {
-        match Running::start_over(rt, alloc, local, peer, rows, ways) {
-            Ok(running) => Ok(WireSession { running }),
-            Err(refusal) => Err(refusal),
         }
     }
 }
@@ -150,7 +138,7 @@ impl<R: Threads + Wait + Clock + Drop, S: Store + Drop, T: Store + Drop> WireSes
     {
         let WireSession { running } = self;
         let (local, peer) = running.finish()?;
-        let (primary, secondary) = apart(local, peer);
+        let (primary, secondary) = (local.into_node(), peer.into_node());
         match check_numbers(&primary, &secondary) {
             Ok(()) => Ok((primary, secondary)),
             Err(refusal) => {
@@ -159,14 +147,4 @@ impl<R: Threads + Wait + Clock + Drop, S: Store + Drop, T: Store + Drop> WireSes
             }
         }
     }
-}
-
-// Both nodes of a session over streams, out of their locks.
-fn apart<R: Wait + Drop, S: Store + Drop, T: Store + Drop>(
-    local: WireLocal<R, S>,
-    peer: WirePeer<R, T>,
-) -> (WirePrimary<R, S>, WireSecondary<R, T>)
-    ensures { PrimaryIsHad result.0 × SecondaryIsHad result.1 }
-{
-    (local.into_node(), peer.into_node())
 }
